@@ -1,0 +1,75 @@
+-- Histories: the cell after one, who waits, and whom a further call hands out.
+use Rattle.std.specs.Prelude.{◌≡◌, ◌-◌, ℕ, Bool, true, false, ◌||◌, List, [], ◌∷◌, ◌++◌, length, Option, Some, None, filter_map, if◌then◌else◌}
+use Rattle.async_cell_model.specs.declared.cell.Cell.{Cell}
+use Rattle.async_cell_model.specs.declared.entry.Entry.{Entry}
+use Rattle.async_cell_model.specs.declared.entry.Kept.{Kept}
+use Rattle.async_cell_model.specs.declared.entry.Kept.TheVariants.{PollTake, PollGet}
+use Rattle.async_cell_model.specs.declared.reply.Reply.{Reply}
+use Rattle.async_cell_model.specs.declared.reply.Reply.TheVariants.{Pending}
+use Rattle.async_cell_model.specs.Cell.{ends_waiting, is_vacant, IsCounted}
+use Rattle.async_cell_model.specs.Step.{next}
+use Rattle.async_cell_model.specs.Waiting.{keep}
+
+-- where a history begins: a cell, the wakers that wait already, and for how many more there is room without memory
+pub record Beginning (T W : Type 0) : Type 0 where
+  pub cell : Cell T
+  pub waiting : List W
+  pub room : ℕ
+
+-- the calls on a cell, in order, each with its reply
+abbrev pub History : Type 0 → Type 0 → Type 0
+History T W = List (Entry T W)
+
+-- whether the reply is `Pending`
+abbrev pub is_pending : {T : Type 0} → Reply T → Bool
+is_pending Pending = true
+is_pending _ = false
+
+module _ {T W : Type 0} where
+  -- the cell after a history
+  abbrev pub cell_after : Cell T → History T W → Cell T
+  cell_after c [] = c
+  cell_after c (e ∷ h) = cell_after (next c e) h
+
+  -- whether some entry is a fill or a close
+  abbrev pub has_end : Cell T → History T W → Bool
+  has_end c [] = false
+  has_end c (e ∷ h) = ends_waiting c (next c e) || has_end (next c e) h
+
+  -- the entries after the last fill or close: all of them where there is none
+  abbrev pub since : Cell T → History T W → History T W
+  since c [] = []
+  since c (e ∷ h) = if has_end c (e ∷ h) then since (next c e) h else e ∷ h
+
+  -- the waker of a poll that was answered `Pending`
+  abbrev pub waker_of : Kept T W → Option W
+  waker_of (PollTake w) = Some w
+  waker_of (PollGet w) = Some w
+  waker_of _ = None
+
+  abbrev pub pending_waker : Entry T W → Option W
+  pending_waker e = if is_pending e.reply then waker_of e.call else None
+
+  -- the wakers of the polls that were answered `Pending` since the last fill or close. Where there was none, those that
+  -- waited at the beginning stand before them
+  abbrev pub asked : Beginning T W → History T W → List W
+  asked b h = (if has_end b.cell h then [] else b.waiting) ++ filter_map pending_waker (since b.cell h)
+
+module _ {T W : Type 0} (wakes : W → W → Bool) where
+  -- the wakers that wait after a history
+  abbrev pub waiting : Beginning T W → History T W → List W
+  waiting b h = keep wakes (asked b h)
+
+  -- for how many more wakers there is room: each that was added takes up one, and a fill or a close ends the room
+  abbrev pub room : Beginning T W → History T W → ℕ
+  room b h = if has_end b.cell h then 0 else b.room - (length (waiting b h) - length b.waiting)
+
+  -- the wakers that a further entry hands out: all that wait, where it fills or closes, and else none
+  abbrev pub hands : Beginning T W → History T W → Entry T W → List W
+  hands b h e = if ends_waiting (cell_after b.cell h) (next (cell_after b.cell h) e) then waiting b h else []
+
+  -- a beginning: its owners are counted, wakers wait only where it is open without a value, and none that was to be skipped
+  pub record IsBeginning (b : Beginning T W) : Type 0 where
+    pub counted : IsCounted b.cell
+    pub waits_vacant : is_vacant b.cell ≡ false → b.waiting ≡ []
+    pub kept : keep wakes b.waiting ≡ b.waiting

@@ -1,0 +1,4 @@
+pub mod Cell
+pub mod Step
+pub mod Waiting
+pub mod History

@@ -1,0 +1,12 @@
+//! What a cell is: the definitions that every contract of this repository speaks in.
+#![tactic(auto)]
+
+mod cell;
+mod entry;
+mod refusal;
+mod reply;
+
+pub use cell::Cell;
+pub use entry::{Entry, Kept};
+pub use refusal::Refusal;
+pub use reply::Reply;

@@ -1,0 +1,46 @@
+use std::alloc::AllocError;
+use std::error::Error;
+use std::fmt;
+
+/// Why a call was refused. A refused call changes nothing.
+#[derive(Clone, Copy, Debug, PartialEq, Eq)]
+pub enum Refusal {
+    /// A growth of a list, or a clone, found no memory.
+    Memory,
+    /// A write or an owner call on a closed cell.
+    Closed,
+    /// One owner more than 4,294,967,295.
+    OwnersFull,
+    /// The cell has other owners.
+    StillShared,
+    /// A recorded call whose share does not fit the history.
+    OutOfTurn,
+    /// A recorded cell is finished without all of its shares.
+    ShareMissing,
+}
+
+impl fmt::Display for Refusal {
+    fn fmt<W: fmt::Write>(&self, f: &mut fmt::Formatter<W>) -> fmt::Result {
+        f.write_str(match self {
+            Refusal::Memory => "there was no memory",
+            Refusal::Closed => "the cell is closed",
+            Refusal::OwnersFull => "the cell has as many owners as it can count",
+            Refusal::StillShared => "the cell has other owners",
+            Refusal::OutOfTurn => "the share does not fit the history",
+            Refusal::ShareMissing => "a share is missing",
+        })
+    }
+}
+
+impl Error for Refusal {}
+
+impl From<AllocError> for Refusal {
+    ghost use Rattle.std.specs.Prelude.{◌≡◌};
+    ghost use Rattle.async_cell_model.specs.declared.refusal.Refusal.TheVariants.{Memory};
+
+    ghost from_gives = { λ refused result. result ≡ Memory };
+
+    fn from(_: AllocError) -> Refusal {
+        Refusal::Memory
+    }
+}
