@@ -1,4 +1,4 @@
--- Histories: the cell after one, who waits, and whom a further call hands out.
+-- Histories: the cell after one, who waits, and for how many more there is room.
 use Rattle.std.specs.Prelude.{◌≡◌, ◌-◌, ℕ, Bool, true, false, ◌||◌, List, [], ◌∷◌, ◌++◌, length, Option, Some, None, filter_map, if◌then◌else◌}
 use Rattle.async_cell_model.specs.declared.cell.Cell.{Cell}
 use Rattle.async_cell_model.specs.declared.entry.Entry.{Entry}
@@ -64,9 +64,9 @@ module _ {T W : Type 0} (wakes : W → W → Bool) where
   abbrev pub room : Beginning T W → History T W → ℕ
   room b h = if has_end b.cell h then 0 else b.room - (length (waiting b h) - length b.waiting)
 
-  -- the wakers that a further entry hands out: all that wait, where it fills or closes, and else none
-  abbrev pub hands : Beginning T W → History T W → Entry T W → List W
-  hands b h e = if ends_waiting (cell_after b.cell h) (next (cell_after b.cell h) e) then waiting b h else []
+  -- where a history leads: the beginning of whatever follows
+  abbrev pub after : Beginning T W → History T W → Beginning T W
+  after b h = record { cell = cell_after b.cell h; waiting = waiting b h; room = room b h }
 
   -- a beginning: its owners are counted, wakers wait only where it is open without a value, and none that was to be skipped
   pub record IsBeginning (b : Beginning T W) : Type 0 where

@@ -1,4 +1,6 @@
 pub mod Cell
-pub mod Step
-pub mod Waiting
 pub mod History
+pub mod Legal
+pub mod Step
+pub mod Taken
+pub mod Waiting

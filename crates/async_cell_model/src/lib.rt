@@ -3,6 +3,7 @@
 
 mod cell;
 mod entry;
+pub mod laws;
 mod refusal;
 mod reply;
 

@@ -1,0 +1,5 @@
+pub mod Joining
+pub mod Keeping
+pub mod Leading
+pub mod Once
+pub mod Whole

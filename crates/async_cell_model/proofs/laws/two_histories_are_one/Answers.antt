@@ -1,0 +1,5 @@
+use Rattle.async_cell_model.proofs.Leading.{Leads-join}
+use Rattle.async_cell_model.proofs.laws.two_histories_are_one.Goals as goal
+
+pub returns : goal.returns
+returns g c = λ wakes sure from at to first second woken others here there. Leads-join wakes sure from at to first second woken others here there
