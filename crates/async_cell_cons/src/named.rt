@@ -1,0 +1,26 @@
+use crate::wakes::Wakes;
+
+/// A waker that is only a name: it would wake the wakers of its own name, and to wake it does nothing.
+#[derive(Clone, Copy, Debug, PartialEq, Eq)]
+pub struct Named(pub u64);
+
+impl Wakes for Named {
+    ghost use Rattle.std.specs.Prelude.{nat_eq, true};
+    ghost use Rattle.std.proofs.Common.{rules};
+
+    ghost wakes = { λ a b. nat_eq a.0 b.0 };
+
+    ghost SURE_CLONE = { true };
+
+    const SURE_CLONE: bool = true;
+
+    fn will_wake(&self, other: &Named) -> bool {
+        self.0 == other.0
+    }
+
+    fn wake(self) {}
+
+    ghost clone_is_source = { Prim.search rules };
+
+    ghost clone_is_sure = { Prim.search rules };
+}

@@ -1,0 +1,185 @@
+ghost use Rattle.std.specs.Prelude.{◌≡◌, nat_eq, true};
+ghost use Rattle.std.proofs.Common.{rules};
+
+use crate::{Named, Waiting, Wakers, Wakes};
+use std::alloc::{AllocError, Global};
+use std::cell::Cell;
+use std::test::Fail;
+
+/// Where a waker notes that it was woken.
+trait Count: Clone {
+    fn count(&self) -> u64;
+
+    fn set_count(&self, count: u64);
+
+    ghost clone_is_source: { (a b : Self) → Self.is_clone a b → b ≡ a };
+
+    ghost clone_is_sure: { (a : Self) → Self.is_infallible a };
+}
+
+impl<'a> Count for &'a Cell<u64> {
+    fn count(&self) -> u64 {
+        self.get()
+    }
+
+    fn set_count(&self, count: u64) {
+        self.set(count);
+    }
+
+    ghost clone_is_source = { Prim.search rules };
+
+    ghost clone_is_sure = { Prim.search rules };
+}
+
+/// A waker that notes whether it was woken in its turn: right after the wakers of all lower numbers.
+#[derive(Clone, Copy)]
+struct InTurn<C> {
+    number: u64,
+    woken: C,
+}
+
+impl<C: Count> Wakes for InTurn<C> {
+    ghost wakes = { λ a b. nat_eq a.number b.number };
+
+    ghost SURE_CLONE = { true };
+
+    const SURE_CLONE: bool = true;
+
+    fn will_wake(&self, other: &Self) -> bool {
+        self.number == other.number
+    }
+
+    fn wake(self) {
+        if self.woken.count() == self.number && self.number < u64::MAX {
+            self.woken.set_count(self.number + 1);
+        }
+    }
+
+    ghost clone_is_source = { Prim.search rules };
+
+    ghost clone_is_sure = { Prim.search rules };
+}
+
+const MANY: u64 = 100_000;
+
+/// A list with the wakers of the numbers below `MANY`, in order.
+fn many(alloc: Global, woken: &Cell<u64>) -> Result<Waiting<InTurn<&Cell<u64>>>, AllocError> {
+    let mut waiting = Waiting::new(alloc);
+    for number in 0..MANY {
+        waiting.push(&InTurn { number, woken })?;
+    }
+    Ok(waiting)
+}
+
+#[test]
+fn many_wakers_are_woken_in_order(rt: HostRuntime) -> Result<(), Fail> {
+    let woken = Cell::new(0);
+    let mut waiting = many(rt.alloc(), &woken)?;
+    let wakers = waiting.hand_out();
+    assert!(rt; waiting.is_empty());
+    wakers.wake_all();
+    assert_eq!(rt; woken.get(), MANY);
+    Ok(())
+}
+
+#[test]
+fn many_wakers_are_given_one_by_one_in_order(rt: HostRuntime) -> Result<(), Fail> {
+    let woken = Cell::new(0);
+    let mut wakers = many(rt.alloc(), &woken)?.hand_out();
+    for number in 0..MANY {
+        assert_eq!(rt; wakers.next().map(|waker| waker.number), Some(number));
+    }
+    assert!(rt; wakers.is_empty());
+    assert_eq!(rt; woken.get(), 0);
+    Ok(())
+}
+
+/// A value that notes whether it was dropped in its turn: right after those of all lower numbers.
+struct DroppedInTurn<'a> {
+    number: u64,
+    dropped: &'a Cell<u64>,
+}
+
+impl Drop for DroppedInTurn<'_> {
+    fn drop(self) {
+        if self.dropped.get() == self.number && self.number < u64::MAX {
+            self.dropped.set(self.number + 1);
+        }
+        let DroppedInTurn {
+            number: _,
+            dropped: _,
+        } = self;
+    }
+}
+
+/// A list with the values of the numbers below `MANY`, in order.
+fn many_to_drop(
+    alloc: Global,
+    dropped: &Cell<u64>,
+) -> Result<Waiting<DroppedInTurn<'_>>, AllocError> {
+    let mut waiting = Waiting::new(alloc);
+    for number in 0..MANY {
+        let waker = DroppedInTurn { number, dropped };
+        waiting.push_owned(waker).map_err(|_| AllocError)?;
+    }
+    Ok(waiting)
+}
+
+#[test]
+fn many_wakers_are_dropped_in_order(rt: HostRuntime) -> Result<(), Fail> {
+    let dropped = Cell::new(0);
+    drop(many_to_drop(rt.alloc(), &dropped)?);
+    assert_eq!(rt; dropped.get(), MANY, "while they wait");
+    dropped.set(0);
+    let mut wakers = many_to_drop(rt.alloc(), &dropped)?.hand_out();
+    let _ = wakers.next();
+    assert_eq!(rt; dropped.get(), 1);
+    drop(wakers);
+    assert_eq!(rt; dropped.get(), MANY, "once they were handed out");
+    Ok(())
+}
+
+#[test]
+fn one_waker_spares_its_own_name_and_two_spare_none(rt: HostRuntime) -> Result<(), Fail> {
+    let mut waiting = Waiting::new(rt.alloc());
+    assert!(rt; !waiting.spares(&Named(1)));
+    waiting.push(&Named(1))?;
+    assert!(rt; waiting.spares(&Named(1)));
+    assert!(rt; !waiting.spares(&Named(2)));
+    waiting.push(&Named(1))?;
+    assert!(rt; !waiting.spares(&Named(1)));
+    assert_eq!(rt; waiting.len(), 2);
+    Ok(())
+}
+
+#[test]
+fn a_refused_waker_comes_back_and_the_list_stays(rt: HostRuntime) {
+    let mut waiting = Waiting::new(rt.alloc());
+    assert_eq!(rt;
+        waiting.push_owned(Named(1)),
+        Ok(()),
+        "an empty list needs no memory"
+    );
+    let added = match waiting.push_owned(Named(2)) {
+        Ok(()) => 2,
+        Err(back) => {
+            assert_eq!(rt; back, Named(2));
+            1
+        }
+    };
+    assert_eq!(rt; waiting.len(), added);
+    let added = match waiting.push(&Named(3)) {
+        Ok(()) => added + 1,
+        Err(_) => added,
+    };
+    let mut wakers = waiting.hand_out();
+    assert_eq!(rt; wakers.len(), added);
+    assert_eq!(rt; wakers.next(), Some(Named(1)));
+}
+
+#[test]
+fn no_wakers_give_none(rt: HostRuntime) {
+    let mut none: Wakers<Named> = Wakers::none(rt.alloc());
+    assert!(rt; none.is_empty());
+    assert_eq!(rt; none.next(), None);
+}

@@ -1,0 +1,2 @@
+pub mod Polled
+pub mod Stored

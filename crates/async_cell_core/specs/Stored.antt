@@ -1,0 +1,13 @@
+-- What a core keeps.
+use Rattle.std.specs.Prelude.{◌≡◌, ℕ, List, Option, None, nat_eq, if◌then◌else◌}
+use Rattle.async_cell_model.specs.declared.cell.Cell.{Cell}
+use Rattle.async_cell_model.specs.declared.cell.Cell.TheVariants.{Closed, Open}
+use Rattle.async_cell_model.specs.History.{Beginning, IsBeginning}
+
+-- the cell of a content and a number of owners, none once it is closed
+abbrev pub cell_of : {T : Type 0} → Option T → ℕ → Cell T
+cell_of value owners = if nat_eq owners 0 then Closed else Open value owners
+
+-- where the history of a core begins, at each moment: its cell and its wakers, and no room made ahead
+abbrev pub beginning_of : {T W : Type 0} → Option T → ℕ → List W → Beginning T W
+beginning_of value owners waiting = record { cell = cell_of value owners; waiting = waiting; room = 0 }
