@@ -8,7 +8,7 @@ impl Wakes for Named {
     ghost use Rattle.std.specs.Prelude.{nat_eq, true};
     ghost use Rattle.std.proofs.Common.{rules};
 
-    ghost wakes = { λ a b. nat_eq a.0 b.0 };
+    ghost will_wake = { λ a b. nat_eq a.0 b.0 };
 
     ghost SURE_CLONE = { true };
 

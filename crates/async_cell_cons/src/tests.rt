@@ -39,7 +39,7 @@ struct InTurn<C> {
 }
 
 impl<C: Count> Wakes for InTurn<C> {
-    ghost wakes = { λ a b. nat_eq a.number b.number };
+    ghost will_wake = { λ a b. nat_eq a.number b.number };
 
     ghost SURE_CLONE = { true };
 
@@ -140,14 +140,14 @@ fn many_wakers_are_dropped_in_order(rt: HostRuntime) -> Result<(), Fail> {
 }
 
 #[test]
-fn one_waker_spares_its_own_name_and_two_spare_none(rt: HostRuntime) -> Result<(), Fail> {
+fn one_waker_skips_its_own_name_and_two_skip_none(rt: HostRuntime) -> Result<(), Fail> {
     let mut waiting = Waiting::new(rt.alloc());
-    assert!(rt; !waiting.spares(&Named(1)));
+    assert!(rt; !waiting.skips(&Named(1)));
     waiting.push(&Named(1))?;
-    assert!(rt; waiting.spares(&Named(1)));
-    assert!(rt; !waiting.spares(&Named(2)));
+    assert!(rt; waiting.skips(&Named(1)));
+    assert!(rt; !waiting.skips(&Named(2)));
     waiting.push(&Named(1))?;
-    assert!(rt; !waiting.spares(&Named(1)));
+    assert!(rt; !waiting.skips(&Named(1)));
     assert_eq!(rt; waiting.len(), 2);
     Ok(())
 }

@@ -1,5 +1,5 @@
 ghost use Rattle.std.specs.Prelude.{◌≡◌, ◌<◌, List, [], ◌∷◌, ◌++◌, length, IsTrue, IsOk, IfSome, IfErr, OnOk, OnErr, ◌↔◌};
-ghost use Rattle.async_cell_model.specs.Waiting.{spares};
+ghost use Rattle.async_cell_model.specs.Waiting.{skips};
 
 use crate::tree::Tree;
 use crate::wakers::Wakers;
@@ -86,8 +86,8 @@ impl<W: Drop> Waiting<W> {
 
 impl<W: Wakes> Waiting<W> {
     /// Whether a waker need not be added: a single one waits, and it would wake this one.
-    pub fn spares(&self, waker: &W) -> bool
-        ensures { result ≡ spares W.wakes self.now waker.now }
+    pub fn skips(&self, waker: &W) -> bool
+        ensures { result ≡ skips W.will_wake self.now waker.now }
     {
         match &self.tree {
             Tree::Leaf(only) | Tree::Joined(_, only) if self.len == 1 => only.will_wake(waker),

@@ -4,7 +4,7 @@ ghost use Rattle.std.specs.Prelude.{◌≡◌, Bool, IsTrue};
 /// stated function of the two wakers, and nothing else is asked of it.
 pub trait Wakes: Clone {
     /// Whether waking the first also wakes what the second would.
-    ghost wakes: { Self → Self → Bool };
+    ghost will_wake: { Self → Self → Bool };
 
     ghost SURE_CLONE: { Bool };
 
@@ -13,7 +13,7 @@ pub trait Wakes: Clone {
 
     /// Whether waking `self` also wakes what `other` would.
     fn will_wake(&self, other: &Self) -> bool
-        ensures { result ≡ wakes self.now other.now };
+        ensures { result ≡ will_wake self.now other.now };
 
     /// Wakes the task that asked to be woken, and uses the waker up.
     fn wake(self);

@@ -2,7 +2,7 @@ ghost use Rattle.std.specs.Prelude.{◌≡◌, ◌≤◌, ◌↔◌, ℕ, [], �
 ghost use Rattle.std.specs.Option.{ForSome};
 ghost use Rattle.async_cell_model.specs.Cell.{content, owners_of, is_closed, is_full, is_vacant};
 ghost use Rattle.async_cell_model.specs.Waiting.{keep};
-ghost use Rattle.async_cell_model.specs.Legal.{Answers, needs_none};
+ghost use Rattle.async_cell_model.specs.Legal.{Answers, needs_no_memory};
 ghost use Rattle.async_cell_core.specs.Polled.{poll_reply, IsExact, IsCloneOf, IsReadyWith};
 
 use async_cell_cons::{Waiting, Wakers, Wakes};
@@ -30,7 +30,7 @@ impl<T, W: Wakes> Model for Core<T, W> {
 
     ghost view = { λ s. beginning_of s.value s.owners s.waiting };
 
-    ghost invariant = { λ s. IsBeginning W.wakes (beginning_of s.value s.owners s.waiting) × (s.owners ≡ 0 → s.value ≡ None) };
+    ghost invariant = { λ s. IsBeginning W.will_wake (beginning_of s.value s.owners s.waiting) × (s.owners ≡ 0 → s.value ≡ None) };
 }
 
 impl<T: Drop, W: Wakes> Core<T, W> {
@@ -63,8 +63,8 @@ impl<T: Drop, W: Wakes> Core<T, W> {
 
     /// Puts the value in. All that wait are handed out. Refused on a closed cell, and the value comes back.
     pub fn set(&mut self, value: T) -> Result<Wakers<W>, T>
-        ensures done { IfOk result (λ woken. Answers W.wakes W.SURE_CLONE self.old (Kept.Set value) Reply.Done woken self.new) }
-        ensures refused { IfErr result (λ back. Answers W.wakes W.SURE_CLONE self.old (Kept.Set value) (Reply.Refused Refusal.Closed (Some back)) [] self.new) }
+        ensures done { IfOk result (λ woken. Answers W.will_wake W.SURE_CLONE self.old (Kept.Set value) Reply.Done woken self.new) }
+        ensures refused { IfErr result (λ back. Answers W.will_wake W.SURE_CLONE self.old (Kept.Set value) (Reply.Refused Refusal.Closed (Some back)) [] self.new) }
 
         ensures if_open { IsOk result ↔ (is_closed self.old.cell ≡ false) }
         ensures holds { OnOk result (content self.new.cell ≡ Some value) }
@@ -81,8 +81,8 @@ impl<T: Drop, W: Wakes> Core<T, W> {
 
     /// Puts the value in, and gives the old one. All that wait are handed out. Refused on a closed cell, and the value comes back.
     pub fn replace(&mut self, value: T) -> Result<(Option<T>, Wakers<W>), T>
-        ensures done { IfOk result (λ answer. Answers W.wakes W.SURE_CLONE self.old (Kept.Replace value) (Reply.Value answer.0) answer.1 self.new) }
-        ensures refused { IfErr result (λ back. Answers W.wakes W.SURE_CLONE self.old (Kept.Replace value) (Reply.Refused Refusal.Closed (Some back)) [] self.new) }
+        ensures done { IfOk result (λ answer. Answers W.will_wake W.SURE_CLONE self.old (Kept.Replace value) (Reply.Value answer.0) answer.1 self.new) }
+        ensures refused { IfErr result (λ back. Answers W.will_wake W.SURE_CLONE self.old (Kept.Replace value) (Reply.Refused Refusal.Closed (Some back)) [] self.new) }
 
         ensures if_open { IsOk result ↔ (is_closed self.old.cell ≡ false) }
         ensures holds { OnOk result (content self.new.cell ≡ Some value) }
@@ -101,8 +101,8 @@ impl<T: Drop, W: Wakes> Core<T, W> {
     /// Puts the value in where there is none; all that wait are handed out then. Else it is not used, and is the first
     /// part of the answer. Refused on a closed cell, and the value comes back.
     pub fn or_set(&mut self, value: T) -> Result<(Option<T>, Wakers<W>), T>
-        ensures done { IfOk result (λ answer. Answers W.wakes W.SURE_CLONE self.old (Kept.OrSet value) (Reply.Value answer.0) answer.1 self.new) }
-        ensures refused { IfErr result (λ back. Answers W.wakes W.SURE_CLONE self.old (Kept.OrSet value) (Reply.Refused Refusal.Closed (Some back)) [] self.new) }
+        ensures done { IfOk result (λ answer. Answers W.will_wake W.SURE_CLONE self.old (Kept.OrSet value) (Reply.Value answer.0) answer.1 self.new) }
+        ensures refused { IfErr result (λ back. Answers W.will_wake W.SURE_CLONE self.old (Kept.OrSet value) (Reply.Refused Refusal.Closed (Some back)) [] self.new) }
 
         ensures if_open { IsOk result ↔ (is_closed self.old.cell ≡ false) }
         ensures unused { IfOk result (λ answer. IsSome answer.0 ↔ (is_full self.old.cell ≡ true)) }
@@ -124,9 +124,9 @@ impl<T: Drop, W: Wakes> Core<T, W> {
     /// from none to none they stay. Refused on a closed cell, and then the closure is not called.
     pub fn update<F: FnOnce(Option<T>) -> Option<T> + Drop>(&mut self, change: F) -> Result<Wakers<W>, Refusal>
         requires { is_closed self.old.cell ≡ false → F.pre change (content self.old.cell) }
-        ensures done { IfOk result (λ woken. Answers W.wakes W.SURE_CLONE self.old (Kept.Update (content self.old.cell) (content self.new.cell)) Reply.Done woken self.new) }
+        ensures done { IfOk result (λ woken. Answers W.will_wake W.SURE_CLONE self.old (Kept.Update (content self.old.cell) (content self.new.cell)) Reply.Done woken self.new) }
         ensures called { OnOk result (F.post change (content self.old.cell) (content self.new.cell)) }
-        ensures refused { IfErr result (λ why. Answers W.wakes W.SURE_CLONE self.old (Kept.Update None None) (Reply.Refused why None) [] self.new) }
+        ensures refused { IfErr result (λ why. Answers W.will_wake W.SURE_CLONE self.old (Kept.Update None None) (Reply.Refused why None) [] self.new) }
 
         ensures if_open { IsOk result ↔ (is_closed self.old.cell ≡ false) }
         ensures unchanged { OnErr result (self.new ≡ self.old) }
@@ -145,9 +145,9 @@ impl<T: Drop, W: Wakes> Core<T, W> {
     /// is not called where there is no value or the call is refused.
     pub fn update_some<F: FnOnce(T) -> T + Drop>(&mut self, change: F) -> Result<(), Refusal>
         requires { ForSome (content self.old.cell) (F.pre change) }
-        ensures done { OnOk result (Answers W.wakes W.SURE_CLONE self.old (Kept.UpdateSome (content self.old.cell) (content self.new.cell)) Reply.Done [] self.new) }
+        ensures done { OnOk result (Answers W.will_wake W.SURE_CLONE self.old (Kept.UpdateSome (content self.old.cell) (content self.new.cell)) Reply.Done [] self.new) }
         ensures called { IfSome (content self.old.cell) (λ old. IsSomeAnd (content self.new.cell) (λ new. F.post change old new)) }
-        ensures refused { IfErr result (λ why. Answers W.wakes W.SURE_CLONE self.old (Kept.UpdateSome None None) (Reply.Refused why None) [] self.new) }
+        ensures refused { IfErr result (λ why. Answers W.will_wake W.SURE_CLONE self.old (Kept.UpdateSome None None) (Reply.Refused why None) [] self.new) }
 
         ensures if_open { IsOk result ↔ (is_closed self.old.cell ≡ false) }
         ensures unchanged { OnErr result (self.new ≡ self.old) }
@@ -163,7 +163,7 @@ impl<T: Drop, W: Wakes> Core<T, W> {
 
     /// Takes the value, if there is one. Those that wait stay.
     pub fn try_take(&mut self) -> Option<T>
-        ensures model { Answers W.wakes W.SURE_CLONE self.old Kept.TryTake (Reply.Value result) [] self.new }
+        ensures model { Answers W.will_wake W.SURE_CLONE self.old Kept.TryTake (Reply.Value result) [] self.new }
         ensures takes { result ≡ content self.old.cell }
         ensures leaves_none { content self.new.cell ≡ None }
     {
@@ -172,7 +172,7 @@ impl<T: Drop, W: Wakes> Core<T, W> {
 
     /// Whether there is a value.
     pub fn is_set(&self) -> bool
-        ensures model { Answers W.wakes W.SURE_CLONE self.now Kept.IsSet (Reply.Is result) [] self.now }
+        ensures model { Answers W.will_wake W.SURE_CLONE self.now Kept.IsSet (Reply.Is result) [] self.now }
         ensures full { result ≡ is_full self.now.cell }
     {
         self.value.is_some()
@@ -181,10 +181,10 @@ impl<T: Drop, W: Wakes> Core<T, W> {
     /// Takes the value, or waits for one: the waker is added last, unless a single one waits that would wake it. Ready with
     /// none on a closed cell. Refused where the waker's clone or the growth of the list found no memory.
     pub fn poll_take(&mut self, waker: &W) -> Result<Poll<Option<T>>, Refusal>
-        ensures model { Answers W.wakes W.SURE_CLONE self.old (Kept.PollTake waker.now) (poll_reply result) [] self.new }
+        ensures model { Answers W.will_wake W.SURE_CLONE self.old (Kept.PollTake waker.now) (poll_reply result) [] self.new }
         ensures ready { is_vacant self.old.cell ≡ false → result ≡ Ok (Poll.Ready (content self.old.cell)) }
-        ensures waits { result ≡ Ok Poll.Pending → self.new.waiting ≡ keep W.wakes (self.old.waiting ++ waker.now ∷ []) }
-        ensures spared { needs_none W.wakes W.SURE_CLONE self.old waker.now ≡ true → IsOk result }
+        ensures waits { result ≡ Ok Poll.Pending → self.new.waiting ≡ keep W.will_wake (self.old.waiting ++ waker.now ∷ []) }
+        ensures spared { needs_no_memory W.will_wake W.SURE_CLONE self.old waker.now ≡ true → IsOk result }
         ensures unchanged { OnErr result (self.new ≡ self.old) }
     {
         if self.is_vacant() {
@@ -196,8 +196,8 @@ impl<T: Drop, W: Wakes> Core<T, W> {
 
     /// One owner more. Refused on a closed cell, and beyond 4,294,967,295 owners.
     pub fn add_owner(&mut self) -> Result<(), Refusal>
-        ensures done { OnOk result (Answers W.wakes W.SURE_CLONE self.old Kept.AddOwner Reply.Done [] self.new) }
-        ensures refused { IfErr result (λ why. Answers W.wakes W.SURE_CLONE self.old Kept.AddOwner (Reply.Refused why None) [] self.new) }
+        ensures done { OnOk result (Answers W.will_wake W.SURE_CLONE self.old Kept.AddOwner Reply.Done [] self.new) }
+        ensures refused { IfErr result (λ why. Answers W.will_wake W.SURE_CLONE self.old Kept.AddOwner (Reply.Refused why None) [] self.new) }
 
         ensures counted { OnOk result (owners_of self.new.cell ≡ owners_of self.old.cell + 1) }
         ensures unchanged { OnErr result (self.new ≡ self.old) }
@@ -211,8 +211,8 @@ impl<T: Drop, W: Wakes> Core<T, W> {
 
     /// One owner less. The last one closes the cell: the value and all that wait are handed out. Refused on a closed cell.
     pub fn end_owner(&mut self) -> Result<(Option<T>, Wakers<W>), Refusal>
-        ensures done { IfOk result (λ answer. Answers W.wakes W.SURE_CLONE self.old Kept.EndOwner (Reply.Value answer.0) answer.1 self.new) }
-        ensures refused { IfErr result (λ why. Answers W.wakes W.SURE_CLONE self.old Kept.EndOwner (Reply.Refused why None) [] self.new) }
+        ensures done { IfOk result (λ answer. Answers W.will_wake W.SURE_CLONE self.old Kept.EndOwner (Reply.Value answer.0) answer.1 self.new) }
+        ensures refused { IfErr result (λ why. Answers W.will_wake W.SURE_CLONE self.old Kept.EndOwner (Reply.Refused why None) [] self.new) }
 
         ensures if_open { IsOk result ↔ (is_closed self.old.cell ≡ false) }
         ensures counted { owners_of self.new.cell ≡ owners_of self.old.cell - 1 }
@@ -231,8 +231,8 @@ impl<T: Drop, W: Wakes> Core<T, W> {
     /// Closes the cell of a sole owner: the value and all that wait are handed out. Refused on a closed cell, and beside
     /// other owners.
     pub fn take_inner(&mut self) -> Result<(Option<T>, Wakers<W>), Refusal>
-        ensures done { IfOk result (λ answer. Answers W.wakes W.SURE_CLONE self.old Kept.TakeInner (Reply.Value answer.0) answer.1 self.new) }
-        ensures refused { IfErr result (λ why. Answers W.wakes W.SURE_CLONE self.old Kept.TakeInner (Reply.Refused why None) [] self.new) }
+        ensures done { IfOk result (λ answer. Answers W.will_wake W.SURE_CLONE self.old Kept.TakeInner (Reply.Value answer.0) answer.1 self.new) }
+        ensures refused { IfErr result (λ why. Answers W.will_wake W.SURE_CLONE self.old Kept.TakeInner (Reply.Refused why None) [] self.new) }
 
         ensures if_sole { IsOk result ↔ (owners_of self.old.cell ≡ 1) }
         ensures closes { OnOk result (is_closed self.new.cell ≡ true) }
@@ -291,13 +291,13 @@ impl<T: Drop, W: Wakes> Core<T, W> {
     #[tactic(auto, using(async_cell_model::proofs::Adding::keep_added, async_cell_model::proofs::Adding::keep_spared, async_cell_model::proofs::Polling::get_waits, async_cell_model::proofs::Polling::get_refused))]
     fn wait(&mut self, waker: &W) -> Result<(), Refusal>
         requires { is_vacant self.old.cell ≡ true }
-        ensures waits { OnOk result (self.new ≡ record self.old { waiting = keep W.wakes (self.old.waiting ++ waker.now ∷ []) }) }
+        ensures waits { OnOk result (self.new ≡ record self.old { waiting = keep W.will_wake (self.old.waiting ++ waker.now ∷ []) }) }
         ensures refused { IfErr result (λ why. (why ≡ Refusal.Memory) × (self.new ≡ self.old)) }
-        ensures get_waits { OnOk result (Answers W.wakes W.SURE_CLONE self.old (Kept.PollGet waker.now) Reply.Pending [] self.new) }
-        ensures get_refused { IfErr result (λ why. Answers W.wakes W.SURE_CLONE self.old (Kept.PollGet waker.now) (Reply.Refused why None) [] self.new) }
-        ensures spared { needs_none W.wakes W.SURE_CLONE self.old waker.now ≡ true → IsOk result }
+        ensures get_waits { OnOk result (Answers W.will_wake W.SURE_CLONE self.old (Kept.PollGet waker.now) Reply.Pending [] self.new) }
+        ensures get_refused { IfErr result (λ why. Answers W.will_wake W.SURE_CLONE self.old (Kept.PollGet waker.now) (Reply.Refused why None) [] self.new) }
+        ensures spared { needs_no_memory W.will_wake W.SURE_CLONE self.old waker.now ≡ true → IsOk result }
     {
-        if !self.waiting.spares(waker) {
+        if !self.waiting.skips(waker) {
             self.waiting.push(waker)?;
         }
         Ok(())
@@ -317,8 +317,8 @@ impl<T: Drop, W: Wakes> Core<T, W> {
 impl<T: Clone, W: Wakes> Core<T, W> {
     /// A clone of the value, if there is one. Refused where the clone found no memory.
     pub fn try_get(&self) -> Result<Option<T>, Refusal>
-        ensures done { IsExact T.is_clone → IfOk result (λ copy. Answers W.wakes W.SURE_CLONE self.now Kept.TryGet (Reply.Value copy) [] self.now) }
-        ensures refused { IfErr result (λ why. Answers W.wakes W.SURE_CLONE self.now Kept.TryGet (Reply.Refused why None) [] self.now) }
+        ensures done { IsExact T.is_clone → IfOk result (λ copy. Answers W.will_wake W.SURE_CLONE self.now Kept.TryGet (Reply.Value copy) [] self.now) }
+        ensures refused { IfErr result (λ why. Answers W.will_wake W.SURE_CLONE self.now Kept.TryGet (Reply.Refused why None) [] self.now) }
 
         ensures clones { IfOk result (IsCloneOf T.is_clone (content self.now.cell)) }
         ensures sure { MatchOption (content self.now.cell) (IsOk result) (λ value. T.is_infallible value → IsOk result) }
@@ -335,13 +335,13 @@ impl<T: Clone, W: Wakes> Core<T, W> {
     /// Gives a clone of the value, or waits for one as `poll_take` does. Ready with none on a closed cell. Refused where the
     /// value's or the waker's clone or the growth of the list found no memory.
     pub fn poll_get(&mut self, waker: &W) -> Result<Poll<Option<T>>, Refusal>
-        ensures model { IsExact T.is_clone → Answers W.wakes W.SURE_CLONE self.old (Kept.PollGet waker.now) (poll_reply result) [] self.new }
-        ensures refused { IfErr result (λ why. Answers W.wakes W.SURE_CLONE self.old (Kept.PollGet waker.now) (Reply.Refused why None) [] self.new) }
+        ensures model { IsExact T.is_clone → Answers W.will_wake W.SURE_CLONE self.old (Kept.PollGet waker.now) (poll_reply result) [] self.new }
+        ensures refused { IfErr result (λ why. Answers W.will_wake W.SURE_CLONE self.old (Kept.PollGet waker.now) (Reply.Refused why None) [] self.new) }
 
         ensures ready { is_vacant self.old.cell ≡ false → IfOk result (IsReadyWith (IsCloneOf T.is_clone (content self.old.cell))) }
         ensures stays { is_vacant self.old.cell ≡ false → self.new ≡ self.old }
-        ensures waits { is_vacant self.old.cell ≡ true → IfOk result (λ polled. (polled ≡ Poll.Pending) × (self.new.waiting ≡ keep W.wakes (self.old.waiting ++ waker.now ∷ []))) }
-        ensures spared { is_vacant self.old.cell ≡ true → needs_none W.wakes W.SURE_CLONE self.old waker.now ≡ true → IsOk result }
+        ensures waits { is_vacant self.old.cell ≡ true → IfOk result (λ polled. (polled ≡ Poll.Pending) × (self.new.waiting ≡ keep W.will_wake (self.old.waiting ++ waker.now ∷ []))) }
+        ensures spared { is_vacant self.old.cell ≡ true → needs_no_memory W.will_wake W.SURE_CLONE self.old waker.now ≡ true → IsOk result }
         ensures unchanged { OnErr result (self.new ≡ self.old) }
     {
         if self.is_vacant() {

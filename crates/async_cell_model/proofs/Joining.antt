@@ -6,8 +6,8 @@ use Rattle.std.specs.Prelude.{if◌then◌else◌}
 use Rattle.async_cell_model.specs.declared.cell.Cell.{Cell}
 use Rattle.async_cell_model.specs.Cell.{ends_waiting}
 use Rattle.async_cell_model.specs.Step.{next}
-use Rattle.async_cell_model.specs.Waiting.{keep, drop_woken}
-use Rattle.async_cell_model.specs.History.{Beginning, History, cell_after, has_end, since, asked, pending_waker, waiting, room, after}
+use Rattle.async_cell_model.specs.Waiting.{keep, drop_while}
+use Rattle.async_cell_model.specs.History.{Beginning, History, cell_after, has_fill_or_close, since, asked, pending_waker, waiting, room, after}
 
 or_over : (p q r s : Bool) → s ≡ (q || r) → (p || s) ≡ ((p || q) || r)
 or_over true q r s e = refl
@@ -36,75 +36,75 @@ front_over true false l a b c = refl
 front_over false true l a b c = refl
 front_over false false l a b c = sym (append_assoc l a c)
 
-module _ {W : Type 0} (wakes : W → W → Bool) where
-  drop_woken_step : (w v : W) (b : Bool) → wakes w v ≡ b → (xs ys : List W) → drop_woken wakes w (drop_woken wakes w xs ++ ys) ≡ drop_woken wakes w (xs ++ ys)
-      → drop_woken wakes w (drop_woken wakes w (v ∷ xs) ++ ys) ≡ drop_woken wakes w ((v ∷ xs) ++ ys)
-  drop_woken_step w v true e xs ys rest = rw e rest
-  drop_woken_step w v false e xs ys rest = simp e refl
+module _ {W : Type 0} (will_wake : W → W → Bool) where
+  drop_while_step : (w v : W) (b : Bool) → will_wake w v ≡ b → (xs ys : List W) → drop_while (will_wake w) (drop_while (will_wake w) xs ++ ys) ≡ drop_while (will_wake w) (xs ++ ys)
+      → drop_while (will_wake w) (drop_while (will_wake w) (v ∷ xs) ++ ys) ≡ drop_while (will_wake w) ((v ∷ xs) ++ ys)
+  drop_while_step w v true e xs ys rest = rw e rest
+  drop_while_step w v false e xs ys rest = simp e refl
 
-  drop_woken-append : (w : W) (xs ys : List W) → drop_woken wakes w (drop_woken wakes w xs ++ ys) ≡ drop_woken wakes w (xs ++ ys)
-  drop_woken-append w [] ys = refl
-  drop_woken-append w (v ∷ xs) ys = drop_woken_step w v (wakes w v) refl xs ys (drop_woken-append w xs ys)
+  drop_while-append : (w : W) (xs ys : List W) → drop_while (will_wake w) (drop_while (will_wake w) xs ++ ys) ≡ drop_while (will_wake w) (xs ++ ys)
+  drop_while-append w [] ys = refl
+  drop_while-append w (v ∷ xs) ys = drop_while_step w v (will_wake w v) refl xs ys (drop_while-append w xs ys)
 
   -- what is kept of a longer list is no shorter
-  longer_step : (w v : W) (b : Bool) → wakes w v ≡ b → (xs ys : List W) → length (drop_woken wakes w xs) ≤ length (drop_woken wakes w (xs ++ ys))
-      → length (drop_woken wakes w (v ∷ xs)) ≤ length (drop_woken wakes w ((v ∷ xs) ++ ys))
+  longer_step : (w v : W) (b : Bool) → will_wake w v ≡ b → (xs ys : List W) → length (drop_while (will_wake w) xs) ≤ length (drop_while (will_wake w) (xs ++ ys))
+      → length (drop_while (will_wake w) (v ∷ xs)) ≤ length (drop_while (will_wake w) ((v ∷ xs) ++ ys))
   longer_step w v true e xs ys rest = rw e rest
   longer_step w v false e xs ys rest = rw e (let more : suc (length xs) ≤ suc (length (xs ++ ys)) = rw length-append (omega arith) in more)
 
-  drop_woken-longer : (w : W) (xs ys : List W) → length (drop_woken wakes w xs) ≤ length (drop_woken wakes w (xs ++ ys))
-  drop_woken-longer w [] ys = zero-le
-  drop_woken-longer w (v ∷ xs) ys = longer_step w v (wakes w v) refl xs ys (drop_woken-longer w xs ys)
+  drop_while-longer : (w : W) (xs ys : List W) → length (drop_while (will_wake w) xs) ≤ length (drop_while (will_wake w) (xs ++ ys))
+  drop_while-longer w [] ys = zero-le
+  drop_while-longer w (v ∷ xs) ys = longer_step w v (will_wake w v) refl xs ys (drop_while-longer w xs ys)
 
-  pub keep-longer : (xs ys : List W) → length (keep wakes xs) ≤ length (keep wakes (xs ++ ys))
+  pub keep-longer : (xs ys : List W) → length (keep will_wake xs) ≤ length (keep will_wake (xs ++ ys))
   keep-longer [] ys = zero-le
-  keep-longer (w ∷ xs) ys = suc-le-suc (drop_woken-longer w xs ys)
+  keep-longer (w ∷ xs) ys = suc-le-suc (drop_while-longer w xs ys)
 
   -- who waits may be kept first, and again with those who come later
-  pub keep-append : (xs ys : List W) → keep wakes (keep wakes xs ++ ys) ≡ keep wakes (xs ++ ys)
+  pub keep-append : (xs ys : List W) → keep will_wake (keep will_wake xs ++ ys) ≡ keep will_wake (xs ++ ys)
   keep-append [] ys = refl
-  keep-append (w ∷ xs) ys = ap (λ l. w ∷ l) (drop_woken-append w xs ys)
+  keep-append (w ∷ xs) ys = ap (λ l. w ∷ l) (drop_while-append w xs ys)
 
 module _ {T W : Type 0} where
   pub cell_after-append : (c : Cell T) (g h : History T W) → cell_after c (g ++ h) ≡ cell_after (cell_after c g) h
   cell_after-append c [] h = refl
   cell_after-append c (e ∷ g) h = cell_after-append (next c e) g h
 
-  pub has_end-append : (c : Cell T) (g h : History T W) → has_end c (g ++ h) ≡ (has_end c g || has_end (cell_after c g) h)
-  has_end-append c [] h = refl
-  has_end-append c (e ∷ g) h = or_over (ends_waiting c (next c e)) _ _ _ (has_end-append (next c e) g h)
+  pub has_fill_or_close-append : (c : Cell T) (g h : History T W) → has_fill_or_close c (g ++ h) ≡ (has_fill_or_close c g || has_fill_or_close (cell_after c g) h)
+  has_fill_or_close-append c [] h = refl
+  has_fill_or_close-append c (e ∷ g) h = or_over (ends_waiting c (next c e)) _ _ _ (has_fill_or_close-append (next c e) g h)
 
   -- with no fill or close, nothing is cut
-  pub since-none : (c : Cell T) (h : History T W) → has_end c h ≡ false → since c h ≡ h
+  pub since-none : (c : Cell T) (h : History T W) → has_fill_or_close c h ≡ false → since c h ≡ h
   since-none c [] none = refl
   since-none c (e ∷ h) none = rw none refl
 
-  since_whole : (c : Cell T) (h : History T W) (b : Bool) → has_end c h ≡ b → since c h ≡ (if b then since c h else h)
+  since_whole : (c : Cell T) (h : History T W) (b : Bool) → has_fill_or_close c h ≡ b → since c h ≡ (if b then since c h else h)
   since_whole c h true e = refl
   since_whole c h false e = since-none c h e
 
-  pub since-append : (c : Cell T) (g h : History T W) → since c (g ++ h) ≡ (if has_end (cell_after c g) h then since (cell_after c g) h else (since c g ++ h))
-  since-append c [] h = since_whole c h (has_end c h) refl
-  since-append c (e ∷ g) h = cut_over (ends_waiting c (next c e)) (has_end (next c e) g) (has_end (cell_after (next c e) g) h) (has_end (next c e) (g ++ h)) e g h _ _ _ (has_end-append (next c e) g h) (since-append (next c e) g h)
+  pub since-append : (c : Cell T) (g h : History T W) → since c (g ++ h) ≡ (if has_fill_or_close (cell_after c g) h then since (cell_after c g) h else (since c g ++ h))
+  since-append c [] h = since_whole c h (has_fill_or_close c h) refl
+  since-append c (e ∷ g) h = cut_over (ends_waiting c (next c e)) (has_fill_or_close (next c e) g) (has_fill_or_close (cell_after (next c e) g) h) (has_fill_or_close (next c e) (g ++ h)) e g h _ _ _ (has_fill_or_close-append (next c e) g h) (since-append (next c e) g h)
 
   pub asked-append : (b : Beginning T W) (g h : History T W)
-      → asked b (g ++ h) ≡ (if has_end (cell_after b.cell g) h then filter_map pending_waker (since (cell_after b.cell g) h) else (asked b g ++ filter_map pending_waker h))
+      → asked b (g ++ h) ≡ (if has_fill_or_close (cell_after b.cell g) h then filter_map pending_waker (since (cell_after b.cell g) h) else (asked b g ++ filter_map pending_waker h))
   asked-append b g h =
-      rw (has_end-append b.cell g h, since-append b.cell g h, split_map pending_waker (has_end (cell_after b.cell g) h) (since (cell_after b.cell g) h) (since b.cell g) h)
-      (front_over (has_end b.cell g) (has_end (cell_after b.cell g) h) b.waiting _ _ _)
+      rw (has_fill_or_close-append b.cell g h, since-append b.cell g h, split_map pending_waker (has_fill_or_close (cell_after b.cell g) h) (since (cell_after b.cell g) h) (since b.cell g) h)
+      (front_over (has_fill_or_close b.cell g) (has_fill_or_close (cell_after b.cell g) h) b.waiting _ _ _)
 
 -- what is kept stays when it is kept again
-pub keep-keep : {W : Type 0} (wakes : W → W → Bool) (l : List W) → keep wakes (keep wakes l) ≡ keep wakes l
-keep-keep {W} wakes l =
-    let again = keep-append wakes l [] in
-    let same : (m : List W) → keep wakes (m ++ []) ≡ keep wakes m = λ m. ap (keep wakes) (append-nil m) in
-    sym (same (keep wakes l)) ∙ (again ∙ same l)
+pub keep-keep : {W : Type 0} (will_wake : W → W → Bool) (l : List W) → keep will_wake (keep will_wake l) ≡ keep will_wake l
+keep-keep {W} will_wake l =
+    let again = keep-append will_wake l [] in
+    let same : (m : List W) → keep will_wake (m ++ []) ≡ keep will_wake m = λ m. ap (keep will_wake) (append-nil m) in
+    sym (same (keep will_wake l)) ∙ (again ∙ same l)
 
 -- those that wait, kept up to the joint and behind it
-kept_over : {W : Type 0} (wakes : W → W → Bool) (q : Bool) (first later cut : List W) → (q ≡ false → cut ≡ later)
-    → keep wakes (if q then cut else (first ++ later)) ≡ keep wakes ((if q then [] else keep wakes first) ++ cut)
-kept_over wakes true first later cut whole = refl
-kept_over wakes false first later cut whole = rw (whole refl) (sym (keep-append wakes first later))
+kept_over : {W : Type 0} (will_wake : W → W → Bool) (q : Bool) (first later cut : List W) → (q ≡ false → cut ≡ later)
+    → keep will_wake (if q then cut else (first ++ later)) ≡ keep will_wake ((if q then [] else keep will_wake first) ++ cut)
+kept_over will_wake true first later cut whole = refl
+kept_over will_wake false first later cut whole = rw (whole refl) (sym (keep-append will_wake first later))
 
 room_over : (p q : Bool) (room first second third : ℕ) → (p ≡ false → first ≤ second) → (q ≡ false → second ≤ third)
     → (if p || q then 0 else room - (third - first)) ≡ (if q then 0 else (if p then 0 else room - (second - first)) - (third - second))
@@ -114,29 +114,29 @@ room_over false true room first second third low high = refl
 room_over false false room first second third low high =
     let low' : first ≤ second = low refl in let high' : second ≤ third = high refl in omega arith
 
-module _ {T W : Type 0} (wakes : W → W → Bool) where
-  pub waiting-append : (b : Beginning T W) (g h : History T W) → waiting wakes b (g ++ h) ≡ waiting wakes (after wakes b g) h
+module _ {T W : Type 0} (will_wake : W → W → Bool) where
+  pub waiting-append : (b : Beginning T W) (g h : History T W) → waiting will_wake b (g ++ h) ≡ waiting will_wake (after will_wake b g) h
   waiting-append b g h =
       let parts = asked-append b g h in
-      ap (keep wakes) parts
-      ∙ kept_over wakes (has_end (cell_after b.cell g) h) (asked b g) (filter_map pending_waker h) (filter_map pending_waker (since (cell_after b.cell g) h))
+      ap (keep will_wake) parts
+      ∙ kept_over will_wake (has_fill_or_close (cell_after b.cell g) h) (asked b g) (filter_map pending_waker h) (filter_map pending_waker (since (cell_after b.cell g) h))
       (λ none. ap (filter_map pending_waker) (since-none (cell_after b.cell g) h none))
 
   -- with no fill or close, the list only grows
-  grows : (b : Beginning T W) (h : History T W) → keep wakes b.waiting ≡ b.waiting → has_end b.cell h ≡ false → length b.waiting ≤ length (waiting wakes b h)
+  grows : (b : Beginning T W) (h : History T W) → keep will_wake b.waiting ≡ b.waiting → has_fill_or_close b.cell h ≡ false → length b.waiting ≤ length (waiting will_wake b h)
   grows b h kept none =
       rw none
-      (let more = keep-longer wakes b.waiting (filter_map pending_waker (since b.cell h)) in
-      subst (λ (l : List W). length l ≤ length (keep wakes (b.waiting ++ filter_map pending_waker (since b.cell h)))) kept more)
+      (let more = keep-longer will_wake b.waiting (filter_map pending_waker (since b.cell h)) in
+      subst (λ (l : List W). length l ≤ length (keep will_wake (b.waiting ++ filter_map pending_waker (since b.cell h)))) kept more)
 
-  pub room-append : (b : Beginning T W) (g h : History T W) → keep wakes b.waiting ≡ b.waiting → room wakes b (g ++ h) ≡ room wakes (after wakes b g) h
+  pub room-append : (b : Beginning T W) (g h : History T W) → keep will_wake b.waiting ≡ b.waiting → room will_wake b (g ++ h) ≡ room will_wake (after will_wake b g) h
   room-append b g h kept =
       let same = waiting-append b g h in
-      let ends = has_end-append b.cell g h in
+      let ends = has_fill_or_close-append b.cell g h in
       rw (same, ends)
-      (room_over (has_end b.cell g) (has_end (cell_after b.cell g) h) b.room (length b.waiting) (length (waiting wakes b g)) (length (waiting wakes (after wakes b g) h))
-      (grows b g kept) (grows (after wakes b g) h (keep-keep wakes (asked b g))))
+      (room_over (has_fill_or_close b.cell g) (has_fill_or_close (cell_after b.cell g) h) b.room (length b.waiting) (length (waiting will_wake b g)) (length (waiting will_wake (after will_wake b g) h))
+      (grows b g kept) (grows (after will_wake b g) h (keep-keep will_wake (asked b g))))
 
   -- a joined history leads where its second part does, begun where the first ends
-  pub after-append : (b : Beginning T W) (g h : History T W) → keep wakes b.waiting ≡ b.waiting → after wakes b (g ++ h) ≡ after wakes (after wakes b g) h
+  pub after-append : (b : Beginning T W) (g h : History T W) → keep will_wake b.waiting ≡ b.waiting → after will_wake b (g ++ h) ≡ after will_wake (after will_wake b g) h
   after-append b g h kept = λ i. record { cell = cell_after-append b.cell g h i; waiting = waiting-append b g h i; room = room-append b g h kept i }

@@ -102,24 +102,24 @@ module _ {T W : Type 0} where
   not_pending (Open None owners) call not = cc
   not_pending (Open (Some v) owners) call not = not_pending_full v owners call
 
-module _ {T W : Type 0} (wakes : W → W → Bool) (sure : Bool) where
+module _ {T W : Type 0} (will_wake : W → W → Bool) (sure : Bool) where
   -- where no poll waits, none is answered `Pending`
-  pub no_waker : (at : Beginning T W) (e : Entry T W) → is_vacant at.cell ≡ false → MayFollow wakes sure at e → pending_waker e ≡ None
+  pub no_waker : (at : Beginning T W) (e : Entry T W) → is_vacant at.cell ≡ false → MayFollow will_wake sure at e → pending_waker e ≡ None
   no_waker at e not may = elim may.replied [
     | inl same ↦ rw same (rw (not_pending at.cell e.call not) refl)
     | inr refused ↦ rw refused.0 refl
   ]
 
-  nobody : (at : Beginning T W) (e : Entry T W) (vacant ends : Bool) → is_vacant at.cell ≡ vacant → (vacant ≡ true → ends ≡ true) → (vacant ≡ false → at.waiting ≡ []) → MayFollow wakes sure at e
-      → keep wakes ((if ends || false then [] else at.waiting) ++ filter_map pending_waker (if ends || false then [] else e ∷ [])) ≡ []
+  nobody : (at : Beginning T W) (e : Entry T W) (vacant ends : Bool) → is_vacant at.cell ≡ vacant → (vacant ≡ true → ends ≡ true) → (vacant ≡ false → at.waiting ≡ []) → MayFollow will_wake sure at e
+      → keep will_wake ((if ends || false then [] else at.waiting) ++ filter_map pending_waker (if ends || false then [] else e ∷ [])) ≡ []
   nobody at e true ends is must none may = let over : ends ≡ true = must refl in rw over refl
   nobody at e false true is must none may = refl
   nobody at e false false is must none may = let empty : at.waiting ≡ [] = none refl in let silent = no_waker at e is may in rw (empty, silent) refl
 
   -- an entry that may come leads from a beginning to a beginning
-  pub IsBeginning-step : (at : Beginning T W) (e : Entry T W) → IsBeginning wakes at → MayFollow wakes sure at e → IsBeginning wakes (after wakes at (e ∷ []))
+  pub IsBeginning-step : (at : Beginning T W) (e : Entry T W) → IsBeginning will_wake at → MayFollow will_wake sure at e → IsBeginning will_wake (after will_wake at (e ∷ []))
   IsBeginning-step at e begins may = record {
     counted = next-counted at.cell e begins.counted;
     waits_vacant = λ not. nobody at e (is_vacant at.cell) _ refl (λ vacant. ends_if at.cell (next at.cell e) vacant not) begins.waits_vacant may;
-    kept = keep-keep wakes (asked at (e ∷ []));
+    kept = keep-keep will_wake (asked at (e ∷ []));
   }

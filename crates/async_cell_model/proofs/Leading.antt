@@ -7,37 +7,37 @@ use Rattle.async_cell_model.specs.declared.entry.Entry.{Entry}
 use Rattle.async_cell_model.specs.declared.entry.Kept.{Kept}
 use Rattle.async_cell_model.specs.declared.entry.Kept.TheVariants.{TryGet, PollTake, PollGet}
 use Rattle.async_cell_model.specs.Cell.{is_full, is_vacant}
-use Rattle.async_cell_model.specs.Waiting.{keep, spares}
-use Rattle.async_cell_model.specs.History.{Beginning, History, IsBeginning, has_end, room, after}
-use Rattle.async_cell_model.specs.Legal.{MayFollow, IsLegalAfter, IsLegal, hands, hands_after, may_refuse, is_empty, Leads}
+use Rattle.async_cell_model.specs.Waiting.{keep, skips, is_empty}
+use Rattle.async_cell_model.specs.History.{Beginning, History, IsBeginning, has_fill_or_close, room, after}
+use Rattle.async_cell_model.specs.Legal.{MayFollow, IsLegalAfter, IsLegal, hands, hands_after, may_refuse, Leads}
 use Rattle.async_cell_model.proofs.Joining.{after-append}
 
-module _ {T W : Type 0} (wakes : W → W → Bool) (sure : Bool) where
+module _ {T W : Type 0} (will_wake : W → W → Bool) (sure : Bool) where
   -- a history is legal in two parts
-  pub IsLegalAfter-append : (b : Beginning T W) (h xs ys : History T W) → IsLegalAfter wakes sure b h xs → IsLegalAfter wakes sure b (h ++ xs) ys → IsLegalAfter wakes sure b h (xs ++ ys)
-  IsLegalAfter-append b h [] ys first second = subst (λ (g : History T W). IsLegalAfter wakes sure b g ys) (append-nil h) second
+  pub IsLegalAfter-append : (b : Beginning T W) (h xs ys : History T W) → IsLegalAfter will_wake sure b h xs → IsLegalAfter will_wake sure b (h ++ xs) ys → IsLegalAfter will_wake sure b h (xs ++ ys)
+  IsLegalAfter-append b h [] ys first second = subst (λ (g : History T W). IsLegalAfter will_wake sure b g ys) (append-nil h) second
   IsLegalAfter-append b h (e ∷ xs) ys first second =
-      (first.0, IsLegalAfter-append b (h ++ e ∷ []) xs ys first.1 (subst (λ (g : History T W). IsLegalAfter wakes sure b g ys) (sym (append_assoc h (e ∷ []) xs)) second))
+      (first.0, IsLegalAfter-append b (h ++ e ∷ []) xs ys first.1 (subst (λ (g : History T W). IsLegalAfter will_wake sure b g ys) (sym (append_assoc h (e ∷ []) xs)) second))
 
-  pub hands_after-append : (b : Beginning T W) (h xs ys : History T W) → hands_after wakes b h (xs ++ ys) ≡ hands_after wakes b h xs ++ hands_after wakes b (h ++ xs) ys
-  hands_after-append b h [] ys = ap (λ (g : History T W). hands_after wakes b g ys) (sym (append-nil h))
+  pub hands_after-append : (b : Beginning T W) (h xs ys : History T W) → hands_after will_wake b h (xs ++ ys) ≡ hands_after will_wake b h xs ++ hands_after will_wake b (h ++ xs) ys
+  hands_after-append b h [] ys = ap (λ (g : History T W). hands_after will_wake b g ys) (sym (append-nil h))
   hands_after-append b h (e ∷ xs) ys =
-      ap (λ (l : List (List W)). hands (after wakes b h) e ∷ l)
-      (hands_after-append b (h ++ e ∷ []) xs ys ∙ ap (λ (g : History T W). hands_after wakes b (h ++ e ∷ []) xs ++ hands_after wakes b g ys) (append_assoc h (e ∷ []) xs))
+      ap (λ (l : List (List W)). hands (after will_wake b h) e ∷ l)
+      (hands_after-append b (h ++ e ∷ []) xs ys ∙ ap (λ (g : History T W). hands_after will_wake b (h ++ e ∷ []) xs ++ hands_after will_wake b g ys) (append_assoc h (e ∷ []) xs))
 
   -- what is legal where a history leads is legal after it
-  pub IsLegalAfter-begun : (b : Beginning T W) (g h rest : History T W) → keep wakes b.waiting ≡ b.waiting → IsLegalAfter wakes sure (after wakes b g) h rest → IsLegalAfter wakes sure b (g ++ h) rest
+  pub IsLegalAfter-begun : (b : Beginning T W) (g h rest : History T W) → keep will_wake b.waiting ≡ b.waiting → IsLegalAfter will_wake sure (after will_wake b g) h rest → IsLegalAfter will_wake sure b (g ++ h) rest
   IsLegalAfter-begun b g h [] kept legal = tt
   IsLegalAfter-begun b g h (e ∷ rest) kept legal = (
-    subst (λ (at : Beginning T W). MayFollow wakes sure at e) (sym (after-append wakes b g h kept)) legal.0,
-    subst (λ (l : History T W). IsLegalAfter wakes sure b l rest) (sym (append_assoc g h (e ∷ []))) (IsLegalAfter-begun b g (h ++ e ∷ []) rest kept legal.1),
+    subst (λ (at : Beginning T W). MayFollow will_wake sure at e) (sym (after-append will_wake b g h kept)) legal.0,
+    subst (λ (l : History T W). IsLegalAfter will_wake sure b l rest) (sym (append_assoc g h (e ∷ []))) (IsLegalAfter-begun b g (h ++ e ∷ []) rest kept legal.1),
   )
 
-  pub hands_after-begun : (b : Beginning T W) (g h rest : History T W) → keep wakes b.waiting ≡ b.waiting → hands_after wakes b (g ++ h) rest ≡ hands_after wakes (after wakes b g) h rest
+  pub hands_after-begun : (b : Beginning T W) (g h rest : History T W) → keep will_wake b.waiting ≡ b.waiting → hands_after will_wake b (g ++ h) rest ≡ hands_after will_wake (after will_wake b g) h rest
   hands_after-begun b g h [] kept = refl
   hands_after-begun b g h (e ∷ rest) kept =
-      let head = ap (λ (at : Beginning T W). hands at e) (after-append wakes b g h kept) in
-      let tail = ap (λ (l : History T W). hands_after wakes b l rest) (append_assoc g h (e ∷ [])) ∙ hands_after-begun b g (h ++ e ∷ []) rest kept in
+      let head = ap (λ (at : Beginning T W). hands at e) (after-append will_wake b g h kept) in
+      let tail = ap (λ (l : History T W). hands_after will_wake b l rest) (append_assoc g h (e ∷ [])) ∙ hands_after-begun b g (h ++ e ∷ []) rest kept in
       λ i. head i ∷ tail i
 
 -- a poll that needs no memory with little room needs none with more
@@ -56,74 +56,74 @@ room_more_if : (ends : Bool) (r n taken : ℕ) → r ≤ n → (if ends then 0 e
 room_more_if true r n taken more = zero-le
 room_more_if false r n taken more = omega arith
 
-module _ {T W : Type 0} (wakes : W → W → Bool) (sure : Bool) where
+module _ {T W : Type 0} (will_wake : W → W → Bool) (sure : Bool) where
   -- more room only makes fewer refusals legal
-  may_refuse-room : (b : Beginning T W) (r : ℕ) → b.room ≤ r → (call : Kept T W) → may_refuse wakes sure (record b { room = r }) call ≡ true → may_refuse wakes sure b call ≡ true
+  may_refuse-room : (b : Beginning T W) (r : ℕ) → b.room ≤ r → (call : Kept T W) → may_refuse will_wake sure (record b { room = r }) call ≡ true → may_refuse will_wake sure b call ≡ true
   may_refuse-room b r more TryGet refused = refused
-  may_refuse-room b r more (PollTake w) refused = poll_room _ (spares wakes b.waiting w) sure (is_empty b.waiting) _ _ (below_more_room b.room r more) refused
+  may_refuse-room b r more (PollTake w) refused = poll_room _ (skips will_wake b.waiting w) sure (is_empty b.waiting) _ _ (below_more_room b.room r more) refused
   may_refuse-room b r more (PollGet w) refused =
-      full_or (is_full b.cell) _ _ (poll_room (is_vacant b.cell) (spares wakes b.waiting w) sure (is_empty b.waiting) _ _ (below_more_room b.room r more)) refused
+      full_or (is_full b.cell) _ _ (poll_room (is_vacant b.cell) (skips will_wake b.waiting w) sure (is_empty b.waiting) _ _ (below_more_room b.room r more)) refused
   may_refuse-room b r more call refused = refused
 
-  MayFollow-room : (b : Beginning T W) (r : ℕ) → b.room ≤ r → (e : Entry T W) → MayFollow wakes sure (record b { room = r }) e → MayFollow wakes sure b e
+  MayFollow-room : (b : Beginning T W) (r : ℕ) → b.room ≤ r → (e : Entry T W) → MayFollow will_wake sure (record b { room = r }) e → MayFollow will_wake sure b e
   MayFollow-room b r more e may = record {
     replied = elim may.replied [ inl same ↦ inl same | inr refused ↦ inr (refused.0, may_refuse-room b r more e.call refused.1) ];
     updated = may.updated;
   }
 
-  room-more : (b : Beginning T W) (r : ℕ) → b.room ≤ r → (h : History T W) → room wakes b h ≤ room wakes (record b { room = r }) h
-  room-more b r more h = room_more_if (has_end b.cell h) b.room r _ more
+  room-more : (b : Beginning T W) (r : ℕ) → b.room ≤ r → (h : History T W) → room will_wake b h ≤ room will_wake (record b { room = r }) h
+  room-more b r more h = room_more_if (has_fill_or_close b.cell h) b.room r _ more
 
-  IsLegalAfter-room : (b : Beginning T W) (r : ℕ) → b.room ≤ r → (h rest : History T W) → IsLegalAfter wakes sure (record b { room = r }) h rest → IsLegalAfter wakes sure b h rest
+  IsLegalAfter-room : (b : Beginning T W) (r : ℕ) → b.room ≤ r → (h rest : History T W) → IsLegalAfter will_wake sure (record b { room = r }) h rest → IsLegalAfter will_wake sure b h rest
   IsLegalAfter-room b r more h [] legal = tt
   IsLegalAfter-room b r more h (e ∷ rest) legal =
-      (MayFollow-room (after wakes b h) (room wakes (record b { room = r }) h) (room-more b r more h) e legal.0, IsLegalAfter-room b r more (h ++ e ∷ []) rest legal.1)
+      (MayFollow-room (after will_wake b h) (room will_wake (record b { room = r }) h) (room-more b r more h) e legal.0, IsLegalAfter-room b r more (h ++ e ∷ []) rest legal.1)
 
-  hands_after-room : (b : Beginning T W) (r : ℕ) (h rest : History T W) → hands_after wakes (record b { room = r }) h rest ≡ hands_after wakes b h rest
+  hands_after-room : (b : Beginning T W) (r : ℕ) (h rest : History T W) → hands_after will_wake (record b { room = r }) h rest ≡ hands_after will_wake b h rest
   hands_after-room b r h [] = refl
-  hands_after-room b r h (e ∷ rest) = ap (λ (l : List (List W)). hands (after wakes b h) e ∷ l) (hands_after-room b r (h ++ e ∷ []) rest)
+  hands_after-room b r h (e ∷ rest) = ap (λ (l : List (List W)). hands (after will_wake b h) e ∷ l) (hands_after-room b r (h ++ e ∷ []) rest)
 
-  joined_room : (b : Beginning T W) (r : ℕ) (to : Beginning T W) (g h : History T W) → keep wakes b.waiting ≡ b.waiting → room wakes b g ≤ r → room wakes (record (after wakes b g) { room = r }) h ≤ to.room → room wakes b (g ++ h) ≤ to.room
+  joined_room : (b : Beginning T W) (r : ℕ) (to : Beginning T W) (g h : History T W) → keep will_wake b.waiting ≡ b.waiting → room will_wake b g ≤ r → room will_wake (record (after will_wake b g) { room = r }) h ≤ to.room → room will_wake b (g ++ h) ≤ to.room
   joined_room b r to g h kept more left =
-      let same : room wakes b (g ++ h) ≡ room wakes (after wakes b g) h = ap (λ (at : Beginning T W). at.room) (after-append wakes b g h kept) in
-      let longer : room wakes (after wakes b g) h ≤ room wakes (record (after wakes b g) { room = r }) h = room-more (after wakes b g) r more h in
+      let same : room will_wake b (g ++ h) ≡ room will_wake (after will_wake b g) h = ap (λ (at : Beginning T W). at.room) (after-append will_wake b g h kept) in
+      let longer : room will_wake (after will_wake b g) h ≤ room will_wake (record (after will_wake b g) { room = r }) h = room-more (after will_wake b g) r more h in
       rw same (le_trans longer left)
 
-  handed_both : (b : Beginning T W) (r : ℕ) (g h : History T W) (ws us : List (List W)) → keep wakes b.waiting ≡ b.waiting → ws ≡ hands_after wakes b [] g → us ≡ hands_after wakes (record (after wakes b g) { room = r }) [] h
-      → ws ++ us ≡ hands_after wakes b [] (g ++ h)
+  handed_both : (b : Beginning T W) (r : ℕ) (g h : History T W) (ws us : List (List W)) → keep will_wake b.waiting ≡ b.waiting → ws ≡ hands_after will_wake b [] g → us ≡ hands_after will_wake (record (after will_wake b g) { room = r }) [] h
+      → ws ++ us ≡ hands_after will_wake b [] (g ++ h)
   handed_both b r g h ws us kept first second =
-      let later : us ≡ hands_after wakes b g h =
-      second ∙ (hands_after-room (after wakes b g) r [] h ∙ (sym (hands_after-begun wakes sure b g [] h kept) ∙ ap (λ (l : History T W). hands_after wakes b l h) (append-nil g))) in
-      ap (λ (l : List (List W)). l ++ us) first ∙ (ap (λ (l : List (List W)). hands_after wakes b [] g ++ l) later ∙ sym (hands_after-append wakes sure b [] g h))
+      let later : us ≡ hands_after will_wake b g h =
+      second ∙ (hands_after-room (after will_wake b g) r [] h ∙ (sym (hands_after-begun will_wake sure b g [] h kept) ∙ ap (λ (l : History T W). hands_after will_wake b l h) (append-nil g))) in
+      ap (λ (l : List (List W)). l ++ us) first ∙ (ap (λ (l : List (List W)). hands_after will_wake b [] g ++ l) later ∙ sym (hands_after-append will_wake sure b [] g h))
 
   -- a history that leads on, from the beginning that the first one left, with room to spare
-  join_at : (b : Beginning T W) (r : ℕ) (to : Beginning T W) (g h : History T W) (ws us : List (List W)) → IsBeginning wakes b → IsLegal wakes sure b g → room wakes b g ≤ r → ws ≡ hands_after wakes b [] g
-      → Leads wakes sure (record (after wakes b g) { room = r }) h us to → Leads wakes sure b (g ++ h) (ws ++ us) to
+  join_at : (b : Beginning T W) (r : ℕ) (to : Beginning T W) (g h : History T W) (ws us : List (List W)) → IsBeginning will_wake b → IsLegal will_wake sure b g → room will_wake b g ≤ r → ws ≡ hands_after will_wake b [] g
+      → Leads will_wake sure (record (after will_wake b g) { room = r }) h us to → Leads will_wake sure b (g ++ h) (ws ++ us) to
   join_at b r to g h ws us begins legal more handed second =
-      let begun = IsLegalAfter-begun wakes sure b g [] h begins.kept (IsLegalAfter-room (after wakes b g) r more [] h second.legal) in
-      let joined = after-append wakes b g h begins.kept in
+      let begun = IsLegalAfter-begun will_wake sure b g [] h begins.kept (IsLegalAfter-room (after will_wake b g) r more [] h second.legal) in
+      let joined = after-append will_wake b g h begins.kept in
       record {
         begins = begins;
-        legal = IsLegalAfter-append wakes sure b [] g h legal (subst (λ (l : History T W). IsLegalAfter wakes sure b l h) (append-nil g) begun);
-        cell = second.cell ∙ sym (ap (λ (at : Beginning T W). at.cell) joined);
+        legal = IsLegalAfter-append will_wake sure b [] g h legal (subst (λ (l : History T W). IsLegalAfter will_wake sure b l h) (append-nil g) begun);
+        cell_is = second.cell_is ∙ sym (ap (λ (at : Beginning T W). at.cell) joined);
         waiting_is = second.waiting_is ∙ sym (ap (λ (at : Beginning T W). at.waiting) joined);
-        room_left = joined_room b r to g h begins.kept more second.room_left;
-        handed = handed_both b r g h ws us begins.kept handed second.handed;
+        room_is_left = joined_room b r to g h begins.kept more second.room_is_left;
+        handed_is = handed_both b r g h ws us begins.kept handed second.handed_is;
       }
 
   -- two histories, one where the other leads, are one
-  pub Leads-join : (b mid to : Beginning T W) (g h : History T W) (ws us : List (List W)) → Leads wakes sure b g ws mid → Leads wakes sure mid h us to → Leads wakes sure b (g ++ h) (ws ++ us) to
+  pub Leads-join : (b mid to : Beginning T W) (g h : History T W) (ws us : List (List W)) → Leads will_wake sure b g ws mid → Leads will_wake sure mid h us to → Leads will_wake sure b (g ++ h) (ws ++ us) to
   Leads-join b mid to g h ws us first second =
-      let there : mid ≡ record (after wakes b g) { room = mid.room } = λ i. record { cell = first.cell i; waiting = first.waiting_is i; room = mid.room } in
-      join_at b mid.room to g h ws us first.begins first.legal first.room_left first.handed (subst (λ (at : Beginning T W). Leads wakes sure at h us to) there second)
+      let there : mid ≡ record (after will_wake b g) { room = mid.room } = λ i. record { cell = first.cell_is i; waiting = first.waiting_is i; room = mid.room } in
+      join_at b mid.room to g h ws us first.begins first.legal first.room_is_left first.handed_is (subst (λ (at : Beginning T W). Leads will_wake sure at h us to) there second)
 
   -- the empty history leads nowhere else
-  pub Leads-nil : (b : Beginning T W) → IsBeginning wakes b → Leads wakes sure b [] [] b
+  pub Leads-nil : (b : Beginning T W) → IsBeginning will_wake b → Leads will_wake sure b [] [] b
   Leads-nil b begins = record {
     begins = begins;
     legal = tt;
-    cell = refl;
-    waiting_is = sym (ap (keep wakes) (append-nil b.waiting) ∙ begins.kept);
-    room_left = omega arith;
-    handed = refl;
+    cell_is = refl;
+    waiting_is = sym (ap (keep will_wake) (append-nil b.waiting) ∙ begins.kept);
+    room_is_left = omega arith;
+    handed_is = refl;
   }

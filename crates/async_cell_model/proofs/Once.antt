@@ -190,8 +190,8 @@ module _ {T W : Type 0} where
   refused_gives Closed call = let nothing = refused_nothing call in record { fits = rw nothing (IsSubsequence-nil _) }
   refused_gives (Open value owners) call = let nothing = refused_nothing call in record { fits = rw nothing (stays value call) }
 
-module _ {T W : Type 0} (wakes : W → W → Bool) (sure : Bool) where
-  entry_gives : (at : Beginning T W) (e : Entry T W) → is_update e.call ≡ false → MayFollow wakes sure at e → Hands at.cell e.call e.reply (next at.cell e)
+module _ {T W : Type 0} (will_wake : W → W → Bool) (sure : Bool) where
+  entry_gives : (at : Beginning T W) (e : Entry T W) → is_update e.call ≡ false → MayFollow will_wake sure at e → Hands at.cell e.call e.reply (next at.cell e)
   entry_gives at e plain may = elim may.replied [
     | inl same ↦ subst (λ (r : Reply T). Hands at.cell e.call r (next at.cell (record { call = e.call; reply = r }))) (sym same) (replied_gives at.cell e.call plain)
     | inr refused ↦ subst (λ (r : Reply T). Hands at.cell e.call r (next at.cell (record { call = e.call; reply = r }))) (sym refused.0) (refused_gives at.cell e.call)
@@ -211,12 +211,12 @@ module _ {T W : Type 0} (wakes : W → W → Bool) (sure : Bool) where
       rw (cons_is (given_by e.call e.reply) (given h), cons_is (brought_by e.call) (brought h), ← parts) all
 
   -- what the replies give is, in order, some of what was there and was brought
-  pub given_in_order : (b : Beginning T W) (g h : History T W) → has_update h ≡ false → IsLegalAfter wakes sure b g h
+  pub given_in_order : (b : Beginning T W) (g h : History T W) → has_update h ≡ false → IsLegalAfter will_wake sure b g h
       → IsSubsequence (given h) (option_to_list (content (cell_after b.cell g)) ++ brought h)
   given_in_order b g [] plain legal = IsSubsequence-nil _
   given_in_order b g (e ∷ h) plain legal =
-      one_more b g e h (entry_gives (after wakes b g) e (first_plain _ _ plain) legal.0) (given_in_order b (g ++ e ∷ []) h (rest_plain _ _ plain) legal.1)
+      one_more b g e h (entry_gives (after will_wake b g) e (first_plain _ _ plain) legal.0) (given_in_order b (g ++ e ∷ []) h (rest_plain _ _ plain) legal.1)
 
-  pub given_once : (b : Beginning T W) (h : History T W) → has_update h ≡ false → IsLegal wakes sure b h
+  pub given_once : (b : Beginning T W) (h : History T W) → has_update h ≡ false → IsLegal will_wake sure b h
       → IsDistinct (option_to_list (content b.cell) ++ brought h) → IsDistinct (given h)
   given_once b h plain legal distinct = pairs_of_subsequence (λ x y. x ≢ y) _ _ (given_in_order b [] h plain legal) distinct

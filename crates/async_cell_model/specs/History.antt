@@ -32,14 +32,14 @@ module _ {T W : Type 0} where
   cell_after c (e ∷ h) = cell_after (next c e) h
 
   -- whether some entry is a fill or a close
-  abbrev pub has_end : Cell T → History T W → Bool
-  has_end c [] = false
-  has_end c (e ∷ h) = ends_waiting c (next c e) || has_end (next c e) h
+  abbrev pub has_fill_or_close : Cell T → History T W → Bool
+  has_fill_or_close c [] = false
+  has_fill_or_close c (e ∷ h) = ends_waiting c (next c e) || has_fill_or_close (next c e) h
 
   -- the entries after the last fill or close: all of them where there is none
   abbrev pub since : Cell T → History T W → History T W
   since c [] = []
-  since c (e ∷ h) = if has_end c (e ∷ h) then since (next c e) h else e ∷ h
+  since c (e ∷ h) = if has_fill_or_close c (e ∷ h) then since (next c e) h else e ∷ h
 
   -- the waker of a poll that was answered `Pending`
   abbrev pub waker_of : Kept T W → Option W
@@ -53,16 +53,16 @@ module _ {T W : Type 0} where
   -- the wakers of the polls that were answered `Pending` since the last fill or close. Where there was none, those that
   -- waited at the beginning stand before them
   abbrev pub asked : Beginning T W → History T W → List W
-  asked b h = (if has_end b.cell h then [] else b.waiting) ++ filter_map pending_waker (since b.cell h)
+  asked b h = (if has_fill_or_close b.cell h then [] else b.waiting) ++ filter_map pending_waker (since b.cell h)
 
-module _ {T W : Type 0} (wakes : W → W → Bool) where
+module _ {T W : Type 0} (will_wake : W → W → Bool) where
   -- the wakers that wait after a history
   abbrev pub waiting : Beginning T W → History T W → List W
-  waiting b h = keep wakes (asked b h)
+  waiting b h = keep will_wake (asked b h)
 
   -- for how many more wakers there is room: each that was added takes up one, and a fill or a close ends the room
   abbrev pub room : Beginning T W → History T W → ℕ
-  room b h = if has_end b.cell h then 0 else b.room - (length (waiting b h) - length b.waiting)
+  room b h = if has_fill_or_close b.cell h then 0 else b.room - (length (waiting b h) - length b.waiting)
 
   -- where a history leads: the beginning of whatever follows
   abbrev pub after : Beginning T W → History T W → Beginning T W
@@ -72,4 +72,4 @@ module _ {T W : Type 0} (wakes : W → W → Bool) where
   pub record IsBeginning (b : Beginning T W) : Type 0 where
     pub counted : IsCounted b.cell
     pub waits_vacant : is_vacant b.cell ≡ false → b.waiting ≡ []
-    pub kept : keep wakes b.waiting ≡ b.waiting
+    pub kept : keep will_wake b.waiting ≡ b.waiting

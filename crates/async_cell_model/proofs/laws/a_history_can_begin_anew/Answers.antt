@@ -4,9 +4,9 @@ use Rattle.async_cell_model.proofs.laws.a_history_can_begin_anew.Goals as goal
 
 pub returns : goal.returns
 returns g c = record {
-  begins = λ wakes sure b g begins legal. IsBeginning-after wakes sure b g begins legal;
-  legal = λ wakes sure b g h begins legal. IsLegal-anew wakes sure b g h begins legal;
-  cell = λ wakes b g h. cell_after-append b.cell g h;
-  waiting = λ wakes b g h. waiting-append wakes b g h;
-  room = λ wakes b g h begins. room-append wakes b g h begins.kept;
+  begins = λ will_wake sure b g begins legal. IsBeginning-after will_wake sure b g begins legal;
+  legal = λ will_wake sure b g h begins legal. IsLegal-anew will_wake sure b g h begins legal;
+  cell = λ will_wake b g h. cell_after-append b.cell g h;
+  waiting = λ will_wake b g h. waiting-append will_wake b g h;
+  room = λ will_wake b g h begins. room-append will_wake b g h begins.kept;
 }
