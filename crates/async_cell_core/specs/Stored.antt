@@ -1,8 +1,8 @@
 -- What a core keeps.
-use Rattle.std.specs.Prelude.{◌≡◌, ℕ, List, Option, None, nat_eq, if◌then◌else◌}
+use Rattle.std.specs.Prelude.{ℕ, List, Option, nat_eq, if◌then◌else◌}
 use Rattle.async_cell_model.specs.declared.cell.Cell.{Cell}
 use Rattle.async_cell_model.specs.declared.cell.Cell.TheVariants.{Closed, Open}
-use Rattle.async_cell_model.specs.History.{Beginning, IsBeginning}
+use Rattle.async_cell_model.specs.History.{Beginning}
 
 -- the cell of a content and a number of owners, none once it is closed
 abbrev pub cell_of : {T : Type 0} → Option T → ℕ → Cell T

@@ -1,9 +1,13 @@
 ghost use Rattle.std.specs.Prelude.{◌≡◌, ◌≤◌, ◌↔◌, ℕ, [], ◌∷◌, ◌++◌, ◌+◌, ◌-◌, None, length, true, false, is_some, IsTrue, IsOk, IsErr, IsSome, IsSomeAnd, IfSome, IfOk, IfErr, OnOk, OnErr, MatchResult, MatchOption};
 ghost use Rattle.std.specs.Option.{ForSome};
 ghost use Rattle.async_cell_model.specs.Cell.{content, owners_of, is_closed, is_full, is_vacant};
+ghost use Rattle.async_cell_model.specs.History.{IsBeginning};
 ghost use Rattle.async_cell_model.specs.Waiting.{keep};
 ghost use Rattle.async_cell_model.specs.Legal.{Answers, needs_no_memory};
 ghost use Rattle.async_cell_core.specs.Polled.{poll_reply, IsExact, IsCloneOf, IsReadyWith};
+
+mod parts;
+mod show;
 
 use async_cell_cons::{Waiting, Wakers, Wakes};
 use async_cell_model::{Cell, Kept, Refusal, Reply};
@@ -114,7 +118,7 @@ impl<T: Drop, W: Wakes> Core<T, W> {
             return Err(value);
         }
         if self.value.is_some() {
-            return Ok((Some(value), Wakers::none(self.alloc)));
+            return Ok((Some(value), self.no_wakers()));
         }
         self.value = Some(value);
         Ok((None, self.waiting.hand_out()))
@@ -122,7 +126,10 @@ impl<T: Drop, W: Wakes> Core<T, W> {
 
     /// Calls the closure on the content, and puts in what it answers. A value where there was none hands out all that wait;
     /// from none to none they stay. Refused on a closed cell, and then the closure is not called.
-    pub fn update<F: FnOnce(Option<T>) -> Option<T> + Drop>(&mut self, change: F) -> Result<Wakers<W>, Refusal>
+    pub fn update<F: FnOnce(Option<T>) -> Option<T> + Drop>(
+        &mut self,
+        change: F,
+    ) -> Result<Wakers<W>, Refusal>
         requires { is_closed self.old.cell ≡ false → F.pre change (content self.old.cell) }
         ensures done { IfOk result (λ woken. Answers W.will_wake W.SURE_CLONE self.old (Kept.Update (content self.old.cell) (content self.new.cell)) Reply.Done woken self.new) }
         ensures called { OnOk result (F.post change (content self.old.cell) (content self.new.cell)) }
@@ -136,7 +143,7 @@ impl<T: Drop, W: Wakes> Core<T, W> {
         }
         self.value = change(self.value.take());
         if self.value.is_none() {
-            return Ok(Wakers::none(self.alloc));
+            return Ok(self.no_wakers());
         }
         Ok(self.waiting.hand_out())
     }
@@ -223,7 +230,7 @@ impl<T: Drop, W: Wakes> Core<T, W> {
             1 => Ok(self.close()),
             more => {
                 self.owners = more - 1;
-                Ok((None, Wakers::none(self.alloc)))
+                Ok((None, self.no_wakers()))
             }
         }
     }
@@ -288,7 +295,7 @@ impl<T: Drop, W: Wakes> Core<T, W> {
     }
 
     /// The waker waits for a value.
-    #[tactic(auto, using(async_cell_model::proofs::Adding::keep_added, async_cell_model::proofs::Adding::keep_spared, async_cell_model::proofs::Polling::get_waits, async_cell_model::proofs::Polling::get_refused))]
+    #[tactic(auto, using(async_cell_model::proofs::Adding::keep_added, async_cell_model::proofs::Adding::keep_skipped, async_cell_model::proofs::Polling::get_waits, async_cell_model::proofs::Polling::get_refused))]
     fn wait(&mut self, waker: &W) -> Result<(), Refusal>
         requires { is_vacant self.old.cell ≡ true }
         ensures waits { OnOk result (self.new ≡ record self.old { waiting = keep W.will_wake (self.old.waiting ++ waker.now ∷ []) }) }

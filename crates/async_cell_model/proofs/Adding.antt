@@ -26,7 +26,7 @@ module _ {W : Type 0} (will_wake : W → W → Bool) where
   keep_added (v ∷ u ∷ rest) w kept not = stays_step v u (will_wake v u) refl rest (w ∷ []) kept
 
   -- one that is spared is not
-  pub keep_spared : (l : List W) (w : W) → skips will_wake l w ≡ true → keep will_wake (l ++ w ∷ []) ≡ l
-  keep_spared [] w spared = cc
-  keep_spared (v ∷ []) w spared = rw spared refl
-  keep_spared (v ∷ u ∷ rest) w spared = cc
+  pub keep_skipped : (l : List W) (w : W) → skips will_wake l w ≡ true → keep will_wake (l ++ w ∷ []) ≡ l
+  keep_skipped [] w spared = cc
+  keep_skipped (v ∷ []) w spared = rw spared refl
+  keep_skipped (v ∷ u ∷ rest) w spared = cc

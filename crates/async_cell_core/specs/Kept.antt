@@ -1,0 +1,45 @@
+-- Calls of a list as a history keeps them.
+use Rattle.std.specs.Prelude.{List, [], ◌∷◌, Option, Some, None, Bool, true, false}
+use Rattle.async_cell_model.specs.declared.cell.Cell.{Cell}
+use Rattle.async_cell_model.specs.declared.cell.Cell.TheVariants.{Closed, Open}
+use Rattle.async_cell_model.specs.declared.entry.Entry.{Entry}
+use Rattle.async_cell_model.specs.declared.entry.Kept.{Kept}
+use Rattle.async_cell_model.specs.declared.entry.Kept.TheVariants as kept
+use Rattle.async_cell_model.specs.declared.reply.Reply.{Reply}
+use Rattle.async_cell_model.specs.Step.{next}
+use Rattle.async_cell_model.specs.History.{History}
+use Rattle.async_cell_core.specs.declared.call.Call.{Call}
+use Rattle.async_cell_core.specs.declared.call.Call.TheVariants.{Set, OrSet, Replace, Update, UpdateSome, TryTake, TryGet, IsSet, PollTake, PollGet, AddOwner, EndOwner, TakeInner}
+
+-- whether the call copies the value
+abbrev pub is_get : {T W E : Type 0} → Call T W E → Bool
+is_get TryGet = true
+is_get (PollGet w) = true
+is_get _ = false
+
+-- `edit` and `edit_some` say what an edit makes of a content and of a value
+module _ {T W E : Type 0} (edit : E → Option T → Option T) (edit_some : E → T → T) where
+  -- a call on this cell as a history keeps it: an update with what its edit saw and answered, both `None` where it was not called
+  abbrev pub kept_call : Cell T → Call T W E → Kept T W
+  kept_call c (Set x) = kept.Set x
+  kept_call c (OrSet x) = kept.OrSet x
+  kept_call c (Replace x) = kept.Replace x
+  kept_call Closed (Update e) = kept.Update None None
+  kept_call (Open value owners) (Update e) = kept.Update value (edit e value)
+  kept_call Closed (UpdateSome e) = kept.UpdateSome None None
+  kept_call (Open None owners) (UpdateSome e) = kept.UpdateSome None None
+  kept_call (Open (Some v) owners) (UpdateSome e) = kept.UpdateSome (Some v) (Some (edit_some e v))
+  kept_call c TryTake = kept.TryTake
+  kept_call c TryGet = kept.TryGet
+  kept_call c IsSet = kept.IsSet
+  kept_call c (PollTake w) = kept.PollTake w
+  kept_call c (PollGet w) = kept.PollGet w
+  kept_call c AddOwner = kept.AddOwner
+  kept_call c EndOwner = kept.EndOwner
+  kept_call c TakeInner = kept.TakeInner
+
+  -- the history of a list of calls from this cell on, given their replies
+  abbrev pub history_of : Cell T → List (Call T W E) → List (Reply T) → History T W
+  history_of c (call ∷ calls) (reply ∷ replies) =
+      let e : Entry T W = record { call = kept_call c call; reply = reply } in e ∷ history_of (next c e) calls replies
+  history_of c _ _ = []

@@ -1,0 +1,16 @@
+use super::Core;
+use async_cell_cons::Wakes;
+use std::fmt;
+
+/// Prints `AsyncCell::Empty`, `AsyncCell::Pending` where a waker waits, `AsyncCell::Full(..)` with the value's own text, or
+/// `AsyncCell::Closed`.
+impl<T: fmt::Debug, W: Wakes> fmt::Debug for Core<T, W> {
+    fn fmt<F: fmt::Write>(&self, f: &mut fmt::Formatter<F>) -> fmt::Result {
+        match &self.value {
+            Some(value) => write!(f, "AsyncCell::Full({value:?})"),
+            None if self.owners == 0 => f.write_str("AsyncCell::Closed"),
+            None if self.waiting.is_empty() => f.write_str("AsyncCell::Empty"),
+            None => f.write_str("AsyncCell::Pending"),
+        }
+    }
+}
