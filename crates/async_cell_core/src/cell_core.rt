@@ -327,6 +327,7 @@ impl<T: Clone, W: Wakes> Core<T, W> {
         ensures done { IsExact T.is_clone → IfOk result (λ copy. Answers W.will_wake W.SURE_CLONE self.now Kept.TryGet (Reply.Value copy) [] self.now) }
         ensures refused { IfErr result (λ why. Answers W.will_wake W.SURE_CLONE self.now Kept.TryGet (Reply.Refused why None) [] self.now) }
 
+        ensures gives { IsExact T.is_clone → IfOk result (λ copy. copy ≡ content self.now.cell) }
         ensures clones { IfOk result (IsCloneOf T.is_clone (content self.now.cell)) }
         ensures sure { MatchOption (content self.now.cell) (IsOk result) (λ value. T.is_infallible value → IsOk result) }
     {
@@ -345,7 +346,9 @@ impl<T: Clone, W: Wakes> Core<T, W> {
         ensures model { IsExact T.is_clone → Answers W.will_wake W.SURE_CLONE self.old (Kept.PollGet waker.now) (poll_reply result) [] self.new }
         ensures refused { IfErr result (λ why. Answers W.will_wake W.SURE_CLONE self.old (Kept.PollGet waker.now) (Reply.Refused why None) [] self.new) }
 
-        ensures ready { is_vacant self.old.cell ≡ false → IfOk result (IsReadyWith (IsCloneOf T.is_clone (content self.old.cell))) }
+        ensures gives { IsExact T.is_clone → is_vacant self.old.cell ≡ false → IfOk result (λ polled. polled ≡ Poll.Ready (content self.old.cell)) }
+        ensures clones { is_vacant self.old.cell ≡ false → IfOk result (IsReadyWith (IsCloneOf T.is_clone (content self.old.cell))) }
+        ensures sure { is_vacant self.old.cell ≡ false → MatchOption (content self.old.cell) (IsOk result) (λ value. T.is_infallible value → IsOk result) }
         ensures stays { is_vacant self.old.cell ≡ false → self.new ≡ self.old }
         ensures waits { is_vacant self.old.cell ≡ true → IfOk result (λ polled. (polled ≡ Poll.Pending) × (self.new.waiting ≡ keep W.will_wake (self.old.waiting ++ waker.now ∷ []))) }
         ensures spared { is_vacant self.old.cell ≡ true → needs_no_memory W.will_wake W.SURE_CLONE self.old waker.now ≡ true → IsOk result }
