@@ -4,7 +4,7 @@
 mod call;
 mod cell_core;
 mod edit;
-mod run;
+mod runs;
 
 pub use async_cell_cons::{Named, Wakers, Wakes};
 pub use async_cell_model::{Refusal, Reply};
@@ -12,3 +12,4 @@ pub use call::{Answer, Call};
 pub use cell_core::Core;
 pub use edit::Edit;
 pub use futures::task::Poll;
+pub use runs::{run, step, step_copied};

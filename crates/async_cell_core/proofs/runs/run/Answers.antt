@@ -2,7 +2,7 @@ use Rattle.std.proofs.Common.{◌≡◌, [], arith, sym, ◌∙◌, append_assoc
 use Rattle.std.proofs.lemmas.List.{nil_from_length}
 use Rattle.std.specs.Vec.Iter.{into_iter_items}
 use Rattle.async_cell_core.proofs.Running.{run_more}
-use Rattle.async_cell_core.proofs.run.run.Goals as goal
+use Rattle.async_cell_core.proofs.runs.run.Goals as goal
 
 pub loop-call-preserved : goal.loop-call-preserved
 loop-call-preserved g c =

@@ -3,7 +3,7 @@ use Rattle.std.specs.Vec.Iter.{into_iter_items, into_iter_len}
 use Rattle.async_cell_model.specs.Legal.{Leads}
 use Rattle.async_cell_core.specs.Kept.{history_of}
 use Rattle.async_cell_core.specs.Polled.{IsExact}
-use Rattle.async_cell_core.proofs.run.run.Given as goal
+use Rattle.async_cell_core.proofs.runs.run.Given as goal
 
 -- the calls that were made so far, and their answers
 abbrev pub invariant-loop-call : goal.invariant-loop-call

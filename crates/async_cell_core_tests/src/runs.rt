@@ -1,0 +1,226 @@
+//! Lists of calls.
+use crate::names::names;
+use async_cell_core::{Answer, Call, Core, Edit, Named, Refusal, Reply, run};
+use std::alloc::{AllocError, Global};
+use std::process::Abort;
+use std::test::Fail;
+
+/// What the tests' updates do: put in a content, or keep it.
+#[derive(Clone, Copy, Debug, PartialEq, Eq)]
+pub enum Change {
+    Put(Option<u64>),
+    Keep,
+}
+
+impl Edit<u64> for Change {
+    ghost use Rattle.async_cell_core_tests.specs.Change.{changed, changed_some};
+
+    ghost edit = { changed };
+
+    ghost edit_some = { changed_some };
+
+    fn edit(&self, content: Option<u64>) -> Option<u64> {
+        match *self {
+            Change::Put(new) => new,
+            Change::Keep => content,
+        }
+    }
+
+    fn edit_some(&self, value: u64) -> u64 {
+        match *self {
+            Change::Put(Some(new)) => new,
+            Change::Put(None) | Change::Keep => value,
+        }
+    }
+}
+
+type TestCall = Call<u64, Named, Change>;
+
+type Told = (Reply<u64>, Vec<u64>);
+
+/// The replies and the names handed out, in order.
+fn told(alloc: Global, answers: Vec<Answer<u64, Named>>) -> Result<Vec<Told>, AllocError> {
+    let mut all = Vec::new(alloc);
+    for Answer { reply, woken } in answers {
+        all.push((reply, names(alloc, woken)?))?;
+    }
+    Ok(all)
+}
+
+/// Makes the calls on a new core as one list, and compares replies and names with what is wanted.
+fn runs_to(rt: &impl Abort, alloc: Global, calls: &[TestCall], want: &[(Reply<u64>, &[u64])]) -> Result<(), Fail> {
+    let mut core = Core::new(alloc);
+    let answers = run(&mut core, calls.to_vec(alloc)?).ok().ok_or("no memory")?;
+    let told = told(alloc, answers)?;
+    assert_eq!(rt; told.len(), want.len());
+    for (place, (is, (reply, names))) in told.iter().zip(want).enumerate() {
+        assert_eq!(rt; is.0, *reply, "call {place}");
+        assert_eq!(rt; is.1.as_slice(), *names, "call {place}");
+    }
+    Ok(())
+}
+
+#[test]
+fn a_list_of_polls_and_a_set(rt: HostRuntime) -> Result<(), Fail> {
+    let poll = |name: u64| Call::PollTake(Named(name));
+    let none: &[u64] = &[];
+    runs_to(
+        &rt,
+        rt.alloc(),
+        &[poll(1), poll(1), poll(2), poll(1), Call::Set(7)],
+        &[
+            (Reply::Pending, none),
+            (Reply::Pending, none),
+            (Reply::Pending, none),
+            (Reply::Pending, none),
+            (Reply::Done, &[1, 2, 1]),
+        ],
+    )
+}
+
+#[test]
+fn takes_and_gets_and_a_set(rt: HostRuntime) -> Result<(), Fail> {
+    let none: &[u64] = &[];
+    runs_to(
+        &rt,
+        rt.alloc(),
+        &[
+            Call::PollTake(Named(1)),
+            Call::PollTake(Named(1)),
+            Call::PollGet(Named(2)),
+            Call::PollTake(Named(1)),
+            Call::Set(7),
+            Call::PollGet(Named(3)),
+            Call::TryTake,
+            Call::TryTake,
+        ],
+        &[
+            (Reply::Pending, none),
+            (Reply::Pending, none),
+            (Reply::Pending, none),
+            (Reply::Pending, none),
+            (Reply::Done, &[1, 2, 1]),
+            (Reply::Ready(Some(7)), none),
+            (Reply::Value(Some(7)), none),
+            (Reply::Value(None), none),
+        ],
+    )
+}
+
+#[test]
+fn a_refused_call_is_answered_and_the_run_goes_on(rt: HostRuntime) -> Result<(), Fail> {
+    let none: &[u64] = &[];
+    runs_to(
+        &rt,
+        rt.alloc(),
+        &[
+            Call::AddOwner,
+            Call::TakeInner,
+            Call::PollGet(Named(4)),
+            Call::EndOwner,
+            Call::EndOwner,
+            Call::Set(9),
+            Call::OrSet(9),
+            Call::Replace(9),
+            Call::Update(Change::Keep),
+            Call::UpdateSome(Change::Keep),
+            Call::TryTake,
+            Call::TryGet,
+            Call::IsSet,
+            Call::PollTake(Named(5)),
+            Call::PollGet(Named(5)),
+            Call::AddOwner,
+            Call::EndOwner,
+            Call::TakeInner,
+        ],
+        &[
+            (Reply::Done, none),
+            (Reply::Refused(Refusal::StillShared, None), none),
+            (Reply::Pending, none),
+            (Reply::Value(None), none),
+            (Reply::Value(None), &[4]),
+            (Reply::Refused(Refusal::Closed, Some(9)), none),
+            (Reply::Refused(Refusal::Closed, Some(9)), none),
+            (Reply::Refused(Refusal::Closed, Some(9)), none),
+            (Reply::Refused(Refusal::Closed, None), none),
+            (Reply::Refused(Refusal::Closed, None), none),
+            (Reply::Value(None), none),
+            (Reply::Value(None), none),
+            (Reply::Is(false), none),
+            (Reply::Ready(None), none),
+            (Reply::Ready(None), none),
+            (Reply::Refused(Refusal::Closed, None), none),
+            (Reply::Refused(Refusal::Closed, None), none),
+            (Reply::Refused(Refusal::Closed, None), none),
+        ],
+    )
+}
+
+#[test]
+fn updates_store_what_their_edits_answer(rt: HostRuntime) -> Result<(), Fail> {
+    let none: &[u64] = &[];
+    runs_to(
+        &rt,
+        rt.alloc(),
+        &[
+            Call::PollTake(Named(1)),
+            Call::UpdateSome(Change::Put(Some(3))),
+            Call::Update(Change::Put(None)),
+            Call::Update(Change::Put(Some(5))),
+            Call::UpdateSome(Change::Put(Some(8))),
+            Call::Update(Change::Keep),
+            Call::TryGet,
+            Call::Update(Change::Put(None)),
+            Call::IsSet,
+        ],
+        &[
+            (Reply::Pending, none),
+            (Reply::Done, none),
+            (Reply::Done, none),
+            (Reply::Done, &[1]),
+            (Reply::Done, none),
+            (Reply::Done, none),
+            (Reply::Value(Some(8)), none),
+            (Reply::Done, none),
+            (Reply::Is(false), none),
+        ],
+    )
+}
+
+/// Where the answers find no room, the list comes back and the core is as it was; else there is one answer for each call.
+/// It is run with each request for memory refused in turn.
+#[test]
+fn a_run_without_memory_gives_the_list_back(rt: HostRuntime) -> Result<(), Fail> {
+    let mut core: Core<u64, Named> = Core::new(rt.alloc());
+    let calls: &[TestCall] = &[
+        Call::PollTake(Named(1)),
+        Call::PollTake(Named(1)),
+        Call::PollGet(Named(2)),
+        Call::PollTake(Named(1)),
+        Call::Set(7),
+        Call::PollGet(Named(3)),
+        Call::TryTake,
+        Call::TryTake,
+    ];
+    let Ok(list) = calls.to_vec(rt.alloc()) else {
+        return Ok(());
+    };
+    match run(&mut core, list) {
+        Ok(answers) => {
+            assert_eq!(rt; answers.len(), 8);
+            assert!(rt; matches!(&answers[0].reply, Reply::Pending));
+            assert!(rt; matches!(&answers[4].reply, Reply::Done));
+            assert!(rt; matches!(&answers[5].reply, Reply::Ready(Some(7))));
+            for answer in &answers {
+                let is_fine = matches!(&answer.reply, Reply::Refused(Refusal::Memory, None));
+                assert!(rt; !is_fine || answer.woken.is_empty());
+            }
+        }
+        Err(back) => {
+            assert_eq!(rt; back.as_slice(), calls);
+            assert_eq!(rt; core.waiting(), 0);
+            assert!(rt; !core.is_set());
+        }
+    }
+    Ok(())
+}
