@@ -79,10 +79,26 @@ impl<W: Drop> Wakers<W> {
     }
 }
 
+/// Goes over the wakers that are left, as `next` gives them.
+impl<W: Drop> Iterator for Wakers<W> {
+    ghost use Rattle.std.specs.Prelude.{◌≡◌, [], ◌∷◌, length, MatchOption};
+    ghost use Rattle.std.specs.Iterator.{at_most};
+
+    type Item = W;
+
+    ghost next_gives = { λ s r t. MatchOption r ((s ≡ []) × (t ≡ [])) (λ waker. s ≡ waker ∷ t) };
+
+    ghost remaining = { λ s. at_most (length s) };
+
+    fn next(&mut self) -> Option<W> {
+        Wakers::next(self)
+    }
+}
+
 impl<W: Wakes> Wakers<W> {
     /// Wakes the wakers that are left, the next one first.
-    pub fn wake_all(mut self) {
-        while let Some(waker) = self.next() {
+    pub fn wake_all(self) {
+        for waker in self {
             waker.wake();
         }
     }

@@ -1,0 +1,27 @@
+-- How far a script has come, from one line to the next.
+use Rattle.std.proofs.Common.{ℕ, ◌+◌, List, Option, Some, None, IfSome}
+use Rattle.cellrun.specs.Next.{IsNext}
+use Rattle.cellrun.specs.Ended.{ComesTo}
+use Rattle.cellrun.specs.Ended.{start, past}
+use Rattle.cellrun.specs.declared.command.Command.{Command}
+use Rattle.cellrun.specs.declared.lines.Next.TheVariants.{Call, Blank}
+
+-- of known bytes, some are left, and line n begins with them
+abbrev pub IsAt : Option (List ℕ) → Option (List ℕ) → ℕ → Type 0
+IsAt None left n = Unit {0}
+IsAt (Some bytes) None n = ⊥
+IsAt (Some bytes) (Some rest) n = ComesTo bytes n rest
+
+pub at_start : (left : Option (List ℕ)) → IsAt left left 1
+at_start None = tt
+at_start (Some bytes) = start
+
+pub after_call : (bytes left now : Option (List ℕ)) (n : ℕ) (call : Command) → IsAt bytes left n → IfSome left (λ rest. IsNext rest now (Call call)) → IsAt bytes now (n + 1)
+after_call None left now n call h next = tt
+after_call (Some bytes) None now n call h next = absurd h
+after_call (Some bytes) (Some rest) now n call h next = rw (next.2) (past (Call call) h (next.0) (λ e. cc) (next.1))
+
+pub after_blank : (bytes left now : Option (List ℕ)) (n : ℕ) → IsAt bytes left n → IfSome left (λ rest. IsNext rest now Blank) → IsAt bytes now (n + 1)
+after_blank None left now n h next = tt
+after_blank (Some bytes) None now n h next = absurd h
+after_blank (Some bytes) (Some rest) now n h next = rw (next.2) (past Blank h (next.0) (λ e. cc) (next.1))

@@ -1,0 +1,4 @@
+pub mod Ascii
+pub mod Coming
+pub mod LineFeed
+pub mod Spelling

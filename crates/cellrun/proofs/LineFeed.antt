@@ -1,0 +1,118 @@
+-- Where the first line feed of joined bytes is, and what that says of the next line.
+use Rattle.std.proofs.Common.{◌≡◌, ◌≢◌, ℕ, ◌+◌, ◌<◌, ◌≤◌, Bool, true, false, not, cond, nat_lt, List, [], ◌∷◌, ◌++◌, length, take, drop, Option, Some, None, IfSome, if◌then◌else◌, ◌==◌, refl, sym, ap, ◌∙◌, arith, append_assoc, zero-add}
+use Rattle.std.specs.List.{position, position_or_len}
+use Rattle.std.specs.Io.KnownBytes.{Keeps, prepend_known}
+use Rattle.std.specs.Io.BufRead.{DropsConsumable}
+use Rattle.std.proofs.Math.Seq.{take-append-add, drop-append-add}
+use Rattle.std.proofs.lemmas.List.{take-append-le, take-append-drop, length-append, length-take}
+use borrow.Author.Tests.{ltb-true, ltb-false}
+use Rattle.std.proofs.lemmas.List.Sums.{prefix_len-le-length}
+use Rattle.cellrun.specs.Next.{IsLine, IsNext, is_line_feed, first_line, after_line}
+use Rattle.cellrun.specs.declared.lines.Next.{Next}
+use Rattle.cellrun.specs.declared.lines.Next.TheVariants.{Call, Blank, Bad, End}
+
+-- the place of the first line feed, or the length
+abbrev place : List ℕ → ℕ
+place bytes = position_or_len is_line_feed bytes
+
+-- one more byte in front, by whether it is no line feed
+none_cons : (m : Bool) (a b : ℕ) → cond m (1 + a) 0 ≡ 1 + b → (m ≡ true) × (a ≡ b)
+none_cons true a b e = (refl, omega arith)
+none_cons false a b e = absurd (omega arith)
+
+some_cons : (m : Bool) (a b l : ℕ) → (a < l → b ≡ a) → cond m (1 + a) 0 < 1 + l → cond m (1 + b) 0 ≡ cond m (1 + a) 0
+some_cons true a b l e h = omega (arith, e (omega arith))
+some_cons false a b l e h = refl
+
+-- after bytes with no line feed it is further on
+pub place-append_none : (xs ys : List ℕ) → place xs ≡ length xs → place (xs ++ ys) ≡ length xs + place ys
+place-append_none [] ys e = sym (zero-add (place ys))
+place-append_none (x ∷ xs) ys e =
+    let step : (not (x == 10) ≡ true) × (place xs ≡ length xs) = none_cons (not (x == 10)) (place xs) (length xs) (omega (arith, e)) in
+    let rest : place (xs ++ ys) ≡ length xs + place ys = place-append_none xs ys (step.1) in
+    rw (step.0) (omega arith)
+
+-- bytes with a line feed have it where they have it alone
+pub place-append_some : (xs ys : List ℕ) → place xs < length xs → place (xs ++ ys) ≡ place xs
+place-append_some [] ys h = absurd (omega arith)
+place-append_some (x ∷ xs) ys h = some_cons (not (x == 10)) (place xs) (place (xs ++ ys)) (length xs) (place-append_some xs ys) (omega (arith, h))
+
+-- what `position` answers
+found_cond : (m : Bool) (a k : ℕ) → cond m (Some a) None ≡ Some k → (m ≡ true) × (k ≡ a)
+found_cond true a k e = (refl, cc)
+found_cond false a k e = absurd (cc e)
+
+none_cond : (m : Bool) (a : ℕ) → cond m (Some a) None ≡ None → m ≡ false
+none_cond true a e = absurd (cc e)
+none_cond false a e = refl
+
+pub place_found : (xs : List ℕ) (k : ℕ) → position is_line_feed xs ≡ Some k → (k ≡ place xs) × (place xs < length xs)
+place_found xs k e =
+    let parts : (nat_lt (place xs) (length xs) ≡ true) × (k ≡ place xs) = found_cond (nat_lt (place xs) (length xs)) (place xs) k e in
+    (parts.1, omega (arith, ltb-true (place xs) (length xs) (parts.0)))
+
+pub place_none : (xs : List ℕ) → position is_line_feed xs ≡ None → place xs ≡ length xs
+place_none xs e =
+    let test : nat_lt (place xs) (length xs) ≡ false = none_cond (nat_lt (place xs) (length xs)) (place xs) e in
+    omega (arith, ltb-false (place xs) (length xs) test, prefix_len-le-length (λ x. not (is_line_feed x)) xs)
+
+-- bytes h with no line feed, and then bytes that begin with f: the line and what follows it
+pub first_line_found : (h f t : List ℕ) → place h ≡ length h → place f < length f → first_line (h ++ (f ++ t)) ≡ h ++ take (place f) f
+first_line_found h f t none some =
+    rw (place-append_none h (f ++ t) none, place-append_some f t some, take-append-add h (f ++ t) (place f), take-append-le (place f) f t (omega arith)) refl
+
+pub after_line_found : (h f t : List ℕ) → place h ≡ length h → place f < length f → after_line (h ++ (f ++ t)) ≡ drop (place f + 1) (f ++ t)
+after_line_found h f t none some =
+    rw (place-append_none h (f ++ t) none, place-append_some f t some) (ap (λ n. drop n (h ++ (f ++ t))) (omega arith) ∙ drop-append-add h (f ++ t) (place f + 1))
+
+-- with none in f the line is longer than both
+pub first_line_long : (h f t : List ℕ) → place h ≡ length h → place f ≡ length f → length h + length f ≤ length (first_line (h ++ (f ++ t)))
+first_line_long h f t none also =
+    rw (place-append_none h (f ++ t) none, place-append_none f t also, take-append-add h (f ++ t) (length f + place t)) (simp (length-append, length-take) (omega arith))
+
+-- what a line that ends in f says of the bytes
+pub next_of_line : (bytes line rest : List ℕ) (next : Next) → bytes ≢ [] → first_line bytes ≡ line → after_line bytes ≡ rest → IsLine line next → IsNext bytes (Some rest) next
+next_of_line bytes line rest (Call call) some e r h = (some, rw e h, rw r refl)
+next_of_line bytes line rest Blank some e r h = (some, e ∙ h, rw r refl)
+next_of_line bytes line rest Bad some e r h = rw e h
+next_of_line bytes line rest End some e r h = absurd h
+
+-- the reader's known bytes begin with what its buffer shows
+known_front : (buffer xs : List ℕ) (inner : Option (List ℕ)) (none : Bool) → Keeps (Some xs) (if none then None else prepend_known buffer inner) → (ys : List ℕ) × (xs ≡ buffer ++ ys) × ((if none then None else prepend_known buffer inner) ≡ Some xs)
+known_front buffer xs inner true k = absurd k
+known_front buffer xs None false k = absurd k
+known_front buffer xs (Some ys) false k = (ys, sym k, ap (λ (zs : List ℕ). Some zs) k)
+
+-- what is held and the front of the buffer are longer than a line, and have no line feed
+pub bad_next : (h buffer f : List ℕ) (n : ℕ) (none : Bool) (old inner left : Option (List ℕ)) → f ≡ take n buffer → Keeps old (if none then None else prepend_known buffer inner) → place h ≡ length h → place f ≡ length f → 64 < length h + length f → IfSome (prepend_known h old) (λ bytes. IsNext bytes left Bad)
+bad_next h buffer f n none None inner left e k held also long = tt
+bad_next h buffer f n none (Some xs) inner left e k held also long =
+    let known = known_front buffer xs inner none k in
+    let t = drop n buffer ++ known.0 in
+    let split : xs ≡ f ++ t = known.1 ∙ (ap (λ (zs : List ℕ). zs ++ known.0) (sym (take-append-drop n buffer)) ∙ (append_assoc (take n buffer) (drop n buffer) (known.0) ∙ ap (λ (zs : List ℕ). zs ++ t) (sym e))) in
+    let line : length h + length f ≤ length (first_line (h ++ xs)) = rw split (first_line_long h f t held also) in
+    ((λ empty. omega (arith, long, line, ap (length {A = ℕ}) empty)), (λ short. absurd (omega (arith, long, line, short))))
+
+-- the front of the buffer has a line feed
+pub line_next : (h buffer f : List ℕ) (n end : ℕ) (none : Bool) (old inner after : Option (List ℕ)) (next : Next) → f ≡ take n buffer → Keeps old (if none then None else prepend_known buffer inner) → place h ≡ length h → end ≡ place f → place f < length f → DropsConsumable (if none then None else prepend_known buffer inner) after (Some (length buffer)) (end + 1) → IsLine (h ++ take end f) next → IfSome (prepend_known h old) (λ bytes. IsNext bytes (prepend_known [] after) next)
+line_next h buffer f n end none None inner after next e k held is in_bounds drops line = tt
+line_next h buffer f n end none (Some xs) inner after next e k held is in_bounds drops line =
+    let known = known_front buffer xs inner none k in
+    let t = drop n buffer ++ known.0 in
+    let split : xs ≡ f ++ t = known.1 ∙ (ap (λ (zs : List ℕ). zs ++ known.0) (sym (take-append-drop n buffer)) ∙ (append_assoc (take n buffer) (drop n buffer) (known.0) ∙ ap (λ (zs : List ℕ). zs ++ t) (sym e))) in
+    let bound : length f ≤ length buffer = rw e (rw length-take (omega arith)) in
+    let rest : after ≡ Some (drop (end + 1) xs) = (rw (known.2) at drops) (omega arith) in
+    let some : h ++ xs ≢ [] = (λ empty. omega (arith, ap (length {A = ℕ}) empty, length-append h xs, ap (length {A = ℕ}) split, length-append f t)) in
+    let first : first_line (h ++ xs) ≡ h ++ take end f = rw (split, is) (first_line_found h f t held in_bounds) in
+    let others : after_line (h ++ xs) ≡ drop (end + 1) xs = rw (split, is) (after_line_found h f t held in_bounds) in
+    rw rest (next_of_line (h ++ xs) (h ++ take end f) (drop (end + 1) xs) next some first others line)
+
+-- none in either is none in both
+pub place_joined : (h f : List ℕ) → place h ≡ length h → place f ≡ length f → place (h ++ f) ≡ length (h ++ f)
+place_joined h f held also = omega (arith, place-append_none h f held, length-append h f)
+
+-- what is next where nothing was lost before
+pub kept_next : (old now left : Option (List ℕ)) (next : Next) → Keeps old now → IfSome now (λ bytes. IsNext bytes left next) → IfSome old (λ bytes. IsNext bytes left next)
+kept_next None now left next k h = tt
+kept_next (Some xs) None left next k h = absurd k
+kept_next (Some xs) (Some ys) left next k h = rw (← k) h

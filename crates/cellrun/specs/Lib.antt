@@ -1,0 +1,4 @@
+pub mod Command
+pub mod Ended
+pub mod Lines
+pub mod Next

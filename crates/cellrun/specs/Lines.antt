@@ -1,0 +1,10 @@
+-- What an input that is read a line at a time still has.
+use Rattle.std.specs.Prelude.{ℕ, List, [], Option, Some, if◌then◌else◌}
+use Rattle.std.specs.Io.KnownBytes.{prepend_known}
+use Rattle.std.specs.Io.Buffered.{reader_remaining}
+use Rattle.std.specs.declared.io.traits.Read.{Ghosts}
+use Rattle.cellrun.specs.declared.lines.Lines.{Lines}
+
+-- the part of a line that is held, and the reader's bytes, where those are known; nothing after the end
+abbrev pub bytes_left : {R : Type 0} {reader : Ghosts R} → Lines R reader → Option (List ℕ)
+bytes_left {reader = reader} lines = if lines.is_done then Some [] else prepend_known lines.held.items (reader_remaining reader.remaining lines.input)

@@ -1,0 +1,215 @@
+use super::{Ended, script};
+use std::cell::Cell;
+use std::io;
+use std::io::{ErrorKind, Read, Write};
+use std::test::Fail;
+
+/// Gives its bytes at most so many a read, and after them fails or ends.
+#[derive(Drop)]
+struct Trickle<'a> {
+    rest: &'a [u8],
+    most: usize,
+    is_broken: bool,
+}
+
+impl Read for Trickle<'_> {
+    fn read(&mut self, buf: &mut [u8]) -> io::Result<usize> {
+        if self.rest.is_empty() && self.is_broken {
+            return Err(io::Error::from(ErrorKind::Other));
+        }
+        let count = self.most.min(self.rest.len()).min(buf.len());
+        let (front, rest) = self.rest.split_at(count);
+        buf[..count].copy_from_slice(front);
+        self.rest = rest;
+        Ok(count)
+    }
+}
+
+/// Gives one line a read, and fails where the answer to an earlier one is not yet written.
+#[derive(Drop)]
+struct Asker<'a> {
+    left: usize,
+    asked: usize,
+    answers: &'a Cell<usize>,
+}
+
+impl Read for Asker<'_> {
+    fn read(&mut self, buf: &mut [u8]) -> io::Result<usize> {
+        let line = b"is_set\n";
+        if self.answers.get() != self.asked || buf.len() < line.len() {
+            return Err(io::Error::from(ErrorKind::Other));
+        }
+        if self.left == 0 {
+            return Ok(0);
+        }
+        self.left -= 1;
+        self.asked = self.asked.saturating_add(1);
+        buf[..line.len()].copy_from_slice(line);
+        Ok(line.len())
+    }
+}
+
+/// Takes so many bytes, counts the lines among them, and then fails.
+#[derive(Drop)]
+struct Narrow<'a> {
+    room: usize,
+    lines: &'a Cell<usize>,
+}
+
+impl Write for Narrow<'_> {
+    fn write(&mut self, buf: &[u8]) -> io::Result<usize> {
+        if self.room == 0 {
+            return Err(io::Error::from(ErrorKind::Other));
+        }
+        let count = self.room.min(buf.len());
+        self.room -= count;
+        let lines = buf[..count].iter().filter(|byte| **byte == b'\n').count();
+        self.lines.set(self.lines.get().saturating_add(lines));
+        Ok(count)
+    }
+
+    fn flush(&mut self) -> io::Result<()> {
+        Ok(())
+    }
+}
+
+/// How the script ends on these bytes, read so many at a time, and how many lines it writes.
+fn outcome(rt: &HostRuntime, input: &[u8], most: usize, is_broken: bool) -> (Ended, usize) {
+    let lines = Cell::new(0);
+    let reader = Trickle {
+        rest: input,
+        most,
+        is_broken,
+    };
+    let writer = Narrow {
+        room: usize::MAX,
+        lines: &lines,
+    };
+    let ended = script(rt.alloc(), reader, writer);
+    (ended, lines.get())
+}
+
+#[test]
+fn ends(rt: HostRuntime) {
+    let exact = b"is_set\nset 000000000000000000000000000000000000000000000000000000000007\nown";
+    let cases: [(&[u8], Ended, usize); 12] = [
+        (b"", Ended::Done, 0),
+        (b"\n", Ended::Done, 0),
+        (b"\n\n\n", Ended::Done, 0),
+        (b"own", Ended::Done, 1),
+        (b"own\n", Ended::Done, 1),
+        (b"\nown\n\n\nend\n\nsett\nown\n", Ended::BadLine(7), 2),
+        (b"take 1\nset 7\nsett 8", Ended::BadLine(3), 2),
+        (b"own\r\n", Ended::BadLine(1), 0),
+        (b"own\n own\n", Ended::BadLine(2), 1),
+        (b" ", Ended::BadLine(1), 0),
+        (exact, Ended::Done, 3),
+        (
+            b"set 9223372036854775807\nset 9223372036854775808",
+            Ended::BadLine(2),
+            1,
+        ),
+    ];
+    for (input, ended, lines) in cases {
+        for most in [1, 2, 3, 7, 64, 65, 100_000] {
+            assert_eq!(rt;
+                outcome(&rt, input, most, false),
+                (ended, lines),
+                "at {input:?}"
+            );
+        }
+    }
+}
+
+#[test]
+fn failed_read(rt: HostRuntime) {
+    let cases: [(&[u8], Ended, usize); 5] = [
+        (b"", Ended::Failed, 0),
+        (b"own\nend\n", Ended::Failed, 2),
+        (b"own\nend\nset 1", Ended::Failed, 2),
+        (b"own\nsett\n", Ended::BadLine(2), 1),
+        (b"\n\n", Ended::Failed, 0),
+    ];
+    for (input, ended, lines) in cases {
+        for most in [1, 5, 100_000] {
+            assert_eq!(rt;
+                outcome(&rt, input, most, true),
+                (ended, lines),
+                "at {input:?}"
+            );
+        }
+    }
+}
+
+#[test]
+fn long_lines(rt: HostRuntime) -> Result<(), Fail> {
+    // The reader fails after its last byte: a line of 65 bytes is refused before that, and of a
+    // longer one no more than one buffer is read.
+    let cases = [
+        (64, 1, Ended::Failed),
+        (65, 1, Ended::BadLine(1)),
+        (8_192, 100_000, Ended::BadLine(1)),
+        (1_000_000, 1, Ended::BadLine(1)),
+        (1_000_000, 64, Ended::BadLine(1)),
+        (1_000_000, 1_000_000, Ended::BadLine(1)),
+    ];
+    for (count, most, ended) in cases {
+        let line = vec![in rt.alloc(); b'0'; count]?;
+        assert_eq!(rt; outcome(&rt, &line, most, true), (ended, 0), "at {count}");
+    }
+    Ok(())
+}
+
+#[test]
+fn many_lines(rt: HostRuntime) -> Result<(), Fail> {
+    let mut input = Vec::new(rt.alloc());
+    for _ in 0..5_000 {
+        input.extend_from_slice(b"set -12\n\n")?;
+    }
+    for most in [1, 4_095, 100_000] {
+        assert_eq!(rt; outcome(&rt, &input, most, false), (Ended::Done, 5_000));
+    }
+    input.extend_from_slice(b"set")?;
+    assert_eq!(rt;
+        outcome(&rt, &input, 4_095, false),
+        (Ended::BadLine(10_001), 5_000)
+    );
+    Ok(())
+}
+
+#[test]
+fn answers_come_before_the_next_read(rt: HostRuntime) {
+    let answers = Cell::new(0);
+    let asker = Asker {
+        left: 100,
+        asked: 0,
+        answers: &answers,
+    };
+    let writer = Narrow {
+        room: usize::MAX,
+        lines: &answers,
+    };
+    assert_eq!(rt; script(rt.alloc(), asker, writer), Ended::Done);
+    assert_eq!(rt; answers.get(), 100);
+}
+
+#[test]
+fn failed_write(rt: HostRuntime) {
+    let cases: [(&[u8], usize, Ended); 6] = [
+        (b"own\n", 0, Ended::Failed),
+        (b"own\n", 1, Ended::Failed),
+        (b"own\nsett\n", 2, Ended::Failed),
+        (b"sett\n", 0, Ended::BadLine(1)),
+        (b"\n\n", 0, Ended::Done),
+        (b"own\nsett\n", 1_000, Ended::BadLine(2)),
+    ];
+    for (input, room, ended) in cases {
+        let lines = Cell::new(0);
+        let writer = Narrow {
+            room,
+            lines: &lines,
+        };
+        let at = input;
+        assert_eq!(rt; script(rt.alloc(), input, writer), ended, "at {at:?}");
+    }
+}
