@@ -79,8 +79,9 @@ impl<T: Drop, W: Wakes> Core<T, W> {
         if self.is_closed() {
             return Err(value);
         }
-        self.value = Some(value);
-        Ok(self.waiting.hand_out())
+        let _old = self.value.take();
+        let woken = self.fill(value);
+        Ok(woken)
     }
 
     /// Puts the value in, and gives the old one. All that wait are handed out. Refused on a closed cell, and the value comes back.
@@ -98,8 +99,8 @@ impl<T: Drop, W: Wakes> Core<T, W> {
         if self.is_closed() {
             return Err(value);
         }
-        let old = self.value.replace(value);
-        Ok((old, self.waiting.hand_out()))
+        let old = self.value.take();
+        Ok((old, self.fill(value)))
     }
 
     /// Puts the value in where there is none; all that wait are handed out then. Else it is not used, and is the first
@@ -118,10 +119,10 @@ impl<T: Drop, W: Wakes> Core<T, W> {
             return Err(value);
         }
         if self.value.is_some() {
-            return Ok((Some(value), self.no_wakers()));
+            let unused = Some(value);
+            return Ok((unused, self.no_wakers()));
         }
-        self.value = Some(value);
-        Ok((None, self.waiting.hand_out()))
+        Ok((None, self.fill(value)))
     }
 
     /// Calls the closure on the content, and puts in what it answers. A value where there was none hands out all that wait;
@@ -141,11 +142,10 @@ impl<T: Drop, W: Wakes> Core<T, W> {
         if self.is_closed() {
             return Err(Refusal::Closed);
         }
-        self.value = change(self.value.take());
-        if self.value.is_none() {
-            return Ok(self.no_wakers());
+        match change(self.value.take()) {
+            Some(value) => Ok(self.fill(value)),
+            None => Ok(self.no_wakers()),
         }
-        Ok(self.waiting.hand_out())
     }
 
     /// Calls the closure on the value, if there is one, and puts in what it answers. Refused on a closed cell. The closure
@@ -282,7 +282,8 @@ impl<T: Drop, W: Wakes> Core<T, W> {
 
     /// Whether the last owner is gone.
     pub fn is_closed(&self) -> bool
-        ensures { result ≡ is_closed self.now.cell }
+        ensures closed { result ≡ is_closed self.now.cell }
+        ensures begins { IsBeginning W.will_wake self.now }
     {
         self.owners == 0
     }
@@ -308,6 +309,16 @@ impl<T: Drop, W: Wakes> Core<T, W> {
             self.waiting.push(waker)?;
         }
         Ok(())
+    }
+
+    /// Puts a value in: all that wait are handed out.
+    fn fill(&mut self, value: T) -> Wakers<W>
+        requires { is_closed self.old.cell ≡ false }
+        ensures filled { self.new ≡ record { cell = Cell.Open (Some value) (owners_of self.old.cell); waiting = []; room = 0 } }
+        ensures hands_out_all { result ≡ self.old.waiting }
+    {
+        self.value = Some(value);
+        self.waiting.hand_out()
     }
 
     /// Closes the cell.

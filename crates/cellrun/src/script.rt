@@ -11,6 +11,8 @@ use std::io::{BufWriter, ErrorKind, Read, Write};
 
 #[cfg(test)]
 mod tests;
+#[cfg(test)]
+mod texts;
 
 /// How a script ended.
 #[derive(Clone, Copy, Debug, PartialEq, Eq)]
