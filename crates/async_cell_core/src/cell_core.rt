@@ -14,6 +14,7 @@ use async_cell_model::{Cell, Kept, Refusal, Reply};
 use futures::task::Poll;
 use std::alloc::{AllocError, Global};
 use std::marker::Model;
+use std::mem;
 
 /// A cell that holds one value or none, with counted owners and a list of the wakers that wait for a value.
 pub struct Core<T, W: Wakes> {
@@ -118,7 +119,7 @@ impl<T: Drop, W: Wakes> Core<T, W> {
         if self.is_closed() {
             return Err(value);
         }
-        if self.value.is_some() {
+        if self.is_set() {
             let unused = Some(value);
             return Ok((unused, self.no_wakers()));
         }
@@ -174,7 +175,7 @@ impl<T: Drop, W: Wakes> Core<T, W> {
         ensures takes { result ≡ content self.old.cell }
         ensures leaves_none { content self.new.cell ≡ None }
     {
-        self.value.take()
+        mem::take(&mut self.value)
     }
 
     /// Whether there is a value.
