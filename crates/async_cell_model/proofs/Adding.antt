@@ -1,5 +1,6 @@
 -- What one more waker makes of a list that is kept.
 use Rattle.std.proofs.Common.{◌≡◌, ◌≤◌, suc, Bool, true, false, List, [], ◌∷◌, ◌++◌, length, refl, ap, arith, zero-le}
+use Rattle.std.specs.Prelude.{if◌then◌else◌}
 use Rattle.async_cell_model.specs.Waiting.{keep, drop_while, skips}
 
 module _ {W : Type 0} (will_wake : W → W → Bool) where
@@ -30,3 +31,11 @@ module _ {W : Type 0} (will_wake : W → W → Bool) where
   keep_skipped [] w spared = cc
   keep_skipped (v ∷ []) w spared = rw spared refl
   keep_skipped (v ∷ u ∷ rest) w spared = cc
+
+  added_or_spared : (l : List W) (w : W) (b : Bool) → skips will_wake l w ≡ b → keep will_wake l ≡ l → keep will_wake (l ++ w ∷ []) ≡ (if b then l else l ++ w ∷ [])
+  added_or_spared l w true is kept = keep_skipped l w is
+  added_or_spared l w false is kept = keep_added l w kept is
+
+  -- so one more waker is added last, or not at all
+  pub keep-one : (l : List W) (w : W) → keep will_wake l ≡ l → keep will_wake (l ++ w ∷ []) ≡ (if skips will_wake l w then l else l ++ w ∷ [])
+  keep-one l w kept = added_or_spared l w (skips will_wake l w) refl kept

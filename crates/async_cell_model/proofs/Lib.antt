@@ -1,7 +1,9 @@
 pub mod Adding
+pub mod Growing
 pub mod Joining
 pub mod Keeping
 pub mod Leading
 pub mod Once
 pub mod Polling
+pub mod Refusing
 pub mod Whole

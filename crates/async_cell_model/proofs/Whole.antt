@@ -98,13 +98,13 @@ module _ {T W : Type 0} where
   pending_stays n call (Ready v) w asked = cc
   pending_stays n call (Refused why back) w asked = cc
 
-  pending_stays_vacant : (c : Cell T) (e : Entry T W) (w : W) → is_vacant c ≡ true → pending_waker e ≡ Some w → ends_waiting c (next c e) ≡ false
+  pub pending_stays_vacant : (c : Cell T) (e : Entry T W) (w : W) → is_vacant c ≡ true → pending_waker e ≡ Some w → ends_waiting c (next c e) ≡ false
   pending_stays_vacant Closed e w vacant asked = cc
   pending_stays_vacant (Open (Some v) n) e w vacant asked = cc
   pending_stays_vacant (Open None n) e w vacant asked = pending_stays n e.call e.reply w asked
 
 module _ {T W : Type 0} (will_wake : W → W → Bool) (sure : Bool) where
-  waits_there : (at : Beginning T W) (e : Entry T W) (w : W) (vacant : Bool) → is_vacant at.cell ≡ vacant → MayFollow will_wake sure at e → pending_waker e ≡ Some w → vacant ≡ true
+  pub waits_there : (at : Beginning T W) (e : Entry T W) (w : W) (vacant : Bool) → is_vacant at.cell ≡ vacant → MayFollow will_wake sure at e → pending_waker e ≡ Some w → vacant ≡ true
   waits_there at e w true is may asked = refl
   waits_there at e w false is may asked = let silent = no_waker will_wake sure at e is may in cc
 

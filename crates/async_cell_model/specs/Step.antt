@@ -15,6 +15,11 @@ abbrev pub is_memory : {T : Type 0} → Reply T → Bool
 is_memory (Refused why.Memory back) = true
 is_memory _ = false
 
+-- whether the reply is a refusal
+abbrev pub is_refused : {T : Type 0} → Reply T → Bool
+is_refused (Refused why back) = true
+is_refused _ = false
+
 module _ {T W : Type 0} where
   -- the reply to a call on an open cell
   abbrev pub reply_open : Option T → ℕ → Kept T W → Reply T

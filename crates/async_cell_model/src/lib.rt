@@ -6,6 +6,8 @@ mod entry;
 pub mod laws;
 mod refusal;
 mod reply;
+#[cfg(test)]
+mod tests;
 
 pub use cell::Cell;
 pub use entry::{Entry, Kept};

@@ -1,0 +1,125 @@
+-- What a single entry leads to: a refused one to nothing, a fill or a close to an empty list.
+use Rattle.std.proofs.Common.{◌≡◌, inl, inr, ℕ, Bool, true, false, List, [], ◌∷◌, ◌++◌, Option, Some, None, refl, ap, sym, subst, ◌∙◌, append-nil, ◌+◌}
+use Rattle.std.specs.Prelude.{if◌then◌else◌, nat_eq}
+use Rattle.async_cell_model.specs.declared.cell.Cell.{Cell}
+use Rattle.async_cell_model.specs.declared.cell.Cell.TheVariants.{Closed, Open}
+use Rattle.async_cell_model.specs.declared.entry.Entry.{Entry}
+use Rattle.async_cell_model.specs.declared.entry.Kept.{Kept}
+use Rattle.async_cell_model.specs.declared.entry.Kept.TheVariants.{Set, OrSet, Replace, Update, UpdateSome, TryTake, TryGet, IsSet, PollTake, PollGet, AddOwner, EndOwner, TakeInner}
+use Rattle.async_cell_model.specs.declared.reply.Reply.{Reply}
+use Rattle.async_cell_model.specs.declared.reply.Reply.TheVariants.{Pending, Done, Value, Is, Ready, Refused}
+use Rattle.async_cell_model.specs.declared.refusal.Refusal.TheVariants as why
+use Rattle.async_cell_model.specs.Cell.{ends_waiting, owners_limit, IsCounted, is_vacant}
+use Rattle.async_cell_model.specs.Step.{next, next_open, reply, reply_open, is_memory, is_refused}
+use Rattle.async_cell_model.specs.Waiting.{keep}
+use Rattle.async_cell_model.specs.History.{Beginning, History, IsBeginning, pending_waker, waiting}
+use Rattle.async_cell_model.specs.Legal.{MayFollow, Leads, hands_after}
+use Rattle.async_cell_model.proofs.Whole.{after-nil, IsBeginning-after}
+
+module _ {T : Type 0} where
+  add_if : (value : Option T) (n m : ℕ) (full : Bool) (granted refused : Reply T) → is_refused granted ≡ false → is_refused (if full then refused else granted) ≡ true
+      → Open value (if full then n else m) ≡ Open value n
+  add_if value n m true granted refused fine is = refl
+  add_if value n m false granted refused fine is = cc
+
+  inner_if : (value : Option T) (n : ℕ) (last : Bool) (granted refused : Reply T) → is_refused granted ≡ false → is_refused (if last then granted else refused) ≡ true
+      → (if last then Closed else Open value n) ≡ Open value n
+  inner_if value n true granted refused fine is = cc
+  inner_if value n false granted refused fine is = refl
+
+  either_same : (b : Bool) (c d : Cell T) → d ≡ c → (if b then c else d) ≡ c
+  either_same true c d same = refl
+  either_same false c d same = same
+
+  -- a cell that stays was neither filled nor closed
+  stays : (c : Cell T) → ends_waiting c c ≡ false
+  stays Closed = refl
+  stays (Open None n) = refl
+  stays (Open (Some v) n) = refl
+
+module _ {T W : Type 0} where
+  open_same : (value : Option T) (n : ℕ) (call : Kept T W) → is_refused (reply_open value n call) ≡ true → next_open value n call ≡ Open value n
+  open_same value n AddOwner is = add_if value n (n + 1) (nat_eq n owners_limit) Done (Refused why.OwnersFull None) refl is
+  open_same value n TakeInner is = inner_if value n (nat_eq n 1) (Value value) (Refused why.StillShared None) refl is
+  open_same None n (OrSet x) is = cc
+  open_same (Some v) n (OrSet x) is = cc
+  open_same None n (PollTake w) is = cc
+  open_same (Some v) n (PollTake w) is = cc
+  open_same None n (PollGet w) is = cc
+  open_same (Some v) n (PollGet w) is = cc
+  open_same value n (Set x) is = cc
+  open_same value n (Replace x) is = cc
+  open_same value n (Update saw put) is = cc
+  open_same value n (UpdateSome saw put) is = cc
+  open_same value n TryTake is = cc
+  open_same value n TryGet is = cc
+  open_same value n IsSet is = cc
+  open_same value n EndOwner is = cc
+
+  refused_same : (c : Cell T) (call : Kept T W) → is_refused (reply c call) ≡ true → next c (record { call = call; reply = reply c call }) ≡ c
+  refused_same Closed call is = refl
+  refused_same (Open value n) call is = either_same (is_memory (reply_open value n call)) (Open value n) _ (open_same value n call is)
+
+  memory_same : (c : Cell T) (call : Kept T W) → next c (record { call = call; reply = Refused why.Memory None }) ≡ c
+  memory_same Closed call = refl
+  memory_same (Open value n) call = refl
+
+  refused_silent : (call : Kept T W) (r : Reply T) → is_refused r ≡ true → pending_waker (record { call = call; reply = r }) ≡ None
+  refused_silent call (Refused why back) is = refl
+  refused_silent call Pending is = cc
+  refused_silent call Done is = cc
+  refused_silent call (Value v) is = cc
+  refused_silent call (Is b) is = cc
+  refused_silent call (Ready v) is = cc
+
+module _ {T W : Type 0} (will_wake : W → W → Bool) (sure : Bool) where
+  next-refused : (at : Beginning T W) (e : Entry T W) → MayFollow will_wake sure at e → is_refused e.reply ≡ true → next at.cell e ≡ at.cell
+  next-refused at e may is = elim may.replied [
+    | inl same ↦ subst (λ (r : Reply T). is_refused r ≡ true → next at.cell (record { call = e.call; reply = r }) ≡ at.cell) (sym same) (refused_same at.cell e.call) is
+    | inr refused ↦ subst (λ (r : Reply T). next at.cell (record { call = e.call; reply = r }) ≡ at.cell) (sym refused.0) (memory_same at.cell e.call)
+  ]
+
+  -- a refused entry leaves the cell as it was
+  pub refused_cell : (from to : Beginning T W) (e : Entry T W) (handed_out : List (List W)) → Leads will_wake sure from (e ∷ []) handed_out to → is_refused e.reply ≡ true → next from.cell e ≡ from.cell
+  refused_cell from to e handed_out leads is =
+      let here : MayFollow will_wake sure from e = subst (λ (at : Beginning T W). MayFollow will_wake sure at e) (after-nil will_wake sure from leads.begins.kept) leads.legal.0 in
+      next-refused from e here is
+
+  -- and so neither fills nor closes
+  quiet_if_refused : (from to : Beginning T W) (e : Entry T W) (handed_out : List (List W)) → Leads will_wake sure from (e ∷ []) handed_out to → is_refused e.reply ≡ true → ends_waiting from.cell (next from.cell e) ≡ false
+  quiet_if_refused from to e handed_out leads is = subst (λ (c : Cell T). ends_waiting from.cell c ≡ false) (sym (refused_cell from to e handed_out leads is)) (stays from.cell)
+
+  -- leaves those that wait
+  pub refused_waiting : (from to : Beginning T W) (e : Entry T W) (handed_out : List (List W)) → Leads will_wake sure from (e ∷ []) handed_out to → is_refused e.reply ≡ true → to.waiting ≡ from.waiting
+  refused_waiting from to e handed_out leads is =
+      let quiet = quiet_if_refused from to e handed_out leads is in
+      let silent : pending_waker e ≡ None = refused_silent e.call e.reply is in
+      let list : waiting will_wake from (e ∷ []) ≡ from.waiting = rw (quiet, silent) (ap (keep will_wake) (append-nil from.waiting) ∙ leads.begins.kept) in
+      leads.waiting_is ∙ list
+
+  -- an entry that neither fills nor closes hands out none
+  pub handed_none : (from to : Beginning T W) (e : Entry T W) (handed_out : List (List W)) → Leads will_wake sure from (e ∷ []) handed_out to → ends_waiting from.cell (next from.cell e) ≡ false → handed_out ≡ [] ∷ []
+  handed_none from to e handed_out leads quiet =
+      let none : hands_after will_wake from [] (e ∷ []) ≡ [] ∷ [] = rw quiet refl in
+      leads.handed_is ∙ none
+
+  -- and nor does a refused one
+  pub refused_handed : (from to : Beginning T W) (e : Entry T W) (handed_out : List (List W)) → Leads will_wake sure from (e ∷ []) handed_out to → is_refused e.reply ≡ true → handed_out ≡ [] ∷ []
+  refused_handed from to e handed_out leads is = handed_none from to e handed_out leads (quiet_if_refused from to e handed_out leads is)
+
+  -- one that fills or closes hands out all that waited
+  pub handed_all : (from to : Beginning T W) (e : Entry T W) (handed_out : List (List W)) → Leads will_wake sure from (e ∷ []) handed_out to → ends_waiting from.cell (next from.cell e) ≡ true → handed_out ≡ from.waiting ∷ []
+  handed_all from to e handed_out leads ends =
+      let list : keep will_wake (from.waiting ++ []) ≡ from.waiting = ap (keep will_wake) (append-nil from.waiting) ∙ leads.begins.kept in
+      let all : hands_after will_wake from [] (e ∷ []) ≡ from.waiting ∷ [] = rw (ends, list) refl in
+      leads.handed_is ∙ all
+
+  -- where a history leads is a beginning
+  pub Leads-begins : (from to : Beginning T W) (h : History T W) (handed_out : List (List W)) → Leads will_wake sure from h handed_out to → IsBeginning will_wake to
+  Leads-begins from to h handed_out leads =
+      let there = IsBeginning-after will_wake sure from h leads.begins leads.legal in
+      record {
+        counted = subst (λ (c : Cell T). IsCounted c) (sym leads.cell_is) there.counted;
+        waits_vacant = λ not. leads.waiting_is ∙ there.waits_vacant (subst (λ (c : Cell T). is_vacant c ≡ false) leads.cell_is not);
+        kept = subst (λ (l : List W). keep will_wake l ≡ l) (sym leads.waiting_is) there.kept;
+      }

@@ -1,0 +1,16 @@
+use crate::laws;
+
+/// The laws are proved for every type; here they are taken at two types of a program.
+#[test]
+fn the_laws_hold_at_numbers() {
+    laws::only_a_vacant_cell_keeps_waiting::<i64, u64>();
+    laws::a_pending_waker_stays_covered::<i64, u64>();
+    laws::a_value_is_taken_once::<i64, u64>();
+    laws::a_history_can_begin_anew::<i64, u64>();
+    laws::two_histories_are_one::<i64, u64>();
+    laws::one_more_waker_is_last_or_skipped::<i64, u64>();
+    laws::the_room_goes_by_one::<i64, u64>();
+    laws::a_history_leads_to_a_beginning::<i64, u64>();
+    laws::a_refused_call_changes_nothing::<i64, u64>();
+    laws::a_fill_or_close_ends_all_waiting::<i64, u64>();
+}
