@@ -88,10 +88,19 @@ fn the_four_debug_texts(rt: HostRuntime) -> Result<(), Fail> {
     let mut core: Core<u64, Named> = Core::new(alloc);
     assert_eq!(rt; format!(in alloc; "{core:?}")?.as_str(), "AsyncCell::Empty");
     assert!(rt; is_pending(core.poll_get(&Named(1))));
-    assert_eq!(rt; format!(in alloc; "{core:?}")?.as_str(), "AsyncCell::Pending");
+    assert_eq!(rt;
+        format!(in alloc; "{core:?}")?.as_str(),
+        "AsyncCell::Pending"
+    );
     assert_eq!(rt; core.set(0).ok().ok_or("refused")?.len(), 1);
-    assert_eq!(rt; format!(in alloc; "{core:?}")?.as_str(), "AsyncCell::Full(0)");
+    assert_eq!(rt;
+        format!(in alloc; "{core:?}")?.as_str(),
+        "AsyncCell::Full(0)"
+    );
     assert_eq!(rt; core.end_owner().ok().ok_or("refused")?.0, Some(0));
-    assert_eq!(rt; format!(in alloc; "{core:?}")?.as_str(), "AsyncCell::Closed");
+    assert_eq!(rt;
+        format!(in alloc; "{core:?}")?.as_str(),
+        "AsyncCell::Closed"
+    );
     Ok(())
 }

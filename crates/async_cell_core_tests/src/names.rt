@@ -3,9 +3,9 @@ use async_cell_core::{Core, Named, Poll, Refusal, Wakers};
 use std::alloc::{AllocError, Global};
 
 /// The names of the wakers, in order.
-pub fn names(alloc: Global, mut wakers: Wakers<Named>) -> Result<Vec<u64>, AllocError> {
+pub fn names(alloc: Global, wakers: Wakers<Named>) -> Result<Vec<u64>, AllocError> {
     let mut names = Vec::new(alloc);
-    while let Some(Named(name)) = wakers.next() {
+    for Named(name) in wakers {
         names.push(name)?;
     }
     Ok(names)

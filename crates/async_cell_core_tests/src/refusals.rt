@@ -85,7 +85,10 @@ fn a_list_of_bytes_is_cloned(rt: HostRuntime) -> Result<(), Fail> {
         Ok(Poll::Ready(Some(copy))) => assert_eq!(rt; copy.as_slice(), [8].as_slice()),
         _ => panic!(rt; "the poll is ready"),
     }
-    assert_eq!(rt; core.try_take().ok_or("nothing")?.as_slice(), [8].as_slice());
+    assert_eq!(rt;
+        core.try_take().ok_or("nothing")?.as_slice(),
+        [8].as_slice()
+    );
     Ok(())
 }
 

@@ -13,20 +13,25 @@ pub enum Change {
 }
 
 impl Edit<u64> for Change {
+    ghost use Rattle.std.specs.Prelude.{◌≡◌};
     ghost use Rattle.async_cell_core_tests.specs.Change.{changed, changed_some};
 
     ghost edit = { changed };
 
     ghost edit_some = { changed_some };
 
-    fn edit(&self, content: Option<u64>) -> Option<u64> {
+    fn edit(&self, content: Option<u64>) -> Option<u64>
+        ensures { result ≡ changed self.now content }
+    {
         match *self {
             Change::Put(new) => new,
             Change::Keep => content,
         }
     }
 
-    fn edit_some(&self, value: u64) -> u64 {
+    fn edit_some(&self, value: u64) -> u64
+        ensures { result ≡ changed_some self.now value }
+    {
         match *self {
             Change::Put(Some(new)) => new,
             Change::Put(None) | Change::Keep => value,
@@ -48,9 +53,16 @@ fn told(alloc: Global, answers: Vec<Answer<u64, Named>>) -> Result<Vec<Told>, Al
 }
 
 /// Makes the calls on a new core as one list, and compares replies and names with what is wanted.
-fn runs_to(rt: &impl Abort, alloc: Global, calls: &[TestCall], want: &[(Reply<u64>, &[u64])]) -> Result<(), Fail> {
+fn runs_to(
+    rt: &impl Abort,
+    alloc: Global,
+    calls: &[TestCall],
+    want: &[(Reply<u64>, &[u64])],
+) -> Result<(), Fail> {
     let mut core = Core::new(alloc);
-    let answers = run(&mut core, calls.to_vec(alloc)?).ok().ok_or("no memory")?;
+    let answers = run(&mut core, calls.to_vec(alloc)?)
+        .ok()
+        .ok_or("no memory")?;
     let told = told(alloc, answers)?;
     assert_eq!(rt; told.len(), want.len());
     for (place, (is, (reply, names))) in told.iter().zip(want).enumerate() {

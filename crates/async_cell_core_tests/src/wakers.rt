@@ -57,7 +57,10 @@ fn a_dropped_core_wakes_all_that_wait(rt: HostRuntime) {
     let woken = Cell::new(0);
     let mut core: Core<u64, Counted<&Cell<u64>>> = Core::new(rt.alloc());
     for turn in 0..10_000u64 {
-        let waker = Counted { name: turn % 2 + 1, woken: &woken };
+        let waker = Counted {
+            name: turn % 2 + 1,
+            woken: &woken,
+        };
         assert!(rt; matches!(core.poll_take(&waker), Ok(Poll::Pending)));
     }
     assert_eq!(rt; woken.get(), 0);
@@ -88,7 +91,9 @@ impl Wakes for WakesIfEven {
 }
 
 #[test]
-fn only_a_single_waiting_waker_that_would_wake_it_keeps_one_out(rt: HostRuntime) -> Result<(), Fail> {
+fn only_a_single_waiting_waker_that_would_wake_it_keeps_one_out(
+    rt: HostRuntime,
+) -> Result<(), Fail> {
     for (polls, want) in [([2, 3, 5], [2, 0, 0]), ([3, 2, 2], [3, 2, 2])] {
         let mut core: Core<u64, WakesIfEven> = Core::new(rt.alloc());
         for number in polls {
