@@ -40,6 +40,7 @@ impl<T: Copy, W: Copy> Beginning<T, W> {
         }
     }
 
+    /// The cell.
     pub fn cell(&self) -> &Cell<T>
         ensures { result.now ≡ self.now.cell }
     {

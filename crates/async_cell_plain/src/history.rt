@@ -51,7 +51,7 @@ pub fn since<'a, T: Copy, W: Copy>(cell: &Cell<T>, history: &'a [Entry<T, W>]) -
 }
 
 /// The waker of a poll that was answered `Pending`.
-pub fn pending_waker<T: Copy, W: Copy>(entry: &Entry<T, W>) -> Option<W>
+fn pending_waker<T: Copy, W: Copy>(entry: &Entry<T, W>) -> Option<W>
     ensures { result ≡ pending_waker entry.now }
 {
     match (entry.reply, entry.call) {

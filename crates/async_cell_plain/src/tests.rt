@@ -41,7 +41,7 @@ fn poll<W>(waker: W, waiting: &[W]) -> Step<'_, W> {
     then(Kept::PollTake(waker), Reply::Pending, VACANT, &[], waiting)
 }
 
-/// Replays the calls, and looks that each goes as its step says. A refusal for want of memory has only to be allowed there.
+/// Looks that each call went as its step says. A refusal for want of memory has only to be allowed there.
 fn go<W: Wakes + Copy + Debug + PartialEq>(
     rt: &impl Abort,
     name: &str,
@@ -52,19 +52,16 @@ fn go<W: Wakes + Copy + Debug + PartialEq>(
     assert_eq!(rt; told.len(), steps.len(), "{name}");
     let mut at = beginning;
     for (index, step) in steps.iter().enumerate() {
-        let told = &told[index];
+        let (told, call) = (&told[index], step.call);
         if step.reply == NO_MEMORY {
-            assert!(rt;
-                may_refuse(at, &step.call),
-                "{name}: memory at call {index}"
-            );
+            assert!(rt; may_refuse(at, &call), "{name}: memory for {call:?}");
         } else {
-            assert_eq!(rt; *told.reply(), step.reply, "{name}: call {index}");
+            assert_eq!(rt; *told.reply(), step.reply, "{name}: {call:?}");
         }
         at = told.after();
-        assert_eq!(rt; *at.cell(), step.cell, "{name}: cell after call {index}");
-        assert_eq!(rt; told.handed_out(), step.handed_out, "{name}: call {index}");
-        assert_eq!(rt; at.waiting(), step.waiting, "{name}: after call {index}");
+        assert_eq!(rt; *at.cell(), step.cell, "{name}: the cell after {call:?}");
+        assert_eq!(rt; told.handed_out(), step.handed_out, "{name}: by {call:?}");
+        assert_eq!(rt; at.waiting(), step.waiting, "{name}: after {call:?}");
     }
 }
 
@@ -97,23 +94,29 @@ fn a_new_cell_goes<W: Wakes + Copy + Debug + PartialEq>(
     Ok(())
 }
 
-/// The single call on this cell, with these wakers, goes as its step says; and memory may be wanting there, or may not.
-fn one_call_goes(
+/// Each of these calls, as the first and only one on this cell with these wakers, goes as its step says, and whether there
+/// may be no memory for it is as told.
+fn each_call_goes(
     rt: &impl Abort,
     alloc: Global,
     name: &str,
     before: (Cell<i64>, &[Named]),
     may_lack_memory: bool,
-    step: Step<'_, Named>,
+    steps: &[Step<'_, Named>],
 ) -> Result<(), AllocError> {
     let beginning = Beginning::with(before.0, before.1.iter().copied().collect(alloc)?, 0);
-    let told = told_of(alloc, &beginning, &[step])?;
-    go(rt, name, &beginning, &told, &[step]);
-    assert_eq!(rt;
-        may_refuse(&beginning, &step.call),
-        may_lack_memory,
-        "{name}: memory"
-    );
+    for step in steps {
+        let (step, call) = (&[*step], step.call);
+        go(
+            rt,
+            name,
+            &beginning,
+            &told_of(alloc, &beginning, step)?,
+            step,
+        );
+        let may = may_refuse(&beginning, &call);
+        assert_eq!(rt; may, may_lack_memory, "{name}: memory for {call:?}");
+    }
     Ok(())
 }
 
@@ -124,6 +127,8 @@ const ONE: Named = Named(1);
 const TWO: Named = Named(2);
 
 const THREE: Named = Named(3);
+
+const MOST: u32 = 4_294_967_295;
 
 const VACANT: Cell<i64> = Cell::Open(None, 1);
 
@@ -578,104 +583,51 @@ fn room_spares_polls_from_want_of_memory(rt: HostRuntime) -> Result<(), Fail> {
     Ok(())
 }
 
-const MOST: u32 = u32::MAX;
-
 #[test]
 fn each_call_on_an_open_cell_without_a_value(rt: HostRuntime) -> Result<(), Fail> {
+    let (all, more, lone) = ([ONE, TWO], [ONE, TWO, THREE], [ONE]);
     for owners in [1, 2, MOST] {
         let vacant = Cell::Open(None, owners);
         let holds = |value| Cell::Open(Some(value), owners);
-        let all = [ONE, TWO];
-        let more = [ONE, TWO, THREE];
-        let table = [
-            (
-                "set",
-                false,
-                then(Kept::Set(7), Reply::Done, holds(7), &all, &[]),
-            ),
-            (
-                "or_set",
-                false,
-                then(Kept::OrSet(7), Reply::Value(None), holds(7), &all, &[]),
-            ),
-            (
-                "replace",
-                false,
-                then(Kept::Replace(7), Reply::Value(None), holds(7), &all, &[]),
-            ),
-            (
-                "update to a value",
-                false,
-                then(update(None, Some(8)), Reply::Done, holds(8), &all, &[]),
-            ),
-            (
-                "update to none",
-                false,
-                then(update(None, None), Reply::Done, vacant, &[], &all),
-            ),
-            (
-                "update_some",
-                false,
-                then(update_some(None, None), Reply::Done, vacant, &[], &all),
-            ),
-            (
-                "try_take",
-                false,
-                then(Kept::TryTake, Reply::Value(None), vacant, &[], &all),
-            ),
-            (
-                "try_get",
-                false,
-                then(Kept::TryGet, Reply::Value(None), vacant, &[], &all),
-            ),
-            (
-                "is_set",
-                false,
-                then(Kept::IsSet, Reply::Is(false), vacant, &[], &all),
-            ),
-            (
-                "take poll",
-                true,
-                then(Kept::PollTake(THREE), Reply::Pending, vacant, &[], &more),
-            ),
-            (
-                "get poll",
-                true,
-                then(Kept::PollGet(THREE), Reply::Pending, vacant, &[], &more),
-            ),
-            (
-                "take poll without memory",
-                true,
-                then(Kept::PollTake(THREE), NO_MEMORY, vacant, &[], &all),
-            ),
-            (
-                "get poll without memory",
-                true,
-                then(Kept::PollGet(THREE), NO_MEMORY, vacant, &[], &all),
-            ),
+        let needs_none = [
+            then(Kept::Set(7), Reply::Done, holds(7), &all, &[]),
+            then(Kept::OrSet(7), Reply::Value(None), holds(7), &all, &[]),
+            then(Kept::Replace(7), Reply::Value(None), holds(7), &all, &[]),
+            then(update(None, Some(8)), Reply::Done, holds(8), &all, &[]),
+            then(update(None, None), Reply::Done, vacant, &[], &all),
+            then(update_some(None, None), Reply::Done, vacant, &[], &all),
+            then(Kept::TryTake, Reply::Value(None), vacant, &[], &all),
+            then(Kept::TryGet, Reply::Value(None), vacant, &[], &all),
+            then(Kept::IsSet, Reply::Is(false), vacant, &[], &all),
         ];
-        for (name, may_lack_memory, step) in table {
-            one_call_goes(&rt, rt.alloc(), name, (vacant, &all), may_lack_memory, step)?;
-        }
-    }
-    Ok(())
-}
-
-#[test]
-fn a_lone_waiter_that_would_wake_the_poll_skips_it(rt: HostRuntime) -> Result<(), Fail> {
-    let lone = [ONE];
-    let table = [
-        (
-            "take poll",
-            then(Kept::PollTake(ONE), Reply::Pending, VACANT, &[], &lone),
-        ),
-        (
-            "get poll",
-            then(Kept::PollGet(ONE), Reply::Pending, VACANT, &[], &lone),
-        ),
-    ];
-    for (name, step) in table {
-        one_call_goes(&rt, rt.alloc(), name, (VACANT, &lone), false, step)?;
+        let adds = [
+            then(Kept::PollTake(THREE), Reply::Pending, vacant, &[], &more),
+            then(Kept::PollGet(THREE), Reply::Pending, vacant, &[], &more),
+            then(Kept::PollTake(THREE), NO_MEMORY, vacant, &[], &all),
+            then(Kept::PollGet(THREE), NO_MEMORY, vacant, &[], &all),
+        ];
+        let skipped = [
+            then(Kept::PollTake(ONE), Reply::Pending, vacant, &[], &lone),
+            then(Kept::PollGet(ONE), Reply::Pending, vacant, &[], &lone),
+        ];
+        let (rt, alloc) = (&rt, rt.alloc());
+        each_call_goes(
+            rt,
+            alloc,
+            "without a value",
+            (vacant, &all),
+            false,
+            &needs_none,
+        )?;
+        each_call_goes(rt, alloc, "one more waits", (vacant, &all), true, &adds)?;
+        each_call_goes(
+            rt,
+            alloc,
+            "a lone one waits",
+            (vacant, &lone),
+            false,
+            &skipped,
+        )?;
     }
     Ok(())
 }
@@ -686,77 +638,32 @@ fn each_call_on_an_open_cell_with_a_value(rt: HostRuntime) -> Result<(), Fail> {
         let vacant = Cell::Open(None, owners);
         let holds = |value| Cell::Open(Some(value), owners);
         let five = holds(5);
-        let no = &[];
-        let table = [
-            (
-                "set",
-                false,
-                then(Kept::Set(7), Reply::Done, holds(7), no, no),
+        let needs_none = [
+            then(Kept::Set(7), Reply::Done, holds(7), &[], &[]),
+            then(Kept::OrSet(7), Reply::Value(Some(7)), five, &[], &[]),
+            then(Kept::Replace(7), Reply::Value(Some(5)), holds(7), &[], &[]),
+            then(update(Some(5), Some(8)), Reply::Done, holds(8), &[], &[]),
+            then(update(Some(5), None), Reply::Done, vacant, &[], &[]),
+            then(
+                update_some(Some(5), Some(8)),
+                Reply::Done,
+                holds(8),
+                &[],
+                &[],
             ),
-            (
-                "or_set",
-                false,
-                then(Kept::OrSet(7), Reply::Value(Some(7)), five, no, no),
-            ),
-            (
-                "replace",
-                false,
-                then(Kept::Replace(7), Reply::Value(Some(5)), holds(7), no, no),
-            ),
-            (
-                "update to a value",
-                false,
-                then(update(Some(5), Some(8)), Reply::Done, holds(8), no, no),
-            ),
-            (
-                "update to none",
-                false,
-                then(update(Some(5), None), Reply::Done, vacant, no, no),
-            ),
-            (
-                "update_some",
-                false,
-                then(update_some(Some(5), Some(8)), Reply::Done, holds(8), no, no),
-            ),
-            (
-                "try_take",
-                false,
-                then(Kept::TryTake, Reply::Value(Some(5)), vacant, no, no),
-            ),
-            (
-                "try_get",
-                true,
-                then(Kept::TryGet, Reply::Value(Some(5)), five, no, no),
-            ),
-            (
-                "is_set",
-                false,
-                then(Kept::IsSet, Reply::Is(true), five, no, no),
-            ),
-            (
-                "take poll",
-                false,
-                then(Kept::PollTake(ONE), Reply::Ready(Some(5)), vacant, no, no),
-            ),
-            (
-                "get poll",
-                true,
-                then(Kept::PollGet(ONE), Reply::Ready(Some(5)), five, no, no),
-            ),
-            (
-                "try_get without memory",
-                true,
-                then(Kept::TryGet, NO_MEMORY, five, no, no),
-            ),
-            (
-                "get poll without memory",
-                true,
-                then(Kept::PollGet(ONE), NO_MEMORY, five, no, no),
-            ),
+            then(Kept::TryTake, Reply::Value(Some(5)), vacant, &[], &[]),
+            then(Kept::IsSet, Reply::Is(true), five, &[], &[]),
+            then(Kept::PollTake(ONE), Reply::Ready(Some(5)), vacant, &[], &[]),
         ];
-        for (name, may_lack_memory, step) in table {
-            one_call_goes(&rt, rt.alloc(), name, (five, &[]), may_lack_memory, step)?;
-        }
+        let clones = [
+            then(Kept::TryGet, Reply::Value(Some(5)), five, &[], &[]),
+            then(Kept::PollGet(ONE), Reply::Ready(Some(5)), five, &[], &[]),
+            then(Kept::TryGet, NO_MEMORY, five, &[], &[]),
+            then(Kept::PollGet(ONE), NO_MEMORY, five, &[], &[]),
+        ];
+        let (rt, alloc) = (&rt, rt.alloc());
+        each_call_goes(rt, alloc, "with a value", (five, &[]), false, &needs_none)?;
+        each_call_goes(rt, alloc, "the value is cloned", (five, &[]), true, &clones)?;
     }
     Ok(())
 }
@@ -766,71 +673,47 @@ fn each_owner_call_on_an_open_cell(rt: HostRuntime) -> Result<(), Fail> {
     let both = [ONE, TWO];
     let full_up = Reply::Refused(Refusal::OwnersFull, None);
     let shared = Reply::Refused(Refusal::StillShared, None);
+    let none = Reply::Value(None);
     let contents: [(Option<i64>, &[Named]); 2] = [(None, &both), (Some(5), &[])];
     for (content, all) in contents {
-        let owned_by = |owners| Cell::Open(content, owners);
+        let owned = |owners| Cell::Open(content, owners);
         let given = Reply::Value(content);
-        let table = [
-            (
-                "an owner more for one",
-                1,
-                then(Kept::AddOwner, Reply::Done, owned_by(2), &[], all),
-            ),
-            (
-                "an owner more for two",
-                2,
-                then(Kept::AddOwner, Reply::Done, owned_by(3), &[], all),
-            ),
-            (
-                "the last that can be counted",
-                MOST - 1,
-                then(Kept::AddOwner, Reply::Done, owned_by(MOST), &[], all),
-            ),
-            (
-                "one more than can be counted",
-                MOST,
-                then(Kept::AddOwner, full_up, owned_by(MOST), &[], all),
-            ),
-            (
-                "an owner of two ends",
-                2,
-                then(Kept::EndOwner, Reply::Value(None), owned_by(1), &[], all),
-            ),
-            (
-                "an owner of the most ends",
-                MOST,
-                then(
-                    Kept::EndOwner,
-                    Reply::Value(None),
-                    owned_by(MOST - 1),
-                    &[],
-                    all,
-                ),
-            ),
-            (
-                "the last owner ends",
-                1,
-                then(Kept::EndOwner, given, CLOSED, all, &[]),
-            ),
-            (
-                "the only owner takes the value out",
-                1,
-                then(Kept::TakeInner, given, CLOSED, all, &[]),
-            ),
-            (
-                "one of two does",
-                2,
-                then(Kept::TakeInner, shared, owned_by(2), &[], all),
-            ),
-            (
-                "one of the most does",
-                MOST,
-                then(Kept::TakeInner, shared, owned_by(MOST), &[], all),
-            ),
+        let with_one = [
+            then(Kept::AddOwner, Reply::Done, owned(2), &[], all),
+            then(Kept::EndOwner, given, CLOSED, all, &[]),
+            then(Kept::TakeInner, given, CLOSED, all, &[]),
         ];
-        for (name, owners, step) in table {
-            one_call_goes(&rt, rt.alloc(), name, (owned_by(owners), all), false, step)?;
-        }
+        let with_two = [
+            then(Kept::AddOwner, Reply::Done, owned(3), &[], all),
+            then(Kept::EndOwner, none, owned(1), &[], all),
+            then(Kept::TakeInner, shared, owned(2), &[], all),
+        ];
+        let with_all_but_one = [then(Kept::AddOwner, Reply::Done, owned(MOST), &[], all)];
+        let with_the_most = [
+            then(Kept::AddOwner, full_up, owned(MOST), &[], all),
+            then(Kept::EndOwner, none, owned(MOST - 1), &[], all),
+            then(Kept::TakeInner, shared, owned(MOST), &[], all),
+        ];
+        let (rt, alloc) = (&rt, rt.alloc());
+        each_call_goes(rt, alloc, "one owner", (owned(1), all), false, &with_one)?;
+        each_call_goes(rt, alloc, "two owners", (owned(2), all), false, &with_two)?;
+        let before = (owned(MOST - 1), all);
+        each_call_goes(
+            rt,
+            alloc,
+            "all owners but one",
+            before,
+            false,
+            &with_all_but_one,
+        )?;
+        each_call_goes(
+            rt,
+            alloc,
+            "the most owners",
+            (owned(MOST), all),
+            false,
+            &with_the_most,
+        )?;
     }
     Ok(())
 }
@@ -838,24 +721,28 @@ fn each_owner_call_on_an_open_cell(rt: HostRuntime) -> Result<(), Fail> {
 #[test]
 fn each_call_on_a_closed_cell(rt: HostRuntime) -> Result<(), Fail> {
     let closed = |back| Reply::Refused(Refusal::Closed, back);
-    let table = [
-        ("set", Kept::Set(7), closed(Some(7))),
-        ("or_set", Kept::OrSet(7), closed(Some(7))),
-        ("replace", Kept::Replace(7), closed(Some(7))),
-        ("update", update(None, None), closed(None)),
-        ("update_some", update_some(None, None), closed(None)),
-        ("try_take", Kept::TryTake, Reply::Value(None)),
-        ("try_get", Kept::TryGet, Reply::Value(None)),
-        ("is_set", Kept::IsSet, Reply::Is(false)),
-        ("take poll", Kept::PollTake(ONE), Reply::Ready(None)),
-        ("get poll", Kept::PollGet(ONE), Reply::Ready(None)),
-        ("add_owner", Kept::AddOwner, closed(None)),
-        ("end_owner", Kept::EndOwner, closed(None)),
-        ("take_inner", Kept::TakeInner, closed(None)),
+    let steps = [
+        then(Kept::Set(7), closed(Some(7)), CLOSED, &[], &[]),
+        then(Kept::OrSet(7), closed(Some(7)), CLOSED, &[], &[]),
+        then(Kept::Replace(7), closed(Some(7)), CLOSED, &[], &[]),
+        then(update(None, None), closed(None), CLOSED, &[], &[]),
+        then(update_some(None, None), closed(None), CLOSED, &[], &[]),
+        then(Kept::TryTake, Reply::Value(None), CLOSED, &[], &[]),
+        then(Kept::TryGet, Reply::Value(None), CLOSED, &[], &[]),
+        then(Kept::IsSet, Reply::Is(false), CLOSED, &[], &[]),
+        then(Kept::PollTake(ONE), Reply::Ready(None), CLOSED, &[], &[]),
+        then(Kept::PollGet(ONE), Reply::Ready(None), CLOSED, &[], &[]),
+        then(Kept::AddOwner, closed(None), CLOSED, &[], &[]),
+        then(Kept::EndOwner, closed(None), CLOSED, &[], &[]),
+        then(Kept::TakeInner, closed(None), CLOSED, &[], &[]),
     ];
-    for (name, call, reply) in table {
-        let step = then(call, reply, CLOSED, &[], &[]);
-        one_call_goes(&rt, rt.alloc(), name, (CLOSED, &[]), false, step)?;
-    }
+    each_call_goes(
+        &rt,
+        rt.alloc(),
+        "a closed cell",
+        (CLOSED, &[]),
+        false,
+        &steps,
+    )?;
     Ok(())
 }
