@@ -1,0 +1,12 @@
+use Rattle.std.proofs.Common.{◌≡◌, length}
+use Rattle.std.specs.List.{sum_by}
+use Rattle.async_cell_recorded.proofs.books.Books.close.Given as goal
+
+-- the shares that were taken back, each with its part and its count
+abbrev pub invariant-loop-share : goal.invariant-loop-share
+invariant-loop-share g l = record {
+  calls : l.calls_left.parts ≡ length l.yielded;
+  answers : l.answers_left.parts ≡ length l.yielded;
+  counted : l.calls_left.amount ≡ sum_by (λ s. s.count) l.yielded;
+  picked : l.answers_left.amount ≡ sum_by (λ s. s.picked) l.yielded;
+}

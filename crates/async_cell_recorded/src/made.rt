@@ -1,0 +1,73 @@
+//! One call on the core, with the entry that a history keeps of it.
+ghost use Rattle.std.specs.Prelude.{◌≡◌, true, false, IfOk, OnErr};
+ghost use Rattle.async_cell_model.specs.Cell.{content};
+ghost use Rattle.async_cell_model.specs.Step.{is_memory};
+ghost use Rattle.async_cell_model.specs.Legal.{Answers};
+ghost use Rattle.async_cell_core.specs.Kept.{kept_call};
+ghost use Rattle.async_cell_recorded.specs.Recording.{names_wake};
+ghost use Rattle.async_cell_recorded.specs.Keeping.{kept_before, kept_after};
+
+use crate::entry::{Entry, Kept};
+use async_cell_core::{Answer, Call, Core, Edit, Named, Refusal, Reply, Wakers, step_copied};
+use std::alloc::AllocError;
+
+/// A call on a cell with this content as a history keeps it, before it is made.
+fn keep<T: Copy, E>(call: &Call<T, Named, E>, saw: Option<T>) -> Kept<T>
+    ensures { result ≡ kept_before call.now saw }
+{
+    match call {
+        Call::Set(value) => Kept::Set(*value),
+        Call::OrSet(value) => Kept::OrSet(*value),
+        Call::Replace(value) => Kept::Replace(*value),
+        Call::Update(_) => Kept::Update { saw, put: None },
+        Call::UpdateSome(_) => Kept::UpdateSome { saw, put: None },
+        Call::TryTake => Kept::TryTake,
+        Call::TryGet => Kept::TryGet,
+        Call::IsSet => Kept::IsSet,
+        Call::PollTake(waker) => Kept::PollTake(*waker),
+        Call::PollGet(waker) => Kept::PollGet(*waker),
+        Call::AddOwner => Kept::AddOwner,
+        Call::EndOwner => Kept::EndOwner,
+        Call::TakeInner => Kept::TakeInner,
+    }
+}
+
+/// The same call, once it left this content.
+fn answered<T: Copy>(kept: Kept<T>, put: Option<T>) -> Kept<T>
+    ensures { result ≡ kept_after kept put }
+{
+    match kept {
+        Kept::Update { saw, .. } => Kept::Update { saw, put },
+        Kept::UpdateSome { saw, .. } => Kept::UpdateSome { saw, put },
+        kept => kept,
+    }
+}
+
+/// A copy of the content.
+#[tactic(auto, using(crate::proofs::Making::got_content))]
+fn content<T: Copy>(core: &Core<T, Named>) -> Option<T>
+    ensures { result ≡ content core.now.cell }
+{
+    core.try_get_copied()
+}
+
+/// Makes the call, and gives its entry with the wakers that it hands out. Refused for want of memory where the core refuses
+/// a poll.
+#[tactic(auto, using(crate::proofs::Making::refused_unchanged, crate::proofs::Making::kept_made))]
+pub(crate) fn make<T: Copy, E: Edit<T> + Drop>(
+    core: &mut Core<T, Named>,
+    call: Call<T, Named, E>,
+) -> Result<(Entry<T>, Wakers<Named>), AllocError>
+    ensures kept { IfOk result (λ made. made.0.call ≡ kept_call E.edit E.edit_some core.old.cell call) }
+    ensures model { IfOk result (λ made. Answers names_wake true core.old made.0.call made.0.reply made.1 core.new) }
+    ensures answered { IfOk result (λ made. is_memory made.0.reply ≡ false) }
+    ensures unchanged { OnErr result ((core.new.cell ≡ core.old.cell) × (core.new.waiting ≡ core.old.waiting)) }
+{
+    let kept = keep(&call, content(core));
+    let Answer { reply, woken } = step_copied(core, call);
+    if let Reply::Refused(Refusal::Memory, _) = reply {
+        return Err(AllocError);
+    }
+    let call = answered(kept, content(core));
+    Ok((Entry { call, reply }, woken))
+}

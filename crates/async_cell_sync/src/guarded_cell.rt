@@ -1,0 +1,47 @@
+use crate::async_cell::AsyncCell;
+use crate::cell_ref::CellRef;
+use std::sync::Wait;
+
+/// A guard of a cell. It has no drop and must be spent: by `cancel`, which puts its cancel value in where there is no value,
+/// or by `release`, `set` or `or_set`. After each of these its pointer leaves: a guard that is an owner ends its owner.
+pub struct GuardedCell<T, C: CellRef<Value = T>> {
+    pointer: C,
+    cancel: T,
+}
+
+impl<T: Drop, C: CellRef<Value = T>> GuardedCell<T, C> {
+    pub(crate) fn new(pointer: C, cancel: T) -> Self {
+        GuardedCell { pointer, cancel }
+    }
+
+    /// The cell that it guards.
+    pub fn cell(&self) -> &AsyncCell<T> {
+        self.pointer.cell()
+    }
+
+    /// Ends the guard unreleased: its cancel value is put in where there is no value, and all that wait are woken then. Else
+    /// it is dropped.
+    pub fn cancel<R: Wait>(self, rt: &R) {
+        let GuardedCell { pointer, cancel } = self;
+        pointer.cell().end_guard(Some(cancel), rt);
+        pointer.leave(rt);
+    }
+
+    /// Ends the guard without a write. Its cancel value is dropped.
+    pub fn release<R: Wait>(self, rt: &R) {
+        let GuardedCell { pointer, cancel: _ } = self;
+        pointer.leave(rt);
+    }
+
+    /// Puts the value in, and releases the guard.
+    pub fn set<R: Wait>(self, value: T, rt: &R) {
+        self.cell().set(value, rt);
+        self.release(rt);
+    }
+
+    /// Puts the value in where there is none, and releases the guard.
+    pub fn or_set<R: Wait>(self, value: T, rt: &R) {
+        self.cell().or_set(value, rt);
+        self.release(rt);
+    }
+}

@@ -1,0 +1,128 @@
+ghost use Rattle.std.specs.Prelude.{◌≡◌, IfErr};
+ghost use Rattle.async_cell_sync.specs.Refused.{IsOwnerRefusal};
+
+use crate::async_cell::AsyncCell;
+use crate::get::Get;
+use crate::guarded_cell::GuardedCell;
+use crate::take::Take;
+use crate::weak::{GetWeak, TakeWeak, Weak};
+use async_cell_core::Refusal;
+use std::alloc::{AllocFailed, Global};
+use std::sync::{Arc, Wait};
+
+/// One counted owner of a cell. The end of the last one closes the cell: the value is dropped, all that wait are woken, and
+/// weak futures are ready with none.
+///
+/// It has no drop and must be spent: by `end`, `leave` or `try_into_inner`.
+pub struct Shared<T> {
+    cell: Arc<AsyncCell<T>>,
+}
+
+impl<T: Drop> Shared<T> {
+    /// The first owner of a new cell without a value. Refused with `Memory`.
+    pub fn shared(alloc: Global) -> Result<Self, Refusal>
+        ensures refused { IfErr result (λ why. why ≡ Refusal.Memory) }
+    {
+        Shared::into_shared(AsyncCell::new(alloc)).map_err(|(why, _)| why)
+    }
+
+    /// The first owner of a cell. Refused with `Memory`, and then the cell comes back.
+    pub fn into_shared(cell: AsyncCell<T>) -> Result<Self, (Refusal, AsyncCell<T>)>
+        ensures comes_back { IfErr result (λ back. back ≡ (Refusal.Memory, cell)) }
+    {
+        match Arc::new(cell.allocator(), cell) {
+            Ok(cell) => Ok(Shared { cell }),
+            Err(AllocFailed { value: cell }) => Err((Refusal::Memory, cell)),
+        }
+    }
+
+    /// One owner more, in place of a clone. Refused with `Memory` where the pointer can't be counted, and with
+    /// `OwnersFull`.
+    pub fn another<R: Wait>(&self, rt: &R) -> Result<Self, Refusal>
+        ensures refused { IfErr result IsOwnerRefusal }
+    {
+        Shared::owning(&self.cell, rt)
+    }
+
+    /// A new owner that takes the value. Refused as `another` is.
+    pub fn take_shared<R: Wait>(&self, rt: &R) -> Result<Take<Self>, Refusal>
+        ensures refused { IfErr result IsOwnerRefusal }
+    {
+        Ok(Take(self.another(rt)?))
+    }
+
+    /// A new owner that clones the value and leaves it. Refused as `another` is.
+    pub fn get_shared<R: Wait>(&self, rt: &R) -> Result<Get<Self>, Refusal>
+        ensures refused { IfErr result IsOwnerRefusal }
+    {
+        Ok(Get(self.another(rt)?))
+    }
+
+    /// A guard that is a new owner. Refused as `another` is, and then the value comes back.
+    pub fn guard_shared<R: Wait>(
+        &self,
+        cancel: T,
+        rt: &R,
+    ) -> Result<GuardedCell<T, Self>, (Refusal, T)>
+        ensures refused { IfErr result (λ back. IsOwnerRefusal back.0) }
+        ensures comes_back { IfErr result (λ back. back.1 ≡ cancel) }
+    {
+        match self.another(rt) {
+            Ok(owner) => Ok(GuardedCell::new(owner, cancel)),
+            Err(why) => Err((why, cancel)),
+        }
+    }
+
+    /// A future that takes the value and is no owner.
+    pub fn take_weak(&self) -> TakeWeak<T> {
+        TakeWeak(Weak::of(&self.cell))
+    }
+
+    /// A future that clones the value, leaves it and is no owner.
+    pub fn get_weak(&self) -> GetWeak<T> {
+        GetWeak(Weak::of(&self.cell))
+    }
+
+    /// Closes the cell of a sole owner and gives its content. All that wait are woken. Beside other owners this one comes
+    /// back.
+    pub fn try_into_inner<R: Wait>(self, rt: &R) -> Result<Option<T>, Self>
+        ensures comes_back { IfErr result (λ back. back ≡ self) }
+    {
+        match self.cell.take_inner(rt) {
+            Err(Refusal::StillShared) => Err(self),
+            taken => {
+                let Shared { cell: _ } = self;
+                Ok(taken.unwrap_or(None))
+            }
+        }
+    }
+
+    /// Ends the owner.
+    pub fn end<R: Wait>(self, rt: &R) {
+        let Shared { cell } = self;
+        cell.end_owner(rt);
+    }
+
+    /// A new owner of the cell. Refused with `Memory` where the pointer can't be counted, and else with `Closed` and
+    /// `OwnersFull`.
+    pub(crate) fn owning<R: Wait>(cell: &Arc<AsyncCell<T>>, rt: &R) -> Result<Self, Refusal>
+        ensures refused { IfErr result IsOwnerRefusal }
+    {
+        let cell = Arc::try_clone(cell)?;
+        cell.add_owner(rt)?;
+        Ok(Shared { cell })
+    }
+
+    pub(crate) fn as_cell(&self) -> &AsyncCell<T> {
+        self.cell.as_ref()
+    }
+}
+
+impl Shared<()> {
+    /// A new owner that waits for `notify`. Refused as `another` is.
+    pub fn wait_shared<R: Wait>(&self, rt: &R) -> Result<Take<Self>, Refusal>
+        ensures refused { IfErr result IsOwnerRefusal }
+    {
+        self.take_shared(rt)
+    }
+}

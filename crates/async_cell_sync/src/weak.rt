@@ -1,0 +1,151 @@
+ghost use Rattle.std.specs.Prelude.{◌≡◌, IfErr, ◌⊎◌};
+ghost use Rattle.futures.specs.Poll.{IfReady, OnPending};
+ghost use Rattle.futures.specs.Task.{IsArmed, Keeps};
+
+use crate::async_cell::AsyncCell;
+use crate::get::Get;
+use crate::shared::Shared;
+use crate::take::Take;
+use crate::with::With;
+use async_cell_core::Refusal;
+use futures::task::{Context, Poll};
+use std::alloc::AllocError;
+use std::sync::{Arc, Wait};
+
+/// Names a cell and is no owner of it.
+#[derive(Drop)]
+pub struct Weak<T> {
+    /// None where the pointer could not be counted when it was made.
+    cell: Option<Arc<AsyncCell<T>>>,
+}
+
+impl<T: Drop> Weak<T> {
+    pub(crate) fn of(cell: &Arc<AsyncCell<T>>) -> Self {
+        Weak {
+            cell: Arc::try_clone(cell).ok(),
+        }
+    }
+
+    /// The cell. Refused with `Memory` where the pointer could not be counted when it was made.
+    fn cell(&self) -> Result<&AsyncCell<T>, Refusal>
+        ensures refused { IfErr result (λ why. why ≡ Refusal.Memory) }
+    {
+        match &self.cell {
+            Some(cell) => Ok(cell.as_ref()),
+            None => Err(Refusal::Memory),
+        }
+    }
+
+    /// A new owner, or none of a closed cell. Refused with `Memory` and `OwnersFull`; want of memory is found first.
+    fn upgrade<R: Wait>(&self, rt: &R) -> Result<Option<Shared<T>>, Refusal>
+        ensures refused { IfErr result (λ why. (why ≡ Refusal.Memory) ⊎ (why ≡ Refusal.OwnersFull)) }
+    {
+        let cell = self.cell.as_ref().ok_or(Refusal::Memory)?;
+        match Shared::owning(cell, rt) {
+            Ok(owner) => Ok(Some(owner)),
+            Err(Refusal::Closed) => Ok(None),
+            Err(why) => Err(why),
+        }
+    }
+}
+
+/// Names the same cell.
+impl<T: Drop> Clone for Weak<T> {
+    fn clone(&self) -> Result<Weak<T>, AllocError> {
+        let Some(cell) = &self.cell else {
+            return Ok(Weak { cell: None });
+        };
+        Ok(Weak {
+            cell: Some(Arc::try_clone(cell)?),
+        })
+    }
+}
+
+/// Takes the value of a cell and is no owner of it. It may be polled again after it was ready. `with` gives the future.
+#[derive(Drop)]
+pub struct TakeWeak<T>(pub Weak<T>);
+
+impl<T: Drop> TakeWeak<T> {
+    /// Polls by a shared reference. Ready with the value, which leaves none behind; with none on a closed cell; and with
+    /// `Memory` where the poll would have to wait and found none.
+    pub fn poll_shared<R: Wait>(
+        &self,
+        cx: &mut Context<'_>,
+        rt: &R,
+    ) -> Poll<Result<Option<T>, Refusal>>
+        ensures armed { OnPending result (IsArmed cx.new) }
+        ensures kept { Keeps cx.old cx.new }
+        ensures refused { IfReady result (λ answer. IfErr answer (λ why. why ≡ Refusal.Memory)) }
+    {
+        match self.0.cell() {
+            Ok(cell) => cell.poll_take(cx, rt),
+            Err(why) => Poll::Ready(Err(why)),
+        }
+    }
+
+    /// The future, which keeps the right to wait for the lock: a poll of `futures` is lent none.
+    pub fn with<R: Wait>(self, rt: R) -> With<Self, R> {
+        With::new(self, rt)
+    }
+
+    /// A new owner that takes the value, or none where the cell is closed. Refused with `Memory`, which is found first, and
+    /// with `OwnersFull`.
+    pub fn upgrade<R: Wait>(&self, rt: &R) -> Result<Option<Take<Shared<T>>>, Refusal>
+        ensures refused { IfErr result (λ why. (why ≡ Refusal.Memory) ⊎ (why ≡ Refusal.OwnersFull)) }
+    {
+        Ok(self.0.upgrade(rt)?.map(Take))
+    }
+}
+
+/// Names the same cell.
+impl<T: Drop> Clone for TakeWeak<T> {
+    fn clone(&self) -> Result<TakeWeak<T>, AllocError> {
+        Ok(TakeWeak(self.0.clone()?))
+    }
+}
+
+/// Clones the value of a cell, leaves it, and is no owner of the cell. It may be polled again after it was ready. `with`
+/// gives the future.
+#[derive(Drop)]
+pub struct GetWeak<T>(pub Weak<T>);
+
+impl<T: Clone> GetWeak<T> {
+    /// Polls by a shared reference. Ready with a clone of the value; with none on a closed cell; and with `Memory` where the
+    /// clone found none, or the poll would have to wait and found none.
+    pub fn poll_shared<R: Wait>(
+        &self,
+        cx: &mut Context<'_>,
+        rt: &R,
+    ) -> Poll<Result<Option<T>, Refusal>>
+        ensures armed { OnPending result (IsArmed cx.new) }
+        ensures kept { Keeps cx.old cx.new }
+        ensures refused { IfReady result (λ answer. IfErr answer (λ why. why ≡ Refusal.Memory)) }
+    {
+        match self.0.cell() {
+            Ok(cell) => cell.poll_get(cx, rt),
+            Err(why) => Poll::Ready(Err(why)),
+        }
+    }
+}
+
+impl<T: Drop> GetWeak<T> {
+    /// The future, which keeps the right to wait for the lock: a poll of `futures` is lent none.
+    pub fn with<R: Wait>(self, rt: R) -> With<Self, R> {
+        With::new(self, rt)
+    }
+
+    /// A new owner that clones the value and leaves it, or none where the cell is closed. Refused with `Memory`, which is
+    /// found first, and with `OwnersFull`.
+    pub fn upgrade<R: Wait>(&self, rt: &R) -> Result<Option<Get<Shared<T>>>, Refusal>
+        ensures refused { IfErr result (λ why. (why ≡ Refusal.Memory) ⊎ (why ≡ Refusal.OwnersFull)) }
+    {
+        Ok(self.0.upgrade(rt)?.map(Get))
+    }
+}
+
+/// Names the same cell.
+impl<T: Drop> Clone for GetWeak<T> {
+    fn clone(&self) -> Result<GetWeak<T>, AllocError> {
+        Ok(GetWeak(self.0.clone()?))
+    }
+}

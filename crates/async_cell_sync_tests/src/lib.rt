@@ -1,0 +1,23 @@
+//! Tests of the cell behind a lock, in a crate of their own so that the library is not proved twice.
+#![tactic(auto)]
+
+#[cfg(test)]
+mod guards;
+#[cfg(test)]
+mod locked_core;
+#[cfg(test)]
+mod meeting;
+#[cfg(test)]
+mod memory;
+#[cfg(test)]
+mod owners;
+#[cfg(test)]
+mod texts;
+#[cfg(test)]
+mod threads;
+#[cfg(test)]
+mod ticks;
+#[cfg(test)]
+mod when_unlocked;
+#[cfg(test)]
+mod writes;

@@ -1,0 +1,169 @@
+//! Each call of `LockedCore`, and that each that fills or closes wakes all.
+ghost use Rattle.std.specs.Prelude.{false, true};
+
+use async_cell_core::{Core, Named, Poll, Refusal, Wakes};
+use async_cell_locked::LockedCore;
+use std::sync::Wait;
+use std::sync::atomic::{AtomicU64, Ordering};
+
+/// A waker that counts its wakes.
+#[derive(Clone, Copy)]
+struct Counts<'a>(&'a AtomicU64);
+
+impl Wakes for Counts<'_> {
+    ghost use Rattle.std.proofs.Common.{rules};
+
+    ghost will_wake = { λ _ _. false };
+
+    ghost SURE_CLONE = { true };
+
+    const SURE_CLONE: bool = true;
+
+    fn will_wake(&self, _: &Self) -> bool {
+        false
+    }
+
+    fn wake(self) {
+        self.0.fetch_add(1, Ordering::SeqCst);
+    }
+
+    ghost clone_is_source = { Prim.search rules };
+
+    ghost clone_is_sure = { Prim.search rules };
+}
+
+/// What is done to a cell at which two wait.
+#[derive(Clone, Copy, Debug)]
+enum Act {
+    Set,
+    OrSet,
+    Replace,
+    Update,
+    EndOwner,
+    TakeInner,
+    IntoInner,
+    Drop,
+    UpdateToNone,
+    UpdateSome,
+    TryTake,
+    IsSet,
+    AddOwner,
+}
+
+fn carried_out<'a>(
+    act: Act,
+    cell: LockedCore<u32, Counts<'a>>,
+    rt: &impl Wait,
+) -> Option<LockedCore<u32, Counts<'a>>> {
+    match act {
+        Act::Set => drop(cell.set(1, rt)),
+        Act::OrSet => drop(cell.or_set(1, rt)),
+        Act::Replace => drop(cell.replace(1, rt)),
+        Act::Update => drop(cell.update(|_| Some(1), rt)),
+        Act::EndOwner => drop(cell.end_owner(rt)),
+        Act::TakeInner => drop(cell.take_inner(rt)),
+        Act::IntoInner => {
+            let _ = cell.into_inner();
+            return None;
+        }
+        Act::Drop => {
+            drop(cell);
+            return None;
+        }
+        Act::UpdateToNone => drop(cell.update(|_| None, rt)),
+        Act::UpdateSome => drop(cell.update_some(|value| value, rt)),
+        Act::TryTake => drop(cell.try_take(rt)),
+        Act::IsSet => drop(cell.is_set(rt)),
+        Act::AddOwner => drop(cell.add_owner(rt)),
+    }
+    Some(cell)
+}
+
+#[test]
+fn a_fill_a_close_and_the_drop_wake_all_and_no_other_call_any(rt: HostRuntime) {
+    for (done, wakes) in [
+        (Act::Set, 2),
+        (Act::OrSet, 2),
+        (Act::Replace, 2),
+        (Act::Update, 2),
+        (Act::EndOwner, 2),
+        (Act::TakeInner, 2),
+        (Act::IntoInner, 2),
+        (Act::Drop, 2),
+        (Act::UpdateToNone, 0),
+        (Act::UpdateSome, 0),
+        (Act::TryTake, 0),
+        (Act::IsSet, 0),
+        (Act::AddOwner, 0),
+    ] {
+        let woken = AtomicU64::new(0);
+        let cell = LockedCore::new(Core::new(rt.alloc()));
+        let take = cell.poll_take(&Counts(&woken), &rt);
+        assert!(rt; matches!(take, Ok(Poll::Pending)), "{done:?}");
+        let get = cell.poll_get(&Counts(&woken), &rt);
+        assert!(rt; matches!(get, Ok(Poll::Pending)), "{done:?}");
+        assert_eq!(rt; cell.waiting(&rt), 2, "{done:?}");
+        let left = carried_out(done, cell, &rt);
+        assert_eq!(rt; woken.load(Ordering::SeqCst), wakes, "{done:?}");
+        if let Some(cell) = left {
+            assert_eq!(rt; cell.waiting(&rt) as u64, 2 - wakes, "{done:?}");
+        }
+    }
+}
+
+#[test]
+fn values_go_in_and_out(rt: HostRuntime) {
+    let cell: LockedCore<u32, Named> = LockedCore::new(Core::new(rt.alloc()));
+    assert_eq!(rt; cell.try_get(&rt), Ok(None));
+    assert_eq!(rt; cell.set(1, &rt), Ok(()));
+    assert_eq!(rt; cell.set(2, &rt), Ok(()));
+    assert_eq!(rt; cell.replace(3, &rt), Ok(Some(2)));
+    assert_eq!(rt; cell.try_get(&rt), Ok(Some(3)));
+    assert_eq!(rt; cell.or_set(4, &rt), Ok(()));
+    assert!(rt; cell.is_set(&rt));
+    assert_eq!(rt;
+        cell.update(|content| content.map(|value| value / 3 + 4), &rt),
+        Ok(())
+    );
+    assert_eq!(rt; cell.update_some(|value| value / 5 + 5, &rt), Ok(()));
+    assert!(rt; matches!(cell.poll_get(&Named(1), &rt), Ok(Poll::Ready(Some(6)))));
+    assert!(rt; matches!(cell.poll_take(&Named(1), &rt), Ok(Poll::Ready(Some(6)))));
+    assert_eq!(rt; cell.try_take(&rt), None);
+    assert_eq!(rt; cell.or_set(7, &rt), Ok(()));
+    assert_eq!(rt; cell.try_take(&rt), Some(7));
+    assert_eq!(rt; cell.into_inner(), None);
+}
+
+#[test]
+fn owners_are_counted_and_the_last_one_closes(rt: HostRuntime) {
+    let cell: LockedCore<u32, Named> = LockedCore::new(Core::new_with(rt.alloc(), 4));
+    assert_eq!(rt; cell.add_owner(&rt), Ok(()));
+    assert_eq!(rt; cell.owners(&rt), 2);
+    assert_eq!(rt; cell.take_inner(&rt), Err(Refusal::StillShared));
+    assert_eq!(rt; cell.end_owner(&rt), Ok(()));
+    assert!(rt; !cell.is_closed(&rt));
+    assert_eq!(rt; cell.take_inner(&rt), Ok(Some(4)));
+    assert!(rt; cell.is_closed(&rt));
+    assert_eq!(rt; cell.owners(&rt), 0);
+    assert_eq!(rt; cell.set(9, &rt), Err(9));
+    assert_eq!(rt; cell.or_set(9, &rt), Err(9));
+    assert_eq!(rt; cell.replace(9, &rt), Err(9));
+    assert_eq!(rt; cell.update(|content| content, &rt), Err(Refusal::Closed));
+    assert_eq!(rt; cell.update_some(|value| value, &rt), Err(Refusal::Closed));
+    assert_eq!(rt; cell.add_owner(&rt), Err(Refusal::Closed));
+    assert_eq!(rt; cell.end_owner(&rt), Err(Refusal::Closed));
+    assert_eq!(rt; cell.take_inner(&rt), Err(Refusal::Closed));
+    assert_eq!(rt; cell.try_take(&rt), None);
+    assert_eq!(rt; cell.try_get(&rt), Ok(None));
+    assert!(rt; matches!(cell.poll_take(&Named(1), &rt), Ok(Poll::Ready(None))));
+    assert!(rt; matches!(cell.poll_get(&Named(1), &rt), Ok(Poll::Ready(None))));
+    assert_eq!(rt; cell.into_inner(), None);
+}
+
+#[test]
+fn the_number_of_owners_has_an_end(rt: HostRuntime) {
+    let core: Core<u32, Named> = Core::owned_by(rt.alloc(), None, u32::MAX);
+    let cell = LockedCore::new(core);
+    assert_eq!(rt; cell.add_owner(&rt), Err(Refusal::OwnersFull));
+    assert_eq!(rt; cell.owners(&rt), u32::MAX);
+}

@@ -1,0 +1,52 @@
+//! Polls: a step that answers, or that leaves the task's waker.
+ghost use Rattle.futures.specs.Poll.{OnPending};
+ghost use Rattle.futures.specs.Task.{IsArmed, Keeps};
+
+use super::AsyncCell;
+use async_cell_core::Refusal;
+use async_cell_task::TaskWaker;
+use futures::task::{Context, Poll};
+
+impl<T: Drop> AsyncCell<T> {
+    /// Takes the value, or waits for one. Ready with none on a closed cell. Refused with `Memory` where the task's waker or
+    /// the growth of the list was.
+    pub(crate) fn poll_take(&self, cx: &mut Context<'_>) -> Poll<Result<Option<T>, Refusal>>
+        ensures armed { OnPending result (IsArmed cx.new) }
+        ensures kept { Keeps cx.old cx.new }
+    {
+        let Some(mut core) = self.lend() else {
+            return Poll::Ready(Ok(None));
+        };
+        if !core.is_vacant() {
+            return Poll::Ready(Ok(core.try_take()));
+        }
+        let Some(waker) = TaskWaker::register(cx, &self.source) else {
+            return Poll::Ready(Err(Refusal::Memory));
+        };
+        let registered = core.register(waker);
+        drop(core);
+        match registered {
+            Ok(unused) => {
+                drop(unused);
+                Poll::Pending
+            }
+            Err(waker) => {
+                drop(waker);
+                Poll::Ready(Err(Refusal::Memory))
+            }
+        }
+    }
+
+    /// Clones the value and leaves it, or waits for one as `poll_take` does. Refused with `Memory` where the clone was, too.
+    pub(crate) fn poll_get(&self, cx: &mut Context<'_>) -> Poll<Result<Option<T>, Refusal>>
+    where
+        T: Clone,
+        ensures armed { OnPending result (IsArmed cx.new) }
+        ensures kept { Keeps cx.old cx.new }
+    {
+        match self.poll_take(cx) {
+            Poll::Ready(Ok(taken)) => Poll::Ready(self.copy_back(taken)),
+            other => other,
+        }
+    }
+}

@@ -1,0 +1,42 @@
+ghost use Rattle.futures.specs.Poll.{OnPending};
+ghost use Rattle.futures.specs.Task.{IsArmed, Keeps};
+
+use crate::cell_ref::CellRef;
+use async_cell_core::Refusal;
+use futures::future::Future;
+use futures::task::{Context, Poll};
+
+/// A future that clones the value of a cell and leaves it. It may be polled again after it was ready, and gives further
+/// values.
+#[derive(Clone, Copy, Drop)]
+pub struct Get<C>(pub C);
+
+impl<C: CellRef> Get<C>
+where
+    C::Value: Clone,
+{
+    /// Polls by a shared reference. Ready with a clone of the value; with `Memory` where the clone found none, or the poll
+    /// would have to wait and found none; and with `Closed` on a closed cell.
+    pub fn poll_shared(&self, cx: &mut Context<'_>) -> Poll<Result<C::Value, Refusal>>
+        ensures armed { OnPending result (IsArmed cx.new) }
+        ensures kept { Keeps cx.old cx.new }
+    {
+        match self.0.cell().poll_get(cx) {
+            Poll::Ready(copied) => Poll::Ready(copied.and_then(|content| content.ok_or(
+                Refusal::Closed,
+            ))),
+            Poll::Pending => Poll::Pending,
+        }
+    }
+}
+
+impl<C: CellRef> Future for Get<C>
+where
+    C::Value: Clone,
+{
+    type Output = Result<C::Value, Refusal>;
+
+    fn poll(&mut self, cx: &mut Context<'_>) -> Poll<Result<C::Value, Refusal>> {
+        self.poll_shared(cx)
+    }
+}

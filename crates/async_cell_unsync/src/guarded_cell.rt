@@ -1,0 +1,49 @@
+use crate::async_cell::AsyncCell;
+use crate::cell_ref::CellRef;
+
+/// A guard of a cell. Its drop puts its cancel value in where there is no value, unless it was released, and then drops its
+/// pointer: a guard that is an owner ends its owner.
+pub struct GuardedCell<T, C: CellRef<Value = T>> {
+    pointer: C,
+    /// None once it is released.
+    cancel: Option<T>,
+}
+
+impl<T: Drop, C: CellRef<Value = T>> GuardedCell<T, C> {
+    pub(crate) fn new(pointer: C, cancel: T) -> Self {
+        GuardedCell {
+            pointer,
+            cancel: Some(cancel),
+        }
+    }
+
+    /// The cell that it guards.
+    pub fn cell(&self) -> &AsyncCell<T> {
+        self.pointer.cell()
+    }
+
+    /// Ends the guard without a write. Its cancel value is dropped.
+    pub fn release(mut self) {
+        self.cancel = None;
+    }
+
+    /// Puts the value in, and releases the guard.
+    pub fn set(self, value: T) {
+        self.cell().set(value);
+        self.release();
+    }
+
+    /// Puts the value in where there is none, and releases the guard.
+    pub fn or_set(self, value: T) {
+        self.cell().or_set(value);
+        self.release();
+    }
+}
+
+/// Ends the guard.
+impl<T: Drop, C: CellRef<Value = T>> Drop for GuardedCell<T, C> {
+    fn drop(self) {
+        let GuardedCell { pointer, cancel } = self;
+        pointer.cell().end_guard(cancel);
+    }
+}

@@ -1,0 +1,20 @@
+//! The cell of one thread: a value or none, on which the futures of one thread wait.
+#![tactic(auto)]
+
+mod async_cell;
+mod cell_ref;
+mod get;
+mod guarded_cell;
+mod shared;
+mod take;
+mod weak;
+
+pub use async_cell::AsyncCell;
+pub use async_cell_core::Refusal;
+pub use async_cell_task::TaskWaker;
+pub use cell_ref::CellRef;
+pub use get::Get;
+pub use guarded_cell::GuardedCell;
+pub use shared::Shared;
+pub use take::Take;
+pub use weak::{GetWeak, TakeWeak, Weak};

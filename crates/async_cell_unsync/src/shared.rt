@@ -1,0 +1,104 @@
+use crate::async_cell::AsyncCell;
+use crate::get::Get;
+use crate::guarded_cell::GuardedCell;
+use crate::take::Take;
+use crate::weak::{GetWeak, TakeWeak, Weak};
+use async_cell_core::Refusal;
+use std::alloc::{AllocError, AllocFailed, Global};
+use std::rc::Rc;
+
+/// One counted owner of a cell. Its drop ends the owner, and the last one closes the cell: the value is dropped, all that
+/// wait are woken, and weak futures are ready with none.
+pub struct Shared<T> {
+    cell: Rc<AsyncCell<T>>,
+}
+
+impl<T: Drop> Shared<T> {
+    /// The first owner of a new cell without a value. Refused with `Memory`.
+    pub fn shared(alloc: Global) -> Result<Self, Refusal> {
+        Shared::into_shared(AsyncCell::new(alloc)).map_err(|(why, _)| why)
+    }
+
+    /// The first owner of a cell. Refused with `Memory`, and then the cell comes back.
+    pub fn into_shared(cell: AsyncCell<T>) -> Result<Self, (Refusal, AsyncCell<T>)> {
+        match Rc::new(cell.allocator(), cell) {
+            Ok(cell) => Ok(Shared { cell }),
+            Err(AllocFailed { value: cell }) => Err((Refusal::Memory, cell)),
+        }
+    }
+
+    /// One owner more, in place of a clone. Refused with `Memory` where the pointer can't be counted, and with
+    /// `OwnersFull`.
+    pub fn another(&self) -> Result<Self, Refusal> {
+        Shared::owning(&self.cell)
+    }
+
+    /// A new owner that takes the value. Refused as `another` is.
+    pub fn take_shared(&self) -> Result<Take<Self>, Refusal> {
+        Ok(Take(self.another()?))
+    }
+
+    /// A new owner that clones the value and leaves it. Refused as `another` is.
+    pub fn get_shared(&self) -> Result<Get<Self>, Refusal> {
+        Ok(Get(self.another()?))
+    }
+
+    /// A guard that is a new owner. Refused as `another` is, and then the value comes back.
+    pub fn guard_shared(&self, cancel: T) -> Result<GuardedCell<T, Self>, (Refusal, T)> {
+        match self.another() {
+            Ok(owner) => Ok(GuardedCell::new(owner, cancel)),
+            Err(why) => Err((why, cancel)),
+        }
+    }
+
+    /// A future that takes the value and is no owner.
+    pub fn take_weak(&self) -> TakeWeak<T> {
+        TakeWeak(Weak::of(&self.cell))
+    }
+
+    /// A future that clones the value, leaves it and is no owner.
+    pub fn get_weak(&self) -> GetWeak<T> {
+        GetWeak(Weak::of(&self.cell))
+    }
+
+    /// Closes the cell of a sole owner and gives its content. All that wait are woken. Beside other owners this one comes
+    /// back.
+    pub fn try_into_inner(self) -> Result<Option<T>, Self> {
+        match self.cell.take_inner() {
+            Ok(content) => {
+                let Shared { cell: _ } = self;
+                Ok(content)
+            }
+            Err(Refusal::StillShared) => Err(self),
+            Err(_) => Ok(None),
+        }
+    }
+
+    /// A new owner of the cell. Refused with `Memory` where the pointer can't be counted, and else with `Closed` and
+    /// `OwnersFull`.
+    pub(crate) fn owning(cell: &Rc<AsyncCell<T>>) -> Result<Self, Refusal> {
+        let pointer: Result<Rc<AsyncCell<T>>, AllocError> = cell.clone();
+        let cell = pointer?;
+        cell.add_owner()?;
+        Ok(Shared { cell })
+    }
+
+    pub(crate) fn as_cell(&self) -> &AsyncCell<T> {
+        self.cell.as_ref()
+    }
+}
+
+impl Shared<()> {
+    /// A new owner that waits for `notify`. Refused as `another` is.
+    pub fn wait_shared(&self) -> Result<Take<Self>, Refusal> {
+        self.take_shared()
+    }
+}
+
+/// Ends the owner.
+impl<T: Drop> Drop for Shared<T> {
+    fn drop(self) {
+        let Shared { cell } = self;
+        cell.end_owner();
+    }
+}

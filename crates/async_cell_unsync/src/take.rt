@@ -1,0 +1,35 @@
+ghost use Rattle.futures.specs.Poll.{OnPending};
+ghost use Rattle.futures.specs.Task.{IsArmed, Keeps};
+
+use crate::cell_ref::CellRef;
+use async_cell_core::Refusal;
+use futures::future::Future;
+use futures::task::{Context, Poll};
+
+/// A future that takes the value of a cell. It may be polled again after it was ready, and gives further values.
+#[derive(Clone, Copy, Drop)]
+pub struct Take<C>(pub C);
+
+impl<C: CellRef> Take<C> {
+    /// Polls by a shared reference. Ready with the value, which leaves none behind; with `Memory` where the poll would have
+    /// to wait and found none; and with `Closed` on a closed cell.
+    pub fn poll_shared(&self, cx: &mut Context<'_>) -> Poll<Result<C::Value, Refusal>>
+        ensures armed { OnPending result (IsArmed cx.new) }
+        ensures kept { Keeps cx.old cx.new }
+    {
+        match self.0.cell().poll_take(cx) {
+            Poll::Ready(taken) => Poll::Ready(taken.and_then(|content| content.ok_or(
+                Refusal::Closed,
+            ))),
+            Poll::Pending => Poll::Pending,
+        }
+    }
+}
+
+impl<C: CellRef> Future for Take<C> {
+    type Output = Result<C::Value, Refusal>;
+
+    fn poll(&mut self, cx: &mut Context<'_>) -> Poll<Result<C::Value, Refusal>> {
+        self.poll_shared(cx)
+    }
+}

@@ -1,0 +1,138 @@
+ghost use Rattle.futures.specs.Poll.{OnPending};
+ghost use Rattle.futures.specs.Task.{IsArmed, Keeps};
+
+use crate::async_cell::AsyncCell;
+use crate::get::Get;
+use crate::shared::Shared;
+use crate::take::Take;
+use async_cell_core::Refusal;
+use futures::future::Future;
+use futures::task::{Context, Poll};
+use std::alloc::AllocError;
+use std::rc::Rc;
+
+/// Names a cell and is no owner of it.
+#[derive(Drop)]
+pub struct Weak<T> {
+    /// None where the pointer could not be counted when it was made.
+    cell: Option<Rc<AsyncCell<T>>>,
+}
+
+impl<T: Drop> Weak<T> {
+    pub(crate) fn of(cell: &Rc<AsyncCell<T>>) -> Self {
+        let pointer: Result<Rc<AsyncCell<T>>, AllocError> = cell.clone();
+        Weak { cell: pointer.ok() }
+    }
+
+    /// The cell. Refused with `Memory` where the pointer could not be counted when it was made.
+    fn cell(&self) -> Result<&AsyncCell<T>, Refusal> {
+        match &self.cell {
+            Some(cell) => Ok(cell.as_ref()),
+            None => Err(Refusal::Memory),
+        }
+    }
+
+    /// A new owner, or none of a closed cell. Refused with `Memory` and `OwnersFull`; want of memory is found first.
+    fn upgrade(&self) -> Result<Option<Shared<T>>, Refusal> {
+        let cell = self.cell.as_ref().ok_or(Refusal::Memory)?;
+        match Shared::owning(cell) {
+            Ok(owner) => Ok(Some(owner)),
+            Err(Refusal::Closed) => Ok(None),
+            Err(why) => Err(why),
+        }
+    }
+}
+
+/// Names the same cell.
+impl<T: Drop> Clone for Weak<T> {
+    fn clone(&self) -> Result<Weak<T>, AllocError> {
+        let Some(cell) = &self.cell else {
+            return Ok(Weak { cell: None });
+        };
+        let pointer: Result<Rc<AsyncCell<T>>, AllocError> = cell.clone();
+        Ok(Weak {
+            cell: Some(pointer?),
+        })
+    }
+}
+
+/// A future that takes the value of a cell and is no owner of it. It may be polled again after it was ready.
+#[derive(Drop)]
+pub struct TakeWeak<T>(pub Weak<T>);
+
+impl<T: Drop> TakeWeak<T> {
+    /// Polls by a shared reference. Ready with the value, which leaves none behind; with none on a closed cell; and with
+    /// `Memory` where the poll would have to wait and found none.
+    pub fn poll_shared(&self, cx: &mut Context<'_>) -> Poll<Result<Option<T>, Refusal>>
+        ensures armed { OnPending result (IsArmed cx.new) }
+        ensures kept { Keeps cx.old cx.new }
+    {
+        match self.0.cell() {
+            Ok(cell) => cell.poll_take(cx),
+            Err(why) => Poll::Ready(Err(why)),
+        }
+    }
+
+    /// A new owner that takes the value, or none where the cell is closed. Refused with `Memory`, which is found first, and
+    /// with `OwnersFull`.
+    pub fn upgrade(&self) -> Result<Option<Take<Shared<T>>>, Refusal> {
+        Ok(self.0.upgrade()?.map(Take))
+    }
+}
+
+/// Names the same cell.
+impl<T: Drop> Clone for TakeWeak<T> {
+    fn clone(&self) -> Result<TakeWeak<T>, AllocError> {
+        Ok(TakeWeak(self.0.clone()?))
+    }
+}
+
+impl<T: Drop> Future for TakeWeak<T> {
+    type Output = Result<Option<T>, Refusal>;
+
+    fn poll(&mut self, cx: &mut Context<'_>) -> Poll<Result<Option<T>, Refusal>> {
+        self.poll_shared(cx)
+    }
+}
+
+/// A future that clones the value of a cell, leaves it, and is no owner of the cell. It may be polled again after it was
+/// ready.
+#[derive(Drop)]
+pub struct GetWeak<T>(pub Weak<T>);
+
+impl<T: Clone> GetWeak<T> {
+    /// Polls by a shared reference. Ready with a clone of the value; with none on a closed cell; and with `Memory` where the
+    /// clone found none, or the poll would have to wait and found none.
+    pub fn poll_shared(&self, cx: &mut Context<'_>) -> Poll<Result<Option<T>, Refusal>>
+        ensures armed { OnPending result (IsArmed cx.new) }
+        ensures kept { Keeps cx.old cx.new }
+    {
+        match self.0.cell() {
+            Ok(cell) => cell.poll_get(cx),
+            Err(why) => Poll::Ready(Err(why)),
+        }
+    }
+}
+
+impl<T: Drop> GetWeak<T> {
+    /// A new owner that clones the value and leaves it, or none where the cell is closed. Refused with `Memory`, which is
+    /// found first, and with `OwnersFull`.
+    pub fn upgrade(&self) -> Result<Option<Get<Shared<T>>>, Refusal> {
+        Ok(self.0.upgrade()?.map(Get))
+    }
+}
+
+/// Names the same cell.
+impl<T: Drop> Clone for GetWeak<T> {
+    fn clone(&self) -> Result<GetWeak<T>, AllocError> {
+        Ok(GetWeak(self.0.clone()?))
+    }
+}
+
+impl<T: Clone> Future for GetWeak<T> {
+    type Output = Result<Option<T>, Refusal>;
+
+    fn poll(&mut self, cx: &mut Context<'_>) -> Poll<Result<Option<T>, Refusal>> {
+        self.poll_shared(cx)
+    }
+}

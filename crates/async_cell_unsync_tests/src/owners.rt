@@ -1,0 +1,102 @@
+//! Owners, weak futures and the close.
+use crate::ticks::tick_future;
+use async_cell_unsync::{AsyncCell, CellRef};
+use futures::task::Poll;
+use futures::test::MockTask;
+use std::test::Fail;
+
+#[test]
+fn other_shared_calls(rt: HostRuntime) -> Result<(), Fail> {
+    let flag = MockTask::new(&rt)?;
+    let first = AsyncCell::new_with(rt.alloc(), 1u32)
+        .into_shared()
+        .map_err(|(why, _)| why)?;
+    let second = first.another()?;
+    let mut third = first.get_shared()?;
+    assert_eq!(rt; tick_future(&mut third, &flag), Poll::Ready(Ok(1)));
+    assert_eq!(rt; first.cell().try_take(), Some(1));
+    first.guard_shared(9).map_err(|(why, _)| why)?.or_set(5);
+    let mut weak = first.get_weak();
+    assert_eq!(rt; tick_future(&mut weak, &flag), Poll::Ready(Ok(Some(5))));
+    let mut fourth = weak.upgrade()?.ok_or("the cell is open")?;
+    assert_eq!(rt; tick_future(&mut fourth, &flag), Poll::Ready(Ok(5)));
+    drop(first);
+    drop(second);
+    drop(third);
+    assert_eq!(rt; tick_future(&mut weak, &flag), Poll::Ready(Ok(Some(5))));
+    drop(fourth);
+    assert_eq!(rt; tick_future(&mut weak, &flag), Poll::Ready(Ok(None)));
+    Ok(())
+}
+
+#[test]
+fn wait_shared(rt: HostRuntime) -> Result<(), Fail> {
+    let shared = AsyncCell::<()>::shared(rt.alloc())?;
+    let flag = MockTask::new(&rt)?;
+    let mut waits = shared.wait_shared()?;
+    assert_eq!(rt; tick_future(&mut waits, &flag), Poll::Pending);
+    shared.cell().notify();
+    assert!(rt; flag.is_woken());
+    assert_eq!(rt; tick_future(&mut waits, &flag), Poll::Ready(Ok(())));
+    Ok(())
+}
+
+#[test]
+fn upgrade(rt: HostRuntime) -> Result<(), Fail> {
+    let shared = AsyncCell::<u32>::shared(rt.alloc())?;
+    let flag = MockTask::new(&rt)?;
+    let weak = shared.take_weak();
+    let mut upgraded = weak.upgrade()?.ok_or("the cell is open")?;
+    drop(shared);
+    upgraded.0.cell().set(4);
+    assert_eq!(rt; tick_future(&mut upgraded, &flag), Poll::Ready(Ok(4)));
+    drop(upgraded);
+    assert!(rt; weak.upgrade()?.is_none());
+    Ok(())
+}
+
+#[test]
+fn try_into_inner_wakes_and_closes(rt: HostRuntime) -> Result<(), Fail> {
+    let shared = AsyncCell::<u32>::shared(rt.alloc())?;
+    let flag = MockTask::new(&rt)?;
+    let mut weak = shared.take_weak();
+    assert_eq!(rt; tick_future(&mut weak, &flag), Poll::Pending);
+    assert!(rt; !flag.is_woken());
+    assert!(rt; matches!(shared.try_into_inner(), Ok(None)));
+    assert!(rt; flag.is_woken());
+    assert_eq!(rt; tick_future(&mut weak, &flag), Poll::Ready(Ok(None)));
+    Ok(())
+}
+
+#[test]
+fn try_into_inner_wants_a_sole_owner(rt: HostRuntime) -> Result<(), Fail> {
+    let first = AsyncCell::new_with(rt.alloc(), 3u32)
+        .into_shared()
+        .map_err(|(why, _)| why)?;
+    let second = first.another()?;
+    let first = first
+        .try_into_inner()
+        .err()
+        .ok_or("there is another owner")?;
+    drop(second);
+    assert!(rt; matches!(first.try_into_inner(), Ok(Some(3))));
+    Ok(())
+}
+
+#[test]
+fn weak_ones_are_cloned_and_are_no_owners(rt: HostRuntime) -> Result<(), Fail> {
+    let shared = AsyncCell::<u32>::shared(rt.alloc())?;
+    let flag = MockTask::new(&rt)?;
+    let mut take = shared.take_weak();
+    let mut again = take.clone()?;
+    let mut get = shared.get_weak().clone()?;
+    let _weak = take.0.clone()?;
+    shared.cell().set(6);
+    assert_eq!(rt; tick_future(&mut get, &flag), Poll::Ready(Ok(Some(6))));
+    assert_eq!(rt; tick_future(&mut again, &flag), Poll::Ready(Ok(Some(6))));
+    assert_eq!(rt; tick_future(&mut take, &flag), Poll::Pending);
+    drop(shared);
+    assert!(rt; flag.is_woken());
+    assert_eq!(rt; tick_future(&mut get, &flag), Poll::Ready(Ok(None)));
+    Ok(())
+}
