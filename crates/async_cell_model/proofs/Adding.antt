@@ -20,22 +20,22 @@ module _ {W : Type 0} (will_wake : W → W → Bool) where
       absurd (omega arith)
   stays_step v u false is rest ys kept = rw is refl
 
-  -- a waker that is not spared is added last
+  -- a waker that is not skipped is added last
   pub keep_added : (l : List W) (w : W) → keep will_wake l ≡ l → skips will_wake l w ≡ false → keep will_wake (l ++ w ∷ []) ≡ l ++ w ∷ []
   keep_added [] w kept not = refl
   keep_added (v ∷ []) w kept not = rw not refl
   keep_added (v ∷ u ∷ rest) w kept not = stays_step v u (will_wake v u) refl rest (w ∷ []) kept
 
-  -- one that is spared is not
+  -- one that is skipped is not
   pub keep_skipped : (l : List W) (w : W) → skips will_wake l w ≡ true → keep will_wake (l ++ w ∷ []) ≡ l
-  keep_skipped [] w spared = cc
-  keep_skipped (v ∷ []) w spared = rw spared refl
-  keep_skipped (v ∷ u ∷ rest) w spared = cc
+  keep_skipped [] w skipped = cc
+  keep_skipped (v ∷ []) w skipped = rw skipped refl
+  keep_skipped (v ∷ u ∷ rest) w skipped = cc
 
-  added_or_spared : (l : List W) (w : W) (b : Bool) → skips will_wake l w ≡ b → keep will_wake l ≡ l → keep will_wake (l ++ w ∷ []) ≡ (if b then l else l ++ w ∷ [])
-  added_or_spared l w true is kept = keep_skipped l w is
-  added_or_spared l w false is kept = keep_added l w kept is
+  added_or_skipped : (l : List W) (w : W) (b : Bool) → skips will_wake l w ≡ b → keep will_wake l ≡ l → keep will_wake (l ++ w ∷ []) ≡ (if b then l else l ++ w ∷ [])
+  added_or_skipped l w true is kept = keep_skipped l w is
+  added_or_skipped l w false is kept = keep_added l w kept is
 
   -- so one more waker is added last, or not at all
   pub keep-one : (l : List W) (w : W) → keep will_wake l ≡ l → keep will_wake (l ++ w ∷ []) ≡ (if skips will_wake l w then l else l ++ w ∷ [])
-  keep-one l w kept = added_or_spared l w (skips will_wake l w) refl kept
+  keep-one l w kept = added_or_skipped l w (skips will_wake l w) refl kept
