@@ -32,7 +32,7 @@ impl Marker for Brand {
 }
 
 impl<T> Pick<T> for Brand {
-    ghost pick = { λ entry names. false };
+    ghost pick = { λ _ _. false };
 }
 
 /// The ledger of a cell's calls.

@@ -35,9 +35,9 @@ type Answered<T> = Result<(Entry<T>, Wakers<Named>), Refusal>;
 struct NoEdit;
 
 impl<T> Edit<T> for NoEdit {
-    ghost edit = { λ none content. content };
+    ghost edit = { λ _ c. c };
 
-    ghost edit_some = { λ none value. value };
+    ghost edit_some = { λ _ v. v };
 
     fn edit(&self, content: Option<T>) -> Option<T>
         ensures { result ≡ content }

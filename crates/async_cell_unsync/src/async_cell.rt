@@ -1,3 +1,4 @@
+ghost use Rattle.std.specs.Prelude.{◌≡◌, IfErr};
 ghost use Rattle.async_cell_model.specs.History.{IsBeginning};
 
 mod polls;
@@ -40,12 +41,16 @@ impl<T: Drop> AsyncCell<T> {
     }
 
     /// A cell without a value, with one counted owner. Refused with `Memory`.
-    pub fn shared(alloc: Global) -> Result<Shared<T>, Refusal> {
+    pub fn shared(alloc: Global) -> Result<Shared<T>, Refusal>
+        ensures { IfErr result (λ why. why ≡ Refusal.Memory) }
+    {
         Shared::shared(alloc)
     }
 
     /// This cell, with one counted owner. Refused with `Memory`, and then the cell comes back.
-    pub fn into_shared(self) -> Result<Shared<T>, (Refusal, AsyncCell<T>)> {
+    pub fn into_shared(self) -> Result<Shared<T>, (Refusal, AsyncCell<T>)>
+        ensures { IfErr result (λ refused. refused.0 ≡ Refusal.Memory) }
+    {
         Shared::into_shared(self)
     }
 
@@ -100,6 +105,7 @@ impl<T: Drop> AsyncCell<T> {
     pub fn try_get(&self) -> Result<Option<T>, Refusal>
     where
         T: Clone,
+        ensures { IfErr result (λ why. why ≡ Refusal.Memory) }
     {
         self.copy_back(self.try_take())
     }

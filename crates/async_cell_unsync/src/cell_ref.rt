@@ -1,3 +1,6 @@
+ghost use Rattle.std.specs.Prelude.{◌≡◌, ℕ};
+ghost use Rattle.async_cell_unsync.specs.Source.{source_of};
+
 use crate::async_cell::AsyncCell;
 use crate::shared::Shared;
 use std::rc::Rc;
@@ -6,12 +9,18 @@ use std::rc::Rc;
 pub trait CellRef: Drop {
     type Value: Drop;
 
+    /// Holds of each source that a future over this pointer waits for. A pointer of a user's own may leave it out.
+    ghost waits_for: { Self → ℕ → Type 0 } = { λ _ _. ⊥ };
+
     /// The cell that it points to.
-    fn cell(&self) -> &AsyncCell<Self::Value>;
+    fn cell(&self) -> &AsyncCell<Self::Value>
+        ensures { (s : ℕ) → waits_for self.now s → s ≡ source_of result.now };
 }
 
 impl<T: Drop> CellRef for &AsyncCell<T> {
     type Value = T;
+
+    ghost waits_for = { λ p s. s ≡ source_of p.now };
 
     fn cell(&self) -> &AsyncCell<T> {
         *self
@@ -21,6 +30,8 @@ impl<T: Drop> CellRef for &AsyncCell<T> {
 impl<T: Drop> CellRef for Rc<AsyncCell<T>> {
     type Value = T;
 
+    ghost waits_for = { λ p s. s ≡ source_of p.value };
+
     fn cell(&self) -> &AsyncCell<T> {
         self.as_ref()
     }
@@ -29,6 +40,8 @@ impl<T: Drop> CellRef for Rc<AsyncCell<T>> {
 impl<T: Drop> CellRef for Shared<T> {
     type Value = T;
 
+    ghost waits_for = { λ p s. s ≡ source_of p.cell.value };
+
     fn cell(&self) -> &AsyncCell<T> {
         self.as_cell()
     }
@@ -36,6 +49,8 @@ impl<T: Drop> CellRef for Shared<T> {
 
 impl<T: Drop> CellRef for &Shared<T> {
     type Value = T;
+
+    ghost waits_for = { λ p s. s ≡ source_of p.now.cell.value };
 
     fn cell(&self) -> &AsyncCell<T> {
         self.as_cell()

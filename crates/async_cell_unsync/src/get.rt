@@ -1,5 +1,5 @@
 ghost use Rattle.futures.specs.Poll.{OnPending};
-ghost use Rattle.futures.specs.Task.{IsArmed, Keeps};
+ghost use Rattle.futures.specs.Task.{Covers, Keeps};
 
 use crate::cell_ref::CellRef;
 use async_cell_core::Refusal;
@@ -18,7 +18,7 @@ where
     /// Polls by a shared reference. Ready with a clone of the value; with `Memory` where the clone found none, or the poll
     /// would have to wait and found none; and with `Closed` on a closed cell.
     pub fn poll_shared(&self, cx: &mut Context<'_>) -> Poll<Result<C::Value, Refusal>>
-        ensures armed { OnPending result (IsArmed cx.new) }
+        ensures registered { OnPending result (Covers cx.new (C.waits_for self.now.0)) }
         ensures kept { Keeps cx.old cx.new }
     {
         match self.0.cell().poll_get(cx) {
@@ -35,6 +35,8 @@ where
     C::Value: Clone,
 {
     type Output = Result<C::Value, Refusal>;
+
+    ghost needs = { λ future. C.waits_for future.0 };
 
     fn poll(&mut self, cx: &mut Context<'_>) -> Poll<Result<C::Value, Refusal>> {
         self.poll_shared(cx)

@@ -1,3 +1,5 @@
+ghost use Rattle.std.specs.Prelude.{◌≡◌, IfErr};
+
 use crate::async_cell::AsyncCell;
 use crate::get::Get;
 use crate::guarded_cell::GuardedCell;
@@ -15,12 +17,16 @@ pub struct Shared<T> {
 
 impl<T: Drop> Shared<T> {
     /// The first owner of a new cell without a value. Refused with `Memory`.
-    pub fn shared(alloc: Global) -> Result<Self, Refusal> {
+    pub fn shared(alloc: Global) -> Result<Self, Refusal>
+        ensures { IfErr result (λ why. why ≡ Refusal.Memory) }
+    {
         Shared::into_shared(AsyncCell::new(alloc)).map_err(|(why, _)| why)
     }
 
     /// The first owner of a cell. Refused with `Memory`, and then the cell comes back.
-    pub fn into_shared(cell: AsyncCell<T>) -> Result<Self, (Refusal, AsyncCell<T>)> {
+    pub fn into_shared(cell: AsyncCell<T>) -> Result<Self, (Refusal, AsyncCell<T>)>
+        ensures { IfErr result (λ refused. refused.0 ≡ Refusal.Memory) }
+    {
         match Rc::new(cell.allocator(), cell) {
             Ok(cell) => Ok(Shared { cell }),
             Err(AllocFailed { value: cell }) => Err((Refusal::Memory, cell)),
@@ -44,7 +50,9 @@ impl<T: Drop> Shared<T> {
     }
 
     /// A guard that is a new owner. Refused as `another` is, and then the value comes back.
-    pub fn guard_shared(&self, cancel: T) -> Result<GuardedCell<T, Self>, (Refusal, T)> {
+    pub fn guard_shared(&self, cancel: T) -> Result<GuardedCell<T, Self>, (Refusal, T)>
+        ensures comes_back { IfErr result (λ refused. refused.1 ≡ cancel) }
+    {
         match self.another() {
             Ok(owner) => Ok(GuardedCell::new(owner, cancel)),
             Err(why) => Err((why, cancel)),
@@ -83,7 +91,9 @@ impl<T: Drop> Shared<T> {
         Ok(Shared { cell })
     }
 
-    pub(crate) fn as_cell(&self) -> &AsyncCell<T> {
+    pub(crate) fn as_cell(&self) -> &AsyncCell<T>
+        ensures { result.now ≡ self.now.cell.value }
+    {
         self.cell.as_ref()
     }
 }

@@ -1,5 +1,5 @@
 ghost use Rattle.futures.specs.Poll.{OnPending};
-ghost use Rattle.futures.specs.Task.{IsArmed, Keeps};
+ghost use Rattle.futures.specs.Task.{Covers, Keeps};
 
 use crate::cell_ref::CellRef;
 use async_cell_core::Refusal;
@@ -14,7 +14,7 @@ impl<C: CellRef> Take<C> {
     /// Polls by a shared reference. Ready with the value, which leaves none behind; with `Memory` where the poll would have
     /// to wait and found none; and with `Closed` on a closed cell.
     pub fn poll_shared(&self, cx: &mut Context<'_>) -> Poll<Result<C::Value, Refusal>>
-        ensures armed { OnPending result (IsArmed cx.new) }
+        ensures registered { OnPending result (Covers cx.new (C.waits_for self.now.0)) }
         ensures kept { Keeps cx.old cx.new }
     {
         match self.0.cell().poll_take(cx) {
@@ -28,6 +28,8 @@ impl<C: CellRef> Take<C> {
 
 impl<C: CellRef> Future for Take<C> {
     type Output = Result<C::Value, Refusal>;
+
+    ghost needs = { λ future. C.waits_for future.0 };
 
     fn poll(&mut self, cx: &mut Context<'_>) -> Poll<Result<C::Value, Refusal>> {
         self.poll_shared(cx)

@@ -1,5 +1,7 @@
-ghost use Rattle.futures.specs.Poll.{OnPending};
-ghost use Rattle.futures.specs.Task.{IsArmed, Keeps};
+ghost use Rattle.std.specs.Prelude.{◌≡◌, ℕ, IfOk, IfErr};
+ghost use Rattle.futures.specs.Poll.{IfReady, OnPending};
+ghost use Rattle.futures.specs.Task.{Covers, Keeps};
+ghost use Rattle.async_cell_unsync.specs.Source.{source_of, IsSourceOf};
 
 use crate::async_cell::AsyncCell;
 use crate::get::Get;
@@ -25,7 +27,10 @@ impl<T: Drop> Weak<T> {
     }
 
     /// The cell. Refused with `Memory` where the pointer could not be counted when it was made.
-    fn cell(&self) -> Result<&AsyncCell<T>, Refusal> {
+    fn cell(&self) -> Result<&AsyncCell<T>, Refusal>
+        ensures source { IfOk result (λ cell. (s : ℕ) → IsSourceOf self.now s → s ≡ source_of cell.now) }
+        ensures only_for_memory { IfErr result (λ why. why ≡ Refusal.Memory) }
+    {
         match &self.cell {
             Some(cell) => Ok(cell.as_ref()),
             None => Err(Refusal::Memory),
@@ -64,8 +69,9 @@ impl<T: Drop> TakeWeak<T> {
     /// Polls by a shared reference. Ready with the value, which leaves none behind; with none on a closed cell; and with
     /// `Memory` where the poll would have to wait and found none.
     pub fn poll_shared(&self, cx: &mut Context<'_>) -> Poll<Result<Option<T>, Refusal>>
-        ensures armed { OnPending result (IsArmed cx.new) }
+        ensures registered { OnPending result (Covers cx.new (IsSourceOf self.now.0)) }
         ensures kept { Keeps cx.old cx.new }
+        ensures only_for_memory { IfReady result (λ told. IfErr told (λ why. why ≡ Refusal.Memory)) }
     {
         match self.0.cell() {
             Ok(cell) => cell.poll_take(cx),
@@ -90,6 +96,8 @@ impl<T: Drop> Clone for TakeWeak<T> {
 impl<T: Drop> Future for TakeWeak<T> {
     type Output = Result<Option<T>, Refusal>;
 
+    ghost needs = { λ future. IsSourceOf future.0 };
+
     fn poll(&mut self, cx: &mut Context<'_>) -> Poll<Result<Option<T>, Refusal>> {
         self.poll_shared(cx)
     }
@@ -104,8 +112,9 @@ impl<T: Clone> GetWeak<T> {
     /// Polls by a shared reference. Ready with a clone of the value; with none on a closed cell; and with `Memory` where the
     /// clone found none, or the poll would have to wait and found none.
     pub fn poll_shared(&self, cx: &mut Context<'_>) -> Poll<Result<Option<T>, Refusal>>
-        ensures armed { OnPending result (IsArmed cx.new) }
+        ensures registered { OnPending result (Covers cx.new (IsSourceOf self.now.0)) }
         ensures kept { Keeps cx.old cx.new }
+        ensures only_for_memory { IfReady result (λ told. IfErr told (λ why. why ≡ Refusal.Memory)) }
     {
         match self.0.cell() {
             Ok(cell) => cell.poll_get(cx),
@@ -131,6 +140,8 @@ impl<T: Drop> Clone for GetWeak<T> {
 
 impl<T: Clone> Future for GetWeak<T> {
     type Output = Result<Option<T>, Refusal>;
+
+    ghost needs = { λ future. IsSourceOf future.0 };
 
     fn poll(&mut self, cx: &mut Context<'_>) -> Poll<Result<Option<T>, Refusal>> {
         self.poll_shared(cx)

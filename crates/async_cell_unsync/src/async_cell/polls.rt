@@ -1,6 +1,8 @@
 //! Polls: a step that answers, or that leaves the task's waker.
-ghost use Rattle.futures.specs.Poll.{OnPending};
-ghost use Rattle.futures.specs.Task.{IsArmed, Keeps};
+ghost use Rattle.std.specs.Prelude.{◌≡◌, IfErr};
+ghost use Rattle.futures.specs.Poll.{IfReady, OnPending};
+ghost use Rattle.futures.specs.Task.{Hears, IsArmed, Keeps};
+ghost use Rattle.async_cell_unsync.specs.Source.{source_of};
 
 use super::AsyncCell;
 use async_cell_core::Refusal;
@@ -12,7 +14,9 @@ impl<T: Drop> AsyncCell<T> {
     /// the growth of the list was.
     pub(crate) fn poll_take(&self, cx: &mut Context<'_>) -> Poll<Result<Option<T>, Refusal>>
         ensures armed { OnPending result (IsArmed cx.new) }
+        ensures heard { OnPending result (Hears cx.new (source_of self.now)) }
         ensures kept { Keeps cx.old cx.new }
+        ensures only_for_memory { IfReady result (λ told. IfErr told (λ why. why ≡ Refusal.Memory)) }
     {
         let Some(mut core) = self.lend() else {
             return Poll::Ready(Ok(None));
@@ -42,7 +46,9 @@ impl<T: Drop> AsyncCell<T> {
     where
         T: Clone,
         ensures armed { OnPending result (IsArmed cx.new) }
+        ensures heard { OnPending result (Hears cx.new (source_of self.now)) }
         ensures kept { Keeps cx.old cx.new }
+        ensures only_for_memory { IfReady result (λ told. IfErr told (λ why. why ≡ Refusal.Memory)) }
     {
         match self.poll_take(cx) {
             Poll::Ready(Ok(taken)) => Poll::Ready(self.copy_back(taken)),

@@ -1,0 +1,167 @@
+-- Logs joined line by line.
+use Rattle.std.proofs.Common.{◌≡◌, inl, inr, ℕ, zero, suc, Bool, true, false, not, ◌&&◌, ◌||◌, List, [], ◌∷◌, ◌++◌, Option, Some, None, map, length, refl, ap, sym, ◌∙◌, subst, arith, length-append, ◌+◌}
+use Rattle.std.specs.Prelude.{slice_get, is_some, nat_eq, if◌then◌else◌, ⊤, option_to_list, reverse}
+use Rattle.std.specs.Option.{option_map}
+use Rattle.std.proofs.lemmas.Bool.{eqb-true}
+use Rattle.std.proofs.Math.Bool.{or-true}
+use Rattle.std.proofs.lemmas.List.{map-append, length-map, reverse-append}
+use Rattle.async_cell_cons.specs.declared.named.Named.{Named}
+use Rattle.async_cell_model.specs.declared.cell.Cell.{Cell}
+use Rattle.async_cell_model.specs.declared.entry.Entry.{Entry}
+use Rattle.async_cell_model.specs.History.{Beginning, History, IsBeginning, cell_after}
+use Rattle.async_cell_model.specs.Legal.{Leads}
+use Rattle.async_cell_model.proofs.Leading.{Leads-nil, Leads-join}
+use Rattle.async_cell_driver.specs.declared.task.Kind.{Kind}
+use Rattle.async_cell_driver.specs.declared.task.Mark.{Mark}
+use Rattle.async_cell_driver.specs.declared.task.Task.{Task}
+use Rattle.async_cell_driver.specs.declared.event.Event.{Event}
+use Rattle.async_cell_driver.specs.declared.event.Event.TheVariants.{Start, Poll, Set, OrSet, Replace, Update, TryTake, AddOwner, EndOwner}
+use Rattle.async_cell_driver.specs.declared.event.Told.{Told}
+use Rattle.async_cell_driver.specs.declared.event.Told.TheVariants as told
+use Rattle.async_cell_driver.specs.declared.event.Polled.TheVariants.{Ready, Pending, NotReady}
+use Rattle.async_cell_driver.specs.Mark.{is_done_mark, waits_mark, is_due_mark}
+use Rattle.async_cell_driver.specs.State.{State, mark_at, is_named, IsCovered}
+use Rattle.async_cell_driver.specs.Log.{Line, Log, lines, log_of, with_edit, kinds, is_started, is_done, waits, is_due, is_ready, is_poll_of, was_ready, was_pending, was_refused, started}
+use Rattle.async_cell_driver.specs.History.{line_of, history, handed_out, call_of, reply_of, entry_of}
+use Rattle.async_cell_driver.specs.Drives.{Drives, FitsTold, IsLegal, is_same}
+use Rattle.async_cell_driver.proofs.Reading.{awake, started_now}
+
+not_started_mark : (m : Option Mark) → is_some m ≡ false → is_due_mark m ≡ true
+not_started_mark None gone = refl
+not_started_mark (Some m) gone = cc
+
+some_before : {A : Type 0} (xs ys : List A) (i : ℕ) → is_some (slice_get (xs ++ ys) i) ≡ false → is_some (slice_get xs i) ≡ false
+some_before [] ys i none = refl
+some_before (x ∷ xs) ys zero none = none
+some_before (x ∷ xs) ys (suc i) none = some_before xs ys i none
+
+no_and : (s x : Bool) → s ≡ false → (s && x) ≡ true → ⊥
+no_and true x gone all = cc
+no_and false x gone all = cc
+
+due_step : (p s d f n u : Bool) → (p ≡ true → (s && (not d && u)) ≡ true) → s ≡ false → u ≡ true → (if p then f else (n || u)) ≡ true
+due_step true s d f n u ready gone is = absurd (no_and s (not d && u) gone (ready refl))
+due_step false s d f true u ready gone is = refl
+due_step false s d f false u ready gone is = is
+
+module _ {T : Type 0} where
+  -- what leads there without a premise leads there with one
+  pub exact_drives : (is_exact : Type 0) (from to : State T) (log : Log T) → Drives ⊤ from log to → Drives is_exact from log to
+  exact_drives is_exact from to log drives = record {
+    legal = drives.legal;
+    core_leads = λ e. drives.core_leads tt;
+    kinds_are = drives.kinds_are;
+    done_is = drives.done_is;
+    waits_is = drives.waits_is;
+    ready_is = drives.ready_is;
+    none_forgotten = drives.none_forgotten;
+  }
+
+  -- no line leads nowhere
+  pub drives_nil : (is_exact : Type 0) (from : State T) → IsBeginning is_same from.core → IsCovered from → Drives is_exact from [] from
+  drives_nil is_exact from begins covered = record {
+    legal = tt;
+    core_leads = λ e. Leads-nil is_same true from.core begins;
+    kinds_are = refl;
+    done_is = λ i. refl;
+    waits_is = λ i. refl;
+    ready_is = λ i. refl;
+    none_forgotten = awake from begins covered;
+  }
+
+  -- only a ready task is polled
+  polled_ready : (count : ℕ) (ready : ℕ → Bool) (event : Event T (Option T → Option T)) (answer : Told T) (names : List Named) (i : ℕ) → FitsTold count ready event answer names → is_poll_of i event answer ≡ true → ready i ≡ true
+  polled_ready count ready (Poll j) (told.Polled NotReady) names i fits polled = cc
+  polled_ready count ready (Poll j) (told.Polled (Ready value)) names i fits polled = subst (λ k. ready k ≡ true) (eqb-true j i polled) fits
+  polled_ready count ready (Poll j) (told.Polled Pending) names i fits polled = subst (λ k. ready k ≡ true) (eqb-true j i polled) fits
+  polled_ready count ready (Poll j) (told.Refused why) names i fits polled = subst (λ k. ready k ≡ true) (eqb-true j i polled) fits.0
+  polled_ready count ready (Poll j) (told.Started number) names i fits polled = absurd fits
+  polled_ready count ready (Poll j) (told.Reply reply) names i fits polled = absurd fits
+  polled_ready count ready (Start kind) answer names i fits polled = cc
+  polled_ready count ready (Set value) answer names i fits polled = cc
+  polled_ready count ready (OrSet value) answer names i fits polled = cc
+  polled_ready count ready (Replace value) answer names i fits polled = cc
+  polled_ready count ready (Update edit) answer names i fits polled = cc
+  polled_ready count ready TryTake answer names i fits polled = cc
+  polled_ready count ready AddOwner answer names i fits polled = cc
+  polled_ready count ready EndOwner answer names i fits polled = cc
+
+  -- a task that is not there was never polled
+  unstarted_due : (from : State T) (log : Log T) (i : ℕ) → IsLegal from log → is_started from log i ≡ false → is_due from log i ≡ true
+  unstarted_due from [] i legal gone = not_started_mark (mark_at from.tasks i) (sym (started_now i from.tasks) ∙ gone)
+  unstarted_due from (line ∷ earlier) i legal gone =
+      let before : is_started from earlier i ≡ false = some_before (kinds from earlier) (started line.event line.told) i gone in
+      due_step (is_poll_of i line.event line.told) (is_started from earlier i) (is_done from earlier i) (was_refused line.told) (is_named i line.names) (is_due from earlier i)
+      (polled_ready _ _ line.event line.told line.names i legal.0) before (unstarted_due from earlier i legal.1 before)
+
+ready_over : (s t d p r f n u u' : Bool) → (s && (not d && u)) ≡ (s && (not d && u')) → (s ≡ false → u ≡ true) → (s ≡ false → u' ≡ true)
+    → (t && (not ((p && r) || d) && (if p then f else (n || u)))) ≡ (t && (not ((p && r) || d) && (if p then f else (n || u'))))
+ready_over false t d p r f n u u' same none none' = ap (λ v. t && (not ((p && r) || d) && (if p then f else (n || v)))) (none refl ∙ sym (none' refl))
+ready_over true t true p r f n u u' same none none' = rw (or-true (p && r)) refl
+ready_over true t false p r f n u u' same none none' = ap (λ v. t && (not ((p && r) || false) && (if p then f else (n || v)))) same
+
+module _ {T : Type 0} where
+  -- a log, and one line from where it leads
+  pub drives_more : (is_exact : Type 0) (from at to : State T) (log : Log T) (line : Line T) → Drives is_exact from log at → Drives is_exact at (line ∷ []) to → Drives is_exact from (line ∷ log) to
+  drives_more is_exact from at to log line first second = record {
+    legal = (
+      subst (λ (ready : ℕ → Bool). FitsTold (length (kinds from log)) ready line.event line.told line.names) (λ k i. first.ready_is i k)
+          (subst (λ (all : List Kind). FitsTold (length all) (is_ready at []) line.event line.told line.names) first.kinds_are second.legal.0),
+      first.legal,
+    );
+    core_leads = λ e.
+        let entry : entry_of (call_of (map (λ task. task.kind) at.tasks) at.core.cell line.event) (reply_of line.told) ≡ entry_of (call_of (kinds from log) (cell_after from.core.cell (history from log)) line.event) (reply_of line.told) =
+        λ k. entry_of (call_of (first.kinds_are k) ((first.core_leads e).cell_is k) line.event) (reply_of line.told) in
+        subst (λ (o : Option (Entry T Named)). Leads is_same true from.core (history from log ++ option_to_list o) (handed_out from log ++ option_to_list (option_map (λ x. line.names) o)) to.core) entry
+        (Leads-join is_same true from.core at.core to.core _ _ _ _ (first.core_leads e) (second.core_leads e));
+    kinds_are = second.kinds_are ∙ ap (λ all. all ++ started line.event line.told) first.kinds_are;
+    done_is = λ i. second.done_is i ∙ ap (λ done. (is_poll_of i line.event line.told && was_ready line.told) || done) (first.done_is i);
+    waits_is = λ i. second.waits_is i ∙ ap (λ w. if is_poll_of i line.event line.told then was_pending line.told else w) (first.waits_is i);
+    ready_is = λ i.
+        let p = is_poll_of i line.event line.told in
+        let r = was_ready line.told in
+        let f = was_refused line.told in
+        let n = is_named i line.names in
+        let begun : is_started at [] i ≡ is_started from log i = ap (λ all. is_some (slice_get all i)) first.kinds_are in
+        let same : (is_started from log i && (not (is_done from log i) && is_due at [] i)) ≡ (is_started from log i && (not (is_done from log i) && is_due from log i)) =
+        (λ k. sym begun k && (not (sym (first.done_is i) k) && is_due at [] i)) ∙ first.ready_is i in
+        let kinds_then : is_ready at (line ∷ []) i ≡ (is_started from (line ∷ log) i && (not ((p && r) || is_done from log i) && (if p then f else (n || is_due at [] i)))) =
+        λ k. is_some (slice_get (first.kinds_are k ++ started line.event line.told) i) && (not ((p && r) || first.done_is i k) && (if p then f else (n || is_due at [] i))) in
+        second.ready_is i
+        ∙ (kinds_then
+        ∙ ready_over (is_started from log i) (is_started from (line ∷ log) i) (is_done from log i) p r f n (is_due at [] i) (is_due from log i) same
+        (λ gone. unstarted_due at [] i tt (begun ∙ gone)) (unstarted_due from log i first.legal));
+    none_forgotten = second.none_forgotten;
+  }
+
+  lines-push : (events : List (Event T (Option T → Option T))) (answers : List (Told T)) (handed : List (List Named)) (line : Line T) → length answers ≡ length events → length handed ≡ length events
+      → lines (events ++ line.event ∷ []) (answers ++ line.told ∷ []) (handed ++ line.names ∷ []) ≡ lines events answers handed ++ line ∷ []
+  lines-push [] [] [] line same same' = refl
+  lines-push [] (t ∷ answers) handed line same same' = absurd (omega arith)
+  lines-push [] [] (n ∷ handed) line same same' = absurd (omega arith)
+  lines-push (e ∷ events) [] handed line same same' = absurd (omega arith)
+  lines-push (e ∷ events) (t ∷ answers) [] line same same' = absurd (omega arith)
+  lines-push (e ∷ events) (t ∷ answers) (n ∷ handed) line same same' =
+      let first : Line T = record { event = e; told = t; names = n } in
+      ap (λ (ls : List (Line T)). first ∷ ls) (lines-push events answers handed line (omega arith) (omega arith))
+
+  pub log_of-push : (events : List (Event T (Option T → Option T))) (answers : List (Told T)) (handed : List (List Named)) (line : Line T) → length answers ≡ length events → length handed ≡ length events
+      → log_of (events ++ line.event ∷ []) (answers ++ line.told ∷ []) (handed ++ line.names ∷ []) ≡ line ∷ log_of events answers handed
+  log_of-push events answers handed line same same' = ap reverse (lines-push events answers handed line same same') ∙ reverse-append (lines events answers handed) (line ∷ [])
+
+  -- events that happened, and one more
+  pub happen_more : {E : Type 0} (edit : E → Option T → Option T) (is_exact : Type 0) (from at to : State T) (events : List (Event T E)) (answers : List (Told T)) (event : Event T E) (answer : Told T)
+      → length answers ≡ length events
+      → (handed : List (List Named)) × (length handed ≡ length events) × Drives is_exact from (log_of (map (with_edit edit) events) answers handed) at
+      → Drives is_exact at (line_of at (with_edit edit event) answer ∷ []) to
+      → (handed : List (List Named)) × (length handed ≡ length (events ++ event ∷ [])) × Drives is_exact from (log_of (map (with_edit edit) (events ++ event ∷ [])) (answers ++ answer ∷ []) handed) to
+  happen_more edit is_exact from at to events answers event answer same before one =
+      let line : Line T = line_of at (with_edit edit event) answer in
+      let mapped = length-map events (with_edit edit) in
+      let log_is : log_of (map (with_edit edit) (events ++ event ∷ [])) (answers ++ answer ∷ []) (before.0 ++ line.names ∷ []) ≡ line ∷ log_of (map (with_edit edit) events) answers before.0 =
+      ap (λ es. log_of es (answers ++ answer ∷ []) (before.0 ++ line.names ∷ [])) (map-append (with_edit edit) events (event ∷ []))
+      ∙ log_of-push (map (with_edit edit) events) answers before.0 line (same ∙ sym mapped) (before.1 ∙ sym mapped) in (
+        before.0 ++ line.names ∷ [],
+        length-append before.0 (line.names ∷ []) ∙ (ap (λ n. n + 1) before.1 ∙ sym (length-append events (event ∷ []))),
+        subst (λ (l : Log T). Drives is_exact from l to) (sym log_is) (drives_more is_exact from at to _ line before.2 one),
+      )

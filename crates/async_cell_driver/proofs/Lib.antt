@@ -1,0 +1,9 @@
+pub mod Calling
+pub mod Changing
+pub mod Joining
+pub mod Keeping
+pub mod Lines
+pub mod Polling
+pub mod Reading
+pub mod Settling
+pub mod Waking

@@ -1,0 +1,109 @@
+-- Where one line leads.
+use Rattle.std.proofs.Common.{append-nil, ◌≡◌, ◌≢◌, ℕ, zero, suc, Bool, true, false, not, ◌&&◌, ◌||◌, List, [], ◌∷◌, ◌++◌, Option, Some, None, map, length, refl, ap, sym, ◌∙◌, subst, arith, rules}
+use Rattle.std.specs.Prelude.{slice_get, is_some, nat_eq, ⊤, Result, Ok, Err, IfOk, IfErr}
+use Rattle.std.specs.Option.{option_map}
+use Rattle.std.proofs.lemmas.List.{map-append, length-map}
+use Rattle.async_cell_model.specs.declared.refusal.Refusal.{Refusal}
+use Rattle.async_cell_model.specs.declared.refusal.Refusal.TheVariants.{Memory}
+use Rattle.async_cell_model.specs.History.{IsBeginning}
+use Rattle.async_cell_model.proofs.Leading.{Leads-nil}
+use Rattle.async_cell_driver.specs.declared.task.Kind.{Kind}
+use Rattle.async_cell_driver.specs.declared.task.Mark.{Mark}
+use Rattle.async_cell_driver.specs.declared.task.Mark.TheVariants.{Ready, Waiting, Woken, Done}
+use Rattle.async_cell_driver.specs.declared.task.Task.{Task}
+use Rattle.async_cell_driver.specs.declared.event.Event.TheVariants.{Start, Poll}
+use Rattle.async_cell_driver.specs.declared.event.Polled.TheVariants.{NotReady}
+use Rattle.async_cell_driver.specs.declared.event.Told.TheVariants.{Started, Refused, Polled}
+use Rattle.async_cell_driver.specs.Mark.{is_done_mark, waits_mark, is_due_mark, is_ready_mark}
+use Rattle.async_cell_driver.specs.State.{State, mark_at, IsCovered, is_named, result_at}
+use Rattle.async_cell_driver.specs.Log.{Line, Log, is_ready, is_started, is_done, waits, is_due}
+use Rattle.async_cell_driver.specs.History.{line_of}
+use Rattle.async_cell_driver.specs.Drives.{Drives, IsAwake, is_same}
+use Rattle.async_cell_driver.proofs.Reading.{awake, ready_now, started_now}
+
+module _ {T : Type 0} where
+  -- a task that was just started
+  abbrev pub fresh : Kind → Task T
+  fresh kind = record { kind = kind; mark = Ready; result = None }
+
+  -- a new task says of itself what one that was not started does
+  says_with_fresh : {A : Type 0} (says : Option Mark → A) → says (Some Ready) ≡ says None → (tasks : List (Task T)) (kind : Kind) (i : ℕ) → says (mark_at (tasks ++ fresh kind ∷ []) i) ≡ says (mark_at tasks i)
+  says_with_fresh says same [] kind zero = same
+  says_with_fresh says same [] kind (suc i) = refl
+  says_with_fresh says same (t ∷ tasks) kind zero = refl
+  says_with_fresh says same (t ∷ tasks) kind (suc i) = says_with_fresh says same tasks kind i
+
+  pub result_with_fresh : (tasks : List (Task T)) (kind : Kind) (i : ℕ) → result_at (tasks ++ fresh kind ∷ []) i ≡ result_at tasks i
+  result_with_fresh [] kind zero = refl
+  result_with_fresh [] kind (suc i) = refl
+  result_with_fresh (t ∷ tasks) kind zero = refl
+  result_with_fresh (t ∷ tasks) kind (suc i) = result_with_fresh tasks kind i
+
+  waiting_with_fresh : (tasks : List (Task T)) (kind : Kind) (i : ℕ) → mark_at (tasks ++ fresh kind ∷ []) i ≡ Some Waiting → mark_at tasks i ≡ Some Waiting
+  waiting_with_fresh [] kind zero stands = cc
+  waiting_with_fresh [] kind (suc i) stands = cc
+  waiting_with_fresh (t ∷ tasks) kind zero stands = stands
+  waiting_with_fresh (t ∷ tasks) kind (suc i) stands = waiting_with_fresh tasks kind i stands
+
+  -- a new task waits for nothing
+  pub covered_with_fresh : (from : State T) (kind : Kind) → IsCovered from → IsCovered (record from { tasks = from.tasks ++ fresh kind ∷ [] })
+  covered_with_fresh from kind covered i stands = covered i (waiting_with_fresh from.tasks kind i stands)
+
+  kinds_with_fresh : (tasks : List (Task T)) (kind : Kind) → map (λ task. task.kind) (tasks ++ fresh kind ∷ []) ≡ map (λ task. task.kind) tasks ++ kind ∷ []
+  kinds_with_fresh tasks kind = map-append (λ task. task.kind) tasks (fresh kind ∷ [])
+
+  -- where a task is started
+  pub starts : (from : State T) (kind : Kind) → IsBeginning is_same from.core → IsCovered from
+      → Drives ⊤ from (line_of from (Start kind) (Started (length from.tasks)) ∷ []) (record from { tasks = from.tasks ++ fresh kind ∷ [] })
+  starts from kind begins covered = record {
+    legal = ((sym (length-map from.tasks (λ task. task.kind)), refl), tt);
+    core_leads = λ e. Leads-nil is_same true from.core begins;
+    kinds_are = kinds_with_fresh from.tasks kind;
+    done_is = λ i. says_with_fresh is_done_mark refl from.tasks kind i;
+    waits_is = λ i. says_with_fresh waits_mark refl from.tasks kind i;
+    ready_is = λ i. rw (kinds_with_fresh from.tasks kind, says_with_fresh is_done_mark refl from.tasks kind i, says_with_fresh is_due_mark refl from.tasks kind i) refl;
+    none_forgotten = awake _ begins (covered_with_fresh from kind covered);
+  }
+
+  -- where a start is refused
+  pub start_refused : (from : State T) (kind : Kind) → IsBeginning is_same from.core → IsCovered from
+      → Drives ⊤ from (line_of from (Start kind) (Refused Memory) ∷ []) from
+  start_refused from kind begins covered = record {
+    legal = ((refl, refl), tt);
+    core_leads = λ e. Leads-nil is_same true from.core begins;
+    kinds_are = sym (append-nil (map (λ task. task.kind) from.tasks));
+    done_is = λ i. refl;
+    waits_is = λ i. refl;
+    ready_is = λ i. rw (append-nil (map (λ task. task.kind) from.tasks)) refl;
+    none_forgotten = awake from begins covered;
+  }
+
+  -- where a task is not polled
+  pub not_polled : (from : State T) (i : ℕ) (is_exact : Type 0) → IsBeginning is_same from.core → IsCovered from → is_ready from [] i ≡ false
+      → Drives is_exact from (line_of from (Poll i) (Polled NotReady) ∷ []) from
+  not_polled from i is_exact begins covered not_ready = record {
+    legal = ((not_ready, refl), tt);
+    core_leads = λ e. Leads-nil is_same true from.core begins;
+    kinds_are = sym (append-nil (map (λ task. task.kind) from.tasks));
+    done_is = λ j. refl;
+    waits_is = λ j. refl;
+    ready_is = λ j. rw (append-nil (map (λ task. task.kind) from.tasks)) refl;
+    none_forgotten = awake from begins covered;
+  }
+
+  -- the same, where the new task and its number are known by what they equal
+  pub starts_as : (from : State T) (kind : Kind) (tasks : List (Task T)) (number : ℕ) → IsBeginning is_same from.core → IsCovered from
+      → number ≡ length from.tasks → tasks ≡ from.tasks ++ fresh kind ∷ []
+      → Drives ⊤ from (line_of from (Start kind) (Started number) ∷ []) (record { core = from.core; tasks = tasks })
+  starts_as from kind tasks number begins covered counts made = rw (counts, made) (starts from kind begins covered)
+
+  pub start_refused_as : (from : State T) (kind : Kind) (tasks : List (Task T)) (why : Refusal) → IsBeginning is_same from.core → IsCovered from
+      → why ≡ Memory → tasks ≡ from.tasks → Drives ⊤ from (line_of from (Start kind) (Refused why) ∷ []) (record { core = from.core; tasks = tasks })
+  start_refused_as from kind tasks why begins covered for_memory same = rw (for_memory, same) (start_refused from kind begins covered)
+
+  -- a start, refused or not, leaves the results
+  pub results_stay : (before now : List (Task T)) (kind : Kind) (i : ℕ) (result : Result ℕ Refusal)
+      → IfOk result (λ number. (number ≡ length before) × (now ≡ before ++ fresh kind ∷ [])) → IfErr result (λ why. (why ≡ Memory) × (now ≡ before))
+      → result_at now i ≡ result_at before i
+  results_stay before now kind i (Ok number) started refused = ap (λ tasks. result_at tasks i) started.1 ∙ result_with_fresh before kind i
+  results_stay before now kind i (Err why) started refused = ap (λ tasks. result_at tasks i) refused.1

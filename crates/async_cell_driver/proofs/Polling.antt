@@ -1,0 +1,206 @@
+-- Where a poll leads.
+use Rattle.std.proofs.Common.{◌≡◌, ◌≢◌, inl, inr, ℕ, zero, suc, Bool, true, false, not, ◌&&◌, ◌||◌, List, [], ◌∷◌, ◌++◌, Option, Some, None, map, length, refl, ap, sym, ◌∙◌, subst, append-nil}
+use Rattle.std.specs.Prelude.{slice_get, is_some, nat_eq, if◌then◌else◌, Result, Ok, Err, IfOk, IfErr, OnOk}
+use Rattle.std.specs.Option.{option_map}
+use Rattle.std.proofs.lemmas.Bool.{eqb-true, eqb-false, eq-eqb}
+use Rattle.std.proofs.Math.Bool.{or-false, or-true}
+use Rattle.futures.specs.declared.task.Poll.{Poll}
+use Rattle.futures.specs.declared.task.Poll.TheVariants.{Ready, Pending}
+use Rattle.async_cell_cons.specs.declared.named.Named.{Named}
+use Rattle.async_cell_model.specs.declared.cell.Cell.{Cell}
+use Rattle.async_cell_model.specs.declared.cell.Cell.TheVariants.{Closed, Open}
+use Rattle.async_cell_model.specs.declared.entry.Entry.{Entry}
+use Rattle.async_cell_model.specs.declared.reply.Reply.{Reply}
+use Rattle.async_cell_model.specs.declared.reply.Reply.TheVariants as reply
+use Rattle.async_cell_model.specs.declared.refusal.Refusal.{Refusal}
+use Rattle.async_cell_model.specs.declared.refusal.Refusal.TheVariants.{Memory}
+use Rattle.async_cell_model.specs.Cell.{ends_waiting}
+use Rattle.async_cell_model.specs.Step.{next, is_memory}
+use Rattle.async_cell_model.specs.History.{Beginning, IsBeginning}
+use Rattle.async_cell_model.specs.Legal.{hands, Leads, Answers}
+use Rattle.async_cell_model.specs.Waiting.{keep}
+use Rattle.async_cell_core.specs.Polled.{poll_reply}
+use Rattle.async_cell_driver.specs.declared.task.Kind.{Kind}
+use Rattle.async_cell_driver.specs.declared.task.Kind.TheVariants.{Take, Get}
+use Rattle.async_cell_driver.specs.declared.task.Mark.{Mark}
+use Rattle.async_cell_driver.specs.declared.task.Mark.TheVariants as mark
+use Rattle.async_cell_driver.specs.declared.task.Task.{Task}
+use Rattle.async_cell_driver.specs.declared.event.Event.TheVariants as event
+use Rattle.async_cell_driver.specs.declared.event.Told.{Told}
+use Rattle.async_cell_driver.specs.declared.event.Told.TheVariants as told
+use Rattle.async_cell_driver.specs.declared.event.Polled.{Polled}
+use Rattle.async_cell_driver.specs.declared.event.Polled.TheVariants as polled
+use Rattle.async_cell_driver.specs.Mark.{is_done_mark, waits_mark, is_due_mark, is_ready_mark}
+use Rattle.async_cell_driver.specs.State.{State, name_of, mark_at, result_of, result_at, kind_at, IsCovered, is_named, change, with_mark}
+use Rattle.async_cell_driver.specs.Log.{Line, kinds, is_ready, is_poll_of, was_ready, was_pending, was_refused}
+use Rattle.async_cell_driver.specs.History.{poll_of, told_of, line_of, history, handed_out}
+use Rattle.async_cell_driver.specs.Asked.{waiting_when, mark_after, polled_of}
+use Rattle.async_cell_driver.specs.Drives.{Drives, FitsTold, is_same}
+use Rattle.async_cell_driver.proofs.Reading.{awake, ready_now, started_now, ready_by}
+use Rattle.async_cell_driver.proofs.Waking.{slice_get-change_same, slice_get-change_other, says_same, map-change, named-keep, named-append}
+
+module _ {T : Type 0} where
+  -- a cell that stays open and gets no value ends no waiting
+  ends_none : (value later : Option T) (owners : ℕ) (memory : Bool) → (value ≡ None → later ≡ None) → ends_waiting (Open value owners) (if memory then Open value owners else Open later owners) ≡ false
+  ends_none None later owners true none = refl
+  ends_none None later owners false none = rw (none refl) refl
+  ends_none (Some v) later owners true none = refl
+  ends_none (Some v) later owners false none = refl
+
+  pub poll_ends_none : (c : Cell T) (kind : Option Kind) (i : ℕ) (r : Reply T) → ends_waiting c (next c (record { call = poll_of kind i; reply = r })) ≡ false
+  poll_ends_none Closed kind i r = refl
+  poll_ends_none (Open value owners) None i r = ends_none value None owners (is_memory r) (λ none. refl)
+  poll_ends_none (Open value owners) (Some Take) i r = ends_none value None owners (is_memory r) (λ none. refl)
+  poll_ends_none (Open value owners) (Some Get) i r = ends_none value value owners (is_memory r) (λ none. none)
+
+  -- a poll hands out none
+  pub poll_hands_none : (core : Beginning T Named) (kind : Option Kind) (i : ℕ) (r : Reply T) → hands core (record { call = poll_of kind i; reply = r }) ≡ []
+  poll_hands_none core kind i r = ap (λ (ends : Bool). if ends then core.waiting else []) (poll_ends_none core.cell kind i r)
+
+-- the mark of a task that is marked if it is polled
+abbrev pub marked_if : Bool → Mark → Option Mark → Option Mark
+marked_if true m old = option_map (λ _. m) old
+marked_if false m old = old
+
+done_polled : (polled : Bool) (m : Mark) (old : Option Mark) (r : Bool) → (polled ≡ true → is_ready_mark old ≡ true) → r ≡ is_done_mark (Some m)
+    → is_done_mark (marked_if polled m old) ≡ ((polled && r) || is_done_mark old)
+done_polled false m old r ready says = refl
+done_polled true m None r ready says = let no = ready refl in cc
+done_polled true m (Some mark.Ready) r ready says = rw says (sym (or-false (is_done_mark (Some m))))
+done_polled true m (Some mark.Woken) r ready says = rw says (sym (or-false (is_done_mark (Some m))))
+done_polled true m (Some mark.Waiting) r ready says = let no = ready refl in cc
+done_polled true m (Some mark.Done) r ready says = let no = ready refl in cc
+
+waits_polled : (polled : Bool) (m : Mark) (old : Option Mark) (p : Bool) → (polled ≡ true → is_ready_mark old ≡ true) → p ≡ waits_mark (Some m)
+    → waits_mark (marked_if polled m old) ≡ (if polled then p else waits_mark old)
+waits_polled false m old p ready says = refl
+waits_polled true m None p ready says = let no = ready refl in cc
+waits_polled true m (Some old) p ready says = sym says
+
+ready_polled : (polled : Bool) (m : Mark) (old : Option Mark) (r f : Bool) → (polled ≡ true → is_ready_mark old ≡ true) → r ≡ is_done_mark (Some m) → f ≡ is_due_mark (Some m)
+    → is_ready_mark (marked_if polled m old) ≡ (is_some old && (not ((polled && r) || is_done_mark old) && (if polled then f else is_due_mark old)))
+ready_polled false m old r f ready says due = sym (ready_by old)
+ready_polled true m None r f ready says due = let no = ready refl in cc
+ready_polled true m (Some mark.Ready) r f ready says due = rw (says, due, or-false (is_done_mark (Some m))) (sym (ready_by (Some m)))
+ready_polled true m (Some mark.Woken) r f ready says due = rw (says, due, or-false (is_done_mark (Some m))) (sym (ready_by (Some m)))
+ready_polled true m (Some mark.Waiting) r f ready says due = let no = ready refl in cc
+ready_polled true m (Some mark.Done) r f ready says due = let no = ready refl in cc
+
+unmarked : (b : Bool) (m : Mark) (old : Option Mark) → (m ≡ mark.Waiting → ⊥) → marked_if b m old ≡ Some mark.Waiting → old ≡ Some mark.Waiting
+unmarked false m old otherwise stands = stands
+unmarked true m None otherwise stands = cc
+unmarked true m (Some old) otherwise stands = let same : m ≡ mark.Waiting = cc in absurd (otherwise same)
+
+named_or_asked : (i j : ℕ) (b : Bool) → nat_eq i j ≡ b → (l : List Named) (old : Option Mark) → (old ≡ Some mark.Waiting → is_named j l ≡ true) → marked_if b mark.Waiting old ≡ Some mark.Waiting
+    → is_named j (keep is_same (l ++ name_of i ∷ [])) ≡ true
+named_or_asked i j true is l old covered stands =
+    named-keep j (l ++ name_of i ∷ []) ∙ (named-append j l (name_of i ∷ []) ∙ rw is (or-true (is_named j l)))
+named_or_asked i j false is l old covered stands =
+    named-keep j (l ++ name_of i ∷ []) ∙ (named-append j l (name_of i ∷ []) ∙ ap (λ p. p || is_named j (name_of i ∷ [])) (covered stands))
+
+some_marked : (m : Mark) (old : Option Mark) → is_ready_mark old ≡ true → option_map (λ _. m) old ≡ Some m
+some_marked m None ready = cc
+some_marked m (Some old) ready = refl
+
+eqb-same : (i : ℕ) → nat_eq i i ≡ true
+eqb-same i = eq-eqb i i refl
+
+module _ {T : Type 0} where
+  mark_of_marked : (m : Mark) (t : Option (Task T)) → option_map (λ task. task.mark) (option_map (with_mark m) t) ≡ option_map (λ _. m) (option_map (λ task. task.mark) t)
+  mark_of_marked m None = refl
+  mark_of_marked m (Some t) = refl
+
+  mark-marked_one : (m : Mark) (i j : ℕ) (b : Bool) → nat_eq i j ≡ b → (tasks : List (Task T)) → mark_at (change (with_mark m) i tasks) j ≡ marked_if b m (mark_at tasks j)
+  mark-marked_one m i j true is tasks =
+      rw (eqb-true i j is) (ap (option_map (λ task. task.mark)) (slice_get-change_same (with_mark m) j tasks) ∙ mark_of_marked m (slice_get tasks j))
+  mark-marked_one m i j false is tasks = ap (option_map (λ task. task.mark)) (slice_get-change_other (with_mark m) i j tasks (eqb-false i j is))
+
+  pub mark-marked : (m : Mark) (i j : ℕ) (tasks : List (Task T)) → mark_at (change (with_mark m) i tasks) j ≡ marked_if (nat_eq i j) m (mark_at tasks j)
+  mark-marked m i j tasks = mark-marked_one m i j (nat_eq i j) refl tasks
+
+  -- Where a line leads that is a poll of a ready task.
+  polls : (is_exact : Type 0) (from : State T) (core : Beginning T Named) (i : ℕ) (answer : Told T) (m : Mark) (line : Line T)
+      → line ≡ record { event = event.Poll i; told = answer; names = [] }
+      → IsBeginning is_same core → IsCovered (record { core = core; tasks = change (with_mark m) i from.tasks })
+      → is_ready from [] i ≡ true
+      → FitsTold (length (kinds from [])) (is_ready from []) (event.Poll i) answer []
+      → ((j : ℕ) → is_poll_of j (event.Poll i) answer ≡ nat_eq i j)
+      → was_ready answer ≡ is_done_mark (Some m) → was_pending answer ≡ waits_mark (Some m) → was_refused answer ≡ is_due_mark (Some m)
+      → (is_exact → Leads is_same true from.core (history from (record { event = event.Poll i; told = answer; names = [] } ∷ [])) (handed_out from (record { event = event.Poll i; told = answer; names = [] } ∷ [])) core)
+      → Drives is_exact from (line ∷ []) (record { core = core; tasks = change (with_mark m) i from.tasks })
+  polls is_exact from core i answer m line is begins covered ready fits is_poll says_done says_waits says_due leads =
+      let this_ready : (j : ℕ) → nat_eq i j ≡ true → is_ready_mark (mark_at from.tasks j) ≡ true =
+      λ j same. subst (λ k. is_ready_mark (mark_at from.tasks k) ≡ true) (eqb-true i j same) (sym (ready_now from i) ∙ ready) in
+      rw is record {
+        legal = (fits, tt);
+        core_leads = leads;
+        kinds_are = map-change (λ task. task.kind) (with_mark m) (λ t. refl) i from.tasks ∙ sym (append-nil (map (λ task. task.kind) from.tasks));
+        done_is = λ j. rw (is_poll j) (ap is_done_mark (mark-marked m i j from.tasks) ∙ done_polled (nat_eq i j) m (mark_at from.tasks j) (was_ready answer) (this_ready j) says_done);
+        waits_is = λ j. rw (is_poll j) (ap waits_mark (mark-marked m i j from.tasks) ∙ waits_polled (nat_eq i j) m (mark_at from.tasks j) (was_pending answer) (this_ready j) says_waits);
+        ready_is = λ j.
+            let here = ready_now (record { core = core; tasks = change (with_mark m) i from.tasks }) j ∙ (ap is_ready_mark (mark-marked m i j from.tasks) ∙ ready_polled (nat_eq i j) m (mark_at from.tasks j) (was_ready answer) (was_refused answer) (this_ready j) says_done says_due) in
+            rw (is_poll j, append-nil (map (λ task. task.kind) from.tasks), started_now j from.tasks) here;
+        none_forgotten = awake _ begins covered;
+      }
+
+  -- each waiting name still stands in the waiting list, and that of the task that was polled, if it waits
+  pub covered_polled : (from : State T) (core : Beginning T Named) (i : ℕ) (asked : Result (Poll (Option T)) Refusal) → IsCovered from
+      → IfErr asked (λ why. (why ≡ Memory) × (core ≡ from.core)) → IfOk asked (λ p. core.waiting ≡ waiting_when p (name_of i) from.core.waiting)
+      → IsCovered (record { core = core; tasks = change (with_mark (mark_after asked)) i from.tasks })
+  covered_polled from core i (Ok (Ready value)) covered refused waits j stands =
+      ap (is_named j) waits ∙ covered j (unmarked (nat_eq i j) mark.Done (mark_at from.tasks j) (λ no. cc) (sym (mark-marked mark.Done i j from.tasks) ∙ stands))
+  covered_polled from core i (Ok Pending) covered refused waits j stands =
+      ap (is_named j) waits ∙ named_or_asked i j (nat_eq i j) refl from.core.waiting (mark_at from.tasks j) (covered j) (sym (mark-marked mark.Waiting i j from.tasks) ∙ stands)
+  covered_polled from core i (Err why) covered refused waits j stands =
+      ap (λ (c : Beginning T Named). is_named j c.waiting) refused.1 ∙ covered j (unmarked (nat_eq i j) mark.Ready (mark_at from.tasks j) (λ no. cc) (sym (mark-marked mark.Ready i j from.tasks) ∙ stands))
+
+  -- where the poll of a ready task leads
+  pub poll_drives : (is_exact : Type 0) (from : State T) (core : Beginning T Named) (i : ℕ) (kind : Kind) (asked : Result (Poll (Option T)) Refusal)
+      → IsBeginning is_same core → IsCovered from → kind_at from.tasks i ≡ Some kind → is_ready_mark (mark_at from.tasks i) ≡ true
+      → (is_exact → Answers is_same true from.core (poll_of (Some kind) i) (poll_reply asked) [] core)
+      → IfErr asked (λ why. (why ≡ Memory) × (core ≡ from.core)) → IfOk asked (λ p. core.waiting ≡ waiting_when p (name_of i) from.core.waiting)
+      → Drives is_exact from (line_of from (event.Poll i) (told_of (polled_of asked)) ∷ []) (record { core = core; tasks = change (with_mark (mark_after asked)) i from.tasks })
+  poll_drives is_exact from core i kind (Ok (Ready value)) begins covered is_kind ready answers refused waits =
+      polls is_exact from core i (told.Polled (polled.Ready value)) mark.Done _ (λ k. record { event = event.Poll i; told = told.Polled (polled.Ready value); names = poll_hands_none from.core (kind_at from.tasks i) i (reply.Ready value) k })
+      begins (covered_polled from core i (Ok (Ready value)) covered refused waits) (ready_now from i ∙ ready) (ready_now from i ∙ ready) (λ j. refl) refl refl refl (λ e. rw is_kind (answers e))
+  poll_drives is_exact from core i kind (Ok Pending) begins covered is_kind ready answers refused waits =
+      polls is_exact from core i (told.Polled polled.Pending) mark.Waiting _ (λ k. record { event = event.Poll i; told = told.Polled polled.Pending; names = poll_hands_none from.core (kind_at from.tasks i) i reply.Pending k })
+      begins (covered_polled from core i (Ok Pending) covered refused waits) (ready_now from i ∙ ready) (ready_now from i ∙ ready) (λ j. refl) refl refl refl (λ e. rw is_kind (answers e))
+  poll_drives is_exact from core i kind (Err why) begins covered is_kind ready answers refused waits =
+      polls is_exact from core i (told.Refused why) mark.Ready _ (λ k. record { event = event.Poll i; told = told.Refused why; names = poll_hands_none from.core (kind_at from.tasks i) i (reply.Refused why None) k })
+      begins (covered_polled from core i (Err why) covered refused waits) (ready_now from i ∙ ready) (ready_now from i ∙ ready, refused.0) (λ j. refl) refl refl refl (λ e. rw is_kind (answers e))
+
+  marked_result : (m : Mark) (t : Option (Task T)) → result_of (option_map (with_mark m) t) ≡ result_of t
+  marked_result m None = refl
+  marked_result m (Some t) = refl
+
+  -- a poll leaves the results
+  pub results-marked : (m : Mark) (i j : ℕ) (tasks : List (Task T)) → result_at (change (with_mark m) i tasks) j ≡ result_at tasks j
+  results-marked m i j tasks = says_same result_of (with_mark m) (marked_result m) i j tasks
+
+  -- the same, where the state before is known by what it equals, and so are the tasks and the answer
+  pub poll_drives_as : (is_exact : Type 0) (from old : State T) → from ≡ old → (core : Beginning T Named) (tasks : List (Task T)) (i : ℕ) (kind : Kind) (asked : Result (Poll (Option T)) Refusal) (answer : Result (Polled T) Refusal)
+      → IsBeginning is_same core → IsCovered from → kind_at from.tasks i ≡ Some kind → is_ready_mark (mark_at from.tasks i) ≡ true
+      → (is_exact → Answers is_same true from.core (poll_of (Some kind) i) (poll_reply asked) [] core)
+      → IfErr asked (λ why. (why ≡ Memory) × (core ≡ from.core)) → IfOk asked (λ p. core.waiting ≡ waiting_when p (name_of i) from.core.waiting)
+      → tasks ≡ change (with_mark (mark_after asked)) i from.tasks → answer ≡ polled_of asked
+      → Drives is_exact old (line_of old (event.Poll i) (told_of answer) ∷ []) (record { core = core; tasks = tasks })
+  poll_drives_as is_exact from old same core tasks i kind asked answer begins covered is_kind ready answers refused waits tasks_are answer_is =
+      subst (λ (s : State T). Drives is_exact s (line_of s (event.Poll i) (told_of answer) ∷ []) (record { core = core; tasks = tasks })) same
+      (rw (tasks_are, answer_is) (poll_drives is_exact from core i kind asked begins covered is_kind ready answers refused waits))
+
+  marked_same : (m : Mark) (i : ℕ) (tasks : List (Task T)) → is_ready_mark (mark_at tasks i) ≡ true → mark_at (change (with_mark m) i tasks) i ≡ Some m
+  marked_same m i tasks ready = mark-marked_one m i i true (eqb-same i) tasks ∙ some_marked m (mark_at tasks i) ready
+
+  -- a task whose poll was not refused is not ready
+  pub ready_no_more : (core : Beginning T Named) (i : ℕ) (asked : Result (Poll (Option T)) Refusal) (tasks : List (Task T)) → is_ready_mark (mark_at tasks i) ≡ true
+      → OnOk (polled_of asked) (is_ready (record { core = core; tasks = change (with_mark (mark_after asked)) i tasks }) [] i ≡ false)
+  ready_no_more core i (Ok (Ready value)) tasks ready = ready_now (record { core = core; tasks = change (with_mark mark.Done) i tasks }) i ∙ ap is_ready_mark (marked_same mark.Done i tasks ready)
+  ready_no_more core i (Ok Pending) tasks ready = ready_now (record { core = core; tasks = change (with_mark mark.Waiting) i tasks }) i ∙ ap is_ready_mark (marked_same mark.Waiting i tasks ready)
+  ready_no_more core i (Err why) tasks ready = tt
+
+  -- the others are as ready as before
+  pub others_stay : (core : Beginning T Named) (from : State T) (m : Mark) (i j : ℕ) → i ≢ j → is_ready (record { core = core; tasks = change (with_mark m) i from.tasks }) [] j ≡ is_ready from [] j
+  others_stay core from m i j other =
+      ready_now (record { core = core; tasks = change (with_mark m) i from.tasks }) j
+      ∙ (ap (λ t. is_ready_mark (option_map (λ task. task.mark) t)) (slice_get-change_other (with_mark m) i j from.tasks other) ∙ sym (ready_now from j))

@@ -1,0 +1,109 @@
+-- What waking does to the tasks, and who is named in a waiting list.
+use Rattle.std.proofs.Common.{◌≡◌, ◌≢◌, ℕ, zero, suc, Bool, true, false, ◌||◌, List, [], ◌∷◌, ◌++◌, Option, Some, None, map, refl, ap, sym, ◌∙◌}
+use Rattle.std.specs.Prelude.{slice_get, nat_eq, if◌then◌else◌}
+use Rattle.std.specs.Option.{option_map}
+use Rattle.std.proofs.lemmas.Bool.{eqb-true, eqb-false}
+use Rattle.std.proofs.lemmas.List.Folds.{list_any-append}
+use Rattle.async_cell_cons.specs.declared.named.Named.{Named}
+use Rattle.async_cell_model.specs.Waiting.{keep, drop_while}
+use Rattle.async_cell_driver.specs.declared.task.Kind.{Kind}
+use Rattle.async_cell_driver.specs.declared.task.Mark.{Mark}
+use Rattle.async_cell_driver.specs.declared.task.Mark.TheVariants.{Ready, Waiting, Woken, Done}
+use Rattle.async_cell_driver.specs.declared.task.Task.{Task}
+use Rattle.async_cell_driver.specs.Mark.{woken}
+use Rattle.async_cell_driver.specs.State.{mark_at, result_of, result_at, is_named, change, wake, wake_each}
+use Rattle.async_cell_driver.specs.Drives.{is_same}
+
+module _ {T : Type 0} where
+  pub slice_get-change_same : (f : Task T → Task T) (i : ℕ) (tasks : List (Task T)) → slice_get (change f i tasks) i ≡ option_map f (slice_get tasks i)
+  slice_get-change_same f i [] = refl
+  slice_get-change_same f zero (t ∷ tasks) = refl
+  slice_get-change_same f (suc i) (t ∷ tasks) = slice_get-change_same f i tasks
+
+  pub slice_get-change_other : (f : Task T → Task T) (n i : ℕ) (tasks : List (Task T)) → n ≢ i → slice_get (change f n tasks) i ≡ slice_get tasks i
+  slice_get-change_other f n i [] other = refl
+  slice_get-change_other f zero zero (t ∷ tasks) other = absurd (other refl)
+  slice_get-change_other f zero (suc i) (t ∷ tasks) other = refl
+  slice_get-change_other f (suc n) zero (t ∷ tasks) other = refl
+  slice_get-change_other f (suc n) (suc i) (t ∷ tasks) other = slice_get-change_other f n i tasks (λ same. other (ap suc same))
+
+  -- what a change leaves alone is as it was
+  pub says_same : {A : Type 0} (says : Option (Task T) → A) (f : Task T → Task T) → ((t : Option (Task T)) → says (option_map f t) ≡ says t)
+      → (n i : ℕ) (tasks : List (Task T)) → says (slice_get (change f n tasks) i) ≡ says (slice_get tasks i)
+  says_same says f same n i [] = refl
+  says_same says f same zero zero (t ∷ tasks) = same (Some t)
+  says_same says f same zero (suc i) (t ∷ tasks) = refl
+  says_same says f same (suc n) zero (t ∷ tasks) = refl
+  says_same says f same (suc n) (suc i) (t ∷ tasks) = says_same says f same n i tasks
+
+  pub map-change : {A : Type 0} (says : Task T → A) (f : Task T → Task T) → ((t : Task T) → says (f t) ≡ says t) → (n : ℕ) (tasks : List (Task T)) → map says (change f n tasks) ≡ map says tasks
+  map-change says f same n [] = refl
+  map-change says f same zero (t ∷ tasks) = ap (λ x. x ∷ map says tasks) (same t)
+  map-change says f same (suc n) (t ∷ tasks) = ap (λ xs. says t ∷ xs) (map-change says f same n tasks)
+
+  pub kinds-wake_each : (names : List Named) (tasks : List (Task T)) → map (λ task. task.kind) (wake_each names tasks) ≡ map (λ task. task.kind) tasks
+  kinds-wake_each [] tasks = refl
+  kinds-wake_each (n ∷ names) tasks = kinds-wake_each names (change wake n.0 tasks) ∙ map-change (λ task. task.kind) wake (λ t. refl) n.0 tasks
+
+  result_woken : (t : Option (Task T)) → result_of (option_map wake t) ≡ result_of t
+  result_woken None = refl
+  result_woken (Some t) = refl
+
+  pub results-wake_each : (names : List Named) (tasks : List (Task T)) (i : ℕ) → result_at (wake_each names tasks) i ≡ result_at tasks i
+  results-wake_each [] tasks i = refl
+  results-wake_each (n ∷ names) tasks i = results-wake_each names (change wake n.0 tasks) i ∙ says_same result_of wake result_woken n.0 i tasks
+
+-- the mark of a task that is woken if it is named
+abbrev pub woken_if : Bool → Option Mark → Option Mark
+woken_if true mark = option_map woken mark
+woken_if false mark = mark
+
+woken_twice : (p q : Bool) (mark : Option Mark) → woken_if q (woken_if p mark) ≡ woken_if (p || q) mark
+woken_twice true true None = refl
+woken_twice true true (Some Ready) = refl
+woken_twice true true (Some Waiting) = refl
+woken_twice true true (Some Woken) = refl
+woken_twice true true (Some Done) = refl
+woken_twice true false mark = refl
+woken_twice false true mark = refl
+woken_twice false false mark = refl
+
+module _ {T : Type 0} where
+  mark_of_woken : (t : Option (Task T)) → option_map (λ task. task.mark) (option_map wake t) ≡ option_map woken (option_map (λ task. task.mark) t)
+  mark_of_woken None = refl
+  mark_of_woken (Some t) = refl
+
+  mark-wake_one : (n i : ℕ) (b : Bool) → nat_eq n i ≡ b → (tasks : List (Task T)) → mark_at (change wake n tasks) i ≡ woken_if b (mark_at tasks i)
+  mark-wake_one n i true is tasks =
+      rw (eqb-true n i is) (ap (option_map (λ task. task.mark)) (slice_get-change_same wake i tasks) ∙ mark_of_woken (slice_get tasks i))
+  mark-wake_one n i false is tasks = ap (option_map (λ task. task.mark)) (slice_get-change_other wake n i tasks (eqb-false n i is))
+
+  pub mark-wake_each : (names : List Named) (tasks : List (Task T)) (i : ℕ) → mark_at (wake_each names tasks) i ≡ woken_if (is_named i names) (mark_at tasks i)
+  mark-wake_each [] tasks i = refl
+  mark-wake_each (n ∷ names) tasks i =
+      mark-wake_each names (change wake n.0 tasks) i
+      ∙ (ap (woken_if (is_named i names)) (mark-wake_one n.0 i (nat_eq n.0 i) refl tasks)
+      ∙ woken_twice (nat_eq n.0 i) (is_named i names) (mark_at tasks i))
+
+named_twice : (a b : Bool) → (a || (a || b)) ≡ (a || b)
+named_twice true b = refl
+named_twice false b = refl
+
+-- a name that is left out stands first
+named_dropped : (i : ℕ) (w v : Named) (b : Bool) → nat_eq w.0 v.0 ≡ b → (rest : List Named) → (nat_eq w.0 i || is_named i (drop_while (is_same w) rest)) ≡ (nat_eq w.0 i || is_named i rest)
+    → (nat_eq w.0 i || is_named i (drop_while (is_same w) (v ∷ rest))) ≡ (nat_eq w.0 i || is_named i (v ∷ rest))
+named_dropped i w v true is rest same =
+    rw is (same ∙ (sym (named_twice (nat_eq w.0 i) (is_named i rest)) ∙ ap (λ n. nat_eq w.0 i || (nat_eq n i || is_named i rest)) (eqb-true w.0 v.0 is)))
+named_dropped i w v false is rest same = rw is refl
+
+named-drop_while : (i : ℕ) (w : Named) (rest : List Named) → (nat_eq w.0 i || is_named i (drop_while (is_same w) rest)) ≡ (nat_eq w.0 i || is_named i rest)
+named-drop_while i w [] = refl
+named-drop_while i w (v ∷ rest) = named_dropped i w v (nat_eq w.0 v.0) refl rest (named-drop_while i w rest)
+
+-- those that are kept waiting are those that asked
+pub named-keep : (i : ℕ) (names : List Named) → is_named i (keep is_same names) ≡ is_named i names
+named-keep i [] = refl
+named-keep i (w ∷ rest) = named-drop_while i w rest
+
+pub named-append : (i : ℕ) (xs ys : List Named) → is_named i (xs ++ ys) ≡ (is_named i xs || is_named i ys)
+named-append i xs ys = list_any-append (λ name. nat_eq name.0 i) xs ys

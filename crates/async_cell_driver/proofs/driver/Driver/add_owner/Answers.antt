@@ -1,0 +1,23 @@
+use Rattle.std.proofs.Common.{refl, Some, None, ap, sym, true, false}
+use Rattle.std.proofs.lemmas.Result.{err_from_is_err_and, MatchResult-weaker}
+use Rattle.async_cell_model.specs.declared.entry.Kept.TheVariants as kept
+use Rattle.async_cell_model.specs.declared.reply.Reply.TheVariants as reply
+use Rattle.async_cell_model.specs.declared.refusal.Refusal.TheVariants as why
+use Rattle.async_cell_driver.specs.declared.event.Event.TheVariants as event
+use Rattle.async_cell_driver.specs.declared.event.Told.TheVariants as told
+use Rattle.async_cell_driver.specs.State.{State}
+use Rattle.async_cell_driver.proofs.Calling.{call_drives, covered_called, results_woken, value_is, update_is, update_refused_is}
+use Rattle.async_cell_driver.proofs.driver.Driver.add_owner.Goals as goal
+
+pub returns-clause-done : goal.returns-clause-done
+returns-clause-done g c =
+    let at : State g.row.T.Denot = record { core = c.self.inside.core; tasks = c.self.inside.tasks } in
+    MatchResult-weaker c.add_owner.result c.add_owner.ensures.done
+    (λ u answers. call_drives at c.args.self.now c.self.view_is c.add_owner.new.self c.self.inside.tasks _ event.AddOwner (told.Reply reply.Done) _ _ refl refl (λ i. refl) refl (λ count ready names. tt) c.self.invariant answers refl)
+    (λ why p. p)
+
+pub returns-clause-refused : goal.returns-clause-refused
+returns-clause-refused g c =
+    let at : State g.row.T.Denot = record { core = c.self.inside.core; tasks = c.self.inside.tasks } in
+    MatchResult-weaker c.add_owner.result c.add_owner.ensures.refused (λ u p. p)
+    (λ why answers. call_drives at c.args.self.now c.self.view_is c.add_owner.new.self c.self.inside.tasks _ event.AddOwner (told.Reply (reply.Refused why None)) _ _ refl refl (λ i. refl) refl (λ count ready names. tt) c.self.invariant answers refl)

@@ -1,0 +1,38 @@
+use Rattle.std.proofs.Common.{◌≡◌, [], rules, arith, refl, sym, ◌∙◌, append_assoc, append-nil, length-append}
+use Rattle.std.proofs.lemmas.List.{nil_from_length}
+use Rattle.std.proofs.lemmas.Grind.{common_steps}
+use Rattle.std.specs.Vec.Iter.{into_iter_items}
+use Rattle.async_cell_core.specs.Polled.{IsExact}
+use Rattle.async_cell_driver.specs.State.{State}
+use Rattle.async_cell_driver.proofs.Joining.{drives_nil, happen_more}
+use Rattle.async_cell_driver.proofs.driver.Driver.apply.Goals as goal
+
+pub loop-event-init : goal.loop-event-init
+loop-event-init g c =
+    let at : State g.row.T.Denot = record { core = c.self.inside.core; tasks = c.self.inside.tasks } in record {
+      made = search rules;
+      left = search rules;
+      space = grind (arith, common_steps);
+      drives = ([], refl, rw (← c.self.view_is) (drives_nil (IsExact g.T.Clone.is_clone) at c.begins.ensures c.self.invariant));
+      results = λ i. refl;
+    }
+
+pub loop-event-preserved : goal.loop-event-preserved
+loop-event-preserved g c =
+    let step = rw c.in-Some.is at c.next.ensures.steps in
+    let here = c.loop-event.invariant in record {
+      made = rw length-append (omega (arith, here.made, c.push_reserved.ensures.len));
+      left = rw (append_assoc, ← step.0) here.left;
+      space = omega (arith, here.space, step.1, c.push_reserved.ensures.len, c.push_reserved.ensures.capacity);
+      drives = rw c.push_reserved.ensures.items (happen_more g.E.Edit.edit (IsExact g.T.Clone.is_clone) c.args.self.now c.loop-event.self c.happen.new.self c.loop-event.yielded c.loop-event.told.items c.in-Some.event c.happen.result
+          (omega (arith, here.made, c.loop-event.told.ok.0)) here.drives c.happen.ensures.drives);
+      results = λ i. c.happen.ensures.results_stay i ∙ here.results i;
+    }
+
+pub returns-clause-drives : goal.returns-clause-drives
+returns-clause-drives g c =
+    let last = rw c.in-None.is at c.next.ensures.steps in
+    let here = c.loop-event.invariant in
+    let none : into_iter_items c.loop-event.event-iterator ≡ [] = nil_from_length _ (omega (arith, last.0, c.loop-event.event-iterator.rest.ok.0)) in
+    let all : c.loop-event.yielded ≡ c.args.events.items = sym (append-nil c.loop-event.yielded) ∙ (rw none at here.left) in
+    (here.drives.0, here.drives.1 ∙ search rules, rw (← all) here.drives.2)

@@ -1,0 +1,45 @@
+use Rattle.std.proofs.Common.{◌≡◌, Some, false, true, refl, ap, sym, ◌∙◌}
+use Rattle.async_cell_core.specs.Polled.{IsExact}
+use Rattle.async_cell_driver.specs.Mark.{is_ready_mark}
+use Rattle.async_cell_driver.specs.State.{State, with_mark, change, mark_at}
+use Rattle.async_cell_driver.proofs.Reading.{ready_now}
+use Rattle.async_cell_driver.proofs.Lines.{not_polled}
+use Rattle.async_cell_driver.proofs.Polling.{covered_polled, poll_drives_as, results-marked, ready_no_more, others_stay}
+use Rattle.async_cell_driver.proofs.driver.Driver.poll.Goals as goal
+
+pub returns-in_default-clause-drives : goal.returns-in_default-clause-drives
+returns-in_default-clause-drives g c =
+    let at : State g.row.T.Denot = record { core = c.self.inside.core; tasks = c.self.inside.tasks } in
+    let not_ready : is_ready_mark (mark_at at.tasks c.args.i) ≡ false = rw c.in_default.is at c.ready.ensures.not_ready in
+    rw (← c.self.view_is) (not_polled at c.args.i (IsExact g.T.Clone.is_clone) c.begins.ensures c.self.invariant (ready_now at c.args.i ∙ not_ready))
+
+pub returns-in_default-clause-not_ready : goal.returns-in_default-clause-not_ready
+returns-in_default-clause-not_ready g c =
+    let at : State g.row.T.Denot = record { core = c.self.inside.core; tasks = c.self.inside.tasks } in
+    let not_ready : is_ready_mark (mark_at at.tasks c.args.i) ≡ false = rw c.in_default.is at c.ready.ensures.not_ready in
+    rw (← c.self.view_is) ((λ same. ready_now at c.args.i ∙ not_ready), (λ not. refl))
+
+pub invariant_of-self : goal.invariant_of-self
+invariant_of-self g c =
+    let at : State g.row.T.Denot = record { core = c.self.inside.core; tasks = c.self.inside.tasks } in
+    rw (c.set_mark.ensures, c.mark_of.ensures) (covered_polled at c.ask-asked.new.core c.args.i c.ask-asked.result c.self.invariant c.ask-asked.ensures.refused c.ask-asked.ensures.waiting)
+
+pub returns-clause-drives : goal.returns-clause-drives
+returns-clause-drives g c =
+    let at : State g.row.T.Denot = record { core = c.self.inside.core; tasks = c.self.inside.tasks } in
+    let asked = c.ask-asked.ensures in
+    let ready = rw c.in-Some.is at c.ready.ensures.kind in
+    poll_drives_as (IsExact g.T.Clone.is_clone) at c.args.self.now c.self.view_is c.ask-asked.new.core c.set_mark.new.self c.args.i c.in-Some.kind c.ask-asked.result c.polled.result
+    c.begins-2.ensures c.self.invariant ready.0 ready.1 asked.model asked.refused asked.waiting (rw c.mark_of.ensures at c.set_mark.ensures) c.polled.ensures
+
+pub returns-clause-results_stay : goal.returns-clause-results_stay
+returns-clause-results_stay g c j = rw (← c.self.view_is, c.set_mark.ensures) (results-marked c.mark_of.result c.args.i j c.self.inside.tasks)
+
+pub returns-clause-ready_no_more : goal.returns-clause-ready_no_more
+returns-clause-ready_no_more g c =
+    let ready = rw c.in-Some.is at c.ready.ensures.kind in
+    rw (c.set_mark.ensures, c.mark_of.ensures, c.polled.ensures) (ready_no_more c.ask-asked.new.core c.args.i c.ask-asked.result c.self.inside.tasks ready.1)
+
+pub returns-clause-others_stay : goal.returns-clause-others_stay
+returns-clause-others_stay g c j other =
+    rw (c.set_mark.ensures, ← c.self.view_is) (others_stay c.ask-asked.new.core (record { core = c.self.inside.core; tasks = c.self.inside.tasks }) c.mark_of.result c.args.i j (λ same. other (sym same)))

@@ -1,0 +1,23 @@
+use Rattle.std.proofs.Common.{None, sym, ap, ◌≡◌, subst, []}
+use Rattle.async_cell_core.specs.Polled.{IsExact}
+use Rattle.async_cell_driver.specs.State.{State, result_at}
+use Rattle.async_cell_driver.specs.Drives.{Drives}
+use Rattle.async_cell_driver.proofs.Joining.{drives_nil}
+use Rattle.async_cell_driver.proofs.Keeping.{covered_keeping, drives_keeping, result-forgotten, result-keeping_other}
+use Rattle.async_cell_driver.proofs.driver.Driver.result.Goals as goal
+
+pub invariant_of-self : goal.invariant_of-self
+invariant_of-self g c =
+    let at : State g.row.T.Denot = record { core = c.self.inside.core; tasks = c.self.inside.tasks } in
+    rw c.take_result.ensures.once (covered_keeping c.args.i None at c.self.invariant)
+
+pub returns-clause-once : goal.returns-clause-once
+returns-clause-once g c = rw c.take_result.ensures.once (result-forgotten c.args.i c.self.inside.tasks)
+
+pub returns-clause-others : goal.returns-clause-others
+returns-clause-others g c j other = rw (c.take_result.ensures.once, ← c.self.view_is) (result-keeping_other c.args.i j None c.self.inside.tasks (λ same. other (sym same)))
+
+pub returns-clause-nothing_else : goal.returns-clause-nothing_else
+returns-clause-nothing_else g c =
+    let at : State g.row.T.Denot = record { core = c.self.inside.core; tasks = c.self.inside.tasks } in
+    rw (c.take_result.ensures.once, ← c.self.view_is) (drives_keeping (IsExact g.T.Clone.is_clone) c.args.i None at at [] (drives_nil (IsExact g.T.Clone.is_clone) at c.begins.ensures c.self.invariant))

@@ -1,0 +1,56 @@
+-- What a driver promises: where a log leads.
+use Rattle.std.specs.Prelude.{◌≡◌, ℕ, Bool, true, false, List, [], ◌∷◌, Option, ⊤, map, length, nat_eq}
+use Rattle.async_cell_cons.specs.declared.named.Named.{Named}
+use Rattle.async_cell_model.specs.declared.refusal.Refusal.TheVariants.{Memory}
+use Rattle.async_cell_model.specs.Cell.{is_vacant}
+use Rattle.async_cell_model.specs.Legal.{Leads}
+use Rattle.async_cell_driver.specs.declared.event.Event.{Event}
+use Rattle.async_cell_driver.specs.declared.event.Event.TheVariants.{Start, Poll}
+use Rattle.async_cell_driver.specs.declared.event.Told.{Told}
+use Rattle.async_cell_driver.specs.declared.event.Told.TheVariants as told
+use Rattle.async_cell_driver.specs.declared.event.Polled.TheVariants.{NotReady}
+use Rattle.async_cell_driver.specs.State.{State, result_at}
+use Rattle.async_cell_driver.specs.Log.{Line, Log, kinds, is_done, waits, is_ready}
+use Rattle.async_cell_driver.specs.History.{history, handed_out}
+
+-- whether two names are the same: that one wakes the other
+abbrev pub is_same : Named → Named → Bool
+is_same a b = nat_eq a.0 b.0
+
+-- Where this many tasks were started and these are ready, the event may be told this, and the names handed out. A task
+-- that is started is told the number of tasks before it. A poll is told `NotReady` exactly where the task is not ready.
+-- What a call on the cell is told is the core's to say. Where the core is not called, no name is handed out.
+abbrev pub FitsTold : {T : Type 0} → ℕ → (ℕ → Bool) → Event T (Option T → Option T) → Told T → List Named → Type 0
+FitsTold count ready (Start kind) (told.Started number) names = (number ≡ count) × (names ≡ [])
+FitsTold count ready (Start kind) (told.Refused why) names = (why ≡ Memory) × (names ≡ [])
+FitsTold count ready (Start kind) _ names = ⊥
+FitsTold count ready (Poll i) (told.Polled NotReady) names = (ready i ≡ false) × (names ≡ [])
+FitsTold count ready (Poll i) (told.Polled answer) names = ready i ≡ true
+FitsTold count ready (Poll i) (told.Refused why) names = (ready i ≡ true) × (why ≡ Memory)
+FitsTold count ready (Poll i) _ names = ⊥
+FitsTold count ready event (told.Reply reply) names = ⊤
+FitsTold count ready event _ names = ⊥
+
+-- each line fits those before it
+abbrev pub IsLegal : {T : Type 0} → State T → Log T → Type 0
+IsLegal from [] = ⊤
+IsLegal from (line ∷ earlier) = FitsTold (length (kinds from earlier)) (is_ready from earlier) line.event line.told line.names × IsLegal from earlier
+
+-- whenever the cell is full or closed, every task that waits is ready
+abbrev pub IsAwake : {T : Type 0} → State T → Type 0
+IsAwake at = is_vacant at.core.cell ≡ false → (i : ℕ) → waits at [] i ≡ true → is_ready at [] i ≡ true
+
+-- The promise: the log leads from one state of a driver to another. The core's calls are a legal history, where the
+-- clones of values are exact; and the tasks stand as the log says, whatever the clones are.
+pub record Drives {T : Type 0} (is_exact : Type 0) (from : State T) (log : Log T) (to : State T) : Type 0 where
+  pub legal : IsLegal from log
+  pub core_leads : is_exact → Leads is_same true from.core (history from log) (handed_out from log) to.core
+  pub kinds_are : map (λ task. task.kind) to.tasks ≡ kinds from log
+  pub done_is : (i : ℕ) → is_done to [] i ≡ is_done from log i
+  pub waits_is : (i : ℕ) → waits to [] i ≡ waits from log i
+  pub ready_is : (i : ℕ) → is_ready to [] i ≡ is_ready from log i
+  pub none_forgotten : IsAwake to
+
+-- what `settle` got for the tasks stays
+abbrev pub KeepsResults : {T : Type 0} → State T → State T → Type 0
+KeepsResults from to = (i : ℕ) → result_at to.tasks i ≡ result_at from.tasks i

@@ -1,0 +1,150 @@
+ghost use Rattle.std.specs.Prelude.{◌≡◌, ◌≢◌, ℕ, [], ◌∷◌, length, true, false, ⊤, Ok, ◌↔◌, IsTrue, IsOk, IfOk, IfErr, OnOk, OnErr};
+ghost use Rattle.async_cell_model.specs.Cell.{is_vacant};
+ghost use Rattle.async_cell_model.specs.Legal.{Answers, may_refuse};
+ghost use Rattle.async_cell_core.specs.Polled.{IsExact, poll_reply};
+ghost use Rattle.async_cell_driver.specs.State.{State, kind_at};
+ghost use Rattle.async_cell_driver.specs.Log.{is_ready, waits};
+ghost use Rattle.async_cell_driver.specs.History.{line_of, poll_of, told_of};
+ghost use Rattle.async_cell_driver.specs.Drives.{Drives, KeepsResults, is_same};
+ghost use Rattle.async_cell_driver.specs.Asked.{waiting_when, mark_after, polled_of};
+
+mod apply;
+mod settle;
+mod writes;
+
+use crate::event::{Event, Polled, Told};
+use crate::task::{Kind, Mark};
+use crate::tasks::Tasks;
+use async_cell_core::{Core, Named, Poll, Refusal};
+use async_cell_model::Cell;
+use std::alloc::Global;
+use std::marker::Model;
+
+/// Numbered tasks that wait for the value of one cell. The driver keeps the cell, and knows of each task whether it is
+/// ready to be polled.
+#[derive(Drop)]
+pub struct Driver<T> {
+    core: Core<T, Named>,
+    tasks: Tasks<T>,
+}
+
+/// Contracts see the core, and the tasks by number.
+impl<T> Model for Driver<T> {
+    ghost use Rattle.async_cell_driver.specs.State.{State, IsCovered};
+
+    ghost Value = { State T };
+
+    ghost view = { λ s. record { core = s.core; tasks = s.tasks } };
+
+    ghost invariant = { λ s. IsCovered (record { core = s.core; tasks = s.tasks }) };
+}
+
+impl<T: Clone> Driver<T> {
+    /// A driver of a cell with this content and one owner, and without tasks.
+    pub fn new(alloc: Global, value: Option<T>) -> Self
+        ensures { result ≡ record { core = record { cell = Cell.Open value 1; waiting = []; room = 0 }; tasks = [] } }
+    {
+        Driver {
+            core: Core::owned_by(alloc, value, 1),
+            tasks: Tasks::new(alloc),
+        }
+    }
+
+    /// Starts a task, and gives its number: the number of tasks before it. Refused where there is no memory for it.
+    pub fn start(&mut self, kind: Kind) -> Result<usize, Refusal>
+        ensures started { IfOk result (λ number. Drives ⊤ self.old (line_of self.old (Event.Start kind) (Told.Started number) ∷ []) self.new) }
+        ensures refused { IfErr result (λ why. Drives ⊤ self.old (line_of self.old (Event.Start kind) (Told.Refused why) ∷ []) self.new) }
+
+        ensures number { IfOk result (λ number. number ≡ length self.old.tasks) }
+        ensures results_stay { KeepsResults self.old self.new }
+        ensures unchanged { OnErr result (self.new ≡ self.old) }
+    {
+        self.core.begins();
+        self.tasks.start(kind)
+    }
+
+    /// Polls a task that is ready. A task that is done, not ready or not there is not polled. Refused where the waker's
+    /// place, or a clone of the value, found no memory: the task is ready still.
+    pub fn poll(&mut self, i: usize) -> Result<Polled<T>, Refusal>
+        ensures drives { Drives (IsExact T.is_clone) self.old (line_of self.old (Event.Poll i) (told_of result) ∷ []) self.new }
+
+        ensures not_ready { (result ≡ Ok Polled.NotReady) ↔ (is_ready self.old [] i ≡ false) }
+        ensures untouched { result ≡ Ok Polled.NotReady → self.new ≡ self.old }
+        ensures results_stay { KeepsResults self.old self.new }
+        ensures refused { IfErr result (λ why. (why ≡ Refusal.Memory) × (self.new.core ≡ self.old.core)) }
+        ensures ready_no_more { OnOk result (is_ready self.new [] i ≡ false) }
+        ensures others_stay { (j : ℕ) → j ≢ i → is_ready self.new [] j ≡ is_ready self.old [] j }
+        ensures spared { may_refuse is_same true self.old.core (poll_of (kind_at self.old.tasks i) i) ≡ false → IsOk result }
+    {
+        self.core.begins();
+        let Some(kind) = self.tasks.ready(i) else {
+            return Ok(Polled::NotReady);
+        };
+        let asked = ask(&mut self.core, kind, Named(i as u64));
+        self.core.begins();
+        self.tasks.set_mark(i, mark_of(&asked));
+        polled(asked)
+    }
+
+    /// Whether a task is ready: it was started, isn't done, and was never polled, or its last poll was refused, or its name
+    /// was handed out since.
+    pub fn is_ready(&self, i: usize) -> bool
+        ensures { result ≡ is_ready self.now [] i }
+    {
+        match self.tasks.get(i) {
+            Some((_, mark)) => mark.is_ready(),
+            None => false,
+        }
+    }
+
+    /// Whether a task waits: its last poll answered `Pending`. Whenever the cell is full or closed, it is also ready.
+    pub fn waits(&self, i: usize) -> bool
+        ensures log { result ≡ waits self.now [] i }
+        ensures none_forgotten { IsTrue result → is_vacant self.now.core.cell ≡ false → is_ready self.now [] i ≡ true }
+    {
+        self.core.begins();
+        match self.tasks.get(i) {
+            Some((_, mark)) => mark.waits(),
+            None => false,
+        }
+    }
+}
+
+/// Polls the core for a task of this kind.
+fn ask<T: Clone>(
+    core: &mut Core<T, Named>,
+    kind: Kind,
+    name: Named,
+) -> Result<Poll<Option<T>>, Refusal>
+    ensures model { IsExact T.is_clone → Answers is_same true core.old (poll_of (Some kind) name.0) (poll_reply result) [] core.new }
+    ensures refused { IfErr result (λ why. (why ≡ Refusal.Memory) × (core.new ≡ core.old)) }
+    ensures waiting { IfOk result (λ polled. core.new.waiting ≡ waiting_when polled name core.old.waiting) }
+    ensures spared { may_refuse is_same true core.old (poll_of (Some kind) name.0) ≡ false → IsOk result }
+{
+    match kind {
+        Kind::Take => core.poll_take(&name),
+        Kind::Get => core.poll_get(&name),
+    }
+}
+
+/// The mark of a task that was polled.
+fn mark_of<T: Drop>(asked: &Result<Poll<Option<T>>, Refusal>) -> Mark
+    ensures { result ≡ mark_after asked.now }
+{
+    match asked {
+        Ok(Poll::Ready(_)) => Mark::Done,
+        Ok(Poll::Pending) => Mark::Waiting,
+        Err(_) => Mark::Ready,
+    }
+}
+
+/// What the poll of the task answers.
+fn polled<T: Drop>(asked: Result<Poll<Option<T>>, Refusal>) -> Result<Polled<T>, Refusal>
+    ensures { result ≡ polled_of asked }
+{
+    match asked {
+        Ok(Poll::Ready(content)) => Ok(Polled::Ready(content)),
+        Ok(Poll::Pending) => Ok(Polled::Pending),
+        Err(why) => Err(why),
+    }
+}

@@ -1,0 +1,84 @@
+//! Lists of events, made in order.
+ghost use Rattle.std.specs.Prelude.{◌≡◌, List, [], ◌∷◌, map, length, vec_len, IfOk, IfErr, OnErr};
+ghost use Rattle.async_cell_cons.specs.declared.named.Named.{Named as Name};
+ghost use Rattle.async_cell_core.specs.Polled.{IsExact};
+ghost use Rattle.async_cell_driver.specs.Log.{log_of, with_edit};
+ghost use Rattle.async_cell_driver.specs.History.{line_of, done_or};
+ghost use Rattle.async_cell_driver.specs.Drives.{Drives, KeepsResults};
+
+use super::Driver;
+use crate::event::{Event, Told};
+use async_cell_core::{Edit, Refusal, Reply};
+
+impl<T: Clone> Driver<T> {
+    /// Makes the events happen in order, and tells one line for each: what is refused is told so, and those after it happen.
+    /// The room for what is told is got first; where there is none, nothing is done and the list comes back.
+    pub fn apply<E: Edit<T> + Drop>(
+        &mut self,
+        events: Vec<Event<T, E>>,
+    ) -> Result<Vec<Told<T>>, Vec<Event<T, E>>>
+        ensures one_each { IfOk result (λ told. vec_len told ≡ vec_len events) }
+        ensures drives { IfOk result (λ told. (handed : List (List Name)) × (length handed ≡ vec_len events)
+            × Drives (IsExact T.is_clone) self.old (log_of (map (with_edit E.edit) events.items) told.items handed) self.new) }
+        ensures results_stay { KeepsResults self.old self.new }
+        ensures comes_back { IfErr result (λ back. back ≡ events) }
+        ensures unchanged { OnErr result (self.new ≡ self.old) }
+    {
+        self.core.begins();
+        let mut told = Vec::new(*events.allocator());
+        if told.reserve_exact(events.len()).is_err() {
+            return Err(events);
+        }
+        for event in events {
+            told.push_reserved(self.happen(event));
+        }
+        Ok(told)
+    }
+
+    /// Makes one event happen, and gives what it is told.
+    #[tactic(auto, using(crate::proofs::Joining::exact_drives))]
+    fn happen<E: Edit<T> + Drop>(&mut self, event: Event<T, E>) -> Told<T>
+        ensures drives { Drives (IsExact T.is_clone) self.old (line_of self.old (with_edit E.edit event) result ∷ []) self.new }
+        ensures results_stay { KeepsResults self.old self.new }
+    {
+        match event {
+            Event::Start(kind) => match self.start(kind) {
+                Ok(number) => Told::Started(number),
+                Err(why) => Told::Refused(why),
+            },
+            Event::Poll(i) => match self.poll(i) {
+                Ok(polled) => Told::Polled(polled),
+                Err(why) => Told::Refused(why),
+            },
+            Event::Set(value) => Told::Reply(match self.set(value) {
+                Ok(()) => Reply::Done,
+                Err(back) => Reply::Refused(Refusal::Closed, Some(back)),
+            }),
+            Event::OrSet(value) => Told::Reply(match self.offer(value) {
+                Ok(unused) => Reply::Value(unused),
+                Err(back) => Reply::Refused(Refusal::Closed, Some(back)),
+            }),
+            Event::Replace(value) => Told::Reply(match self.replace(value) {
+                Ok(old) => Reply::Value(old),
+                Err(back) => Reply::Refused(Refusal::Closed, Some(back)),
+            }),
+            Event::Update(edit) => Told::Reply(done(self.update(edit))),
+            Event::TryTake => Told::Reply(Reply::Value(self.try_take())),
+            Event::AddOwner => Told::Reply(done(self.add_owner())),
+            Event::EndOwner => Told::Reply(match self.end() {
+                Ok(last) => Reply::Value(last),
+                Err(why) => Reply::Refused(why, None),
+            }),
+        }
+    }
+}
+
+/// The reply that such an answer stands for.
+fn done<T>(answer: Result<(), Refusal>) -> Reply<T>
+    ensures { result ≡ done_or answer }
+{
+    match answer {
+        Ok(()) => Reply::Done,
+        Err(why) => Reply::Refused(why, None),
+    }
+}

@@ -1,0 +1,59 @@
+//! Polls of all tasks that are ready.
+ghost use Rattle.std.specs.Prelude.{◌≡◌, ◌≢◌, ℕ, [], true, false, length, OnOk, None};
+ghost use Rattle.async_cell_model.specs.Cell.{is_vacant};
+ghost use Rattle.async_cell_core.specs.Polled.{IsExact};
+ghost use Rattle.async_cell_driver.specs.State.{result_at};
+ghost use Rattle.async_cell_driver.specs.Log.{Log, is_ready, waits};
+ghost use Rattle.async_cell_driver.specs.Drives.{Drives};
+ghost use Rattle.async_cell_driver.specs.Settle.{Settles, SettlesOne};
+ghost use Rattle.async_cell_driver.specs.declared.event.Told.{Told as Answer};
+
+use super::Driver;
+use crate::event::Polled;
+use async_cell_core::Refusal;
+
+impl<T: Clone> Driver<T> {
+    /// What `settle` got for a task, if it got a value or a closed cell for it and this was not given yet.
+    pub fn result(&mut self, i: usize) -> Option<Option<T>>
+        ensures gives { result ≡ result_at self.old.tasks i }
+        ensures once { result_at self.new.tasks i ≡ None }
+        ensures others { (j : ℕ) → j ≢ i → result_at self.new.tasks j ≡ result_at self.old.tasks j }
+        ensures nothing_else { Drives (IsExact T.is_clone) self.old [] self.new }
+    {
+        self.core.begins();
+        self.tasks.take_result(i)
+    }
+
+    /// Polls each task that is ready now once, in order of number, and gives the number of these polls. What a poll is ready
+    /// with is kept for `result`. A refused poll stops it: that task and those after it are ready still.
+    pub fn settle(&mut self) -> Result<usize, Refusal>
+        ensures settles { (log : Log T) × Settles (IsExact T.is_clone) self.old result log self.new }
+        ensures none_ready { OnOk result ((i : ℕ) → is_ready self.new [] i ≡ false) }
+        ensures none_waits { OnOk result (is_vacant self.new.core.cell ≡ false → (i : ℕ) → waits self.new [] i ≡ false) }
+    {
+        self.core.begins();
+        let mut polls = 0;
+        for i in 0..self.tasks.len() {
+            if !self.is_ready(i) {
+                continue;
+            }
+            self.poll_and_keep(i)?;
+            polls += 1;
+        }
+        Ok(polls)
+    }
+
+    /// Polls a task that is ready, and keeps what the poll is ready with.
+    fn poll_and_keep(&mut self, i: usize) -> Result<(), Refusal>
+        requires { is_ready self.old [] i ≡ true }
+        ensures settles { (answer : Answer T) × SettlesOne (IsExact T.is_clone) self.old i result answer self.new }
+        ensures ready_no_more { OnOk result (is_ready self.new [] i ≡ false) }
+        ensures others_stay { (j : ℕ) → j ≢ i → is_ready self.new [] j ≡ is_ready self.old [] j }
+        ensures size { length self.new.tasks ≡ length self.old.tasks }
+    {
+        if let Polled::Ready(content) = self.poll(i)? {
+            self.tasks.keep(i, content);
+        }
+        Ok(())
+    }
+}

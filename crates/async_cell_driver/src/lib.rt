@@ -1,0 +1,12 @@
+//! Numbered tasks over one cell: only tasks that are ready are polled, and none is forgotten.
+#![tactic(auto)]
+
+mod driver;
+mod event;
+mod task;
+mod tasks;
+
+pub use async_cell_core::{Edit, Named, Refusal, Reply};
+pub use driver::Driver;
+pub use event::{Event, Polled, Told};
+pub use task::Kind;
