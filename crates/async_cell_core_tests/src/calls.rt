@@ -1,6 +1,6 @@
 //! One call at a time.
 use crate::names::{is_pending, is_ready, names, polled_by};
-use async_cell_core::{Core, Named};
+use async_cell_core::{Core, Named, Poll};
 use std::test::Fail;
 
 #[test]
@@ -103,4 +103,17 @@ fn the_four_debug_texts(rt: HostRuntime) -> Result<(), Fail> {
         "AsyncCell::Closed"
     );
     Ok(())
+}
+
+/// The first example of the README.
+#[test]
+fn one_asks_and_another_answers(rt: HostRuntime) {
+    let mut core: Core<u64, Named> = Core::new(rt.alloc());
+    assert_eq!(rt; core.poll_take(&Named(1)), Ok(Poll::Pending));
+    match core.set(7) {
+        Ok(woken) => woken.wake_all(),
+        Err(_value) => {}
+    }
+    assert_eq!(rt; core.poll_take(&Named(1)), Ok(Poll::Ready(Some(7))));
+    assert_eq!(rt; core.try_take(), None);
 }
