@@ -1,67 +1,49 @@
-//! The way to use a recorded cell without a proof of one's own.
-ghost use Rattle.std.specs.Prelude.{◌≡◌, ◌⊎◌, ◌≤◌, List, length, vec_len, IfOk, IfErr, false};
-ghost use Rattle.std.specs.List.{sum_by};
-ghost use Rattle.async_cell_cons.specs.declared.named.Named.{Named};
-ghost use Rattle.async_cell_recorded.specs.declared.entry.Entry.{Entry};
+//! The way to share a recorded cell among threads without a proof of one's own.
+ghost use Rattle.std.specs.Prelude.{◌≡◌, ◌≤◌, vec_len, IfOk};
 ghost use Rattle.async_cell_recorded.specs.Recording.{IsRecorded};
-ghost use Rattle.async_cell_recorded.specs.Counting.{Standing, Test, fresh, picked};
 
 use crate::history::History;
-use crate::marker::{Blanks, Pick};
+use crate::marker::{Blanks, Marker, Pick};
 use crate::recorded::Recorded;
 use crate::share::Share;
 use async_cell_core::Refusal;
-use std::alloc::Global;
+use std::alloc::{AllocError, Global};
 use std::marker::Brand;
 use std::sync::Wait;
+use std::thread;
 use std::thread::Threads;
 
-/// What is done with a recorded cell: the calls, and the threads that make them.
+/// What threads do with a recorded cell.
 pub trait Session {
     /// The values of the cell.
     type Value;
 
-    /// What the session gives beside the history. No marker stands in it, so no share does.
+    /// What a thread gives.
     type Outcome;
 
-    /// A test on the entry and the list of names that a call is answered: such answers are counted.
-    ghost pick: { Test Self.Value } = { λ _ _. false };
-
-    /// What is known of the outcome, given what the shares count that come back.
-    ghost gives: { Self → List Standing → Self.Outcome → Type 0 } = { λ _ _ _. Unit {0} };
-
-    /// Uses the cell. Threads share it by reference, and each takes one of the shares. All shares are to come back.
-    fn run<M: Pick<Self::Value> + Send + Sync, R: Threads + Wait + Sync>(
-        self,
+    /// What one thread does with the cell, through its share. The number of the share tells the threads apart.
+    fn run<M: Pick<Self::Value>, R: Wait>(
+        &self,
         rt: &R,
         cell: &Recorded<Self::Value, M>,
-        shares: Vec<Share<M>>,
-    ) -> (Self::Outcome, Vec<Share<M>>)
-        requires fresh { shares.items ≡ fresh M.shares }
-        requires all { vec_len shares ≡ M.shares }
-        requires pick { (entry : Entry Self.Value) (names : List Named) → M.pick entry names ≡ pick entry names }
-        ensures given { gives self result.1.items result.0 };
+        share: &mut Share<M>,
+    ) -> Self::Outcome;
 }
 
-/// Makes an open cell without a value, with an owner for each share, runs the session with it and its shares, and finishes
-/// it. Refused where there was no memory to make it, and then the session is dropped; and where not all shares came back,
-/// and then the cell is dropped.
+/// Makes an open cell without a value, with an owner for each share, runs the session once for each share, each in a thread
+/// of its own, and finishes the cell once all have ended. Gives what the threads gave, in the order of the shares' numbers,
+/// and the history. Refused where there was no memory. Where no thread can be made, the runs come one after another, so
+/// none may wait for another one to come.
 pub fn with_recorded<
-    T: Copy,
-    O: Drop,
-    S: Session<Value = T, Outcome = O> + Drop,
+    T: Copy + Send,
+    O: Send + Drop,
+    S: Session<Value = T, Outcome = O> + Sync,
     R: Threads + Wait + Sync,
->(
-    rt: &R,
-    alloc: Global,
-    shares: u32,
-    session: S,
-) -> Result<(O, History<T>), Refusal>
+>(rt: &R, alloc: Global, shares: u32, session: &S) -> Result<(Vec<O>, History<T>), Refusal>
     requires { 1 ≤ shares }
-    ensures recorded { IfOk result (λ done. IsRecorded done.1 × (done.1.begin ≡ shares)) }
-    ensures given { IfOk result (λ done. (counted : List Standing) × S.gives session counted done.0
-        × (length done.1.entries ≡ sum_by (λ s. s.count) counted) × (picked S.pick done.1 ≡ sum_by (λ s. s.picked) counted)) }
-    ensures refused { IfErr result (λ why. (why ≡ Refusal.Memory) ⊎ (why ≡ Refusal.ShareMissing)) }
+    ensures one_each { IfOk result (λ done. vec_len done.0 ≡ shares) }
+    ensures begins { IfOk result (λ done. done.1.begin ≡ shares) }
+    ensures recorded { IfOk result (λ done. IsRecorded done.1) }
 {
     run_marked::<T, O, S, R, Brand>(rt, alloc, shares, Blanks::new(shares), session)
 }
@@ -69,9 +51,9 @@ pub fn with_recorded<
 /// The same for a cell that is named by `M`.
 #[tactic(auto, using(crate::proofs::Counted::length_fresh))]
 fn run_marked<
-    T: Copy,
-    O: Drop,
-    S: Session<Value = T, Outcome = O> + Drop,
+    T: Copy + Send,
+    O: Send + Drop,
+    S: Session<Value = T, Outcome = O> + Sync,
     R: Threads + Wait + Sync,
     M: Pick<T> + Send + Sync,
 >(
@@ -79,22 +61,71 @@ fn run_marked<
     alloc: Global,
     shares: u32,
     blanks: Blanks,
-    session: S,
-) -> Result<(O, History<T>), Refusal>
+    session: &S,
+) -> Result<(Vec<O>, History<T>), Refusal>
     requires some { 1 ≤ shares }
     requires shares { shares ≡ M.shares }
     requires calls { (blanks.calls.name ≡ M.calls) × (blanks.calls.parts ≡ M.shares) }
     requires answers { (blanks.answers.name ≡ M.answers) × (blanks.answers.parts ≡ M.shares) }
-    requires pick { M.pick ≡ S.pick }
-    ensures recorded { IfOk result (λ done. IsRecorded done.1 × (done.1.begin ≡ shares)) }
-    ensures given { IfOk result (λ done. (counted : List Standing) × S.gives session counted done.0
-        × (length done.1.entries ≡ sum_by (λ s. s.count) counted) × (picked S.pick done.1 ≡ sum_by (λ s. s.picked) counted)) }
-    ensures refused { IfErr result (λ why. (why ≡ Refusal.Memory) ⊎ (why ≡ Refusal.ShareMissing)) }
+    ensures one_each { IfOk result (λ done. vec_len done.0 ≡ shares) }
+    ensures begins { IfOk result (λ done. done.1.begin ≡ shares) }
+    ensures recorded { IfOk result (λ done. IsRecorded done.1) }
 {
-    let (cell, made) = Recorded::new(alloc, shares, blanks)?;
-    let (outcome, shares) = session.run::<M, R>(rt, &cell, made);
+    let (cell, made) = Recorded::<T, M>::new(alloc, shares, blanks)?;
+    let ended = in_threads::<T, O, S, R, M>(rt, &cell, made, session)?;
+    let (outcomes, shares) = parted(alloc, ended)?;
     match cell.finish(shares) {
-        Ok(history) => Ok((outcome, history)),
+        Ok(history) => Ok((outcomes, history)),
         Err(_) => Err(Refusal::ShareMissing),
     }
+}
+
+/// Runs the session for each share, in a thread of its own, and gives the outcome with the share.
+fn in_threads<
+    T: Copy + Send,
+    O: Send + Drop,
+    S: Session<Value = T, Outcome = O> + Sync,
+    R: Threads + Wait + Sync,
+    M: Pick<T> + Send + Sync,
+>(
+    rt: &R,
+    cell: &Recorded<T, M>,
+    shares: Vec<Share<M>>,
+    session: &S,
+) -> Result<Vec<(O, Share<M>)>, AllocError>
+    ensures { IfOk result (λ ended. vec_len ended ≡ vec_len shares) }
+{
+    thread::map_vec(
+        rt,
+        shares,
+        &|share| run_one::<T, O, S, R, M>(rt, cell, share, session),
+    )
+}
+
+/// Runs the session for one share.
+fn run_one<T: Copy, O, S: Session<Value = T, Outcome = O>, R: Wait, M: Pick<T>>(
+    rt: &R,
+    cell: &Recorded<T, M>,
+    mut share: Share<M>,
+    session: &S,
+) -> (O, Share<M>) {
+    let outcome = session.run::<M, R>(rt, cell, &mut share);
+    (outcome, share)
+}
+
+/// The outcomes, and the shares.
+fn parted<O: Drop, M: Marker>(
+    alloc: Global,
+    ended: Vec<(O, Share<M>)>,
+) -> Result<(Vec<O>, Vec<Share<M>>), AllocError>
+    ensures outcomes { IfOk result (λ parted. vec_len parted.0 ≡ vec_len ended) }
+    ensures shares { IfOk result (λ parted. vec_len parted.1 ≡ vec_len ended) }
+{
+    let mut outcomes = Vec::new(alloc);
+    let mut shares = Vec::new(alloc);
+    for (outcome, share) in ended {
+        outcomes.push(outcome)?;
+        shares.push(share)?;
+    }
+    Ok((outcomes, shares))
 }

@@ -1,18 +1,36 @@
 //! Each call of `LockedCore`, and that each that fills or closes wakes all.
-ghost use Rattle.std.specs.Prelude.{false, true};
+ghost use Rattle.std.specs.Prelude.{◌≡◌, false, true};
+ghost use Rattle.std.proofs.Common.{rules};
 
 use async_cell_core::{Core, Named, Poll, Refusal, Wakes};
 use async_cell_locked::LockedCore;
 use std::sync::Wait;
 use std::sync::atomic::{AtomicU64, Ordering};
 
+/// Where wakers count their wakes.
+trait Tally: Clone {
+    fn add_one(&self);
+
+    ghost clone_is_source: { (a b : Self) → Self.is_clone a b → b ≡ a };
+
+    ghost clone_is_sure: { (a : Self) → Self.is_infallible a };
+}
+
+impl<'a> Tally for &'a AtomicU64 {
+    fn add_one(&self) {
+        self.fetch_add(1, Ordering::SeqCst);
+    }
+
+    ghost clone_is_source = { Prim.search rules };
+
+    ghost clone_is_sure = { Prim.search rules };
+}
+
 /// A waker that counts its wakes.
 #[derive(Clone, Copy)]
-struct Counts<'a>(&'a AtomicU64);
+struct Counts<C>(C);
 
-impl Wakes for Counts<'_> {
-    ghost use Rattle.std.proofs.Common.{rules};
-
+impl<C: Tally> Wakes for Counts<C> {
     ghost will_wake = { λ _ _. false };
 
     ghost SURE_CLONE = { true };
@@ -24,7 +42,7 @@ impl Wakes for Counts<'_> {
     }
 
     fn wake(self) {
-        self.0.fetch_add(1, Ordering::SeqCst);
+        self.0.add_one();
     }
 
     ghost clone_is_source = { Prim.search rules };
@@ -52,9 +70,9 @@ enum Act {
 
 fn carried_out<'a>(
     act: Act,
-    cell: LockedCore<u32, Counts<'a>>,
+    cell: LockedCore<u32, Counts<&'a AtomicU64>>,
     rt: &impl Wait,
-) -> Option<LockedCore<u32, Counts<'a>>> {
+) -> Option<LockedCore<u32, Counts<&'a AtomicU64>>> {
     match act {
         Act::Set => drop(cell.set(1, rt)),
         Act::OrSet => drop(cell.or_set(1, rt)),
@@ -106,7 +124,11 @@ fn a_fill_a_close_and_the_drop_wake_all_and_no_other_call_any(rt: HostRuntime) {
         let left = carried_out(done, cell, &rt);
         assert_eq!(rt; woken.load(Ordering::SeqCst), wakes, "{done:?}");
         if let Some(cell) = left {
-            assert_eq!(rt; cell.waiting(&rt) as u64, 2 - wakes, "{done:?}");
+            assert_eq!(rt;
+                cell.waiting(&rt) as u64,
+                2u64.saturating_sub(wakes),
+                "{done:?}"
+            );
         }
     }
 }

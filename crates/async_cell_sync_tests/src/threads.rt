@@ -1,10 +1,10 @@
 //! One cell in several threads.
-use async_cell_sync::{AsyncCell, CellRef, Refusal, TakeWeak};
+use async_cell_sync::{AsyncCell, TakeWeak};
 use futures::executor::block_on;
 use futures::task::Poll;
 use futures::test::MockTask;
-use std::sync::Wait;
-use std::test::Fail;
+use std::sync::{Arc, Wait};
+use std::thread::JoinHandle;
 use std::{io, thread};
 
 /// How often the setter looks for the future that waits.
@@ -37,52 +37,63 @@ fn an_executor_drives_a_future_that_another_thread_answers(rt: HostRuntime) -> i
     Ok(())
 }
 
-/// What a thread that polled a weak taker comes back with.
-#[derive(Drop)]
+/// What a thread saw that polled a weak taker.
+#[derive(Clone, Copy)]
 struct Polled {
-    weak: TakeWeak<u32>,
-    flag: MockTask,
-    last: Poll<Result<Option<u32>, Refusal>>,
+    /// Whether its last poll was pending.
+    waits: bool,
+    /// Whether each poll was pending or ready with none.
     as_promised: bool,
 }
 
-fn poll_often(weak: TakeWeak<u32>, flag: MockTask, rt: &impl Wait) -> Polled {
-    let mut last = Poll::Pending;
+fn poll_often(weak: &TakeWeak<u32>, flag: &MockTask, rt: &impl Wait) -> Polled {
+    let mut waits = true;
     let mut as_promised = true;
     for _ in 0..1_000u32 {
-        last = flag.enter(|cx| weak.poll_shared(cx, rt));
-        as_promised = as_promised && matches!(last, Poll::Pending | Poll::Ready(Ok(None)));
+        match flag.enter(|cx| weak.poll_shared(cx, rt)) {
+            Poll::Pending => waits = true,
+            Poll::Ready(Ok(None)) => waits = false,
+            Poll::Ready(_) => as_promised = false,
+        }
     }
-    Polled {
-        weak,
-        flag,
-        last,
-        as_promised,
-    }
+    Polled { waits, as_promised }
+}
+
+/// A thread that polls a weak taker, with another of the same cell and the flag of its polls.
+#[derive(Drop)]
+struct Poller {
+    weak: TakeWeak<u32>,
+    flag: Arc<MockTask>,
+    thread: JoinHandle<Polled>,
 }
 
 #[test]
-fn weak_polls_in_four_threads_while_the_owner_ends(rt: HostRuntime) -> Result<(), Fail> {
-    let mut flags = Vec::new(rt.alloc());
-    for _ in 0..4u32 {
-        flags.push(MockTask::new(&rt)?)?;
-    }
-    let mut threads = Vec::with_capacity(rt.alloc(), 4)?;
+fn weak_polls_in_four_threads_while_the_owner_ends(rt: HostRuntime) -> io::Result<()> {
+    let mut pollers = Vec::with_capacity(rt.alloc(), 4)?;
     let shared = AsyncCell::<u32>::shared(rt.alloc()).expect(&rt, "there is memory");
-    for flag in flags {
+    for _ in 0..4u32 {
+        let task = MockTask::new(&rt).expect(&rt, "a task");
+        let flag = Arc::new(rt.alloc(), task)
+            .ok()
+            .expect(&rt, "there is memory");
+        let theirs = Arc::try_clone(&flag).expect(&rt, "a pointer");
         let weak = shared.take_weak();
-        let started = thread::spawn(&rt, move || poll_often(weak, flag, &rt));
-        let started = started.expect(&rt, "a thread");
-        threads.push(started).ok().expect(&rt, "there is room");
+        let polled = weak.clone().expect(&rt, "a pointer");
+        let started = thread::spawn(&rt, move || poll_often(&polled, &theirs, &rt));
+        let thread = started.expect(&rt, "a thread");
+        pollers
+            .push(Poller { weak, flag, thread })
+            .ok()
+            .expect(&rt, "there is room");
     }
     shared.end(&rt);
-    for started in threads {
-        let polled = started.join(&rt);
+    for Poller { weak, flag, thread } in pollers {
+        let polled = thread.join(&rt);
         assert!(rt; polled.as_promised);
-        if polled.last.is_pending() {
-            assert!(rt; polled.flag.is_woken());
+        if polled.waits {
+            assert!(rt; flag.is_woken());
         }
-        let again = polled.flag.enter(|cx| polled.weak.poll_shared(cx, &rt));
+        let again = flag.enter(|cx| weak.poll_shared(cx, &rt));
         assert_eq!(rt; again, Poll::Ready(Ok(None)));
     }
     Ok(())

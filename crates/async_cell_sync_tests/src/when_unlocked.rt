@@ -17,7 +17,7 @@ enum Waking {
     TakeInner,
 }
 
-fn wake_by(call: Waking, cell: &LockedCore<u32, ComesWhenWoken<'_>>, rt: &impl Wait) {
+fn wake_by(call: Waking, cell: &LockedCore<u32, ComesWhenWoken<&'_ Meeting>>, rt: &impl Wait) {
     match call {
         Waking::Set => drop(cell.set(1, rt)),
         Waking::OrSet => drop(cell.or_set(1, rt)),

@@ -1,0 +1,146 @@
+//! Calls of one thread, and what they answer.
+use crate::edits::{Leave, Put};
+use crate::text::{note, text_of};
+use async_cell_recorded::{History, Named, Pick, Recorded, Refusal, Session, Share, with_recorded};
+use std::alloc::Global;
+use std::sync::Wait;
+use std::test::Fail;
+use std::thread::Threads;
+
+/// What is answered by a wait, two updates that find nothing, a value, the end and an update after it.
+pub const WAIT_AND_CLOSE: &str =
+    "Pending\nDone\nDone\nDone woke 1\nValue(Some(5))\nRefused(Closed, None)\n";
+
+/// The history of the same calls.
+pub const WAIT_AND_CLOSE_KEPT: &str =
+    "PollTake(Named(1)): Pending\nUpdate { saw: None, put: None }: Done\nUpdateSome { saw: None, put: None }: Done\nSet(5): Done\nEndOwner: Value(Some(5))\nUpdate { saw: None, put: None }: Refused(Closed, None)\n";
+
+/// What the calls on owners are answered, with values between them.
+pub const OWNERS: &str =
+    "Done\nRefused(StillShared, None)\nValue(None)\nIs(true)\nReady(Some(3))\nValue(Some(3))\nValue(None)\nValue(None)\nValue(Some(4))\n";
+
+/// The calls that a test makes with the only share of a cell.
+#[derive(Clone, Copy)]
+pub enum Calls {
+    SetAndGet,
+    WaitAndClose,
+    Owners,
+    Changes,
+}
+
+impl Calls {
+    /// Makes the calls, and notes what they answer.
+    fn make<M: Pick<u32>, R: Wait>(
+        self,
+        cell: &Recorded<u32, M>,
+        share: &mut Share<M>,
+        text: &mut String,
+        rt: &R,
+    ) -> Result<(), Refusal> {
+        match self {
+            Calls::SetAndGet => {
+                note(text, cell.set(share, 5, rt))?;
+                note(text, cell.try_get(share, rt))
+            }
+            Calls::WaitAndClose => {
+                note(text, cell.poll_take(share, Named(1), rt))?;
+                note(text, cell.update(share, Leave, rt))?;
+                note(text, cell.update_some(share, Put(3), rt))?;
+                note(text, cell.set(share, 5, rt))?;
+                note(text, cell.end_owner(share, rt))?;
+                note(text, cell.update(share, Put(3), rt))
+            }
+            Calls::Owners => {
+                note(text, cell.add_owner(share, rt))?;
+                note(text, cell.take_inner(share, rt))?;
+                note(text, cell.or_set(share, 3, rt))?;
+                note(text, cell.is_set(share, rt))?;
+                note(text, cell.poll_get(share, Named(1), rt))?;
+                note(text, cell.try_take(share, rt))?;
+                note(text, cell.replace(share, 4, rt))?;
+                note(text, cell.end_owner(share, rt))?;
+                note(text, cell.take_inner(share, rt))
+            }
+            Calls::Changes => {
+                note(text, cell.update(share, Put(1), rt))?;
+                note(text, cell.update_some(share, Put(2), rt))?;
+                note(text, cell.poll_take(share, Named(1), rt))
+            }
+        }
+    }
+}
+
+/// The calls of the only share, and the allocator of the text of what they answer.
+#[derive(Drop)]
+struct OneShare(Calls, Global);
+
+impl Session for OneShare {
+    type Value = u32;
+
+    type Outcome = Result<String, Refusal>;
+
+    fn run<M: Pick<u32>, R: Wait>(
+        &self,
+        rt: &R,
+        cell: &Recorded<u32, M>,
+        share: &mut Share<M>,
+    ) -> Result<String, Refusal> {
+        let mut answers = String::new(self.1);
+        self.0.make(cell, share, &mut answers, rt)?;
+        Ok(answers)
+    }
+}
+
+/// What the calls answer, and the history that they leave.
+fn answers_and_history<R: Threads + Wait + Sync>(
+    calls: Calls,
+    alloc: Global,
+    rt: &R,
+) -> Result<(String, History<u32>), Refusal> {
+    let (mut answers, history) = with_recorded(rt, alloc, 1, &OneShare(calls, alloc))?;
+    match answers.pop() {
+        Some(answers) => Ok((answers?, history)),
+        None => Err(Refusal::ShareMissing),
+    }
+}
+
+#[test]
+fn a_value_that_was_set_is_got(rt: HostRuntime) -> Result<(), Fail> {
+    let (answers, history) = answers_and_history(Calls::SetAndGet, rt.alloc(), &rt)?;
+    assert_eq!(rt; answers.as_str(), "Done\nValue(Some(5))\n");
+    let kept = text_of(&history, String::new(rt.alloc()))?;
+    assert_eq!(rt; kept.as_str(), "Set(5): Done\nTryGet: Value(Some(5))\n");
+    assert_eq!(rt; history.len(), 2);
+    Ok(())
+}
+
+#[test]
+fn a_wait_a_value_and_the_end(rt: HostRuntime) -> Result<(), Fail> {
+    let (answers, history) = answers_and_history(Calls::WaitAndClose, rt.alloc(), &rt)?;
+    assert_eq!(rt; answers.as_str(), WAIT_AND_CLOSE);
+    let kept = text_of(&history, String::new(rt.alloc()))?;
+    assert_eq!(rt; kept.as_str(), WAIT_AND_CLOSE_KEPT);
+    assert_eq!(rt; history.len(), 6);
+    Ok(())
+}
+
+#[test]
+fn owners_of_a_cell_with_one_share(rt: HostRuntime) -> Result<(), Fail> {
+    let (answers, history) = answers_and_history(Calls::Owners, rt.alloc(), &rt)?;
+    assert_eq!(rt; answers.as_str(), OWNERS);
+    assert_eq!(rt; history.len(), 9);
+    assert_eq!(rt; history.begin(), 1);
+    Ok(())
+}
+
+#[test]
+fn an_update_is_kept_with_what_it_saw_and_put(rt: HostRuntime) -> Result<(), Fail> {
+    let (answers, history) = answers_and_history(Calls::Changes, rt.alloc(), &rt)?;
+    assert_eq!(rt; answers.as_str(), "Done\nDone\nReady(Some(2))\n");
+    let kept = text_of(&history, String::new(rt.alloc()))?;
+    assert_eq!(rt;
+        kept.as_str(),
+        "Update { saw: None, put: Some(1) }: Done\nUpdateSome { saw: Some(1), put: Some(2) }: Done\nPollTake(Named(1)): Ready(Some(2))\n"
+    );
+    Ok(())
+}

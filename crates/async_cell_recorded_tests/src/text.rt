@@ -1,0 +1,26 @@
+//! What was answered, as text.
+use async_cell_recorded::{Entry, History, Named, Refusal, Wakers};
+use std::fmt::Write;
+
+/// What a call answers.
+pub type Answered = Result<(Entry<u32>, Wakers<Named>), Refusal>;
+
+/// Adds a call's reply, with the names that it handed out.
+pub fn note(text: &mut String, answer: Answered) -> Result<(), Refusal> {
+    let (entry, mut woken) = answer?;
+    write!(text, "{:?}", entry.reply).map_err(|_| Refusal::Memory)?;
+    for _ in 0..woken.len() {
+        if let Some(Named(name)) = woken.next() {
+            write!(text, " woke {name}").map_err(|_| Refusal::Memory)?;
+        }
+    }
+    write!(text, "\n").map_err(|_| Refusal::Memory)
+}
+
+/// The calls of a history, a line for each, with its reply.
+pub fn text_of(history: &History<u32>, mut text: String) -> Result<String, Refusal> {
+    for entry in history.entries() {
+        write!(text, "{:?}: {:?}\n", entry.call, entry.reply).map_err(|_| Refusal::Memory)?;
+    }
+    Ok(text)
+}

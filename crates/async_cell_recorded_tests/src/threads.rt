@@ -1,0 +1,222 @@
+//! Calls of several threads.
+use async_cell_recorded::{
+    Entry, History, Kept, Named, Pick, Recorded, Refusal, Reply, Session, Share, with_recorded,
+};
+use std::alloc::Global;
+use std::sync::Wait;
+use std::sync::atomic::{AtomicBool, Ordering};
+use std::test::Fail;
+use std::thread;
+
+/// Each of two threads replaces the value 100 times, and keeps what it was given.
+#[derive(Drop)]
+struct Replaces(Global);
+
+impl Session for Replaces {
+    type Value = u32;
+
+    type Outcome = Result<Vec<Reply<u32>>, Refusal>;
+
+    fn run<M: Pick<u32>, R: Wait>(
+        &self,
+        rt: &R,
+        cell: &Recorded<u32, M>,
+        share: &mut Share<M>,
+    ) -> Result<Vec<Reply<u32>>, Refusal> {
+        let mut given = Vec::new(self.0);
+        let first = if share.number() == 0 { 0 } else { 100 };
+        for value in first..first + 100 {
+            let (entry, _) = cell.replace(share, value, rt)?;
+            given.push(entry.reply).map_err(|_| Refusal::Memory)?;
+        }
+        Ok(given)
+    }
+}
+
+/// The value that the last call of a history put in.
+fn last_put(history: &History<u32>) -> Option<u32> {
+    match history.entries().last()?.call {
+        Kept::Replace(value) => Some(value),
+        _ => None,
+    }
+}
+
+#[test]
+fn each_value_that_was_put_in_is_given_once(rt: HostRuntime) -> Result<(), Fail> {
+    let alloc = rt.alloc();
+    let (given, history) = with_recorded(&rt, alloc, 2, &Replaces(alloc))?;
+    assert_eq!(rt; history.len(), 200);
+    let mut values = Vec::new(alloc);
+    for replies in given {
+        for reply in replies? {
+            if let Reply::Value(Some(value)) = reply {
+                values.push(value)?;
+            }
+        }
+    }
+    if let Some(last) = last_put(&history) {
+        values.push(last)?;
+    }
+    values.sort()?;
+    assert_eq!(rt; values.len(), 200);
+    for (at, value) in values.iter().enumerate() {
+        assert_eq!(rt; *value as usize, at);
+    }
+    Ok(())
+}
+
+/// How often a thread looks for the other before it gives up.
+const TURNS: u32 = 10_000_000;
+
+/// Each of two threads makes a call, tells the other, looks for it, and then makes another call.
+#[derive(Drop)]
+struct Meeting {
+    first_came: AtomicBool,
+    second_came: AtomicBool,
+}
+
+fn is_seen(flag: &AtomicBool) -> bool {
+    for _ in 0..TURNS {
+        if flag.load(Ordering::SeqCst) {
+            return true;
+        }
+        thread::yield_now();
+    }
+    false
+}
+
+impl Session for Meeting {
+    type Value = u32;
+
+    type Outcome = Result<(bool, Reply<u32>), Refusal>;
+
+    fn run<M: Pick<u32>, R: Wait>(
+        &self,
+        rt: &R,
+        cell: &Recorded<u32, M>,
+        share: &mut Share<M>,
+    ) -> Result<(bool, Reply<u32>), Refusal> {
+        let is_first = share.number() == 0;
+        let _ = cell.replace(share, if is_first { 1 } else { 2 }, rt)?;
+        let met = if is_first {
+            self.first_came.store(true, Ordering::SeqCst);
+            is_seen(&self.second_came)
+        } else {
+            self.second_came.store(true, Ordering::SeqCst);
+            is_seen(&self.first_came)
+        };
+        let (entry, _) = cell.try_get(share, rt)?;
+        Ok((met, entry.reply))
+    }
+}
+
+/// The value that an entry's call replaces the old one by.
+fn replaced_by(entry: Option<&Entry<u32>>) -> Option<u32> {
+    match entry?.call {
+        Kept::Replace(value) => Some(value),
+        _ => None,
+    }
+}
+
+#[test]
+fn no_call_waits_for_the_others_to_end(rt: HostRuntime) -> Result<(), Fail> {
+    let meeting = Meeting {
+        first_came: AtomicBool::new(false),
+        second_came: AtomicBool::new(false),
+    };
+    let (told, history) = with_recorded(&rt, rt.alloc(), 2, &meeting)?;
+    assert_eq!(rt; history.len(), 4);
+    let first = replaced_by(history.entries().get(0));
+    let second = replaced_by(history.entries().get(1));
+    assert!(rt; first.is_some() && second.is_some() && first != second);
+    for answer in told {
+        let (met, got) = answer?;
+        assert!(rt; met);
+        assert_eq!(rt; got, Reply::Value(second));
+    }
+    Ok(())
+}
+
+/// Each of four threads waits 100 times under its own name, and then ends its owner.
+#[derive(Drop)]
+struct WaitAndEnd(Global);
+
+/// What a thread was answered: how often it is to wait, whether its end gave no value, whether a poll handed out any name,
+/// and the names that its end handed out.
+#[derive(Drop)]
+struct Ended {
+    pending: u32,
+    has_ended: bool,
+    has_woken: bool,
+    names: Vec<u64>,
+}
+
+impl Session for WaitAndEnd {
+    type Value = u32;
+
+    type Outcome = Result<Ended, Refusal>;
+
+    fn run<M: Pick<u32>, R: Wait>(
+        &self,
+        rt: &R,
+        cell: &Recorded<u32, M>,
+        share: &mut Share<M>,
+    ) -> Result<Ended, Refusal> {
+        let name = u64::from(share.number()) + 1;
+        let mut pending = 0;
+        let mut has_woken = false;
+        for _ in 0..100u32 {
+            let (entry, woken) = cell.poll_take(share, Named(name), rt)?;
+            if entry.reply == Reply::Pending && pending < 100 {
+                pending += 1;
+            }
+            has_woken = has_woken || !woken.is_empty();
+        }
+        let (entry, mut woken) = cell.end_owner(share, rt)?;
+        let mut names = Vec::new(self.0);
+        for _ in 0..woken.len() {
+            if let Some(Named(name)) = woken.next() {
+                names.push(name).map_err(|_| Refusal::Memory)?;
+            }
+        }
+        Ok(Ended {
+            pending,
+            has_ended: entry.reply == Reply::Value(None),
+            has_woken,
+            names,
+        })
+    }
+}
+
+#[test]
+fn the_last_of_four_owners_hands_out_all_that_wait(rt: HostRuntime) -> Result<(), Fail> {
+    let alloc = rt.alloc();
+    let (told, history) = with_recorded(&rt, alloc, 4, &WaitAndEnd(alloc))?;
+    assert_eq!(rt; history.len(), 404);
+    assert_eq!(rt; count(&history, Reply::Pending), 400);
+    assert_eq!(rt; count(&history, Reply::Value(None)), 4);
+    let mut handing_out = 0u32;
+    for answer in told {
+        let ended = answer?;
+        assert_eq!(rt; ended.pending, 100);
+        assert!(rt; ended.has_ended);
+        assert!(rt; !ended.has_woken);
+        if !ended.names.is_empty() {
+            handing_out = handing_out.saturating_add(1);
+            for name in 1..5u64 {
+                assert!(rt; ended.names.as_slice().contains(&name), "{name}");
+            }
+        }
+    }
+    assert_eq!(rt; handing_out, 1);
+    Ok(())
+}
+
+/// How many entries have this reply.
+fn count(history: &History<u32>, reply: Reply<u32>) -> usize {
+    history
+        .entries()
+        .iter()
+        .filter(|entry| entry.reply == reply)
+        .count()
+}
