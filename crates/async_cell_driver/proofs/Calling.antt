@@ -1,6 +1,6 @@
 -- Where a call on the cell leads.
-use Rattle.std.proofs.Common.{◌≡◌, inl, inr, ℕ, zero, suc, Bool, true, false, not, ◌&&◌, ◌||◌, List, [], ◌∷◌, ◌++◌, Option, Some, None, map, length, filter_map, refl, ap, sym, ◌∙◌, subst, append-nil}
-use Rattle.std.specs.Prelude.{slice_get, is_some, if◌then◌else◌, ⊤, option_to_list}
+use Rattle.std.proofs.Common.{◌≡◌, inl, inr, ℕ, Bool, true, false, not, ◌&&◌, ◌||◌, List, [], ◌∷◌, ◌++◌, Option, Some, None, map, length, refl, ap, sym, ◌∙◌, subst, append-nil}
+use Rattle.std.specs.Prelude.{is_some, if◌then◌else◌, ⊤, option_to_list}
 use Rattle.std.specs.Option.{option_map}
 use Rattle.async_cell_cons.specs.declared.named.Named.{Named}
 use Rattle.async_cell_model.specs.declared.cell.Cell.{Cell}
@@ -13,15 +13,15 @@ use Rattle.async_cell_model.specs.declared.reply.Reply.TheVariants as reply
 use Rattle.async_cell_model.specs.Cell.{ends_waiting, is_vacant, is_closed, content, IsCounted}
 use Rattle.async_cell_model.specs.Step.{next, reply as model_reply}
 use Rattle.async_cell_model.specs.Waiting.{keep}
-use Rattle.async_cell_model.specs.History.{Beginning, IsBeginning, after, pending_waker}
-use Rattle.async_cell_model.specs.Legal.{hands, Leads, Answers}
+use Rattle.async_cell_model.specs.History.{Beginning, IsBeginning}
+use Rattle.async_cell_model.specs.Legal.{hands, Answers}
 use Rattle.async_cell_model.proofs.Whole.{after-nil, IsBeginning-after}
 use Rattle.async_cell_driver.specs.declared.task.Mark.{Mark}
 use Rattle.async_cell_driver.specs.declared.task.Mark.TheVariants as mark
 use Rattle.async_cell_driver.specs.declared.task.Task.{Task}
 use Rattle.async_cell_driver.specs.declared.event.Event.{Event}
 use Rattle.async_cell_driver.specs.declared.event.Told.{Told}
-use Rattle.async_cell_driver.specs.Mark.{is_done_mark, waits_mark, is_due_mark, is_ready_mark, woken}
+use Rattle.async_cell_driver.specs.Mark.{is_done_mark, waits_mark, is_due_mark, is_ready_mark}
 use Rattle.async_cell_driver.specs.State.{State, mark_at, result_at, IsCovered, is_named, wake_each}
 use Rattle.async_cell_driver.specs.Log.{Line, kinds, is_ready, is_poll_of, started}
 use Rattle.async_cell_driver.specs.History.{history, handed_out, line_of, call_of, reply_of, entry_of, names_by, kept_update}

@@ -1,27 +1,25 @@
 -- Logs joined line by line.
-use Rattle.std.proofs.Common.{◌≡◌, inl, inr, ℕ, zero, suc, Bool, true, false, not, ◌&&◌, ◌||◌, List, [], ◌∷◌, ◌++◌, Option, Some, None, map, length, refl, ap, sym, ◌∙◌, subst, arith, length-append, ◌+◌}
-use Rattle.std.specs.Prelude.{slice_get, is_some, nat_eq, if◌then◌else◌, ⊤, option_to_list, reverse}
+use Rattle.std.proofs.Common.{◌≡◌, ℕ, zero, suc, Bool, true, false, not, ◌&&◌, ◌||◌, List, [], ◌∷◌, ◌++◌, Option, Some, None, map, length, refl, ap, sym, ◌∙◌, subst, arith, length-append, ◌+◌}
+use Rattle.std.specs.Prelude.{slice_get, is_some, if◌then◌else◌, ⊤, option_to_list, reverse}
 use Rattle.std.specs.Option.{option_map}
 use Rattle.std.proofs.lemmas.Bool.{eqb-true}
 use Rattle.std.proofs.Math.Bool.{or-true}
 use Rattle.std.proofs.lemmas.List.{map-append, length-map, reverse-append}
 use Rattle.async_cell_cons.specs.declared.named.Named.{Named}
-use Rattle.async_cell_model.specs.declared.cell.Cell.{Cell}
 use Rattle.async_cell_model.specs.declared.entry.Entry.{Entry}
-use Rattle.async_cell_model.specs.History.{Beginning, History, IsBeginning, cell_after}
+use Rattle.async_cell_model.specs.History.{IsBeginning, cell_after}
 use Rattle.async_cell_model.specs.Legal.{Leads}
 use Rattle.async_cell_model.proofs.Leading.{Leads-nil, Leads-join}
 use Rattle.async_cell_driver.specs.declared.task.Kind.{Kind}
 use Rattle.async_cell_driver.specs.declared.task.Mark.{Mark}
-use Rattle.async_cell_driver.specs.declared.task.Task.{Task}
 use Rattle.async_cell_driver.specs.declared.event.Event.{Event}
 use Rattle.async_cell_driver.specs.declared.event.Event.TheVariants.{Start, Poll, Set, OrSet, Replace, Update, TryTake, AddOwner, EndOwner}
 use Rattle.async_cell_driver.specs.declared.event.Told.{Told}
 use Rattle.async_cell_driver.specs.declared.event.Told.TheVariants as told
 use Rattle.async_cell_driver.specs.declared.event.Polled.TheVariants.{Ready, Pending, NotReady}
-use Rattle.async_cell_driver.specs.Mark.{is_done_mark, waits_mark, is_due_mark}
+use Rattle.async_cell_driver.specs.Mark.{is_due_mark}
 use Rattle.async_cell_driver.specs.State.{State, mark_at, is_named, IsCovered}
-use Rattle.async_cell_driver.specs.Log.{Line, Log, lines, log_of, with_edit, kinds, is_started, is_done, waits, is_due, is_ready, is_poll_of, was_ready, was_pending, was_refused, started}
+use Rattle.async_cell_driver.specs.Log.{Line, Log, lines, log_of, with_edit, kinds, is_started, is_done, is_due, is_ready, is_poll_of, was_ready, was_pending, was_refused, started}
 use Rattle.async_cell_driver.specs.History.{line_of, history, handed_out, call_of, reply_of, entry_of}
 use Rattle.async_cell_driver.specs.Drives.{Drives, FitsTold, IsLegal, is_same}
 use Rattle.async_cell_driver.proofs.Reading.{awake, started_now}

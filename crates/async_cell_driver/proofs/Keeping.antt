@@ -1,10 +1,9 @@
 -- What a kept result leaves as it was.
-use Rattle.std.proofs.Common.{◌≡◌, ◌≢◌, ℕ, Bool, true, false, not, ◌&&◌, List, [], Option, Some, None, map, refl, ap, sym, ◌∙◌, subst}
-use Rattle.std.specs.Prelude.{slice_get, is_some}
+use Rattle.std.proofs.Common.{◌≡◌, ◌≢◌, ℕ, List, [], Option, Some, None, refl, ap, sym, ◌∙◌}
+use Rattle.std.specs.Prelude.{slice_get}
 use Rattle.std.specs.Option.{option_map}
-use Rattle.async_cell_driver.specs.declared.task.Mark.TheVariants.{Waiting}
 use Rattle.async_cell_driver.specs.declared.task.Task.{Task}
-use Rattle.async_cell_driver.specs.Mark.{is_done_mark, waits_mark, is_due_mark, is_ready_mark}
+use Rattle.async_cell_driver.specs.Mark.{is_done_mark, waits_mark, is_ready_mark}
 use Rattle.async_cell_driver.specs.State.{State, mark_at, result_at, result_of, change, with_result, IsCovered}
 use Rattle.async_cell_driver.specs.Log.{Log, is_ready}
 use Rattle.async_cell_driver.specs.Drives.{Drives}

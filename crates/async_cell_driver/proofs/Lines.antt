@@ -1,7 +1,6 @@
 -- Where one line leads.
-use Rattle.std.proofs.Common.{append-nil, ◌≡◌, ◌≢◌, ℕ, zero, suc, Bool, true, false, not, ◌&&◌, ◌||◌, List, [], ◌∷◌, ◌++◌, Option, Some, None, map, length, refl, ap, sym, ◌∙◌, subst, arith, rules}
-use Rattle.std.specs.Prelude.{slice_get, is_some, nat_eq, ⊤, Result, Ok, Err, IfOk, IfErr}
-use Rattle.std.specs.Option.{option_map}
+use Rattle.std.proofs.Common.{append-nil, ◌≡◌, ℕ, zero, suc, true, false, List, [], ◌∷◌, ◌++◌, Option, Some, None, map, length, refl, ap, sym, ◌∙◌}
+use Rattle.std.specs.Prelude.{⊤, Result, Ok, Err, IfOk, IfErr}
 use Rattle.std.proofs.lemmas.List.{map-append, length-map}
 use Rattle.async_cell_model.specs.declared.refusal.Refusal.{Refusal}
 use Rattle.async_cell_model.specs.declared.refusal.Refusal.TheVariants.{Memory}
@@ -9,17 +8,17 @@ use Rattle.async_cell_model.specs.History.{IsBeginning}
 use Rattle.async_cell_model.proofs.Leading.{Leads-nil}
 use Rattle.async_cell_driver.specs.declared.task.Kind.{Kind}
 use Rattle.async_cell_driver.specs.declared.task.Mark.{Mark}
-use Rattle.async_cell_driver.specs.declared.task.Mark.TheVariants.{Ready, Waiting, Woken, Done}
+use Rattle.async_cell_driver.specs.declared.task.Mark.TheVariants.{Ready, Waiting}
 use Rattle.async_cell_driver.specs.declared.task.Task.{Task}
 use Rattle.async_cell_driver.specs.declared.event.Event.TheVariants.{Start, Poll}
 use Rattle.async_cell_driver.specs.declared.event.Polled.TheVariants.{NotReady}
 use Rattle.async_cell_driver.specs.declared.event.Told.TheVariants.{Started, Refused, Polled}
-use Rattle.async_cell_driver.specs.Mark.{is_done_mark, waits_mark, is_due_mark, is_ready_mark}
-use Rattle.async_cell_driver.specs.State.{State, mark_at, IsCovered, is_named, result_at}
-use Rattle.async_cell_driver.specs.Log.{Line, Log, is_ready, is_started, is_done, waits, is_due}
+use Rattle.async_cell_driver.specs.Mark.{is_done_mark, waits_mark, is_due_mark}
+use Rattle.async_cell_driver.specs.State.{State, mark_at, IsCovered, result_at}
+use Rattle.async_cell_driver.specs.Log.{is_ready}
 use Rattle.async_cell_driver.specs.History.{line_of}
-use Rattle.async_cell_driver.specs.Drives.{Drives, IsAwake, is_same}
-use Rattle.async_cell_driver.proofs.Reading.{awake, ready_now, started_now}
+use Rattle.async_cell_driver.specs.Drives.{Drives, is_same}
+use Rattle.async_cell_driver.proofs.Reading.{awake}
 
 module _ {T : Type 0} where
   -- a task that was just started

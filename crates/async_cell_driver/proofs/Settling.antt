@@ -1,5 +1,5 @@
 -- Polls of all that are ready, one by one.
-use Rattle.std.proofs.Common.{◌≡◌, ◌<◌, ◌≤◌, ◌+◌, ◌-◌, inl, inr, le_trans, ℕ, zero, suc, Bool, true, false, not, ◌&&◌, ◌||◌, List, [], ◌∷◌, ◌++◌, Option, Some, None, Result, Ok, Err, map, length, reverse, refl, ap, sym, ◌∙◌, subst, arith, append-nil, append_assoc, length-append, add-one}
+use Rattle.std.proofs.Common.{◌≡◌, ◌<◌, ◌≤◌, ◌+◌, ◌-◌, inl, inr, le_trans, ℕ, zero, suc, Bool, true, false, not, ◌&&◌, ◌||◌, List, [], ◌∷◌, ◌++◌, Option, Some, None, Ok, Err, map, length, reverse, refl, ap, sym, ◌∙◌, subst, arith, append-nil, append_assoc, length-append, add-one}
 use Rattle.std.specs.Prelude.{slice_get, is_some, nat_eq, filter, if◌then◌else◌}
 use Rattle.std.specs.Option.{option_map}
 use Rattle.std.proofs.lemmas.Bool.{eqb-true, eqb-false, cases_lt}
@@ -8,19 +8,17 @@ use Rattle.std.proofs.lemmas.List.Elements.{filter-append}
 use Rattle.std.proofs.lemmas.List.{map-append, length-map, reverse-append}
 use Rattle.async_cell_model.specs.declared.refusal.Refusal.{Refusal}
 use Rattle.async_cell_model.specs.Cell.{is_vacant}
-use Rattle.async_cell_driver.specs.declared.task.Kind.{Kind}
 use Rattle.async_cell_driver.specs.declared.task.Task.{Task}
-use Rattle.async_cell_driver.specs.declared.event.Event.{Event}
 use Rattle.async_cell_driver.specs.declared.event.Event.TheVariants.{Poll}
 use Rattle.async_cell_driver.specs.declared.event.Told.{Told}
 use Rattle.async_cell_driver.specs.declared.event.Told.TheVariants as told
 use Rattle.async_cell_driver.specs.declared.event.Polled.TheVariants.{Ready}
 use Rattle.async_cell_driver.specs.Mark.{is_ready_mark}
-use Rattle.async_cell_driver.specs.State.{State, mark_at, result_at, result_of, change, with_result}
-use Rattle.async_cell_driver.specs.Log.{Line, Log, is_started, is_done, is_due, is_ready, waits, is_poll_of, was_refused}
+use Rattle.async_cell_driver.specs.State.{State, result_at, result_of, change, with_result}
+use Rattle.async_cell_driver.specs.Log.{Line, Log, is_started, is_done, is_due, is_ready, waits, is_poll_of}
 use Rattle.async_cell_driver.specs.History.{line_of}
 use Rattle.async_cell_driver.specs.Drives.{Drives, KeepsResults, IsAwake}
-use Rattle.async_cell_driver.specs.Settle.{numbers, ready_tasks, events_of, has_refused, got, got_by, got_or, Keeps, IsRefusedLast, PollsReady, Settles, SettlesOne}
+use Rattle.async_cell_driver.specs.Settle.{numbers, events_of, has_refused, got, got_by, got_or, Keeps, Settles, SettlesOne}
 use Rattle.async_cell_driver.proofs.Joining.{drives_more}
 use Rattle.async_cell_driver.proofs.Reading.{ready_now}
 use Rattle.async_cell_driver.proofs.Keeping.{keeping, result-keeping_other}

@@ -1,12 +1,11 @@
 -- What waking does to the tasks, and who is named in a waiting list.
 use Rattle.std.proofs.Common.{◌≡◌, ◌≢◌, ℕ, zero, suc, Bool, true, false, ◌||◌, List, [], ◌∷◌, ◌++◌, Option, Some, None, map, refl, ap, sym, ◌∙◌}
-use Rattle.std.specs.Prelude.{slice_get, nat_eq, if◌then◌else◌}
+use Rattle.std.specs.Prelude.{slice_get, nat_eq}
 use Rattle.std.specs.Option.{option_map}
 use Rattle.std.proofs.lemmas.Bool.{eqb-true, eqb-false}
 use Rattle.std.proofs.lemmas.List.Folds.{list_any-append}
 use Rattle.async_cell_cons.specs.declared.named.Named.{Named}
 use Rattle.async_cell_model.specs.Waiting.{keep, drop_while}
-use Rattle.async_cell_driver.specs.declared.task.Kind.{Kind}
 use Rattle.async_cell_driver.specs.declared.task.Mark.{Mark}
 use Rattle.async_cell_driver.specs.declared.task.Mark.TheVariants.{Ready, Waiting, Woken, Done}
 use Rattle.async_cell_driver.specs.declared.task.Task.{Task}

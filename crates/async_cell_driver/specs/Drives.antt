@@ -10,7 +10,7 @@ use Rattle.async_cell_driver.specs.declared.event.Told.{Told}
 use Rattle.async_cell_driver.specs.declared.event.Told.TheVariants as told
 use Rattle.async_cell_driver.specs.declared.event.Polled.TheVariants.{NotReady}
 use Rattle.async_cell_driver.specs.State.{State, result_at}
-use Rattle.async_cell_driver.specs.Log.{Line, Log, kinds, is_done, waits, is_ready}
+use Rattle.async_cell_driver.specs.Log.{Log, kinds, is_done, waits, is_ready}
 use Rattle.async_cell_driver.specs.History.{history, handed_out}
 
 -- whether two names are the same: that one wakes the other

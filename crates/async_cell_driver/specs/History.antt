@@ -14,7 +14,7 @@ use Rattle.async_cell_model.specs.History.{Beginning, History, cell_after}
 use Rattle.async_cell_model.specs.Legal.{hands}
 use Rattle.async_cell_model.specs.Step.{reply as model_reply}
 use Rattle.async_cell_driver.specs.declared.task.Kind.{Kind}
-use Rattle.async_cell_driver.specs.declared.task.Kind.TheVariants.{Take, Get}
+use Rattle.async_cell_driver.specs.declared.task.Kind.TheVariants.{Get}
 use Rattle.async_cell_driver.specs.declared.event.Event.{Event}
 use Rattle.async_cell_driver.specs.declared.event.Event.TheVariants.{Start, Poll, Set, OrSet, Replace, Update, TryTake, AddOwner, EndOwner}
 use Rattle.async_cell_driver.specs.declared.event.Told.{Told}

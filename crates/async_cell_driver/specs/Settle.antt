@@ -1,5 +1,5 @@
 -- What `settle` does.
-use Rattle.std.specs.Prelude.{◌≡◌, ℕ, zero, suc, ◌++◌, Bool, true, false, List, [], ◌∷◌, Option, Some, None, Result, MatchResult, filter, map, reverse, length, if◌then◌else◌}
+use Rattle.std.specs.Prelude.{◌≡◌, ℕ, zero, suc, ◌++◌, Bool, false, List, [], ◌∷◌, Option, Some, None, Result, MatchResult, filter, map, reverse, length, if◌then◌else◌}
 use Rattle.std.specs.List.{list_any}
 use Rattle.async_cell_model.specs.declared.refusal.Refusal.{Refusal}
 use Rattle.async_cell_driver.specs.declared.event.Event.{Event}
@@ -8,7 +8,7 @@ use Rattle.async_cell_driver.specs.declared.event.Told.{Told}
 use Rattle.async_cell_driver.specs.declared.event.Told.TheVariants as told
 use Rattle.async_cell_driver.specs.declared.event.Polled.TheVariants.{Ready}
 use Rattle.async_cell_driver.specs.State.{State, result_at}
-use Rattle.async_cell_driver.specs.Log.{Line, Log, is_ready, is_poll_of, was_refused}
+use Rattle.async_cell_driver.specs.Log.{Log, is_ready, is_poll_of, was_refused}
 use Rattle.async_cell_driver.specs.History.{line_of}
 use Rattle.async_cell_driver.specs.Drives.{Drives}
 

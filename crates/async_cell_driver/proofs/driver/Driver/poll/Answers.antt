@@ -1,7 +1,7 @@
-use Rattle.std.proofs.Common.{◌≡◌, Some, false, true, refl, ap, sym, ◌∙◌}
+use Rattle.std.proofs.Common.{◌≡◌, false, refl, sym, ◌∙◌}
 use Rattle.async_cell_core.specs.Polled.{IsExact}
 use Rattle.async_cell_driver.specs.Mark.{is_ready_mark}
-use Rattle.async_cell_driver.specs.State.{State, with_mark, change, mark_at}
+use Rattle.async_cell_driver.specs.State.{State, mark_at}
 use Rattle.async_cell_driver.proofs.Reading.{ready_now}
 use Rattle.async_cell_driver.proofs.Lines.{not_polled}
 use Rattle.async_cell_driver.proofs.Polling.{covered_polled, poll_drives_as, results-marked, ready_no_more, others_stay}

@@ -1,4 +1,4 @@
-use Rattle.std.proofs.Common.{◌≡◌, [], ◌∷◌, Some, false, map, refl, ap, sym, subst, ◌∙◌}
+use Rattle.std.proofs.Common.{[], ◌∷◌, Some, map, refl, ap, sym, subst, ◌∙◌}
 use Rattle.async_cell_core.specs.Polled.{IsExact}
 use Rattle.async_cell_driver.specs.State.{State, result_at}
 use Rattle.async_cell_driver.specs.Log.{is_ready}

@@ -1,7 +1,6 @@
-use Rattle.std.proofs.Common.{None, sym, ap, ◌≡◌, subst, []}
+use Rattle.std.proofs.Common.{None, sym, []}
 use Rattle.async_cell_core.specs.Polled.{IsExact}
-use Rattle.async_cell_driver.specs.State.{State, result_at}
-use Rattle.async_cell_driver.specs.Drives.{Drives}
+use Rattle.async_cell_driver.specs.State.{State}
 use Rattle.async_cell_driver.proofs.Joining.{drives_nil}
 use Rattle.async_cell_driver.proofs.Keeping.{covered_keeping, drives_keeping, result-forgotten, result-keeping_other}
 use Rattle.async_cell_driver.proofs.driver.Driver.result.Goals as goal

@@ -1,4 +1,4 @@
-use Rattle.std.proofs.Common.{◌≡◌, ◌<◌, ◌≤◌, [], true, false, arith, rules, refl, ap, sym, ◌∙◌, below_more}
+use Rattle.std.proofs.Common.{◌≡◌, [], true, false, arith, rules, refl, sym, ◌∙◌, below_more}
 use Rattle.std.proofs.lemmas.Result.{err_from_is_err_and}
 use Rattle.async_cell_core.specs.Polled.{IsExact}
 use Rattle.async_cell_driver.specs.State.{State}

@@ -1,7 +1,4 @@
-use Rattle.std.proofs.Common.{◌≡◌, List, refl, ap, sym, subst, ◌∙◌}
 use Rattle.std.proofs.lemmas.Result.{MatchResult-weaker}
-use Rattle.async_cell_driver.specs.declared.task.Task.{Task}
-use Rattle.async_cell_driver.specs.State.{State}
 use Rattle.async_cell_driver.proofs.Lines.{starts_as, start_refused_as, results_stay}
 use Rattle.async_cell_driver.proofs.driver.Driver.start.Goals as goal
 

@@ -1,12 +1,10 @@
-use Rattle.std.proofs.Common.{rules, refl, Some, None, ap, sym, true, false}
-use Rattle.std.proofs.lemmas.Result.{err_from_is_err_and, MatchResult-weaker}
-use Rattle.async_cell_model.specs.declared.entry.Kept.TheVariants as kept
+use Rattle.std.proofs.Common.{rules, refl, Some, None, ap}
+use Rattle.std.proofs.lemmas.Result.{err_from_is_err_and}
 use Rattle.async_cell_model.specs.declared.reply.Reply.TheVariants as reply
-use Rattle.async_cell_model.specs.declared.refusal.Refusal.TheVariants as why
 use Rattle.async_cell_driver.specs.declared.event.Event.TheVariants as event
 use Rattle.async_cell_driver.specs.declared.event.Told.TheVariants as told
 use Rattle.async_cell_driver.specs.State.{State}
-use Rattle.async_cell_driver.proofs.Calling.{call_drives, covered_called, results_woken, value_is, update_is, update_refused_is}
+use Rattle.async_cell_driver.proofs.Calling.{call_drives, covered_called, results_woken, update_is, update_refused_is}
 use Rattle.async_cell_driver.proofs.driver.Driver.update.Goals as goal
 
 pub returns-in_err-woken-clause-refused : goal.returns-in_err-woken-clause-refused

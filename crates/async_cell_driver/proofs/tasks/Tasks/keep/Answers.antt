@@ -1,6 +1,6 @@
-use Rattle.std.proofs.Common.{rules, Some, None, ap, ◌∙◌}
-use Rattle.async_cell_driver.specs.State.{change, with_result, result_at}
-use Rattle.async_cell_driver.proofs.Changing.{change_within, result_within}
+use Rattle.std.proofs.Common.{rules, Some, ap, ◌∙◌}
+use Rattle.async_cell_driver.specs.State.{change, with_result}
+use Rattle.async_cell_driver.proofs.Changing.{change_within}
 use Rattle.async_cell_driver.proofs.tasks.Tasks.keep.Goals as goal
 use Rattle.async_cell_driver.proofs.tasks.Tasks.keep.Goals.{in-Some+in-Some-given-2, in-Some+in-None-1, in-None-1}
 

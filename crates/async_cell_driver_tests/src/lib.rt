@@ -1,0 +1,14 @@
+//! A small executor on top of the driver, and the tests of the driver.
+#![tactic(auto)]
+
+mod executor;
+#[cfg(test)]
+mod lists;
+#[cfg(test)]
+mod many;
+#[cfg(test)]
+mod refusals;
+#[cfg(test)]
+mod takers;
+
+pub use executor::Executor;

@@ -1,0 +1,128 @@
+//! Lists of events.
+ghost use Rattle.std.specs.Prelude.{◌≡◌, Some};
+
+use async_cell_driver::{Driver, Edit, Event, Kind, Polled, Refusal, Reply, Told};
+use std::test::Fail;
+
+/// An edit that puts a value in.
+#[derive(Clone, Copy, Debug, PartialEq, Eq)]
+pub struct Put(pub u32);
+
+impl Edit<u32> for Put {
+    ghost edit = { λ put content. Some put.0 };
+
+    ghost edit_some = { λ put value. put.0 };
+
+    fn edit(&self, _content: Option<u32>) -> Option<u32>
+        ensures { result ≡ Some self.now.0 }
+    {
+        Some(self.0)
+    }
+
+    fn edit_some(&self, _value: u32) -> u32
+        ensures { result ≡ self.now.0 }
+    {
+        self.0
+    }
+}
+
+/// The list that starts three takers, which poll, and wait, and poll again as values come.
+fn takers() -> [Event<u32, Put>; 12] {
+    [
+        Event::Start(Kind::Take),
+        Event::Start(Kind::Take),
+        Event::Start(Kind::Take),
+        Event::Poll(0),
+        Event::Poll(1),
+        Event::Poll(2),
+        Event::Set(1),
+        Event::Poll(0),
+        Event::Set(2),
+        Event::Poll(1),
+        Event::Set(3),
+        Event::Poll(2),
+    ]
+}
+
+#[test]
+fn three_takers_in_a_list_each_get_a_value(rt: HostRuntime) -> Result<(), Fail> {
+    let mut driver: Driver<u32> = Driver::new(rt.alloc(), None);
+    let events = takers().to_vec(rt.alloc())?;
+    let told = driver.apply(events).ok().ok_or("refused")?;
+    let expected = [
+        Told::Started(0),
+        Told::Started(1),
+        Told::Started(2),
+        Told::Polled(Polled::Pending),
+        Told::Polled(Polled::Pending),
+        Told::Polled(Polled::Pending),
+        Told::Reply(Reply::Done),
+        Told::Polled(Polled::Ready(Some(1))),
+        Told::Reply(Reply::Done),
+        Told::Polled(Polled::Ready(Some(2))),
+        Told::Reply(Reply::Done),
+        Told::Polled(Polled::Ready(Some(3))),
+    ];
+    assert_eq!(rt; told.as_slice(), expected.as_slice());
+    Ok(())
+}
+
+#[test]
+fn each_call_on_the_cell_is_told_its_reply(rt: HostRuntime) -> Result<(), Fail> {
+    let mut driver: Driver<u32> = Driver::new(rt.alloc(), Some(1));
+    let events: [Event<u32, Put>; 12] = [
+        Event::OrSet(2),
+        Event::Replace(3),
+        Event::TryTake,
+        Event::OrSet(4),
+        Event::Update(Put(5)),
+        Event::AddOwner,
+        Event::EndOwner,
+        Event::EndOwner,
+        Event::Set(6),
+        Event::Update(Put(7)),
+        Event::AddOwner,
+        Event::Poll(0),
+    ];
+    let told = driver
+        .apply(events.to_vec(rt.alloc())?)
+        .ok()
+        .ok_or("refused")?;
+    let expected = [
+        Told::Reply(Reply::Value(Some(2))),
+        Told::Reply(Reply::Value(Some(1))),
+        Told::Reply(Reply::Value(Some(3))),
+        Told::Reply(Reply::Value(None)),
+        Told::Reply(Reply::Done),
+        Told::Reply(Reply::Done),
+        Told::Reply(Reply::Value(None)),
+        Told::Reply(Reply::Value(Some(5))),
+        Told::Reply(Reply::Refused(Refusal::Closed, Some(6))),
+        Told::Reply(Reply::Refused(Refusal::Closed, None)),
+        Told::Reply(Reply::Refused(Refusal::Closed, None)),
+        Told::Polled(Polled::NotReady),
+    ];
+    assert_eq!(rt; told.as_slice(), expected.as_slice());
+    Ok(())
+}
+
+#[test]
+fn each_call_on_the_cell_answers(rt: HostRuntime) -> Result<(), Fail> {
+    let mut driver: Driver<u32> = Driver::new(rt.alloc(), Some(1));
+    assert_eq!(rt; driver.or_set(2), Ok(()));
+    assert_eq!(rt; driver.replace(3), Ok(Some(1)));
+    assert_eq!(rt; driver.try_take(), Some(3));
+    assert_eq!(rt; driver.or_set(4), Ok(()));
+    assert_eq!(rt; driver.update(Put(5)), Ok(()));
+    assert_eq!(rt; driver.try_take(), Some(5));
+    assert_eq!(rt; driver.add_owner(), Ok(()));
+    assert_eq!(rt; driver.end_owner(), Ok(()));
+    assert_eq!(rt; driver.end_owner(), Ok(()));
+    assert_eq!(rt; driver.set(6), Err(6));
+    assert_eq!(rt; driver.or_set(6), Err(6));
+    assert_eq!(rt; driver.replace(6), Err(6));
+    assert_eq!(rt; driver.update(Put(6)), Err(Refusal::Closed));
+    assert_eq!(rt; driver.add_owner(), Err(Refusal::Closed));
+    assert_eq!(rt; driver.end_owner(), Err(Refusal::Closed));
+    Ok(())
+}
