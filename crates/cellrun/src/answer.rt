@@ -15,7 +15,10 @@ pub fn done<W: Write>(out: &mut W, woken: Option<Wakers<Named>>) -> io::Result<(
 }
 
 /// A write that answers the old value, unless the cell is closed.
-pub fn replaced<W: Write>(out: &mut W, answer: Option<(Option<i64>, Wakers<Named>)>) -> io::Result<()> {
+pub fn replaced<W: Write>(
+    out: &mut W,
+    answer: Option<(Option<i64>, Wakers<Named>)>,
+) -> io::Result<()> {
     let Some((old, woken)) = answer else {
         return refused(out, Refusal::Closed);
     };

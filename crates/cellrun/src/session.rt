@@ -30,7 +30,10 @@ impl Session {
             Command::UpdatePut(value) => done(out, self.core.update(|_| Some(value)).ok()),
             Command::UpdateNone => done(out, self.core.update(|_| None).ok()),
             Command::UpdateKeep => done(out, self.core.update(|content| content).ok()),
-            Command::UpdateSomeAdd(more) => match self.core.update_some(|value| value.saturating_add(more)) {
+            Command::UpdateSomeAdd(more) => match self
+                .core
+                .update_some(|value| value.saturating_add(more))
+            {
                 Ok(()) => writeln!(out, "done"),
                 Err(why) => refused(out, why),
             },

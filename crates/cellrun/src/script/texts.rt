@@ -51,13 +51,21 @@ const ROWS: [(&str, &str, Ended); 9] = [
         "owners 2\ndone\nrefused shared\nowners 1\nsome 4\n",
         Ended::Done,
     ),
-    ("take 1\ninner\nis_set\n", "pending\nnone woke 1\nfalse\n", Ended::Done),
+    (
+        "take 1\ninner\nis_set\n",
+        "pending\nnone woke 1\nfalse\n",
+        Ended::Done,
+    ),
     (
         "take 1\nupdate_some add 3\ndebug\nupdate none\nupdate put 5\nupdate_some add 3\nupdate keep\ntry_get\nupdate none\ndebug\n",
         "pending\ndone\nAsyncCell::Pending\ndone\ndone woke 1\ndone\ndone\nsome 8\ndone\nAsyncCell::Empty\n",
         Ended::Done,
     ),
-    ("take 1\nset 7\nsett 8\n", "pending\ndone woke 1\n", Ended::BadLine(3)),
+    (
+        "take 1\nset 7\nsett 8\n",
+        "pending\ndone woke 1\n",
+        Ended::BadLine(3),
+    ),
     (
         "set 9223372036854775807\nupdate_some add 1\nreplace -9223372036854775808\nset 9223372036854775808\n",
         "done\ndone\nold 9223372036854775807\n",
@@ -100,7 +108,10 @@ fn many_takers_are_woken_by_one_write(rt: HostRuntime) -> Result<(), Fail> {
         text.push_str(format!(in alloc; " {name}")?.as_str())?;
     }
     text.push_str("\n")?;
-    assert_eq!(rt; printed(&rt, input.as_str(), text.as_str()), (Ended::Done, 0));
+    assert_eq!(rt;
+        printed(&rt, input.as_str(), text.as_str()),
+        (Ended::Done, 0)
+    );
     Ok(())
 }
 
@@ -132,13 +143,18 @@ impl Write for Page<'_> {
 fn want_of_memory_is_told_or_ends_the_script(rt: HostRuntime) -> Result<(), Fail> {
     let whole = ROWS[7].1;
     let third = "pending\npending\nrefused memory\npending\ndone woke 1\nready 7\nsome 7\nnone\n";
-    let fourth = "pending\npending\npending\nrefused memory\ndone woke 1 2\nready 7\nsome 7\nnone\n";
+    let fourth =
+        "pending\npending\npending\nrefused memory\ndone woke 1 2\nready 7\nsome 7\nnone\n";
     let written = RefCell::new(ArrayVec::new());
     let ended = script(rt.alloc(), ROWS[7].0.as_bytes(), Page { written: &written });
     let page = written.try_borrow().ok().ok_or("in use")?;
     let page = page.as_slice();
     match ended {
-        Ended::Done => assert!(rt; [whole, third, fourth].iter().any(|text| text.as_bytes() == page)),
+        Ended::Done => assert!(rt;
+            [whole, third, fourth]
+                .iter()
+                .any(|text| text.as_bytes() == page)
+        ),
         Ended::BadLine(_) => panic!(rt; "no line is bad"),
         Ended::Failed => assert!(rt; whole.as_bytes().starts_with(page)),
     }
