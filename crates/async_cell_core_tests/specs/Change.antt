@@ -1,7 +1,7 @@
 -- What the tests' updates do.
 use Rattle.std.specs.Prelude.{ℕ, Option, Some, None}
-use Rattle.async_cell_core_tests.specs.declared.runs.Change.{Change}
-use Rattle.async_cell_core_tests.specs.declared.runs.Change.TheVariants.{Put, Keep}
+use Rattle.async_cell_core_tests.specs.declared.change.Change.{Change}
+use Rattle.async_cell_core_tests.specs.declared.change.Change.TheVariants.{Put, Keep}
 
 abbrev pub changed : Change → Option ℕ → Option ℕ
 changed (Put new) content = new

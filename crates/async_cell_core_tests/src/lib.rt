@@ -3,6 +3,7 @@
 
 #[cfg(test)]
 mod calls;
+pub mod change;
 #[cfg(test)]
 mod names;
 #[cfg(test)]

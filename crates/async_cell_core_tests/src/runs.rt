@@ -1,43 +1,10 @@
 //! Lists of calls.
+use crate::change::Change;
 use crate::names::names;
-use async_cell_core::{Answer, Call, Core, Edit, Named, Refusal, Reply, run};
+use async_cell_core::{Answer, Call, Core, Named, Refusal, Reply, run};
 use std::alloc::{AllocError, Global};
 use std::process::Abort;
 use std::test::Fail;
-
-/// What the tests' updates do: put in a content, or keep it.
-#[derive(Clone, Copy, Debug, PartialEq, Eq)]
-pub enum Change {
-    Put(Option<u64>),
-    Keep,
-}
-
-impl Edit<u64> for Change {
-    ghost use Rattle.std.specs.Prelude.{◌≡◌};
-    ghost use Rattle.async_cell_core_tests.specs.Change.{changed, changed_some};
-
-    ghost edit = { changed };
-
-    ghost edit_some = { changed_some };
-
-    fn edit(&self, content: Option<u64>) -> Option<u64>
-        ensures { result ≡ changed self.now content }
-    {
-        match *self {
-            Change::Put(new) => new,
-            Change::Keep => content,
-        }
-    }
-
-    fn edit_some(&self, value: u64) -> u64
-        ensures { result ≡ changed_some self.now value }
-    {
-        match *self {
-            Change::Put(Some(new)) => new,
-            Change::Put(None) | Change::Keep => value,
-        }
-    }
-}
 
 type TestCall = Call<u64, Named, Change>;
 

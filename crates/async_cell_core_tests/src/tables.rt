@@ -1,6 +1,6 @@
 //! Each call on each kind of cell, as `Core` makes it and as the plain program of the definitions has it.
+use crate::change::Change;
 use crate::names::names;
-use crate::runs::Change;
 use async_cell_core::{Call, Core, Named, Reply, step};
 use async_cell_model::{Cell, Entry, Kept};
 use async_cell_plain::{Beginning, replay};
