@@ -8,6 +8,8 @@ mod owners;
 #[cfg(test)]
 mod reentry;
 #[cfg(test)]
+mod refused;
+#[cfg(test)]
 mod texts;
 #[cfg(test)]
 mod ticks;

@@ -176,3 +176,24 @@ fn other_calls(rt: HostRuntime) -> Result<(), Fail> {
     assert_eq!(rt; cell.try_take(), None);
     Ok(())
 }
+
+#[test]
+fn a_ready_poll_leaves_no_waker(rt: HostRuntime) -> Result<(), Fail> {
+    let cell: AsyncCell<u32> = AsyncCell::new_with(rt.alloc(), 1);
+    let flag = MockTask::new(&rt)?;
+    assert_eq!(rt; tick_future(&mut cell.take(), &flag), Poll::Ready(Ok(1)));
+    assert_eq!(rt;
+        format!(in rt.alloc(); "{cell:?}")?.as_str(),
+        "AsyncCell::Empty"
+    );
+    cell.set(2);
+    assert!(rt; !flag.is_woken());
+    assert_eq!(rt; tick_future(&mut cell.get(), &flag), Poll::Ready(Ok(2)));
+    assert!(rt; !flag.is_woken());
+    assert_eq!(rt; cell.try_take(), Some(2));
+    assert_eq!(rt;
+        format!(in rt.alloc(); "{cell:?}")?.as_str(),
+        "AsyncCell::Empty"
+    );
+    Ok(())
+}

@@ -77,6 +77,28 @@ fn a_refused_clone_leaves_the_value(rt: HostRuntime) {
     );
 }
 
+/// A value whose clone is always refused.
+#[derive(Debug, Drop, PartialEq, Eq)]
+struct Single(u64);
+
+impl Clone for Single {
+    fn clone(&self) -> Result<Single, AllocError> {
+        Err(AllocError)
+    }
+}
+
+#[test]
+fn a_value_that_cannot_be_cloned_stays(rt: HostRuntime) {
+    let Some(flag) = flag(&rt) else { return };
+    let cell = AsyncCell::new_with(rt.alloc(), Single(8));
+    assert_eq!(rt; cell.try_get(), Err(Refusal::Memory));
+    assert_eq!(rt;
+        tick_future(&mut cell.get(), &flag),
+        Poll::Ready(Err(Refusal::Memory))
+    );
+    assert_eq!(rt; cell.try_take(), Some(Single(8)));
+}
+
 #[test]
 fn a_refused_poll_leaves_those_that_wait(rt: HostRuntime) {
     let Some(flag) = flag(&rt) else { return };
