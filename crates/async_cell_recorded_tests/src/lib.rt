@@ -8,6 +8,10 @@ mod edits;
 #[cfg(test)]
 mod journals;
 #[cfg(test)]
+mod memory;
+#[cfg(test)]
+mod once;
+#[cfg(test)]
 mod rows;
 #[cfg(test)]
 mod text;

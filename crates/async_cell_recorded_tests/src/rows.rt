@@ -9,7 +9,7 @@ use std::thread::Threads;
 
 /// What is answered by a wait, two updates that find nothing, a value, the end and an update after it.
 pub const WAIT_AND_CLOSE: &str =
-    "Pending\nDone\nDone\nDone woke 1\nValue(Some(5))\nRefused(Closed, None)\n";
+    "PollTake(Named(1)): Pending\nUpdate { saw: None, put: None }: Done\nUpdateSome { saw: None, put: None }: Done\nSet(5): Done woke 1\nEndOwner: Value(Some(5))\nUpdate { saw: None, put: None }: Refused(Closed, None)\n";
 
 /// The history of the same calls.
 pub const WAIT_AND_CLOSE_KEPT: &str =
@@ -17,7 +17,7 @@ pub const WAIT_AND_CLOSE_KEPT: &str =
 
 /// What the calls on owners are answered, with values between them.
 pub const OWNERS: &str =
-    "Done\nRefused(StillShared, None)\nValue(None)\nIs(true)\nReady(Some(3))\nValue(Some(3))\nValue(None)\nValue(None)\nValue(Some(4))\n";
+    "AddOwner: Done\nTakeInner: Refused(StillShared, None)\nOrSet(3): Value(None)\nIsSet: Is(true)\nPollGet(Named(1)): Ready(Some(3))\nTryTake: Value(Some(3))\nReplace(4): Value(None)\nEndOwner: Value(None)\nTakeInner: Value(Some(4))\n";
 
 /// The calls that a test makes with the only share of a cell.
 #[derive(Clone, Copy)]
@@ -107,9 +107,10 @@ fn answers_and_history<R: Threads + Wait + Sync>(
 #[test]
 fn a_value_that_was_set_is_got(rt: HostRuntime) -> Result<(), Fail> {
     let (answers, history) = answers_and_history(Calls::SetAndGet, rt.alloc(), &rt)?;
-    assert_eq!(rt; answers.as_str(), "Done\nValue(Some(5))\n");
+    let wanted = "Set(5): Done\nTryGet: Value(Some(5))\n";
+    assert_eq!(rt; answers.as_str(), wanted);
     let kept = text_of(&history, String::new(rt.alloc()))?;
-    assert_eq!(rt; kept.as_str(), "Set(5): Done\nTryGet: Value(Some(5))\n");
+    assert_eq!(rt; kept.as_str(), wanted);
     assert_eq!(rt; history.len(), 2);
     Ok(())
 }
@@ -128,6 +129,8 @@ fn a_wait_a_value_and_the_end(rt: HostRuntime) -> Result<(), Fail> {
 fn owners_of_a_cell_with_one_share(rt: HostRuntime) -> Result<(), Fail> {
     let (answers, history) = answers_and_history(Calls::Owners, rt.alloc(), &rt)?;
     assert_eq!(rt; answers.as_str(), OWNERS);
+    let kept = text_of(&history, String::new(rt.alloc()))?;
+    assert_eq!(rt; kept.as_str(), OWNERS);
     assert_eq!(rt; history.len(), 9);
     assert_eq!(rt; history.begin(), 1);
     Ok(())
@@ -136,11 +139,10 @@ fn owners_of_a_cell_with_one_share(rt: HostRuntime) -> Result<(), Fail> {
 #[test]
 fn an_update_is_kept_with_what_it_saw_and_put(rt: HostRuntime) -> Result<(), Fail> {
     let (answers, history) = answers_and_history(Calls::Changes, rt.alloc(), &rt)?;
-    assert_eq!(rt; answers.as_str(), "Done\nDone\nReady(Some(2))\n");
+    let wanted =
+        "Update { saw: None, put: Some(1) }: Done\nUpdateSome { saw: Some(1), put: Some(2) }: Done\nPollTake(Named(1)): Ready(Some(2))\n";
+    assert_eq!(rt; answers.as_str(), wanted);
     let kept = text_of(&history, String::new(rt.alloc()))?;
-    assert_eq!(rt;
-        kept.as_str(),
-        "Update { saw: None, put: Some(1) }: Done\nUpdateSome { saw: Some(1), put: Some(2) }: Done\nPollTake(Named(1)): Ready(Some(2))\n"
-    );
+    assert_eq!(rt; kept.as_str(), wanted);
     Ok(())
 }

@@ -5,10 +5,10 @@ use std::fmt::Write;
 /// What a call answers.
 pub type Answered = Result<(Entry<u32>, Wakers<Named>), Refusal>;
 
-/// Adds a call's reply, with the names that it handed out.
+/// Adds the entry that a call answered, with the names that it handed out.
 pub fn note(text: &mut String, answer: Answered) -> Result<(), Refusal> {
     let (entry, mut woken) = answer?;
-    write!(text, "{:?}", entry.reply).map_err(|_| Refusal::Memory)?;
+    write!(text, "{:?}: {:?}", entry.call, entry.reply).map_err(|_| Refusal::Memory)?;
     for _ in 0..woken.len() {
         if let Some(Named(name)) = woken.next() {
             write!(text, " woke {name}").map_err(|_| Refusal::Memory)?;

@@ -141,10 +141,11 @@ fn no_call_waits_for_the_others_to_end(rt: HostRuntime) -> Result<(), Fail> {
 #[derive(Drop)]
 struct WaitAndEnd(Global);
 
-/// What a thread was answered: how often it is to wait, whether its end gave no value, whether a poll handed out any name,
-/// and the names that its end handed out.
+/// What a thread was answered: the number of its share, how often it is to wait, whether its end gave no value, whether a
+/// poll handed out any name, and the names that its end handed out.
 #[derive(Drop)]
 struct Ended {
+    share: u32,
     pending: u32,
     has_ended: bool,
     has_woken: bool,
@@ -180,6 +181,7 @@ impl Session for WaitAndEnd {
             }
         }
         Ok(Ended {
+            share: share.number(),
             pending,
             has_ended: entry.reply == Reply::Value(None),
             has_woken,
@@ -196,8 +198,13 @@ fn the_last_of_four_owners_hands_out_all_that_wait(rt: HostRuntime) -> Result<()
     assert_eq!(rt; count(&history, Reply::Pending), 400);
     assert_eq!(rt; count(&history, Reply::Value(None)), 4);
     let mut handing_out = 0u32;
-    for answer in told {
+    for (at, answer) in told.into_iter().enumerate() {
         let ended = answer?;
+        assert_eq!(rt;
+            ended.share as usize,
+            at,
+            "outcomes come in the order of the shares"
+        );
         assert_eq!(rt; ended.pending, 100);
         assert!(rt; ended.has_ended);
         assert!(rt; !ended.has_woken);

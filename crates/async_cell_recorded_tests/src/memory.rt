@@ -1,0 +1,157 @@
+//! Want of memory: a call that finds none leaves no entry and does not count. The tests hold whichever request is refused,
+//! and are run with each in turn.
+ghost use Rattle.std.specs.Prelude.{◌≡◌};
+
+use crate::edits::{Leave, Put};
+use crate::text::Answered;
+use async_cell_recorded::{
+    Blanks, Call, Entry, History, Journal, Kept, Named, Pick, Recorded, Refusal, Reply, Share,
+};
+use std::alloc::Global;
+use std::marker::Brand;
+use std::process::Abort;
+use std::sync::Wait;
+use std::test::Fail;
+
+type Step<E> = Call<u32, Named, E>;
+
+/// What a call was answered, with how many names it handed out, or none where it found no memory.
+type Made = Option<(Entry<u32>, usize)>;
+
+fn found(answer: Answered) -> Result<Made, Refusal> {
+    match answer {
+        Ok((entry, woken)) => Ok(Some((entry, woken.len()))),
+        Err(Refusal::Memory) => Ok(None),
+        Err(why) => Err(why),
+    }
+}
+
+/// A wait, two updates that find nothing, a value, the end and an update after it, as calls of a new cell with one share,
+/// with the share's count and the history. Refused where there was no memory for the cell.
+fn calls<M: Pick<u32>>(
+    alloc: Global,
+    blanks: Blanks,
+    made: &mut [Made; 6],
+    rt: &impl Wait,
+) -> Result<(u64, History<u32>), Refusal>
+    requires calls { (blanks.calls.name ≡ M.calls) × (blanks.calls.parts ≡ 1) }
+    requires answers { (blanks.answers.name ≡ M.answers) × (blanks.answers.parts ≡ 1) }
+    requires shares { M.shares ≡ 1 }
+{
+    let (cell, mut shares) = Recorded::<u32, M>::new(alloc, 1, blanks)?;
+    let Some(share) = shares.first_mut() else {
+        return Err(Refusal::ShareMissing);
+    };
+    made[0] = found(cell.poll_take(share, Named(1), rt))?;
+    made[1] = found(cell.update(share, Leave, rt))?;
+    made[2] = found(cell.update_some(share, Put(3), rt))?;
+    made[3] = found(cell.set(share, 5, rt))?;
+    made[4] = found(cell.end_owner(share, rt))?;
+    made[5] = found(cell.update(share, Put(3), rt))?;
+    let count = share.count();
+    let history = cell.finish(shares).map_err(|_| Refusal::ShareMissing)?;
+    Ok((count, history))
+}
+
+/// The same as steps of a new journal, with the share's count.
+fn steps<M: Pick<u32>>(alloc: Global, blanks: Blanks, made: &mut [Made; 6]) -> Result<u64, Refusal>
+    requires calls { (blanks.calls.name ≡ M.calls) × (blanks.calls.parts ≡ 1) }
+    requires answers { (blanks.answers.name ≡ M.answers) × (blanks.answers.parts ≡ 1) }
+    requires shares { M.shares ≡ 1 }
+{
+    let (mut journal, mut shares) = Journal::<u32, M>::new(alloc, 1, blanks)?;
+    let Some(share) = shares.first_mut() else {
+        return Err(Refusal::ShareMissing);
+    };
+    made[0] = found(journal.step(share, Step::<Leave>::PollTake(Named(1))))?;
+    made[1] = found(journal.step(share, Step::Update(Leave)))?;
+    made[2] = found(journal.step(share, Step::UpdateSome(Put(3))))?;
+    made[3] = found(journal.step(share, Step::<Leave>::Set(5)))?;
+    made[4] = found(journal.step(share, Step::<Leave>::EndOwner))?;
+    made[5] = found(journal.step(share, Step::Update(Put(3))))?;
+    Ok(share.count())
+}
+
+/// What each of the calls is to be answered, where those that found no memory left all as it was.
+fn expected(made: &[Made; 6]) -> [(Entry<u32>, usize); 6] {
+    let told = |call, reply, names| (Entry { call, reply }, names);
+    let nothing = (None, None);
+    let waiting = if made[0].is_some() { 1 } else { 0 };
+    let value = if made[3].is_some() { Some(5) } else { None };
+    let left = if value.is_some() { 0 } else { waiting };
+    let (saw, put) = if made[4].is_some() {
+        nothing
+    } else {
+        (value, Some(3))
+    };
+    let last = match put {
+        Some(_) => told(Kept::Update { saw, put }, Reply::Done, left),
+        None => told(
+            Kept::Update { saw, put },
+            Reply::Refused(Refusal::Closed, None),
+            0,
+        ),
+    };
+    [
+        told(Kept::PollTake(Named(1)), Reply::Pending, 0),
+        told(
+            Kept::Update {
+                saw: None,
+                put: None,
+            },
+            Reply::Done,
+            0,
+        ),
+        told(
+            Kept::UpdateSome {
+                saw: None,
+                put: None,
+            },
+            Reply::Done,
+            0,
+        ),
+        told(Kept::Set(5), Reply::Done, waiting),
+        told(Kept::EndOwner, Reply::Value(value), left),
+        last,
+    ]
+}
+
+/// Each call that found memory was answered as is expected, and is counted; at most one found none.
+fn judge(made: &[Made; 6], count: u64, rt: &impl Abort) {
+    let mut answered = 0u64;
+    for (made, wanted) in made.iter().zip(expected(made).iter()) {
+        if let Some(told) = made {
+            assert_eq!(rt; told, wanted);
+            answered = answered.saturating_add(1);
+        }
+    }
+    assert_eq!(rt; count, answered);
+    assert!(rt; answered >= 5);
+}
+
+#[test]
+fn a_recorded_call_without_memory_leaves_no_entry(rt: HostRuntime) -> Result<(), Fail> {
+    let mut made = [None; 6];
+    match calls::<Brand>(rt.alloc(), Blanks::new(1), &mut made, &rt) {
+        Ok((count, history)) => {
+            judge(&made, count, &rt);
+            assert_eq!(rt; history.len() as u64, count);
+            let mut kept = history.entries().iter();
+            for (entry, _) in made.iter().flatten() {
+                assert_eq!(rt; kept.next(), Some(entry));
+            }
+        }
+        Err(why) => assert_eq!(rt; why, Refusal::Memory),
+    }
+    Ok(())
+}
+
+#[test]
+fn a_step_without_memory_does_not_count(rt: HostRuntime) -> Result<(), Fail> {
+    let mut made = [None; 6];
+    match steps::<Brand>(rt.alloc(), Blanks::new(1), &mut made) {
+        Ok(count) => judge(&made, count, &rt),
+        Err(why) => assert_eq!(rt; why, Refusal::Memory),
+    }
+    Ok(())
+}
