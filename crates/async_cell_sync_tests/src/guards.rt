@@ -1,4 +1,5 @@
 //! Guards: what their end writes, and that their pointer leaves.
+use crate::meeting::{ComesWhenDropped, Meeting};
 use crate::ticks::tick_future;
 use async_cell_sync::{AsyncCell, CellRef, Get, GuardedCell, Take};
 use futures::task::Poll;
@@ -6,6 +7,7 @@ use futures::test::MockTask;
 use std::sync::atomic::{AtomicU64, Ordering};
 use std::sync::{Arc, Wait};
 use std::test::Fail;
+use std::thread;
 
 #[test]
 fn a_guard_ends_by_its_cancel_value_a_value_or_nothing(rt: HostRuntime) {
@@ -43,6 +45,44 @@ fn a_cancelled_guard_wakes(rt: HostRuntime) -> Result<(), Fail> {
     cell.guard(9).cancel(&rt);
     assert!(rt; flag.is_woken());
     Ok(())
+}
+
+type Guarded<'a> = AsyncCell<Option<ComesWhenDropped<'a>>>;
+
+/// Ends a guard by a write that lets a value go.
+fn write_by<'a>(ending: Ending, cell: &Guarded<'a>, meeting: &'a Meeting, rt: &impl Wait) {
+    let value = Some(ComesWhenDropped(meeting));
+    let guard = cell.guard(None);
+    match ending {
+        Ending::Set => {
+            cell.set(value, rt);
+            guard.set(None, rt);
+        }
+        _ => {
+            cell.set(None, rt);
+            guard.or_set(value, rt);
+        }
+    }
+}
+
+#[test]
+fn a_guard_that_wrote_puts_no_cancel_value_in(rt: HostRuntime) {
+    for ending in [Ending::Set, Ending::OrSet] {
+        let meeting = Meeting::new();
+        let cell: Guarded<'_> = AsyncCell::new(rt.alloc());
+        let ((), taken) = thread::join(
+            &rt,
+            || write_by(ending, &cell, &meeting, &rt),
+            || {
+                let came = meeting.await_other();
+                let taken = cell.try_take(&rt);
+                meeting.answer();
+                came && matches!(taken, Some(None))
+            },
+        );
+        assert!(rt; taken, "{ending:?}");
+        assert!(rt; !cell.is_set(&rt), "{ending:?}");
+    }
 }
 
 /// Reads a number into the cell, and leaves an error there where it returns early.

@@ -1,6 +1,6 @@
 //! Owners, weak futures and the close.
 use crate::ticks::tick_future;
-use async_cell_sync::{AsyncCell, CellRef, Shared};
+use async_cell_sync::{AsyncCell, CellRef, Shared, Take};
 use futures::task::Poll;
 use futures::test::MockTask;
 use std::process::Abort;
@@ -167,5 +167,18 @@ fn the_end_of_the_last_owner_wakes_its_own_taker(rt: HostRuntime) -> Result<(), 
     assert_eq!(rt; flag.enter(|cx| take.poll_shared(cx, &rt)), Poll::Pending);
     take.0.leave(&rt);
     assert!(rt; flag.is_woken());
+    Ok(())
+}
+
+#[test]
+fn a_borrowed_owner_leaves_without_an_end(rt: HostRuntime) -> Result<(), Fail> {
+    let flag = MockTask::new(&rt)?;
+    let shared = owner_of(AsyncCell::new_with(rt.alloc(), 3u32), &rt);
+    (&shared).leave(&rt);
+    assert_eq!(rt;
+        tick_future(Take(&shared).with(&rt), &flag),
+        Poll::Ready(Ok(3))
+    );
+    shared.end(&rt);
     Ok(())
 }

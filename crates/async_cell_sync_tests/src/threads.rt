@@ -98,3 +98,44 @@ fn weak_polls_in_four_threads_while_the_owner_ends(rt: HostRuntime) -> io::Resul
     }
     Ok(())
 }
+
+/// How often each of two threads makes its calls.
+const ROUNDS: u32 = 10_000;
+
+fn count_up(cell: &AsyncCell<u64>, rt: &impl Wait) {
+    for _ in 0..ROUNDS {
+        cell.update(|content| content.map(|count| count.saturating_add(1)), rt);
+        cell.update_some(|count| count.saturating_add(1), rt);
+    }
+}
+
+#[test]
+fn updates_of_two_threads_lose_none(rt: HostRuntime) {
+    let cell = AsyncCell::new_with(rt.alloc(), 0u64);
+    thread::join(&rt, || count_up(&cell, &rt), || count_up(&cell, &rt));
+    assert_eq!(rt; cell.into_inner(), Some(4 * u64::from(ROUNDS)));
+}
+
+/// Whether each clone and each poll gives the value.
+fn gives_sevens(cell: &AsyncCell<u64>, flag: &MockTask, rt: &impl Wait) -> bool {
+    let mut gives = true;
+    for _ in 0..ROUNDS {
+        let polled = flag.enter(|cx| cell.get().poll_shared(cx, rt));
+        gives = gives && cell.try_get(rt) == Ok(Some(7)) && polled == Poll::Ready(Ok(7));
+    }
+    gives
+}
+
+#[test]
+fn a_cell_whose_value_is_cloned_never_looks_empty(rt: HostRuntime) -> io::Result<()> {
+    let cell = AsyncCell::new_with(rt.alloc(), 7u64);
+    let (first, second) = (MockTask::new(&rt)?, MockTask::new(&rt)?);
+    let (gave, gave_too) = thread::join(
+        &rt,
+        || gives_sevens(&cell, &first, &rt),
+        || gives_sevens(&cell, &second, &rt),
+    );
+    assert!(rt; gave);
+    assert!(rt; gave_too);
+    Ok(())
+}

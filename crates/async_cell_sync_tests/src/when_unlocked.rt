@@ -2,6 +2,7 @@
 use crate::meeting::{ComesWhenDropped, ComesWhenWoken, Meeting};
 use async_cell_core::{Core, Named, Poll};
 use async_cell_locked::LockedCore;
+use async_cell_sync::AsyncCell;
 use std::alloc::Global;
 use std::sync::Wait;
 use std::thread;
@@ -115,6 +116,48 @@ fn values_are_dropped_after_the_lock_is_free(rt: HostRuntime) {
         let ((), came) = thread::join(
             &rt,
             || drop_by(call, &cell, &meeting, &rt),
+            || {
+                let came = meeting.await_other();
+                let _ = cell.is_set(&rt);
+                meeting.answer();
+                came
+            },
+        );
+        assert!(rt; came, "{call:?}");
+        assert!(rt; meeting.has_met(), "{call:?}");
+    }
+}
+
+/// The calls of `AsyncCell` and its guards that let a value go.
+#[derive(Clone, Copy, Debug)]
+enum Letting {
+    Set,
+    OrSet,
+    CancelOfAGuard,
+}
+
+type Cell<'a> = AsyncCell<Option<ComesWhenDropped<'a>>>;
+
+fn let_go_by<'a>(call: Letting, cell: &Cell<'a>, meeting: &'a Meeting, rt: &impl Wait) {
+    let value = Some(ComesWhenDropped(meeting));
+    match call {
+        Letting::Set => {
+            cell.set(value, rt);
+            cell.set(None, rt);
+        }
+        Letting::OrSet => cell.or_set(value, rt),
+        Letting::CancelOfAGuard => cell.guard(value).cancel(rt),
+    }
+}
+
+#[test]
+fn values_of_a_cell_are_dropped_after_the_lock_is_free(rt: HostRuntime) {
+    for call in [Letting::Set, Letting::OrSet, Letting::CancelOfAGuard] {
+        let meeting = Meeting::new();
+        let cell: Cell<'_> = AsyncCell::new_with(rt.alloc(), None);
+        let ((), came) = thread::join(
+            &rt,
+            || let_go_by(call, &cell, &meeting, &rt),
             || {
                 let came = meeting.await_other();
                 let _ = cell.is_set(&rt);

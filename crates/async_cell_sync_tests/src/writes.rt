@@ -172,3 +172,24 @@ fn other_calls(rt: HostRuntime) -> Result<(), Fail> {
     assert_eq!(rt; cell.try_take(&rt), None);
     Ok(())
 }
+
+#[test]
+fn a_ready_poll_leaves_no_waker(rt: HostRuntime) -> Result<(), Fail> {
+    let cell: AsyncCell<u32> = AsyncCell::new_with(rt.alloc(), 1);
+    let flag = MockTask::new(&rt)?;
+    assert_eq!(rt;
+        tick_future(cell.take().with(&rt), &flag),
+        Poll::Ready(Ok(1))
+    );
+    assert_eq!(rt; cell.debug_text(&rt)?.as_str(), "AsyncCell::Empty");
+    cell.set(2, &rt);
+    assert!(rt; !flag.is_woken());
+    assert_eq!(rt;
+        tick_future(cell.get().with(&rt), &flag),
+        Poll::Ready(Ok(2))
+    );
+    assert!(rt; !flag.is_woken());
+    assert_eq!(rt; cell.try_take(&rt), Some(2));
+    assert_eq!(rt; cell.debug_text(&rt)?.as_str(), "AsyncCell::Empty");
+    Ok(())
+}
