@@ -1,14 +1,15 @@
 -- Logs joined line by line.
-use Rattle.std.proofs.Common.{◌≡◌, ℕ, zero, suc, Bool, true, false, not, ◌&&◌, ◌||◌, List, [], ◌∷◌, ◌++◌, Option, Some, None, map, length, refl, ap, sym, ◌∙◌, subst, arith, length-append, ◌+◌}
+use Rattle.std.proofs.Common.{◌≡◌, ℕ, zero, suc, Bool, true, false, not, ◌&&◌, ◌||◌, List, [], ◌∷◌, ◌++◌, Option, Some, None, map, length, refl, ap, sym, ◌∙◌, subst, arith, append_assoc, append-nil, length-append, ◌+◌}
 use Rattle.std.specs.Prelude.{slice_get, is_some, if◌then◌else◌, ⊤, option_to_list, reverse}
 use Rattle.std.specs.Option.{option_map}
 use Rattle.std.proofs.lemmas.Bool.{eqb-true}
 use Rattle.std.proofs.Math.Bool.{or-true}
 use Rattle.std.proofs.lemmas.List.{map-append, length-map, reverse-append}
 use Rattle.async_cell_cons.specs.declared.named.Named.{Named}
-use Rattle.async_cell_model.specs.declared.entry.Entry.{Entry}
-use Rattle.async_cell_model.specs.History.{IsBeginning, cell_after}
+use Rattle.async_cell_model.specs.declared.cell.Cell.{Cell}
+use Rattle.async_cell_model.specs.History.{History, IsBeginning, cell_after}
 use Rattle.async_cell_model.specs.Legal.{Leads}
+use Rattle.async_cell_model.proofs.Joining.{cell_after-append}
 use Rattle.async_cell_model.proofs.Leading.{Leads-nil, Leads-join}
 use Rattle.async_cell_driver.specs.declared.task.Kind.{Kind}
 use Rattle.async_cell_driver.specs.declared.task.Mark.{Mark}
@@ -19,7 +20,7 @@ use Rattle.async_cell_driver.specs.declared.event.Told.TheVariants as told
 use Rattle.async_cell_driver.specs.declared.event.Polled.TheVariants.{Ready, Pending, NotReady}
 use Rattle.async_cell_driver.specs.Mark.{is_due_mark}
 use Rattle.async_cell_driver.specs.State.{State, mark_at, is_named, IsCovered}
-use Rattle.async_cell_driver.specs.Log.{Line, Log, lines, log_of, with_edit, kinds, is_started, is_done, is_due, is_ready, is_poll_of, was_ready, was_pending, was_refused, started}
+use Rattle.async_cell_driver.specs.Log.{Line, Log, lines, log_of, with_edit, kinds, is_started, is_done, waits, is_due, is_ready, is_poll_of, was_ready, was_pending, was_refused, started}
 use Rattle.async_cell_driver.specs.History.{line_of, history, handed_out, call_of, reply_of, entry_of}
 use Rattle.async_cell_driver.specs.Drives.{Drives, FitsTold, IsLegal, is_same}
 use Rattle.async_cell_driver.proofs.Reading.{awake, started_now}
@@ -99,38 +100,95 @@ ready_over true t true p r f n u u' same none none' = rw (or-true (p && r)) refl
 ready_over true t false p r f n u u' same none none' = ap (λ v. t && (not ((p && r) || false) && (if p then f else (n || v)))) same
 
 module _ {T : Type 0} where
+  -- what one line says of a task, where two logs agree on it
+  ready_line : (from at : State T) (earlier later : Log T) (line : Line T) (i : ℕ) → IsLegal from earlier → IsLegal at later
+      → kinds at later ≡ kinds from earlier → is_done at later i ≡ is_done from earlier i → is_ready at later i ≡ is_ready from earlier i
+      → is_ready at (line ∷ later) i ≡ is_ready from (line ∷ earlier) i
+  ready_line from at earlier later line i legal legal' same_kinds same_done same =
+      let p = is_poll_of i line.event line.told in
+      let r = was_ready line.told in
+      let f = was_refused line.told in
+      let n = is_named i line.names in
+      let begun : is_started at later i ≡ is_started from earlier i = ap (λ all. is_some (slice_get all i)) same_kinds in
+      let due : (is_started from earlier i && (not (is_done from earlier i) && is_due at later i)) ≡ (is_started from earlier i && (not (is_done from earlier i) && is_due from earlier i)) =
+      (λ k. sym begun k && (not (sym same_done k) && is_due at later i)) ∙ same in
+      let kinds_then : is_ready at (line ∷ later) i ≡ (is_started from (line ∷ earlier) i && (not ((p && r) || is_done from earlier i) && (if p then f else (n || is_due at later i)))) =
+      λ k. is_some (slice_get (same_kinds k ++ started line.event line.told) i) && (not ((p && r) || same_done k) && (if p then f else (n || is_due at later i))) in
+      kinds_then
+      ∙ ready_over (is_started from earlier i) (is_started from (line ∷ earlier) i) (is_done from earlier i) p r f n (is_due at later i) (is_due from earlier i) due
+      (λ gone. unstarted_due at later i legal' (begun ∙ gone)) (unstarted_due from earlier i legal)
+
+  kinds_join : (from at : State T) (earlier later : Log T) → map (λ task. task.kind) at.tasks ≡ kinds from earlier → kinds at later ≡ kinds from (later ++ earlier)
+  kinds_join from at earlier [] same = same
+  kinds_join from at earlier (line ∷ later) same = ap (λ all. all ++ started line.event line.told) (kinds_join from at earlier later same)
+
+  done_join : (from at : State T) (earlier later : Log T) (i : ℕ) → is_done at [] i ≡ is_done from earlier i → is_done at later i ≡ is_done from (later ++ earlier) i
+  done_join from at earlier [] i same = same
+  done_join from at earlier (line ∷ later) i same = ap (λ done. (is_poll_of i line.event line.told && was_ready line.told) || done) (done_join from at earlier later i same)
+
+  waits_join : (from at : State T) (earlier later : Log T) (i : ℕ) → waits at [] i ≡ waits from earlier i → waits at later i ≡ waits from (later ++ earlier) i
+  waits_join from at earlier [] i same = same
+  waits_join from at earlier (line ∷ later) i same = ap (λ w. if is_poll_of i line.event line.told then was_pending line.told else w) (waits_join from at earlier later i same)
+
+  -- the later lines fit the earlier ones too, and leave the same tasks ready
+  ready_join : (is_exact : Type 0) (from at : State T) (earlier later : Log T) → Drives is_exact from earlier at → IsLegal at later
+      → IsLegal from (later ++ earlier) × ((i : ℕ) → is_ready at later i ≡ is_ready from (later ++ earlier) i)
+  ready_join is_exact from at earlier [] first legal = (first.legal, first.ready_is)
+  ready_join is_exact from at earlier (line ∷ later) first legal =
+      let rest = ready_join is_exact from at earlier later first legal.1 in
+      let same : kinds at later ≡ kinds from (later ++ earlier) = kinds_join from at earlier later first.kinds_are in (
+        (
+          subst (λ (ready : ℕ → Bool). FitsTold (length (kinds from (later ++ earlier))) ready line.event line.told line.names) (λ k i. rest.1 i k)
+              (subst (λ (all : List Kind). FitsTold (length all) (is_ready at later) line.event line.told line.names) same legal.0),
+          rest.0,
+        ),
+        λ i. ready_line from at (later ++ earlier) later line i rest.0 legal.1 same (done_join from at earlier later i (first.done_is i)) (rest.1 i),
+      )
+
+  cell_join : (from at : State T) (earlier later : Log T) → at.core.cell ≡ cell_after from.core.cell (history from earlier) → history from (later ++ earlier) ≡ history from earlier ++ history at later
+      → cell_after at.core.cell (history at later) ≡ cell_after from.core.cell (history from (later ++ earlier))
+  cell_join from at earlier later cell_is joined =
+      ap (λ (c : Cell T). cell_after c (history at later)) cell_is
+      ∙ (sym (cell_after-append from.core.cell (history from earlier) (history at later)) ∙ ap (λ (h : History T Named). cell_after from.core.cell h) (sym joined))
+
+  -- the core's call that a later line is
+  entry_join : (from at : State T) (earlier later : Log T) (line : Line T) → kinds at later ≡ kinds from (later ++ earlier)
+      → cell_after at.core.cell (history at later) ≡ cell_after from.core.cell (history from (later ++ earlier))
+      → entry_of (call_of (kinds from (later ++ earlier)) (cell_after from.core.cell (history from (later ++ earlier))) line.event) (reply_of line.told)
+      ≡ entry_of (call_of (kinds at later) (cell_after at.core.cell (history at later)) line.event) (reply_of line.told)
+  entry_join from at earlier later line same_kinds same_cell = λ k. entry_of (call_of (sym same_kinds k) (sym same_cell k) line.event) (reply_of line.told)
+
+  -- the core's calls, and what they handed out
+  core_join : (from at : State T) (earlier later : Log T) → map (λ task. task.kind) at.tasks ≡ kinds from earlier → at.core.cell ≡ cell_after from.core.cell (history from earlier)
+      → (history from (later ++ earlier) ≡ history from earlier ++ history at later) × (handed_out from (later ++ earlier) ≡ handed_out from earlier ++ handed_out at later)
+  core_join from at earlier [] same_kinds cell_is = (sym (append-nil (history from earlier)), sym (append-nil (handed_out from earlier)))
+  core_join from at earlier (line ∷ later) same_kinds cell_is =
+      let before = core_join from at earlier later same_kinds cell_is in
+      let entry = entry_join from at earlier later line (kinds_join from at earlier later same_kinds) (cell_join from at earlier later cell_is before.0) in (
+        (λ k. before.0 k ++ option_to_list (entry k)) ∙ append_assoc (history from earlier) (history at later) _,
+        (λ k. before.1 k ++ option_to_list (option_map (λ x. line.names) (entry k))) ∙ append_assoc (handed_out from earlier) (handed_out at later) _,
+      )
+
+  -- a log, and another from where it leads
+  pub drives_join : (is_exact : Type 0) (from at to : State T) (earlier later : Log T) → Drives is_exact from earlier at → Drives is_exact at later to → Drives is_exact from (later ++ earlier) to
+  drives_join is_exact from at to earlier later first second =
+      let fits = ready_join is_exact from at earlier later first second.legal in record {
+        legal = fits.0;
+        core_leads = λ e.
+            let joined = core_join from at earlier later first.kinds_are (first.core_leads e).cell_is in
+            subst (λ (h : History T Named). Leads is_same true from.core h (handed_out from (later ++ earlier)) to.core) (sym joined.0)
+            (subst (λ (names : List (List Named)). Leads is_same true from.core (history from earlier ++ history at later) names to.core) (sym joined.1)
+            (Leads-join is_same true from.core at.core to.core _ _ _ _ (first.core_leads e) (second.core_leads e)));
+        kinds_are = second.kinds_are ∙ kinds_join from at earlier later first.kinds_are;
+        done_is = λ i. second.done_is i ∙ done_join from at earlier later i (first.done_is i);
+        waits_is = λ i. second.waits_is i ∙ waits_join from at earlier later i (first.waits_is i);
+        ready_is = λ i. second.ready_is i ∙ fits.1 i;
+        none_forgotten = second.none_forgotten;
+      }
+
   -- a log, and one line from where it leads
   pub drives_more : (is_exact : Type 0) (from at to : State T) (log : Log T) (line : Line T) → Drives is_exact from log at → Drives is_exact at (line ∷ []) to → Drives is_exact from (line ∷ log) to
-  drives_more is_exact from at to log line first second = record {
-    legal = (
-      subst (λ (ready : ℕ → Bool). FitsTold (length (kinds from log)) ready line.event line.told line.names) (λ k i. first.ready_is i k)
-          (subst (λ (all : List Kind). FitsTold (length all) (is_ready at []) line.event line.told line.names) first.kinds_are second.legal.0),
-      first.legal,
-    );
-    core_leads = λ e.
-        let entry : entry_of (call_of (map (λ task. task.kind) at.tasks) at.core.cell line.event) (reply_of line.told) ≡ entry_of (call_of (kinds from log) (cell_after from.core.cell (history from log)) line.event) (reply_of line.told) =
-        λ k. entry_of (call_of (first.kinds_are k) ((first.core_leads e).cell_is k) line.event) (reply_of line.told) in
-        subst (λ (o : Option (Entry T Named)). Leads is_same true from.core (history from log ++ option_to_list o) (handed_out from log ++ option_to_list (option_map (λ x. line.names) o)) to.core) entry
-        (Leads-join is_same true from.core at.core to.core _ _ _ _ (first.core_leads e) (second.core_leads e));
-    kinds_are = second.kinds_are ∙ ap (λ all. all ++ started line.event line.told) first.kinds_are;
-    done_is = λ i. second.done_is i ∙ ap (λ done. (is_poll_of i line.event line.told && was_ready line.told) || done) (first.done_is i);
-    waits_is = λ i. second.waits_is i ∙ ap (λ w. if is_poll_of i line.event line.told then was_pending line.told else w) (first.waits_is i);
-    ready_is = λ i.
-        let p = is_poll_of i line.event line.told in
-        let r = was_ready line.told in
-        let f = was_refused line.told in
-        let n = is_named i line.names in
-        let begun : is_started at [] i ≡ is_started from log i = ap (λ all. is_some (slice_get all i)) first.kinds_are in
-        let same : (is_started from log i && (not (is_done from log i) && is_due at [] i)) ≡ (is_started from log i && (not (is_done from log i) && is_due from log i)) =
-        (λ k. sym begun k && (not (sym (first.done_is i) k) && is_due at [] i)) ∙ first.ready_is i in
-        let kinds_then : is_ready at (line ∷ []) i ≡ (is_started from (line ∷ log) i && (not ((p && r) || is_done from log i) && (if p then f else (n || is_due at [] i)))) =
-        λ k. is_some (slice_get (first.kinds_are k ++ started line.event line.told) i) && (not ((p && r) || first.done_is i k) && (if p then f else (n || is_due at [] i))) in
-        second.ready_is i
-        ∙ (kinds_then
-        ∙ ready_over (is_started from log i) (is_started from (line ∷ log) i) (is_done from log i) p r f n (is_due at [] i) (is_due from log i) same
-        (λ gone. unstarted_due at [] i tt (begun ∙ gone)) (unstarted_due from log i first.legal));
-    none_forgotten = second.none_forgotten;
-  }
+  drives_more is_exact from at to log line first second = drives_join is_exact from at to log (line ∷ []) first second
 
   lines-push : (events : List (Event T (Option T → Option T))) (answers : List (Told T)) (handed : List (List Named)) (line : Line T) → length answers ≡ length events → length handed ≡ length events
       → lines (events ++ line.event ∷ []) (answers ++ line.told ∷ []) (handed ++ line.names ∷ []) ≡ lines events answers handed ++ line ∷ []

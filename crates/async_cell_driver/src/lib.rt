@@ -3,6 +3,7 @@
 
 mod driver;
 mod event;
+pub mod laws;
 mod task;
 mod tasks;
 

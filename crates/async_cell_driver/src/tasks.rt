@@ -93,7 +93,8 @@ impl<T: Drop> Tasks<T> {
     {
         if i < self.tasks.len() {
             let task = &mut self.tasks[i];
-            let _given = task.result.replace(content);
+            let given = task.result.replace(content);
+            drop(given);
         }
     }
 

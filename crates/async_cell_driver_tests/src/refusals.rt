@@ -1,6 +1,6 @@
 //! Polls that find no memory. The tests of lists are meant to be run with each request for memory refused in turn.
 use crate::lists::Put;
-use async_cell_driver::{Driver, Event, Kind, Polled, Refusal, Told};
+use async_cell_driver::{Driver, Event, Kind, Polled, Refusal, Reply, Told};
 use std::alloc::AllocError;
 use std::cell::Cell;
 use std::test::Fail;
@@ -50,11 +50,19 @@ fn a_task_whose_poll_is_refused_stays_ready(rt: HostRuntime) -> Result<(), Fail>
     Ok(())
 }
 
+/// Starts a taker, a second time where the first found no memory.
+fn start_taker(driver: &mut Driver<u32>) -> Result<usize, Refusal> {
+    match driver.start(Kind::Take) {
+        Ok(number) => Ok(number),
+        Err(_) => driver.start(Kind::Take),
+    }
+}
+
 #[test]
 fn a_taker_that_found_no_memory_is_polled_again(rt: HostRuntime) -> Result<(), Fail> {
     let mut driver: Driver<u32> = Driver::new(rt.alloc(), None);
-    driver.start(Kind::Take)?;
-    driver.start(Kind::Take)?;
+    assert_eq!(rt; start_taker(&mut driver)?, 0);
+    assert_eq!(rt; start_taker(&mut driver)?, 1);
     assert_eq!(rt;
         driver.poll(0)?,
         Polled::Pending,
@@ -77,9 +85,9 @@ fn a_taker_that_found_no_memory_is_polled_again(rt: HostRuntime) -> Result<(), F
     Ok(())
 }
 
-#[test]
-fn a_list_that_finds_no_memory_comes_back_or_forgets_nobody(rt: HostRuntime) -> Result<(), Fail> {
-    let events: [Event<u32, Put>; 10] = [
+/// Three takers that poll, a value, and three polls.
+fn events() -> [Event<u32, Put>; 10] {
+    [
         Event::Start(Kind::Take),
         Event::Start(Kind::Take),
         Event::Start(Kind::Take),
@@ -90,30 +98,98 @@ fn a_list_that_finds_no_memory_comes_back_or_forgets_nobody(rt: HostRuntime) -> 
         Event::Poll(0),
         Event::Poll(1),
         Event::Poll(2),
-    ];
-    let list = events.to_vec(rt.alloc())?;
+    ]
+}
+
+const PENDING: Told<u32> = Told::Polled(Polled::Pending);
+
+const NOT_READY: Told<u32> = Told::Polled(Polled::NotReady);
+
+const GOT: Told<u32> = Told::Polled(Polled::Ready(Some(1)));
+
+const DONE: Told<u32> = Told::Reply(Reply::Done);
+
+const NO_MEMORY: Told<u32> = Told::Refused(Refusal::Memory);
+
+/// What the events are told where this one finds no memory. Without one of the starts there is no task 2.
+fn told_without_memory_at(refused: Option<usize>) -> [Told<u32>; 10] {
+    let [first, second, third] = [Told::Started(0), Told::Started(1), Told::Started(2)];
+    let starts = match refused {
+        Some(0) => [NO_MEMORY, first, second],
+        Some(1) => [first, NO_MEMORY, second],
+        Some(2) => [first, second, NO_MEMORY],
+        _ => [first, second, third],
+    };
+    let last = if matches!(refused, Some(0..=2)) {
+        NOT_READY
+    } else {
+        PENDING
+    };
+    let told_at = |i: usize, usual: Told<u32>| {
+        if refused == Some(i) { NO_MEMORY } else { usual }
+    };
+    let [a, b, c] = starts;
+    [
+        a,
+        b,
+        c,
+        told_at(3, PENDING),
+        told_at(4, PENDING),
+        told_at(5, last),
+        DONE,
+        told_at(7, GOT),
+        told_at(8, PENDING),
+        told_at(9, last),
+    ]
+}
+
+#[test]
+fn a_list_that_finds_no_memory_comes_back_or_forgets_nobody(rt: HostRuntime) -> Result<(), Fail> {
+    let list = events().to_vec(rt.alloc())?;
     let mut driver: Driver<u32> = Driver::new(rt.alloc(), None);
     match driver.apply(list) {
         Err(back) => {
-            assert_eq!(rt; back.as_slice(), events.as_slice());
+            assert_eq!(rt; back.as_slice(), events().as_slice());
             assert!(rt; !driver.is_ready(0));
+            assert_eq!(rt; driver.try_take(), None);
         }
         Ok(told) => {
-            assert_eq!(rt; told.len(), 10);
+            let forgotten = (0..3usize).any(|i| driver.waits(i) && !driver.is_ready(i));
+            let full = driver.try_take().is_some();
+            assert!(rt; !(full && forgotten));
             let refused = told
                 .iter()
-                .filter(|line| matches!(line, Told::Refused(_)))
-                .count();
-            assert!(rt; refused <= 1);
-            if driver.set(2).is_ok() {
-                for number in 0..3usize {
-                    assert!(rt;
-                        !driver.waits(number) || driver.is_ready(number),
-                        "task {number}"
-                    );
-                }
-            }
+                .position(|line| matches!(line, Told::Refused(_)));
+            assert_eq!(rt; told.as_slice(), told_without_memory_at(refused).as_slice());
         }
     }
     Ok(())
+}
+
+/// The events, and then this one, which leaves the cell full or closed.
+fn forgets_nobody(rt: &HostRuntime, last: Event<u32, Put>) -> Result<(), Fail> {
+    let mut list = events().to_vec(rt.alloc())?;
+    list.push(last)?;
+    let mut driver: Driver<u32> = Driver::new(rt.alloc(), None);
+    if let Ok(told) = driver.apply(list) {
+        assert_eq!(rt; told.len(), 11);
+        for number in 0..3usize {
+            assert!(rt;
+                !driver.waits(number) || driver.is_ready(number),
+                "task {number}"
+            );
+        }
+        assert!(rt; driver.is_ready(1), "it took nothing");
+    }
+    Ok(())
+}
+
+#[test]
+fn a_list_that_ends_in_a_fill_forgets_nobody(rt: HostRuntime) -> Result<(), Fail> {
+    forgets_nobody(&rt, Event::Set(2))
+}
+
+#[test]
+fn a_list_that_ends_in_a_close_forgets_nobody(rt: HostRuntime) -> Result<(), Fail> {
+    forgets_nobody(&rt, Event::EndOwner)
 }

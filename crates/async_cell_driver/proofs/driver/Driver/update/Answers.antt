@@ -1,6 +1,8 @@
 use Rattle.std.proofs.Common.{rules, refl, Some, None, ap}
 use Rattle.std.proofs.lemmas.Result.{err_from_is_err_and}
+use Rattle.async_cell_model.specs.declared.entry.Kept.TheVariants as kept
 use Rattle.async_cell_model.specs.declared.reply.Reply.TheVariants as reply
+use Rattle.async_cell_model.specs.Cell.{content}
 use Rattle.async_cell_driver.specs.declared.event.Event.TheVariants as event
 use Rattle.async_cell_driver.specs.declared.event.Told.TheVariants as told
 use Rattle.async_cell_driver.specs.State.{State}
@@ -18,12 +20,13 @@ returns-in_err-woken-clause-refused g c =
 pub invariant_of-self-2 : goal.invariant_of-self-2
 invariant_of-self-2 g c =
     let at : State g.row.T.Denot = record { core = c.self.inside.core; tasks = c.self.inside.tasks } in
-    covered_called at c.update.new.self c.wake.new.self _ _ _ c.self.invariant c.in_ok-woken.ensures.done c.wake.ensures
+    covered_called at c.update.new.self c.wake.new.self c.in_ok-woken.woken (kept.Update (content at.core.cell) (content c.update.new.self.cell)) reply.Done c.self.invariant c.in_ok-woken.ensures.done c.wake.ensures
 
 pub returns-clause-done : goal.returns-clause-done
 returns-clause-done g c =
     let at : State g.row.T.Denot = record { core = c.self.inside.core; tasks = c.self.inside.tasks } in
-    call_drives at c.args.self.now c.self.view_is c.update.new.self c.wake.new.self _ (event.Update (g.E.Edit.edit c.args.edit)) (told.Reply reply.Done) _ _
+    call_drives at c.args.self.now c.self.view_is c.update.new.self c.wake.new.self c.in_ok-woken.woken (event.Update (g.E.Edit.edit c.args.edit)) (told.Reply reply.Done)
+    (kept.Update (content at.core.cell) (content c.update.new.self.cell)) reply.Done
     (ap Some (update_is at.core.cell (g.E.Edit.edit c.args.edit) _ (c.in_ok-woken.ensures.if_open.0 refl) (search rules))) refl (λ i. refl) refl (λ count ready names. tt)
     c.self.invariant c.in_ok-woken.ensures.done c.wake.ensures
 
