@@ -1,8 +1,9 @@
 //! Polls that find no memory. The tests of lists are meant to be run with each request for memory refused in turn.
 use crate::lists::Put;
 use async_cell_driver::{Driver, Event, Kind, Polled, Refusal, Reply, Told};
-use std::alloc::AllocError;
+use std::alloc::{AllocError, Global};
 use std::cell::Cell;
+use std::process::Abort;
 use std::test::Fail;
 
 /// A value whose clone is refused while the cell says so.
@@ -167,10 +168,10 @@ fn a_list_that_finds_no_memory_comes_back_or_forgets_nobody(rt: HostRuntime) -> 
 }
 
 /// The events, and then this one, which leaves the cell full or closed.
-fn forgets_nobody(rt: &HostRuntime, last: Event<u32, Put>) -> Result<(), Fail> {
-    let mut list = events().to_vec(rt.alloc())?;
+fn forgets_nobody(rt: &impl Abort, alloc: Global, last: Event<u32, Put>) -> Result<(), Fail> {
+    let mut list = events().to_vec(alloc)?;
     list.push(last)?;
-    let mut driver: Driver<u32> = Driver::new(rt.alloc(), None);
+    let mut driver: Driver<u32> = Driver::new(alloc, None);
     if let Ok(told) = driver.apply(list) {
         assert_eq!(rt; told.len(), 11);
         for number in 0..3usize {
@@ -186,10 +187,10 @@ fn forgets_nobody(rt: &HostRuntime, last: Event<u32, Put>) -> Result<(), Fail> {
 
 #[test]
 fn a_list_that_ends_in_a_fill_forgets_nobody(rt: HostRuntime) -> Result<(), Fail> {
-    forgets_nobody(&rt, Event::Set(2))
+    forgets_nobody(&rt, rt.alloc(), Event::Set(2))
 }
 
 #[test]
 fn a_list_that_ends_in_a_close_forgets_nobody(rt: HostRuntime) -> Result<(), Fail> {
-    forgets_nobody(&rt, Event::EndOwner)
+    forgets_nobody(&rt, rt.alloc(), Event::EndOwner)
 }
