@@ -1,5 +1,5 @@
 //! The way to share a recorded cell among threads without a proof of one's own.
-ghost use Rattle.std.specs.Prelude.{◌≡◌, ◌≤◌, vec_len, IfOk};
+ghost use Rattle.std.specs.Prelude.{◌≡◌, ◌≤◌, vec_len, IfOk, IfErr};
 ghost use Rattle.async_cell_recorded.specs.Recording.{IsRecorded};
 
 use crate::history::History;
@@ -44,6 +44,7 @@ pub fn with_recorded<
     ensures one_each { IfOk result (λ done. vec_len done.0 ≡ shares) }
     ensures begins { IfOk result (λ done. done.1.begin ≡ shares) }
     ensures recorded { IfOk result (λ done. IsRecorded done.1) }
+    ensures memory { IfErr result (λ why. why ≡ Refusal.Memory) }
 {
     run_marked::<T, O, S, R, Brand>(rt, alloc, shares, Blanks::new(shares), session)
 }
@@ -70,6 +71,7 @@ fn run_marked<
     ensures one_each { IfOk result (λ done. vec_len done.0 ≡ shares) }
     ensures begins { IfOk result (λ done. done.1.begin ≡ shares) }
     ensures recorded { IfOk result (λ done. IsRecorded done.1) }
+    ensures memory { IfErr result (λ why. why ≡ Refusal.Memory) }
 {
     let (cell, made) = Recorded::<T, M>::new(alloc, shares, blanks)?;
     let ended = in_threads::<T, O, S, R, M>(rt, &cell, made, session)?;
