@@ -4,6 +4,7 @@ use crate::ticks::tick_future;
 use async_cell_sync::{AsyncCell, CellRef, Get, GuardedCell, Take};
 use futures::task::Poll;
 use futures::test::MockTask;
+use std::alloc::Global;
 use std::sync::atomic::{AtomicU64, Ordering};
 use std::sync::{Arc, Wait};
 use std::test::Fail;
@@ -49,19 +50,25 @@ fn a_cancelled_guard_wakes(rt: HostRuntime) -> Result<(), Fail> {
 
 type Guarded<'a> = AsyncCell<Option<ComesWhenDropped<'a>>>;
 
+/// A full cell, whose value comes when the end of a guard drops it.
+fn full_cell_for<'a>(
+    ending: Ending,
+    meeting: &'a Meeting,
+    rt: &impl Alloc<A = Global>,
+) -> Guarded<'a> {
+    let old = match ending {
+        Ending::Set => Some(ComesWhenDropped(meeting)),
+        _ => None,
+    };
+    AsyncCell::new_with(rt.alloc(), old)
+}
+
 /// Ends a guard by a write that lets a value go.
 fn write_by<'a>(ending: Ending, cell: &Guarded<'a>, meeting: &'a Meeting, rt: &impl Wait) {
-    let value = Some(ComesWhenDropped(meeting));
     let guard = cell.guard(None);
     match ending {
-        Ending::Set => {
-            cell.set(value, rt);
-            guard.set(None, rt);
-        }
-        _ => {
-            cell.set(None, rt);
-            guard.or_set(value, rt);
-        }
+        Ending::Set => guard.set(None, rt),
+        _ => guard.or_set(Some(ComesWhenDropped(meeting)), rt),
     }
 }
 
@@ -69,7 +76,7 @@ fn write_by<'a>(ending: Ending, cell: &Guarded<'a>, meeting: &'a Meeting, rt: &i
 fn a_guard_that_wrote_puts_no_cancel_value_in(rt: HostRuntime) {
     for ending in [Ending::Set, Ending::OrSet] {
         let meeting = Meeting::new();
-        let cell: Guarded<'_> = AsyncCell::new(rt.alloc());
+        let cell = full_cell_for(ending, &meeting, &rt);
         let ((), taken) = thread::join(
             &rt,
             || write_by(ending, &cell, &meeting, &rt),

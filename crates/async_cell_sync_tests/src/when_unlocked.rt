@@ -138,15 +138,20 @@ enum Letting {
 
 type Cell<'a> = AsyncCell<Option<ComesWhenDropped<'a>>>;
 
+/// A full cell, whose value comes when the call drops it.
+fn full_cell_for<'a>(call: Letting, meeting: &'a Meeting, rt: &impl Alloc<A = Global>) -> Cell<'a> {
+    let old = match call {
+        Letting::Set => Some(ComesWhenDropped(meeting)),
+        Letting::OrSet | Letting::CancelOfAGuard => None,
+    };
+    AsyncCell::new_with(rt.alloc(), old)
+}
+
 fn let_go_by<'a>(call: Letting, cell: &Cell<'a>, meeting: &'a Meeting, rt: &impl Wait) {
-    let value = Some(ComesWhenDropped(meeting));
     match call {
-        Letting::Set => {
-            cell.set(value, rt);
-            cell.set(None, rt);
-        }
-        Letting::OrSet => cell.or_set(value, rt),
-        Letting::CancelOfAGuard => cell.guard(value).cancel(rt),
+        Letting::Set => cell.set(None, rt),
+        Letting::OrSet => cell.or_set(Some(ComesWhenDropped(meeting)), rt),
+        Letting::CancelOfAGuard => cell.guard(Some(ComesWhenDropped(meeting))).cancel(rt),
     }
 }
 
@@ -154,7 +159,7 @@ fn let_go_by<'a>(call: Letting, cell: &Cell<'a>, meeting: &'a Meeting, rt: &impl
 fn values_of_a_cell_are_dropped_after_the_lock_is_free(rt: HostRuntime) {
     for call in [Letting::Set, Letting::OrSet, Letting::CancelOfAGuard] {
         let meeting = Meeting::new();
-        let cell: Cell<'_> = AsyncCell::new_with(rt.alloc(), None);
+        let cell = full_cell_for(call, &meeting, &rt);
         let ((), came) = thread::join(
             &rt,
             || let_go_by(call, &cell, &meeting, &rt),
