@@ -1,6 +1,6 @@
 //! A slot for the reply to one request.
 ghost use Rattle.std.specs.Prelude.{◌≡◌, [], ◌∷◌, Some, None, Ok, IfOk, OnOk, IsOk, false};
-ghost use Rattle.async_cell_model.specs.Cell.{content, is_closed};
+ghost use Rattle.async_cell_model.specs.Cell.{content, is_closed, is_vacant};
 
 use async_cell_core::{Core, Named, Poll, Refusal, Wakers};
 use std::alloc::Global;
@@ -27,7 +27,8 @@ impl ReplySlot {
 
     /// The asker looks for the reply, and waits where there is none.
     pub fn ask(&mut self, asker: u64) -> Result<Poll<Option<u64>>, Refusal>
-        ensures { OnOk result (content self.new.core.cell ≡ None) }
+        ensures gives { is_vacant self.old.core.cell ≡ false → result ≡ Ok (Poll.Ready (content self.old.core.cell)) }
+        ensures once { OnOk result (content self.new.core.cell ≡ None) }
     {
         self.core.poll_take(&Named(asker))
     }
