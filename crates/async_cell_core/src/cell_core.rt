@@ -1,6 +1,6 @@
-ghost use Rattle.std.specs.Prelude.{◌≡◌, ◌≤◌, ◌↔◌, ℕ, [], ◌∷◌, ◌++◌, ◌+◌, ◌-◌, None, length, true, false, is_some, IsTrue, IsOk, IsErr, IsSome, IsSomeAnd, IfSome, IfOk, IfErr, OnOk, OnErr, MatchResult, MatchOption};
+ghost use Rattle.std.specs.Prelude.{◌≡◌, ◌≤◌, ◌↔◌, ℕ, [], ◌∷◌, ◌++◌, ◌+◌, ◌-◌, None, Err, length, true, false, is_some, IsTrue, IsOk, IsErr, IsSome, IsSomeAnd, IfSome, IfOk, IfErr, OnOk, OnErr, MatchResult, MatchOption};
 ghost use Rattle.std.specs.Option.{ForSome};
-ghost use Rattle.async_cell_model.specs.Cell.{content, owners_of, is_closed, is_full, is_vacant};
+ghost use Rattle.async_cell_model.specs.Cell.{content, owners_of, owners_limit, is_closed, is_full, is_vacant};
 ghost use Rattle.async_cell_model.specs.History.{IsBeginning};
 ghost use Rattle.async_cell_model.specs.Waiting.{keep};
 ghost use Rattle.async_cell_model.specs.Legal.{Answers, needs_no_memory};
@@ -53,7 +53,7 @@ impl<T: Drop, W: Wakes> Core<T, W> {
         Core::owned_by(alloc, Some(value), 1)
     }
 
-    /// An open cell with this content and this number of owners.
+    /// An open cell with this content and this number of owners, which is at least 1.
     pub fn owned_by(alloc: Global, value: Option<T>, owners: u32) -> Self
         requires { 1 ≤ owners }
         ensures { result ≡ record { cell = Cell.Open value owners; waiting = []; room = 0 } }
@@ -66,7 +66,8 @@ impl<T: Drop, W: Wakes> Core<T, W> {
         }
     }
 
-    /// Puts the value in. All that wait are handed out. Refused on a closed cell, and the value comes back.
+    /// Puts the value in, and drops the old one. All that wait are handed out. Refused on a closed cell, and the value comes
+    /// back.
     pub fn set(&mut self, value: T) -> Result<Wakers<W>, T>
         ensures done { IfOk result (λ woken. Answers W.will_wake W.SURE_CLONE self.old (Kept.Set value) Reply.Done woken self.new) }
         ensures refused { IfErr result (λ back. Answers W.will_wake W.SURE_CLONE self.old (Kept.Set value) (Reply.Refused Refusal.Closed (Some back)) [] self.new) }
@@ -126,8 +127,8 @@ impl<T: Drop, W: Wakes> Core<T, W> {
         Ok((None, self.fill(value)))
     }
 
-    /// Calls the closure on the content, and puts in what it answers. A value where there was none hands out all that wait;
-    /// from none to none they stay. Refused on a closed cell, and then the closure is not called.
+    /// Calls the closure on the content, and puts in what it answers. Where there was no value and now is one, all that wait
+    /// are handed out; else they stay. Refused on a closed cell, and then the closure is not called.
     pub fn update<F: FnOnce(Option<T>) -> Option<T> + Drop>(
         &mut self,
         change: F,
@@ -191,6 +192,7 @@ impl<T: Drop, W: Wakes> Core<T, W> {
     pub fn poll_take(&mut self, waker: &W) -> Result<Poll<Option<T>>, Refusal>
         ensures model { Answers W.will_wake W.SURE_CLONE self.old (Kept.PollTake waker.now) (poll_reply result) [] self.new }
         ensures ready { is_vacant self.old.cell ≡ false → result ≡ Ok (Poll.Ready (content self.old.cell)) }
+        ensures leaves_none { OnOk result (content self.new.cell ≡ None) }
         ensures waits { result ≡ Ok Poll.Pending → self.new.waiting ≡ keep W.will_wake (self.old.waiting ++ waker.now ∷ []) }
         ensures spared { needs_no_memory W.will_wake W.SURE_CLONE self.old waker.now ≡ true → IsOk result }
         ensures unchanged { OnErr result (self.new ≡ self.old) }
@@ -207,6 +209,8 @@ impl<T: Drop, W: Wakes> Core<T, W> {
         ensures done { OnOk result (Answers W.will_wake W.SURE_CLONE self.old Kept.AddOwner Reply.Done [] self.new) }
         ensures refused { IfErr result (λ why. Answers W.will_wake W.SURE_CLONE self.old Kept.AddOwner (Reply.Refused why None) [] self.new) }
 
+        ensures if_closed { (result ≡ Err Refusal.Closed) ↔ (is_closed self.old.cell ≡ true) }
+        ensures if_full { (result ≡ Err Refusal.OwnersFull) ↔ (owners_of self.old.cell ≡ owners_limit) }
         ensures counted { OnOk result (owners_of self.new.cell ≡ owners_of self.old.cell + 1) }
         ensures unchanged { OnErr result (self.new ≡ self.old) }
     {
@@ -224,6 +228,7 @@ impl<T: Drop, W: Wakes> Core<T, W> {
 
         ensures if_open { IsOk result ↔ (is_closed self.old.cell ≡ false) }
         ensures counted { owners_of self.new.cell ≡ owners_of self.old.cell - 1 }
+        ensures last { owners_of self.old.cell ≡ 1 → IfOk result (λ answer. (answer.0 ≡ content self.old.cell) × (answer.1 ≡ self.old.waiting)) }
         ensures unchanged { OnErr result (self.new ≡ self.old) }
     {
         match self.owners {
@@ -244,6 +249,8 @@ impl<T: Drop, W: Wakes> Core<T, W> {
 
         ensures if_sole { IsOk result ↔ (owners_of self.old.cell ≡ 1) }
         ensures closes { OnOk result (is_closed self.new.cell ≡ true) }
+        ensures gives { IfOk result (λ answer. answer.0 ≡ content self.old.cell) }
+        ensures hands_out_all { IfOk result (λ answer. answer.1 ≡ self.old.waiting) }
         ensures unchanged { OnErr result (self.new ≡ self.old) }
     {
         match self.owners {

@@ -1,7 +1,9 @@
 ghost use Rattle.std.specs.Prelude.{◌≡◌, Option};
 
-/// A change of a cell's content that a list of calls can hold: both functions are stated functions of the receiver and
-/// the argument.
+/// A change of a cell's content that a list of calls can hold. What it makes of a content, and of a value, depends on the
+/// edit and on that alone, and contracts can name it.
+///
+/// An `impl` for a concrete type, as `Edit<u64>`, repeats the two clauses at its functions.
 pub trait Edit<T> {
     /// What the content becomes.
     ghost edit: { Self → Option T → Option T };

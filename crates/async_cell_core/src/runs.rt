@@ -16,10 +16,7 @@ impl<T: Drop, W: Wakes> Core<T, W> {
     fn replied(&self, reply: Reply<T>) -> Answer<T, W>
         ensures { result ≡ record { reply = reply; woken = [] } }
     {
-        Answer {
-            reply,
-            woken: self.no_wakers(),
-        }
+        Answer::new(reply, self.no_wakers())
     }
 
     /// A refusal, with the value that comes back.
@@ -51,31 +48,19 @@ fn step_moved<T: Drop, W: Wakes, E: Edit<T> + Drop>(
 {
     match call {
         Call::Set(value) => match core.set(value) {
-            Ok(woken) => Answer {
-                reply: Reply::Done,
-                woken,
-            },
-            Err(value) => core.refused(Refusal::Closed, Some(value)),
+            Ok(woken) => Answer::new(Reply::Done, woken),
+            Err(back) => core.refused(Refusal::Closed, Some(back)),
         },
         Call::OrSet(value) => match core.or_set(value) {
-            Ok((unused, woken)) => Answer {
-                reply: Reply::Value(unused),
-                woken,
-            },
-            Err(value) => core.refused(Refusal::Closed, Some(value)),
+            Ok((unused, woken)) => Answer::new(Reply::Value(unused), woken),
+            Err(back) => core.refused(Refusal::Closed, Some(back)),
         },
         Call::Replace(value) => match core.replace(value) {
-            Ok((old, woken)) => Answer {
-                reply: Reply::Value(old),
-                woken,
-            },
-            Err(value) => core.refused(Refusal::Closed, Some(value)),
+            Ok((old, woken)) => Answer::new(Reply::Value(old), woken),
+            Err(back) => core.refused(Refusal::Closed, Some(back)),
         },
         Call::Update(edit) => match core.update(|content| edit.edit(content)) {
-            Ok(woken) => Answer {
-                reply: Reply::Done,
-                woken,
-            },
+            Ok(woken) => Answer::new(Reply::Done, woken),
             Err(why) => core.refused(why, None),
         },
         Call::UpdateSome(edit) => match core.update_some(|value| edit.edit_some(value)) {
@@ -96,17 +81,11 @@ fn step_moved<T: Drop, W: Wakes, E: Edit<T> + Drop>(
             Err(why) => core.refused(why, None),
         },
         Call::EndOwner => match core.end_owner() {
-            Ok((last, woken)) => Answer {
-                reply: Reply::Value(last),
-                woken,
-            },
+            Ok((last, woken)) => Answer::new(Reply::Value(last), woken),
             Err(why) => core.refused(why, None),
         },
         Call::TakeInner => match core.take_inner() {
-            Ok((inner, woken)) => Answer {
-                reply: Reply::Value(inner),
-                woken,
-            },
+            Ok((inner, woken)) => Answer::new(Reply::Value(inner), woken),
             Err(why) => core.refused(why, None),
         },
         Call::TryGet | Call::PollGet(_) => unreachable!(),
