@@ -264,6 +264,7 @@ impl<T: Drop, W: Wakes> Core<T, W> {
     pub fn into_inner(self) -> (Option<T>, Wakers<W>)
         ensures content { result.0 ≡ content self.cell }
         ensures hands_out_all { result.1 ≡ self.waiting }
+        ensures nobody_on_closed { is_closed self.cell ≡ true → result.1 ≡ [] }
     {
         let Core {
             value,
@@ -369,6 +370,7 @@ impl<T: Clone, W: Wakes> Core<T, W> {
         ensures clones { is_vacant self.old.cell ≡ false → IfOk result (IsReadyWith (IsCloneOf T.is_clone (content self.old.cell))) }
         ensures sure { is_vacant self.old.cell ≡ false → MatchOption (content self.old.cell) (IsOk result) (λ value. T.is_infallible value → IsOk result) }
         ensures stays { is_vacant self.old.cell ≡ false → self.new ≡ self.old }
+        ensures pending { is_vacant self.old.cell ≡ true → OnOk result (Answers W.will_wake W.SURE_CLONE self.old (Kept.PollGet waker.now) Reply.Pending [] self.new) }
         ensures waits { is_vacant self.old.cell ≡ true → IfOk result (λ polled. (polled ≡ Poll.Pending) × (self.new.waiting ≡ keep W.will_wake (self.old.waiting ++ waker.now ∷ []))) }
         ensures spared { is_vacant self.old.cell ≡ true → needs_no_memory W.will_wake W.SURE_CLONE self.old waker.now ≡ true → IsOk result }
         ensures unchanged { OnErr result (self.new ≡ self.old) }

@@ -4,6 +4,7 @@
 mod call;
 mod cell_core;
 mod edit;
+pub mod laws;
 mod runs;
 
 pub use async_cell_cons::{Named, Wakers, Wakes};

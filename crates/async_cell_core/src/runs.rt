@@ -1,6 +1,8 @@
 //! Lists of calls, made in order.
-ghost use Rattle.std.specs.Prelude.{◌≡◌, ◌≤◌, map, length, vec_len, false, [], MatchResult, IfOk, IfErr, OnErr};
-ghost use Rattle.async_cell_model.specs.Cell.{content};
+ghost use Rattle.std.specs.Prelude.{◌≡◌, ◌≤◌, map, length, vec_len, true, false, [], MatchResult, IfOk, IfErr, OnErr};
+ghost use Rattle.std.specs.List.{list_any};
+ghost use Rattle.async_cell_model.specs.Cell.{content, is_vacant};
+ghost use Rattle.async_cell_model.specs.Step.{is_memory};
 ghost use Rattle.async_cell_model.specs.Legal.{Answers, Leads};
 ghost use Rattle.async_cell_core.specs.Kept.{is_get, kept_call, history_of};
 ghost use Rattle.async_cell_core.specs.Polled.{IsExact, poll_reply};
@@ -92,12 +94,12 @@ fn step_moved<T: Drop, W: Wakes, E: Edit<T> + Drop>(
     }
 }
 
-/// Makes one call. Where the clones of values are exact, the answer is the model's.
+/// Makes one call. The answer is the model's, where the clones of values are exact or the call makes none.
 pub fn step<T: Clone, W: Wakes, E: Edit<T> + Drop>(
     core: &mut Core<T, W>,
     call: Call<T, W, E>,
 ) -> Answer<T, W>
-    ensures { IsExact T.is_clone → Answers W.will_wake W.SURE_CLONE core.old (kept_call E.edit E.edit_some core.old.cell call) result.reply result.woken core.new }
+    ensures { (is_get call ≡ true → IsExact T.is_clone) → Answers W.will_wake W.SURE_CLONE core.old (kept_call E.edit E.edit_some core.old.cell call) result.reply result.woken core.new }
 {
     match call {
         Call::TryGet => match core.try_get() {
@@ -118,7 +120,8 @@ pub fn step_copied<T: Copy, W: Wakes, E: Edit<T> + Drop>(
     core: &mut Core<T, W>,
     call: Call<T, W, E>,
 ) -> Answer<T, W>
-    ensures { Answers W.will_wake W.SURE_CLONE core.old (kept_call E.edit E.edit_some core.old.cell call) result.reply result.woken core.new }
+    ensures model { Answers W.will_wake W.SURE_CLONE core.old (kept_call E.edit E.edit_some core.old.cell call) result.reply result.woken core.new }
+    ensures sure { is_get call ≡ true → is_vacant core.old.cell ≡ false → is_memory result.reply ≡ false }
 {
     match call {
         Call::TryGet => core.replied(Reply::Value(core.try_get_copied())),
@@ -131,13 +134,13 @@ pub fn step_copied<T: Copy, W: Wakes, E: Edit<T> + Drop>(
 }
 
 /// Makes the calls in order, and gives one answer for each: a call that is refused has its refusal as its reply, and those
-/// after it are made. The answers' room is got first; where there is none, nothing is called and the list comes back.
+/// after it are made. The answers are the model's, where the clones of values are exact or no call makes one. The answers' room is got first; where there is none, nothing is called and the list comes back.
 pub fn run<T: Clone, W: Wakes, E: Edit<T> + Drop>(
     core: &mut Core<T, W>,
     calls: Vec<Call<T, W, E>>,
 ) -> Result<Vec<Answer<T, W>>, Vec<Call<T, W, E>>>
     ensures one_each { IfOk result (λ answers. vec_len answers ≡ vec_len calls) }
-    ensures model { IsExact T.is_clone → IfOk result (λ answers. Leads W.will_wake W.SURE_CLONE core.old
+    ensures model { (list_any is_get calls.items ≡ true → IsExact T.is_clone) → IfOk result (λ answers. Leads W.will_wake W.SURE_CLONE core.old
         (history_of E.edit E.edit_some core.old.cell calls.items (map (λ a. a.reply) answers.items)) (map (λ a. a.woken) answers.items) core.new) }
     ensures comes_back { IfErr result (λ back. back ≡ calls) }
     ensures unchanged { OnErr result (core.new ≡ core.old) }

@@ -1,6 +1,6 @@
 //! What the crates above build on: no part of the surface.
-ghost use Rattle.std.specs.Prelude.{◌≡◌, [], true, false, IsOk, IfOk, IfErr, OnOk, OnErr, MatchOption};
-ghost use Rattle.async_cell_model.specs.Cell.{is_vacant};
+ghost use Rattle.std.specs.Prelude.{◌≡◌, [], true, false, Ok, IsOk, IfOk, IfErr, OnOk, OnErr, MatchOption};
+ghost use Rattle.async_cell_model.specs.Cell.{content, is_vacant};
 ghost use Rattle.async_cell_model.specs.History.{IsBeginning};
 ghost use Rattle.async_cell_model.specs.Waiting.{skips};
 ghost use Rattle.async_cell_model.specs.Legal.{Answers};
@@ -39,6 +39,7 @@ impl<T: Drop, W: Wakes> Core<T, W> {
         ensures unused { IfOk result (λ unused. MatchOption unused (skips W.will_wake self.old.waiting waker ≡ false) (λ back. (back ≡ waker) × (skips W.will_wake self.old.waiting waker ≡ true))) }
         ensures unchanged { OnErr result (self.new ≡ self.old) }
         ensures comes_back { IfErr result (λ back. back ≡ waker) }
+        ensures first_waits { self.old.waiting ≡ [] → IsOk result }
     {
         if self.waiting.skips(&waker) {
             return Ok(Some(waker));
@@ -66,6 +67,7 @@ impl<T: Copy, W: Wakes> Core<T, W> {
     /// `try_get` for `Copy` values, which are copied and not cloned. It is no part of the surface.
     pub fn try_get_copied(&self) -> Option<T>
         ensures model { Answers W.will_wake W.SURE_CLONE self.now Kept.TryGet (Reply.Value result) [] self.now }
+        ensures gives { result ≡ content self.now.cell }
     {
         self.value
     }
@@ -73,6 +75,7 @@ impl<T: Copy, W: Wakes> Core<T, W> {
     /// `poll_get` for `Copy` values, which are copied and not cloned. It is no part of the surface.
     pub fn poll_get_copied(&mut self, waker: &W) -> Result<Poll<Option<T>>, Refusal>
         ensures model { Answers W.will_wake W.SURE_CLONE self.old (Kept.PollGet waker.now) (poll_reply result) [] self.new }
+        ensures ready { is_vacant self.old.cell ≡ false → result ≡ Ok (Poll.Ready (content self.old.cell)) }
         ensures unchanged { OnErr result (self.new ≡ self.old) }
     {
         if self.is_vacant() {

@@ -1,7 +1,7 @@
 use Rattle.std.proofs.Common.{◌≡◌, [], arith, sym, ◌∙◌, append_assoc, append-nil, length-append}
 use Rattle.std.proofs.lemmas.List.{nil_from_length}
 use Rattle.std.specs.Vec.Iter.{into_iter_items}
-use Rattle.async_cell_core.proofs.Running.{run_more}
+use Rattle.async_cell_core.proofs.Running.{run_more, gets_among}
 use Rattle.async_cell_core.proofs.runs.run.Goals as goal
 
 pub loop-call-preserved : goal.loop-call-preserved
@@ -11,7 +11,7 @@ loop-call-preserved g c =
       made = rw length-append (omega (arith, here.made, c.push_reserved.ensures.len));
       left = rw (append_assoc, ← step.0) here.left;
       space = omega (arith, here.space, step.1, c.push_reserved.ensures.len, c.push_reserved.ensures.capacity);
-      model = λ exact. rw c.push_reserved.ensures.items (run_more g.E.Edit.edit g.E.Edit.edit_some g.W.Wakes.will_wake g.W.Wakes.SURE_CLONE (λ a. a.reply) (λ a. a.woken) c.args.core.now c.loop-call.core c.step.new.core c.loop-call.yielded c.loop-call.answers.items c.in-Some.call c.step.result (omega (arith, here.made, c.loop-call.answers.ok.0)) (here.model exact) (c.step.ensures exact));
+      model = λ exact. rw c.push_reserved.ensures.items (run_more g.E.Edit.edit g.E.Edit.edit_some g.W.Wakes.will_wake g.W.Wakes.SURE_CLONE (λ a. a.reply) (λ a. a.woken) c.args.core.now c.loop-call.core c.step.new.core c.loop-call.yielded c.loop-call.answers.items c.in-Some.call c.step.result (omega (arith, here.made, c.loop-call.answers.ok.0)) (here.model exact) (c.step.ensures (λ gets. exact (rw (← here.left, step.0) (gets_among c.loop-call.yielded c.in-Some.call _ gets)))));
     }
 
 pub returns-clause-model : goal.returns-clause-model
