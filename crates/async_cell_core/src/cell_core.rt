@@ -193,6 +193,7 @@ impl<T: Drop, W: Wakes> Core<T, W> {
         ensures model { Answers W.will_wake W.SURE_CLONE self.old (Kept.PollTake waker.now) (poll_reply result) [] self.new }
         ensures ready { is_vacant self.old.cell ≡ false → result ≡ Ok (Poll.Ready (content self.old.cell)) }
         ensures leaves_none { OnOk result (content self.new.cell ≡ None) }
+        ensures pending { is_vacant self.old.cell ≡ true → IfOk result (λ polled. polled ≡ Poll.Pending) }
         ensures waits { result ≡ Ok Poll.Pending → self.new.waiting ≡ keep W.will_wake (self.old.waiting ++ waker.now ∷ []) }
         ensures spared { needs_no_memory W.will_wake W.SURE_CLONE self.old waker.now ≡ true → IsOk result }
         ensures unchanged { OnErr result (self.new ≡ self.old) }

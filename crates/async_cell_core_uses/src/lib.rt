@@ -1,6 +1,9 @@
-//! What another project sees of `Core`: a reply slot and a watcher that keep one of their own, with facts that follow from
-//! its contracts alone.
+//! What another project sees of `Core`: a reply slot, something that is watched, and a shutdown signal, each with facts that
+//! follow from the contracts of `Core` alone.
 #![tactic(auto)]
 
 pub mod reply_slot;
-pub mod watcher;
+pub mod shutdown;
+#[cfg(test)]
+mod tests;
+pub mod watched;

@@ -1,6 +1,7 @@
 //! A slot for the reply to one request.
-ghost use Rattle.std.specs.Prelude.{◌≡◌, [], ◌∷◌, Some, None, Ok, IfOk, OnOk, IsOk, false};
+ghost use Rattle.std.specs.Prelude.{◌≡◌, [], ◌∷◌, ◌++◌, Some, None, Ok, IfOk, OnOk, OnErr, IsOk, nat_eq, true, false};
 ghost use Rattle.async_cell_model.specs.Cell.{content, is_closed, is_vacant};
+ghost use Rattle.async_cell_model.specs.Waiting.{keep};
 
 use async_cell_core::{Core, Named, Poll, Refusal, Wakers};
 use std::alloc::Global;
@@ -13,22 +14,26 @@ pub struct ReplySlot {
     ghost stays_open: { is_closed core.cell ≡ false },
 }
 
-/// What the slot holds.
 impl ReplySlot {
     /// An empty slot, with nobody waiting.
     pub fn new(alloc: Global) -> Self
         ensures empty { content result.core.cell ≡ None }
-        ensures nobody { result.core.waiting ≡ [] }
+        ensures nobody_waits { result.core.waiting ≡ [] }
     {
         ReplySlot {
             core: Core::new(alloc),
         }
     }
 
-    /// The asker looks for the reply, and waits where there is none.
+    /// The asker looks for the reply, and waits where there is none. Refused where there was no memory to wait, and never to
+    /// the first that waits.
     pub fn ask(&mut self, asker: u64) -> Result<Poll<Option<u64>>, Refusal>
         ensures gives { is_vacant self.old.core.cell ≡ false → result ≡ Ok (Poll.Ready (content self.old.core.cell)) }
         ensures once { OnOk result (content self.new.core.cell ≡ None) }
+        ensures waits { is_vacant self.old.core.cell ≡ true → IfOk result (λ polled. (polled ≡ Poll.Pending)
+            × (self.new.core.waiting ≡ keep (λ a b. nat_eq a.0 b.0) (self.old.core.waiting ++ record { 0 = asker } ∷ []))) }
+        ensures first_waits { self.old.core.waiting ≡ [] → IsOk result }
+        ensures unchanged { OnErr result (self.new.core ≡ self.old.core) }
     {
         self.core.poll_take(&Named(asker))
     }
@@ -46,19 +51,34 @@ impl ReplySlot {
     }
 }
 
+/// What became of a request.
+#[derive(Drop)]
+pub struct Answered {
+    /// Whom the worker woke.
+    pub woken: Wakers<Named>,
+    /// What the asker found at the next look.
+    pub first: Option<u64>,
+    /// What it found at a further look.
+    pub second: Option<u64>,
+}
+
 /// Whoever asks first is to be woken by the answer, and takes it at the next look; a further look finds none.
-pub fn is_answered_once(alloc: Global, reply: u64) -> (Wakers<Named>, Option<u64>, Option<u64>)
-    ensures woken { result.0 ≡ record { 0 = 7 } ∷ [] }
-    ensures first { result.1 ≡ Some reply }
-    ensures second { result.2 ≡ None }
+pub fn is_answered_once(alloc: Global, reply: u64) -> Answered
+    ensures woken { result.woken ≡ record { 0 = 7 } ∷ [] }
+    ensures first { result.first ≡ Some reply }
+    ensures second { result.second ≡ None }
 {
-    let mut core = Core::new(alloc);
-    let _ = core.poll_take(&Named(7));
-    let woken = match core.set(reply) {
-        Ok(woken) => woken,
-        Err(_) => unreachable!(),
-    };
-    let first = core.try_take();
-    let second = core.try_take();
-    (woken, first, second)
+    let mut slot = ReplySlot::new(alloc);
+    let _ = slot.ask(7);
+    Answered {
+        woken: slot.answer(reply),
+        first: match slot.ask(7) {
+            Ok(Poll::Ready(reply)) => reply,
+            _ => None,
+        },
+        second: match slot.ask(7) {
+            Ok(Poll::Ready(reply)) => reply,
+            _ => None,
+        },
+    }
 }

@@ -1,0 +1,43 @@
+use crate::reply_slot::{ReplySlot, is_answered_once};
+use crate::shutdown::end_is_seen;
+use crate::watched::{Watched, latest};
+use async_cell_core::{Named, Poll};
+
+#[test]
+fn a_reply_is_taken_once(rt: HostRuntime) {
+    let mut answered = is_answered_once(rt.alloc(), 42);
+    assert_eq!(rt; answered.woken.next(), Some(Named(7)));
+    assert_eq!(rt; answered.first, Some(42));
+    assert_eq!(rt; answered.second, None);
+}
+
+#[test]
+fn two_askers_wait_and_one_takes_the_reply(rt: HostRuntime) {
+    let mut slot = ReplySlot::new(rt.alloc());
+    assert_eq!(rt; slot.ask(1), Ok(Poll::Pending));
+    assert_eq!(rt; slot.ask(2), Ok(Poll::Pending));
+    assert_eq!(rt; slot.answer(5).len(), 2);
+    assert_eq!(rt; slot.ask(2), Ok(Poll::Ready(Some(5))));
+    assert_eq!(rt; slot.ask(1), Ok(Poll::Pending));
+}
+
+#[test]
+fn watchers_see_the_latest_state(rt: HostRuntime) {
+    assert_eq!(rt; latest(rt.alloc(), 1, 2), Some(2));
+    let mut watched = Watched::new(rt.alloc(), 1);
+    assert_eq!(rt; watched.withdraw(), Some(1));
+    assert_eq!(rt; watched.look(3), Ok(Poll::Pending));
+    assert_eq!(rt; watched.publish(4).map(|woken| woken.len()), Ok(1));
+    assert_eq!(rt; watched.look(3), Ok(Poll::Ready(Some(4))));
+    assert_eq!(rt; watched.look(3), Ok(Poll::Ready(Some(4))));
+    assert_eq!(rt; watched.end().map(|woken| woken.len()), Ok(0));
+    assert_eq!(rt; watched.look(3), Ok(Poll::Ready(None)));
+    assert_eq!(rt; watched.publish(5).map(|woken| woken.len()), Err(5));
+}
+
+#[test]
+fn the_end_is_seen(rt: HostRuntime) {
+    let mut seen = end_is_seen(rt.alloc());
+    assert_eq!(rt; seen.woken.next(), Some(Named(1)));
+    assert_eq!(rt; seen.look, Ok(Poll::Ready(None)));
+}
