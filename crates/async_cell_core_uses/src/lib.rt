@@ -1,7 +1,8 @@
-//! What another project sees of `Core`: a reply slot, something that is watched, and a shutdown signal, each with facts that
-//! follow from the contracts of `Core` alone.
+//! What another project sees of `Core`: a reply slot, something that is watched, a shutdown signal and an edit of its own,
+//! with facts that follow from the contracts of `Core` alone.
 #![tactic(auto)]
 
+pub mod put;
 pub mod reply_slot;
 pub mod shutdown;
 #[cfg(test)]

@@ -1,7 +1,9 @@
+use crate::put::{Put, made};
 use crate::reply_slot::{ReplySlot, is_answered_once};
 use crate::shutdown::end_is_seen;
 use crate::watched::{Watched, latest};
-use async_cell_core::{Named, Poll};
+use async_cell_core::{Call, Core, Named, Poll, Reply};
+use std::test::Fail;
 
 #[test]
 fn a_reply_is_taken_once(rt: HostRuntime) {
@@ -40,4 +42,22 @@ fn the_end_is_seen(rt: HostRuntime) {
     let mut seen = end_is_seen(rt.alloc());
     assert_eq!(rt; seen.woken.next(), Some(Named(1)));
     assert_eq!(rt; seen.look, Ok(Poll::Ready(None)));
+}
+
+#[test]
+fn a_list_of_calls_puts_and_takes(rt: HostRuntime) -> Result<(), Fail> {
+    let mut core = Core::new(rt.alloc());
+    let calls: &[Call<u64, Named, Put>] = &[
+        Call::PollTake(Named(1)),
+        Call::Update(Put(5)),
+        Call::TryTake,
+    ];
+    let Some(answers) = made(&mut core, calls.to_vec(rt.alloc())?) else {
+        return Err("no memory".into());
+    };
+    assert_eq!(rt; answers[0].reply, Reply::Pending);
+    assert_eq!(rt; answers[1].reply, Reply::Done);
+    assert_eq!(rt; answers[1].woken.len(), 1);
+    assert_eq!(rt; answers[2].reply, Reply::Value(Some(5)));
+    Ok(())
 }
