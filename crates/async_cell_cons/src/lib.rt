@@ -1,5 +1,5 @@
-//! Wakers: the list that waits in a cell, and the list that was handed out. No part of the surface: these
-//! are the parts that the crates above build on.
+//! Wakers: the list that waits and the list handed out. `Waiting` is for the crates above; `Wakes`, `Named` and `Wakers` are
+//! re-exported by `async_cell_core`.
 #![tactic(auto)]
 
 mod named;

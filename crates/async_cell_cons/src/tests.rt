@@ -183,3 +183,16 @@ fn no_wakers_give_none(rt: HostRuntime) {
     assert!(rt; none.is_empty());
     assert_eq!(rt; none.next(), None);
 }
+
+#[test]
+fn the_debug_text_counts_the_wakers_that_are_left(rt: HostRuntime) -> Result<(), Fail> {
+    let mut waiting = Waiting::new(rt.alloc());
+    waiting.push(&Named(1))?;
+    waiting.push(&Named(2))?;
+    let mut wakers = waiting.hand_out();
+    for text in ["Wakers(2)", "Wakers(1)", "Wakers(0)"] {
+        assert_eq!(rt; format!(in rt.alloc(); "{wakers:?}")?.as_str(), text);
+        let _ = wakers.next();
+    }
+    Ok(())
+}

@@ -1,7 +1,7 @@
 ghost use Rattle.std.specs.Prelude.{◌≡◌, Bool, IsTrue};
 
-/// What a cell asks of its wakers. `will_wake` need be neither reflexive nor symmetric: it has to be a
-/// stated function of the two wakers, and nothing else is asked of it.
+/// What a cell asks of its wakers. `will_wake` need be neither reflexive nor symmetric: it has to be a function of its
+/// arguments alone, which contracts can name, and nothing else is asked of it.
 pub trait Wakes: Clone {
     /// Whether waking the first also wakes what the second would.
     ghost will_wake: { Self → Self → Bool };

@@ -5,9 +5,10 @@ use std::fmt;
 /// Why a call was refused. A refused call changes nothing.
 #[derive(Clone, Copy, Debug, PartialEq, Eq)]
 pub enum Refusal {
-    /// A growth of a list, or a clone, found no memory.
+    /// There was no memory: for a growth of a list, for a clone, or for the waker of a task. Also where the count of a
+    /// pointer is full.
     Memory,
-    /// A write or an owner call on a closed cell.
+    /// A write, an owner call or a strong future met a closed cell.
     Closed,
     /// One owner more than 4,294,967,295.
     OwnersFull,

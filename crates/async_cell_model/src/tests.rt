@@ -1,4 +1,5 @@
-use crate::laws;
+use crate::{Refusal, laws};
+use std::test::Fail;
 
 /// The laws are proved for every type; here they are taken at two types of a program.
 #[test]
@@ -13,4 +14,23 @@ fn the_laws_hold_at_numbers() {
     laws::a_history_leads_to_a_beginning::<i64, u64>();
     laws::a_refused_call_changes_nothing::<i64, u64>();
     laws::a_fill_or_close_ends_all_waiting::<i64, u64>();
+}
+
+#[test]
+fn each_refusal_has_its_text(rt: HostRuntime) -> Result<(), Fail> {
+    let texts = [
+        (Refusal::Memory, "there was no memory"),
+        (Refusal::Closed, "the cell is closed"),
+        (
+            Refusal::OwnersFull,
+            "the cell has as many owners as it can count",
+        ),
+        (Refusal::StillShared, "the cell has other owners"),
+        (Refusal::OutOfTurn, "the share does not fit the history"),
+        (Refusal::ShareMissing, "a share is missing"),
+    ];
+    for (refusal, text) in texts {
+        assert_eq!(rt; format!(in rt.alloc(); "{refusal}")?.as_str(), text);
+    }
+    Ok(())
 }
