@@ -226,6 +226,7 @@ fn owners_come_and_go(rt: HostRuntime) -> Result<(), Fail> {
     Ok(())
 }
 
+/// A hundred polls by two in turn, as the plain program is slow. The tests of `Core` have ten thousand.
 #[test]
 fn a_long_list_is_handed_out_in_order(rt: HostRuntime) -> Result<(), Fail> {
     let alloc = rt.alloc();
