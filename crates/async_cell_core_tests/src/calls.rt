@@ -1,24 +1,24 @@
 //! One call at a time.
-use crate::names::{is_pending, is_ready, names, polled_by};
+use crate::names::{names, polled_by};
 use async_cell_core::{Core, Named, Poll};
 use std::test::Fail;
 
 #[test]
 fn set_hands_out_the_waiting_wakers_in_order(rt: HostRuntime) -> Result<(), Fail> {
     let mut core = polled_by(rt.alloc(), &[1, 1, 2]);
-    assert!(rt; is_pending(core.poll_take(&Named(1))));
+    assert_eq!(rt; core.poll_take(&Named(1)), Ok(Poll::Pending));
     assert_eq!(rt; core.waiting(), 3);
     let woken = core.set(7).ok().ok_or("refused")?;
     assert_eq!(rt; names(rt.alloc(), woken)?.as_slice(), [1, 2, 1].as_slice());
     assert_eq!(rt; core.waiting(), 0);
-    assert!(rt; is_ready(core.poll_take(&Named(3)), Some(7)));
+    assert_eq!(rt; core.poll_take(&Named(3)), Ok(Poll::Ready(Some(7))));
     Ok(())
 }
 
 #[test]
 fn try_take_leaves_the_waiting_wakers(rt: HostRuntime) -> Result<(), Fail> {
     let mut core: Core<u64, Named> = Core::new(rt.alloc());
-    assert!(rt; is_pending(core.poll_take(&Named(1))));
+    assert_eq!(rt; core.poll_take(&Named(1)), Ok(Poll::Pending));
     assert_eq!(rt; core.try_take(), None);
     assert_eq!(rt; core.waiting(), 1);
     let woken = core.set(5).ok().ok_or("refused")?;
@@ -29,7 +29,7 @@ fn try_take_leaves_the_waiting_wakers(rt: HostRuntime) -> Result<(), Fail> {
 #[test]
 fn an_update_from_none_to_none_leaves_the_waiting_wakers(rt: HostRuntime) -> Result<(), Fail> {
     let mut core: Core<u64, Named> = Core::new(rt.alloc());
-    assert!(rt; is_pending(core.poll_take(&Named(1))));
+    assert_eq!(rt; core.poll_take(&Named(1)), Ok(Poll::Pending));
     let woken = core.update(|_| None).ok().ok_or("refused")?;
     assert_eq!(rt; woken.len(), 0);
     assert_eq!(rt; core.waiting(), 1);
@@ -71,7 +71,7 @@ fn or_set_writes_only_where_there_is_no_value(rt: HostRuntime) -> Result<(), Fai
 fn ten_thousand_polls_by_two_in_turn_all_wait(rt: HostRuntime) -> Result<(), Fail> {
     let mut core: Core<u64, Named> = Core::new(rt.alloc());
     for turn in 0..10_000u64 {
-        assert!(rt; is_pending(core.poll_take(&Named(turn % 2 + 1))));
+        assert_eq!(rt; core.poll_take(&Named(turn % 2 + 1)), Ok(Poll::Pending));
     }
     assert_eq!(rt; core.waiting(), 10_000);
     let mut woken = core.set(0).ok().ok_or("refused")?;
@@ -87,7 +87,7 @@ fn the_four_debug_texts(rt: HostRuntime) -> Result<(), Fail> {
     let alloc = rt.alloc();
     let mut core: Core<u64, Named> = Core::new(alloc);
     assert_eq!(rt; format!(in alloc; "{core:?}")?.as_str(), "AsyncCell::Empty");
-    assert!(rt; is_pending(core.poll_get(&Named(1))));
+    assert_eq!(rt; core.poll_get(&Named(1)), Ok(Poll::Pending));
     assert_eq!(rt;
         format!(in alloc; "{core:?}")?.as_str(),
         "AsyncCell::Pending"

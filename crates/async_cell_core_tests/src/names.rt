@@ -1,6 +1,7 @@
 //! What the tests share.
-use async_cell_core::{Core, Named, Poll, Refusal, Wakers};
+use async_cell_core::{Core, Named, Wakers};
 use std::alloc::{AllocError, Global};
+use std::process::Abort;
 
 /// The names of the wakers, in order.
 pub fn names(alloc: Global, wakers: Wakers<Named>) -> Result<Vec<u64>, AllocError> {
@@ -11,17 +12,6 @@ pub fn names(alloc: Global, wakers: Wakers<Named>) -> Result<Vec<u64>, AllocErro
     Ok(names)
 }
 
-pub fn is_pending(polled: Result<Poll<Option<u64>>, Refusal>) -> bool {
-    matches!(polled, Ok(Poll::Pending))
-}
-
-pub fn is_ready(polled: Result<Poll<Option<u64>>, Refusal>, value: Option<u64>) -> bool {
-    match polled {
-        Ok(Poll::Ready(content)) => content == value,
-        _ => false,
-    }
-}
-
 /// A new core, on which these have polled in order.
 pub fn polled_by(alloc: Global, polls: &[u64]) -> Core<u64, Named> {
     let mut core = Core::new(alloc);
@@ -29,4 +19,12 @@ pub fn polled_by(alloc: Global, polls: &[u64]) -> Core<u64, Named> {
         let _ = core.poll_take(&Named(*name));
     }
     core
+}
+
+/// Asserts that these are the names of the wakers, in order. It takes no memory.
+pub fn assert_names(rt: &impl Abort, mut wakers: Wakers<Named>, names: &[u64], at: usize) {
+    for name in names {
+        assert_eq!(rt; wakers.next(), Some(Named(*name)), "call {at}");
+    }
+    assert_eq!(rt; wakers.next(), None, "call {at}");
 }

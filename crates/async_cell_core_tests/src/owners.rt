@@ -1,6 +1,6 @@
 //! Owners and the close.
-use crate::names::{is_pending, is_ready, names, polled_by};
-use async_cell_core::{Core, Named, Refusal};
+use crate::names::{names, polled_by};
+use async_cell_core::{Core, Named, Poll, Refusal};
 use std::test::Fail;
 
 #[test]
@@ -8,8 +8,8 @@ fn the_last_owner_closes_and_wakes(rt: HostRuntime) -> Result<(), Fail> {
     let mut core: Core<u64, Named> = Core::new(rt.alloc());
     assert_eq!(rt; core.add_owner(), Ok(()));
     assert_eq!(rt; core.owners(), 2);
-    assert!(rt; is_pending(core.poll_take(&Named(1))));
-    assert!(rt; is_pending(core.poll_get(&Named(2))));
+    assert_eq!(rt; core.poll_take(&Named(1)), Ok(Poll::Pending));
+    assert_eq!(rt; core.poll_get(&Named(2)), Ok(Poll::Pending));
     let (last, woken) = core.end_owner()?;
     assert_eq!(rt; last, None);
     assert_eq!(rt; woken.len(), 0);
@@ -19,7 +19,7 @@ fn the_last_owner_closes_and_wakes(rt: HostRuntime) -> Result<(), Fail> {
     assert_eq!(rt; names(rt.alloc(), woken)?.as_slice(), [1, 2].as_slice());
     assert_eq!(rt; core.owners(), 0);
     assert!(rt; core.is_closed());
-    assert!(rt; is_ready(core.poll_take(&Named(3)), None));
+    assert_eq!(rt; core.poll_take(&Named(3)), Ok(Poll::Ready(None)));
     assert_eq!(rt; core.set(9).err(), Some(9));
     assert_eq!(rt; core.end_owner().err(), Some(Refusal::Closed));
     Ok(())
@@ -32,7 +32,7 @@ fn a_full_cell_gives_its_value_to_whoever_closes_it(rt: HostRuntime) -> Result<(
     let (last, woken) = core.end_owner()?;
     assert_eq!(rt; last, Some(4));
     assert_eq!(rt; woken.len(), 0);
-    assert!(rt; is_ready(core.poll_get(&Named(1)), None));
+    assert_eq!(rt; core.poll_get(&Named(1)), Ok(Poll::Ready(None)));
     Ok(())
 }
 

@@ -61,7 +61,7 @@ fn a_dropped_core_wakes_all_that_wait(rt: HostRuntime) {
             name: turn % 2 + 1,
             woken: &woken,
         };
-        assert!(rt; matches!(core.poll_take(&waker), Ok(Poll::Pending)));
+        assert_eq!(rt; core.poll_take(&waker), Ok(Poll::Pending));
     }
     assert_eq!(rt; woken.get(), 0);
     drop(core);
@@ -97,7 +97,7 @@ fn only_a_single_waiting_waker_that_would_wake_it_keeps_one_out(
     for (polls, want) in [([2, 3, 5], [2, 0, 0]), ([3, 2, 2], [3, 2, 2])] {
         let mut core: Core<u64, WakesIfEven> = Core::new(rt.alloc());
         for number in polls {
-            assert!(rt; matches!(core.poll_take(&WakesIfEven(number)), Ok(Poll::Pending)));
+            assert_eq!(rt; core.poll_take(&WakesIfEven(number)), Ok(Poll::Pending));
         }
         let mut woken = core.set(0).ok().ok_or("refused")?;
         for number in want {
@@ -109,7 +109,7 @@ fn only_a_single_waiting_waker_that_would_wake_it_keeps_one_out(
     Ok(())
 }
 
-/// A waker that would wake every other, or none.
+/// A waker that would wake every other.
 #[derive(Clone, Copy, Debug, PartialEq, Eq)]
 struct All(u64);
 
@@ -131,6 +131,7 @@ impl Wakes for All {
     ghost clone_is_sure = { Prim.search rules };
 }
 
+/// A waker that would wake no other, nor itself.
 #[derive(Clone, Copy, Debug, PartialEq, Eq)]
 struct Nobody(u64);
 
@@ -156,7 +157,7 @@ impl Wakes for Nobody {
 fn a_waker_that_wakes_nobody_else_is_added_again(rt: HostRuntime) -> Result<(), Fail> {
     let mut core: Core<u64, Nobody> = Core::new(rt.alloc());
     for _turn in 0..3u8 {
-        assert!(rt; matches!(core.poll_take(&Nobody(1)), Ok(Poll::Pending)));
+        assert_eq!(rt; core.poll_take(&Nobody(1)), Ok(Poll::Pending));
     }
     assert_eq!(rt; core.waiting(), 3);
     let mut woken = core.set(0).ok().ok_or("refused")?;
@@ -171,7 +172,7 @@ fn a_waker_that_wakes_nobody_else_is_added_again(rt: HostRuntime) -> Result<(), 
 fn a_waker_that_wakes_all_keeps_the_others_out(rt: HostRuntime) -> Result<(), Fail> {
     let mut core: Core<u64, All> = Core::new(rt.alloc());
     for name in [1, 2, 3] {
-        assert!(rt; matches!(core.poll_take(&All(name)), Ok(Poll::Pending)));
+        assert_eq!(rt; core.poll_take(&All(name)), Ok(Poll::Pending));
     }
     assert_eq!(rt; core.waiting(), 1);
     let mut woken = core.set(0).ok().ok_or("refused")?;
