@@ -73,3 +73,6 @@ pub fn woke<W: Write>(out: &mut W, woken: Wakers<Named>) -> io::Result<()> {
     }
     writeln!(out)
 }
+
+#[cfg(test)]
+mod tests;

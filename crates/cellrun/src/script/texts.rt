@@ -40,53 +40,158 @@ fn printed(rt: &HostRuntime, input: &str, text: &str) -> (Ended, usize) {
     (ended, left.get())
 }
 
-const ROWS: [(&str, &str, Ended); 9] = [
+/// What is read, what is printed, and how it ends.
+const SCRIPTS: [(&str, &str, Ended); 9] = [
     ("", "", Ended::Done),
     (
-        "own\ntake 1\nget 2\nend\nend\ntake 3\nset 9\nend\ndebug\n",
-        "owners 2\npending\npending\nowners 1\nowners 0 woke 1 2\nclosed\nrefused closed\nrefused closed\nAsyncCell::Closed\n",
+        "own\n\
+         take 1\n\
+         get 2\n\
+         end\n\
+         end\n\
+         take 3\n\
+         set 9\n\
+         end\n\
+         debug\n",
+        "owners 2\n\
+         pending\n\
+         pending\n\
+         owners 1\n\
+         owners 0 woke 1 2\n\
+         closed\n\
+         refused closed\n\
+         refused closed\n\
+         AsyncCell::Closed\n",
         Ended::Done,
     ),
     (
-        "own\nset 4\ninner\nend\ninner",
-        "owners 2\ndone\nrefused shared\nowners 1\nsome 4\n",
+        "own\n\
+         set 4\n\
+         inner\n\
+         end\n\
+         inner",
+        "owners 2\n\
+         done\n\
+         refused shared\n\
+         owners 1\n\
+         some 4\n",
         Ended::Done,
     ),
     (
-        "take 1\ninner\nis_set\n",
-        "pending\nnone woke 1\nfalse\n",
+        "take 1\n\
+         inner\n\
+         is_set\n",
+        "pending\n\
+         none woke 1\n\
+         false\n",
         Ended::Done,
     ),
     (
-        "take 1\nupdate_some add 3\ndebug\nupdate none\nupdate put 5\nupdate_some add 3\nupdate keep\ntry_get\nupdate none\ndebug\n",
-        "pending\ndone\nAsyncCell::Pending\ndone\ndone woke 1\ndone\ndone\nsome 8\ndone\nAsyncCell::Empty\n",
+        "take 1\n\
+         update_some add 3\n\
+         debug\n\
+         update none\n\
+         update put 5\n\
+         update_some add 3\n\
+         update keep\n\
+         try_get\n\
+         update none\n\
+         debug\n",
+        "pending\n\
+         done\n\
+         AsyncCell::Pending\n\
+         done\n\
+         done woke 1\n\
+         done\n\
+         done\n\
+         some 8\n\
+         done\n\
+         AsyncCell::Empty\n",
         Ended::Done,
     ),
     (
-        "take 1\nset 7\nsett 8\n",
-        "pending\ndone woke 1\n",
+        "take 1\n\
+         set 7\n\
+         sett 8\n",
+        "pending\n\
+         done woke 1\n",
         Ended::BadLine(3),
     ),
     (
-        "set 9223372036854775807\nupdate_some add 1\nreplace -9223372036854775808\nset 9223372036854775808\n",
-        "done\ndone\nold 9223372036854775807\n",
+        "set 9223372036854775807\n\
+         update_some add 1\n\
+         replace -9223372036854775808\n\
+         set 9223372036854775808\n",
+        "done\n\
+         done\n\
+         old 9223372036854775807\n",
         Ended::BadLine(4),
     ),
     (
-        "take 1\ntake 1\nget 2\ntake 1\nset 7\nget 3\ntry_take\ntry_take\n",
-        "pending\npending\npending\npending\ndone woke 1 2 1\nready 7\nsome 7\nnone\n",
+        "take 1\n\
+         take 1\n\
+         get 2\n\
+         take 1\n\
+         set 7\n\
+         get 3\n\
+         try_take\n\
+         try_take\n",
+        "pending\n\
+         pending\n\
+         pending\n\
+         pending\n\
+         done woke 1 2 1\n\
+         ready 7\n\
+         some 7\n\
+         none\n",
         Ended::Done,
     ),
     (
-        "or_set 1\nor_set 2\nis_set\nreplace 3\ndebug\ntry_take\ntry_get\nreplace 4\ninner\ntry_take\ntry_get\nis_set\nupdate put 1\nupdate_some add 1\nor_set 1\nreplace 1\nown\ninner\nget 1\n",
-        "done\ndone\ntrue\nold 1\nAsyncCell::Full(3)\nsome 3\nnone\nold none\nsome 4\nnone\nnone\nfalse\nrefused closed\nrefused closed\nrefused closed\nrefused closed\nrefused closed\nrefused closed\nclosed\n",
+        "or_set 1\n\
+         or_set 2\n\
+         is_set\n\
+         replace 3\n\
+         debug\n\
+         try_take\n\
+         try_get\n\
+         replace 4\n\
+         inner\n\
+         try_take\n\
+         try_get\n\
+         is_set\n\
+         update put 1\n\
+         update_some add 1\n\
+         or_set 1\n\
+         replace 1\n\
+         own\n\
+         inner\n\
+         get 1\n",
+        "done\n\
+         done\n\
+         true\n\
+         old 1\n\
+         AsyncCell::Full(3)\n\
+         some 3\n\
+         none\n\
+         old none\n\
+         some 4\n\
+         none\n\
+         none\n\
+         false\n\
+         refused closed\n\
+         refused closed\n\
+         refused closed\n\
+         refused closed\n\
+         refused closed\n\
+         refused closed\n\
+         closed\n",
         Ended::Done,
     ),
 ];
 
 #[test]
 fn worked_scripts_print_their_texts(rt: HostRuntime) {
-    for (input, text, ended) in ROWS {
+    for (input, text, ended) in SCRIPTS {
         assert_eq!(rt; printed(&rt, input, text), (ended, 0), "at {input}");
     }
 }
@@ -147,12 +252,25 @@ fn on_page(alloc: Global, input: &str, written: &RefCell<ArrayVec<u8, 256>>) -> 
 /// written. It is run with each request for memory refused in turn.
 #[test]
 fn want_of_memory_is_told_or_ends_the_script(rt: HostRuntime) -> Result<(), Fail> {
-    let whole = ROWS[7].1;
-    let third = "pending\npending\nrefused memory\npending\ndone woke 1\nready 7\nsome 7\nnone\n";
-    let fourth =
-        "pending\npending\npending\nrefused memory\ndone woke 1 2\nready 7\nsome 7\nnone\n";
+    let whole = SCRIPTS[7].1;
+    let third = "pending\n\
+        pending\n\
+        refused memory\n\
+        pending\n\
+        done woke 1\n\
+        ready 7\n\
+        some 7\n\
+        none\n";
+    let fourth = "pending\n\
+        pending\n\
+        pending\n\
+        refused memory\n\
+        done woke 1 2\n\
+        ready 7\n\
+        some 7\n\
+        none\n";
     let written = RefCell::new(ArrayVec::new());
-    let ended = on_page(rt.alloc(), ROWS[7].0, &written);
+    let ended = on_page(rt.alloc(), SCRIPTS[7].0, &written);
     let page = written.try_borrow().ok().ok_or("in use")?;
     let page = page.as_slice();
     match ended {
@@ -160,7 +278,7 @@ fn want_of_memory_is_told_or_ends_the_script(rt: HostRuntime) -> Result<(), Fail
             let is_told = page == whole.as_bytes()
                 || page == third.as_bytes()
                 || page == fourth.as_bytes();
-            assert!(rt; is_told);
+            assert!(rt; is_told, "printed {page:?}");
         }
         Ended::BadLine(_) => panic!(rt; "no line is bad"),
         Ended::Failed => assert!(rt; whole.as_bytes().starts_with(page)),
