@@ -71,8 +71,8 @@ module _ {T : Type 0} where
   -- only a ready task is polled
   polled_ready : (count : ℕ) (ready : ℕ → Bool) (event : Event T (Option T → Option T)) (answer : Told T) (names : List Named) (i : ℕ) → FitsTold count ready event answer names → is_poll_of i event answer ≡ true → ready i ≡ true
   polled_ready count ready (Poll j) (told.Polled NotReady) names i fits polled = cc
-  polled_ready count ready (Poll j) (told.Polled (Ready value)) names i fits polled = subst (λ k. ready k ≡ true) (eqb-true j i polled) fits
-  polled_ready count ready (Poll j) (told.Polled Pending) names i fits polled = subst (λ k. ready k ≡ true) (eqb-true j i polled) fits
+  polled_ready count ready (Poll j) (told.Polled (Ready value)) names i fits polled = subst (λ k. ready k ≡ true) (eqb-true j i polled) fits.0
+  polled_ready count ready (Poll j) (told.Polled Pending) names i fits polled = subst (λ k. ready k ≡ true) (eqb-true j i polled) fits.0
   polled_ready count ready (Poll j) (told.Refused why) names i fits polled = subst (λ k. ready k ≡ true) (eqb-true j i polled) fits.0
   polled_ready count ready (Poll j) (told.Started number) names i fits polled = absurd fits
   polled_ready count ready (Poll j) (told.Reply reply) names i fits polled = absurd fits

@@ -161,13 +161,13 @@ module _ {T : Type 0} where
       → Drives is_exact from (line_of from (event.Poll i) (told_of (polled_of asked)) ∷ []) (record { core = core; tasks = change (with_mark (mark_after asked)) i from.tasks })
   poll_drives is_exact from core i kind (Ok (Ready value)) begins covered is_kind ready answers refused waits =
       polls is_exact from core i (told.Polled (polled.Ready value)) mark.Done _ (λ k. record { event = event.Poll i; told = told.Polled (polled.Ready value); names = poll_hands_none from.core (kind_at from.tasks i) i (reply.Ready value) k })
-      begins (covered_polled from core i (Ok (Ready value)) covered refused waits) (ready_now from i ∙ ready) (ready_now from i ∙ ready) (λ j. refl) refl refl refl (λ e. rw is_kind (answers e))
+      begins (covered_polled from core i (Ok (Ready value)) covered refused waits) (ready_now from i ∙ ready) (ready_now from i ∙ ready, refl) (λ j. refl) refl refl refl (λ e. rw is_kind (answers e))
   poll_drives is_exact from core i kind (Ok Pending) begins covered is_kind ready answers refused waits =
       polls is_exact from core i (told.Polled polled.Pending) mark.Waiting _ (λ k. record { event = event.Poll i; told = told.Polled polled.Pending; names = poll_hands_none from.core (kind_at from.tasks i) i reply.Pending k })
-      begins (covered_polled from core i (Ok Pending) covered refused waits) (ready_now from i ∙ ready) (ready_now from i ∙ ready) (λ j. refl) refl refl refl (λ e. rw is_kind (answers e))
+      begins (covered_polled from core i (Ok Pending) covered refused waits) (ready_now from i ∙ ready) (ready_now from i ∙ ready, refl) (λ j. refl) refl refl refl (λ e. rw is_kind (answers e))
   poll_drives is_exact from core i kind (Err why) begins covered is_kind ready answers refused waits =
       polls is_exact from core i (told.Refused why) mark.Ready _ (λ k. record { event = event.Poll i; told = told.Refused why; names = poll_hands_none from.core (kind_at from.tasks i) i (reply.Refused why None) k })
-      begins (covered_polled from core i (Err why) covered refused waits) (ready_now from i ∙ ready) (ready_now from i ∙ ready, refused.0) (λ j. refl) refl refl refl (λ e. rw is_kind (answers e))
+      begins (covered_polled from core i (Err why) covered refused waits) (ready_now from i ∙ ready) (ready_now from i ∙ ready, refused.0, refl) (λ j. refl) refl refl refl (λ e. rw is_kind (answers e))
 
   marked_result : (m : Mark) (t : Option (Task T)) → result_of (option_map (with_mark m) t) ≡ result_of t
   marked_result m None = refl

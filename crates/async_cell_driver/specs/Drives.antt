@@ -19,14 +19,15 @@ is_same a b = nat_eq a.0 b.0
 
 -- Where this many tasks were started and these are ready, the event may be told this, and the names handed out. A task
 -- that is started is told the number of tasks before it. A poll is told `NotReady` exactly where the task is not ready.
--- What a call on the cell is told is the core's to say. Where the core is not called, no name is handed out.
+-- What a call on the cell is told is the core's to say, and so are the names that it hands out. A start hands out none, and
+-- neither does a poll: it neither fills nor closes the cell.
 abbrev pub FitsTold : {T : Type 0} → ℕ → (ℕ → Bool) → Event T (Option T → Option T) → Told T → List Named → Type 0
 FitsTold count ready (Start kind) (told.Started number) names = (number ≡ count) × (names ≡ [])
 FitsTold count ready (Start kind) (told.Refused why) names = (why ≡ Memory) × (names ≡ [])
 FitsTold count ready (Start kind) _ names = ⊥
 FitsTold count ready (Poll i) (told.Polled NotReady) names = (ready i ≡ false) × (names ≡ [])
-FitsTold count ready (Poll i) (told.Polled answer) names = ready i ≡ true
-FitsTold count ready (Poll i) (told.Refused why) names = (ready i ≡ true) × (why ≡ Memory)
+FitsTold count ready (Poll i) (told.Polled answer) names = (ready i ≡ true) × (names ≡ [])
+FitsTold count ready (Poll i) (told.Refused why) names = (ready i ≡ true) × (why ≡ Memory) × (names ≡ [])
 FitsTold count ready (Poll i) _ names = ⊥
 FitsTold count ready event (told.Reply reply) names = ⊤
 FitsTold count ready event _ names = ⊥

@@ -1,5 +1,5 @@
 //! Polls of all tasks that are ready.
-ghost use Rattle.std.specs.Prelude.{◌≡◌, ◌≢◌, ℕ, [], true, false, length, OnOk, None};
+ghost use Rattle.std.specs.Prelude.{◌≡◌, ◌≢◌, ℕ, [], true, false, ⊤, length, OnOk, None};
 ghost use Rattle.async_cell_model.specs.Cell.{is_vacant};
 ghost use Rattle.async_cell_core.specs.Polled.{IsExact};
 ghost use Rattle.async_cell_driver.specs.State.{result_at};
@@ -18,7 +18,7 @@ impl<T: Clone> Driver<T> {
         ensures gives { result ≡ result_at self.old.tasks i }
         ensures once { result_at self.new.tasks i ≡ None }
         ensures others { (j : ℕ) → j ≢ i → result_at self.new.tasks j ≡ result_at self.old.tasks j }
-        ensures nothing_else { Drives (IsExact T.is_clone) self.old [] self.new }
+        ensures nothing_else { Drives ⊤ self.old [] self.new }
     {
         self.core.begins();
         self.tasks.take_result(i)
