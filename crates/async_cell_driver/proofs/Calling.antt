@@ -10,7 +10,7 @@ use Rattle.async_cell_model.specs.declared.entry.Kept.{Kept}
 use Rattle.async_cell_model.specs.declared.entry.Kept.TheVariants as kept
 use Rattle.async_cell_model.specs.declared.reply.Reply.{Reply}
 use Rattle.async_cell_model.specs.declared.reply.Reply.TheVariants as reply
-use Rattle.async_cell_model.specs.Cell.{ends_waiting, is_vacant, is_closed, content, IsCounted}
+use Rattle.async_cell_model.specs.Cell.{ends_waiting, is_vacant, is_closed, content, owners_of, IsCounted}
 use Rattle.async_cell_model.specs.Step.{next, reply as model_reply}
 use Rattle.async_cell_model.specs.Waiting.{keep}
 use Rattle.async_cell_model.specs.History.{Beginning, IsBeginning}
@@ -160,6 +160,10 @@ module _ {T : Type 0} where
   value_is from to call value names answers =
       elim answers.legal.0.replied [ inl is ↦ is | inr refused ↦ let no = refused.0 in cc ]
 
+  sole_closes : (c : Cell T) (value : Option T) → owners_of c ≡ 1 → is_closed (next {W = Named} c (record { call = kept.EndOwner; reply = reply.Value value })) ≡ true
+  sole_closes Closed value sole = refl
+  sole_closes (Open held owners) value sole = rw sole refl
+
   -- an update, as a history keeps it
   pub update_is : (c : Cell T) (edit : Option T → Option T) (put : Option T) → is_closed c ≡ false → put ≡ edit (content c) → kept_update c edit ≡ kept.Update (content c) put
   update_is Closed edit put open_ is = cc
@@ -168,3 +172,7 @@ module _ {T : Type 0} where
   pub update_refused_is : (c : Cell T) (edit : Option T → Option T) → (is_closed c ≡ false → ⊥) → kept_update c edit ≡ kept.Update None None
   update_refused_is Closed edit not_open = refl
   update_refused_is (Open value owners) edit not_open = absurd (not_open refl)
+
+  -- the last end closes the cell
+  pub last_closes : (from to : Beginning T Named) (value : Option T) (names : List Named) → Answers is_same true from kept.EndOwner (reply.Value value) names to → owners_of from.cell ≡ 1 → is_closed to.cell ≡ true
+  last_closes from to value names answers sole = ap is_closed answers.cell_is ∙ sole_closes from.cell value sole

@@ -44,17 +44,25 @@ due_step false s d f true u ready gone is = refl
 due_step false s d f false u ready gone is = is
 
 module _ {T : Type 0} where
-  -- what leads there without a premise leads there with one
-  pub exact_drives : (is_exact : Type 0) (from to : State T) (log : Log T) → Drives ⊤ from log to → Drives is_exact from log to
-  exact_drives is_exact from to log drives = record {
+  -- what leads there with a premise leads there with a stronger one
+  pub weaker_drives : (is_exact more : Type 0) (from to : State T) (log : Log T) → (more → is_exact) → Drives is_exact from log to → Drives more from log to
+  weaker_drives is_exact more from to log since drives = record {
     legal = drives.legal;
-    core_leads = λ e. drives.core_leads tt;
+    core_leads = λ e. drives.core_leads (since e);
     kinds_are = drives.kinds_are;
     done_is = drives.done_is;
     waits_is = drives.waits_is;
     ready_is = drives.ready_is;
     none_forgotten = drives.none_forgotten;
   }
+
+  -- what leads there without a premise leads there with one
+  pub exact_drives : (is_exact : Type 0) (from to : State T) (log : Log T) → Drives ⊤ from log to → Drives is_exact from log to
+  exact_drives is_exact from to log drives = weaker_drives ⊤ is_exact from to log (λ e. tt) drives
+
+  -- what has its premise only in some case leads there with that premise
+  pub polled_drives : (P is_exact : Type 0) (from to : State T) (log : Log T) → Drives (P → is_exact) from log to → Drives is_exact from log to
+  polled_drives P is_exact from to log drives = weaker_drives (P → is_exact) is_exact from to log (λ e p. e) drives
 
   -- no line leads nowhere
   pub drives_nil : (is_exact : Type 0) (from : State T) → IsBeginning is_same from.core → IsCovered from → Drives is_exact from [] from
@@ -190,20 +198,34 @@ module _ {T : Type 0} where
   pub drives_more : (is_exact : Type 0) (from at to : State T) (log : Log T) (line : Line T) → Drives is_exact from log at → Drives is_exact at (line ∷ []) to → Drives is_exact from (line ∷ log) to
   drives_more is_exact from at to log line first second = drives_join is_exact from at to log (line ∷ []) first second
 
-  lines-push : (events : List (Event T (Option T → Option T))) (answers : List (Told T)) (handed : List (List Named)) (line : Line T) → length answers ≡ length events → length handed ≡ length events
-      → lines (events ++ line.event ∷ []) (answers ++ line.told ∷ []) (handed ++ line.names ∷ []) ≡ lines events answers handed ++ line ∷ []
-  lines-push [] [] [] line same same' = refl
-  lines-push [] (t ∷ answers) handed line same same' = absurd (omega arith)
-  lines-push [] [] (n ∷ handed) line same same' = absurd (omega arith)
-  lines-push (e ∷ events) [] handed line same same' = absurd (omega arith)
-  lines-push (e ∷ events) (t ∷ answers) [] line same same' = absurd (omega arith)
-  lines-push (e ∷ events) (t ∷ answers) (n ∷ handed) line same same' =
+  lines-append : (events more : List (Event T (Option T → Option T))) (answers others : List (Told T)) (handed later : List (List Named)) → length answers ≡ length events → length handed ≡ length events
+      → lines (events ++ more) (answers ++ others) (handed ++ later) ≡ lines events answers handed ++ lines more others later
+  lines-append [] more [] others [] later same same' = refl
+  lines-append [] more (t ∷ answers) others handed later same same' = absurd (omega arith)
+  lines-append [] more [] others (n ∷ handed) later same same' = absurd (omega arith)
+  lines-append (e ∷ events) more [] others handed later same same' = absurd (omega arith)
+  lines-append (e ∷ events) more (t ∷ answers) others [] later same same' = absurd (omega arith)
+  lines-append (e ∷ events) more (t ∷ answers) others (n ∷ handed) later same same' =
       let first : Line T = record { event = e; told = t; names = n } in
-      ap (λ (ls : List (Line T)). first ∷ ls) (lines-push events answers handed line (omega arith) (omega arith))
+      ap (λ (ls : List (Line T)). first ∷ ls) (lines-append events more answers others handed later (omega arith) (omega arith))
+
+  -- the log of joined lists
+  pub log_of-append : (events more : List (Event T (Option T → Option T))) (answers others : List (Told T)) (handed later : List (List Named)) → length answers ≡ length events → length handed ≡ length events
+      → log_of (events ++ more) (answers ++ others) (handed ++ later) ≡ log_of more others later ++ log_of events answers handed
+  log_of-append events more answers others handed later same same' =
+      ap reverse (lines-append events more answers others handed later same same') ∙ reverse-append (lines events answers handed) (lines more others later)
+
+  -- the same, where the edits of the updates are functions by name
+  pub log_of-append-edits : {E : Type 0} (edit : E → Option T → Option T) (events more : List (Event T E)) (answers others : List (Told T)) (handed later : List (List Named)) → length answers ≡ length events → length handed ≡ length events
+      → log_of (map (with_edit edit) (events ++ more)) (answers ++ others) (handed ++ later) ≡ log_of (map (with_edit edit) more) others later ++ log_of (map (with_edit edit) events) answers handed
+  log_of-append-edits edit events more answers others handed later same same' =
+      let mapped = length-map events (with_edit edit) in
+      ap (λ es. log_of es (answers ++ others) (handed ++ later)) (map-append (with_edit edit) events more)
+      ∙ log_of-append (map (with_edit edit) events) (map (with_edit edit) more) answers others handed later (same ∙ sym mapped) (same' ∙ sym mapped)
 
   pub log_of-push : (events : List (Event T (Option T → Option T))) (answers : List (Told T)) (handed : List (List Named)) (line : Line T) → length answers ≡ length events → length handed ≡ length events
       → log_of (events ++ line.event ∷ []) (answers ++ line.told ∷ []) (handed ++ line.names ∷ []) ≡ line ∷ log_of events answers handed
-  log_of-push events answers handed line same same' = ap reverse (lines-push events answers handed line same same') ∙ reverse-append (lines events answers handed) (line ∷ [])
+  log_of-push events answers handed line same same' = log_of-append events (line.event ∷ []) answers (line.told ∷ []) handed (line.names ∷ []) same same'
 
   -- events that happened, and one more
   pub happen_more : {E : Type 0} (edit : E → Option T → Option T) (is_exact : Type 0) (from at to : State T) (events : List (Event T E)) (answers : List (Told T)) (event : Event T E) (answer : Told T)

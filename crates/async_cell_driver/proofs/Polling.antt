@@ -1,6 +1,6 @@
 -- Where a poll leads.
 use Rattle.std.proofs.Common.{◌≡◌, ◌≢◌, ℕ, Bool, true, false, not, ◌&&◌, ◌||◌, List, [], ◌∷◌, ◌++◌, Option, Some, None, map, length, refl, ap, sym, ◌∙◌, subst, append-nil}
-use Rattle.std.specs.Prelude.{slice_get, is_some, nat_eq, if◌then◌else◌, Result, Ok, Err, IfOk, IfErr, OnOk}
+use Rattle.std.specs.Prelude.{slice_get, is_some, nat_eq, if◌then◌else◌, Result, Ok, Err, IsOk, IfOk, IfErr, OnOk, MatchOption}
 use Rattle.std.specs.Option.{option_map}
 use Rattle.std.proofs.lemmas.Bool.{eqb-true, eqb-false, eq-eqb}
 use Rattle.std.proofs.Math.Bool.{or-false, or-true}
@@ -13,10 +13,10 @@ use Rattle.async_cell_model.specs.declared.reply.Reply.{Reply}
 use Rattle.async_cell_model.specs.declared.reply.Reply.TheVariants as reply
 use Rattle.async_cell_model.specs.declared.refusal.Refusal.{Refusal}
 use Rattle.async_cell_model.specs.declared.refusal.Refusal.TheVariants.{Memory}
-use Rattle.async_cell_model.specs.Cell.{ends_waiting}
+use Rattle.async_cell_model.specs.Cell.{ends_waiting, is_vacant}
 use Rattle.async_cell_model.specs.Step.{next, is_memory}
 use Rattle.async_cell_model.specs.History.{Beginning, IsBeginning}
-use Rattle.async_cell_model.specs.Legal.{hands, Leads, Answers}
+use Rattle.async_cell_model.specs.Legal.{hands, Leads, Answers, may_refuse}
 use Rattle.async_cell_model.specs.Waiting.{keep}
 use Rattle.async_cell_core.specs.Polled.{poll_reply}
 use Rattle.async_cell_driver.specs.declared.task.Kind.{Kind}
@@ -168,6 +168,31 @@ module _ {T : Type 0} where
   poll_drives is_exact from core i kind (Err why) begins covered is_kind ready answers refused waits =
       polls is_exact from core i (told.Refused why) mark.Ready _ (λ k. record { event = event.Poll i; told = told.Refused why; names = poll_hands_none from.core (kind_at from.tasks i) i (reply.Refused why None) k })
       begins (covered_polled from core i (Err why) covered refused waits) (ready_now from i ∙ ready) (ready_now from i ∙ ready, refused.0, refl) (λ j. refl) refl refl refl (λ e. rw is_kind (answers e))
+
+  -- what holds anyway holds for each content
+  pub sure_anyway : (o : Option T) (P : Type 0) (Q : T → Type 0) → P → MatchOption o P (λ value. Q value → P)
+  sure_anyway None P Q holds = holds
+  sure_anyway (Some value) P Q holds = λ q. holds
+
+  sure_after : (o : Option T) (P R : Type 0) (Q : T → Type 0) → (P → R) → MatchOption o P (λ value. Q value → P) → MatchOption o R (λ value. Q value → R)
+  sure_after None P R Q follows sure = follows sure
+  sure_after (Some value) P R Q follows sure = λ q. follows (sure q)
+
+  ok_polled : (asked : Result (Poll (Option T)) Refusal) → IsOk asked → IsOk (polled_of asked)
+  ok_polled (Ok (Ready value)) ok = refl
+  ok_polled (Ok Pending) ok = refl
+  ok_polled (Err why) ok = cc
+
+  -- what the task's poll answers is as sure as the core's answer
+  pub sure_polled : (o : Option T) (Q : T → Type 0) (asked : Result (Poll (Option T)) Refusal) → MatchOption o (IsOk asked) (λ value. Q value → IsOk asked)
+      → MatchOption o (IsOk (polled_of asked)) (λ value. Q value → IsOk (polled_of asked))
+  sure_polled o Q asked sure = sure_after o (IsOk asked) (IsOk (polled_of asked)) Q (ok_polled asked) sure
+
+  -- a taker that need not wait needs no memory
+  pub taker_sure : (core : Beginning T Named) (kind : Kind) (i : ℕ) (asked : Result (Poll (Option T)) Refusal) → Some kind ≡ Some Take → is_vacant core.cell ≡ false
+      → (may_refuse is_same true core (poll_of (Some kind) i) ≡ false → IsOk asked) → IsOk (polled_of asked)
+  taker_sure core Take i asked is not_vacant spared = ok_polled asked (spared (rw not_vacant refl))
+  taker_sure core Get i asked is not_vacant spared = cc
 
   marked_result : (m : Mark) (t : Option (Task T)) → result_of (option_map (with_mark m) t) ≡ result_of t
   marked_result m None = refl

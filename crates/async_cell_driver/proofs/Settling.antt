@@ -1,6 +1,6 @@
 -- Polls of all that are ready, one by one.
 use Rattle.std.proofs.Common.{◌≡◌, ◌<◌, ◌≤◌, ◌+◌, ◌-◌, inl, inr, le_trans, ℕ, zero, suc, Bool, true, false, not, ◌&&◌, ◌||◌, List, [], ◌∷◌, ◌++◌, Option, Some, None, Ok, Err, map, length, reverse, refl, ap, sym, ◌∙◌, subst, arith, append-nil, append_assoc, length-append, add-one}
-use Rattle.std.specs.Prelude.{slice_get, is_some, nat_eq, filter, if◌then◌else◌}
+use Rattle.std.specs.Prelude.{slice_get, is_some, nat_eq, filter, Result, MatchResult, if◌then◌else◌}
 use Rattle.std.specs.Option.{option_map}
 use Rattle.std.proofs.lemmas.Bool.{eqb-true, eqb-false, cases_lt}
 use Rattle.std.proofs.lemmas.Option.{slice_get_past}
@@ -12,14 +12,15 @@ use Rattle.async_cell_driver.specs.declared.task.Task.{Task}
 use Rattle.async_cell_driver.specs.declared.event.Event.TheVariants.{Poll}
 use Rattle.async_cell_driver.specs.declared.event.Told.{Told}
 use Rattle.async_cell_driver.specs.declared.event.Told.TheVariants as told
-use Rattle.async_cell_driver.specs.declared.event.Polled.TheVariants.{Ready}
+use Rattle.async_cell_driver.specs.declared.event.Polled.{Polled}
+use Rattle.async_cell_driver.specs.declared.event.Polled.TheVariants.{Ready, Pending, NotReady}
 use Rattle.async_cell_driver.specs.Mark.{is_ready_mark}
 use Rattle.async_cell_driver.specs.State.{State, result_at, result_of, change, with_result}
-use Rattle.async_cell_driver.specs.Log.{Line, Log, is_started, is_done, is_due, is_ready, waits, is_poll_of}
+use Rattle.async_cell_driver.specs.Log.{Line, Log, is_started, is_done, is_due, is_ready, waits, is_poll_of, was_refused}
 use Rattle.async_cell_driver.specs.History.{line_of}
 use Rattle.async_cell_driver.specs.Drives.{Drives, KeepsResults, IsAwake}
 use Rattle.async_cell_driver.specs.Settle.{numbers, events_of, has_refused, got, got_by, got_or, Keeps, Settles, SettlesOne}
-use Rattle.async_cell_driver.proofs.Joining.{drives_more}
+use Rattle.async_cell_driver.proofs.Joining.{drives_more, polled_drives}
 use Rattle.async_cell_driver.proofs.Reading.{ready_now}
 use Rattle.async_cell_driver.proofs.Keeping.{keeping, result-keeping_other}
 use Rattle.async_cell_driver.proofs.Waking.{slice_get-change_same}
@@ -164,9 +165,43 @@ module _ {T : Type 0} where
   length-change f zero (t ∷ tasks) = refl
   length-change f (suc i) (t ∷ tasks) = ap suc (length-change f i tasks)
 
+  size_same : (from at : State T) → map (λ task. task.kind) at.tasks ≡ map (λ task. task.kind) from.tasks ++ [] → length at.tasks ≡ length from.tasks
+  size_same from at kinds = sym (length-map at.tasks (λ task. task.kind)) ∙ (ap length (kinds ∙ append-nil _) ∙ length-map from.tasks (λ task. task.kind))
+
+  not_got : (b : Bool) (g old : Option (Option T)) → g ≡ None → got_or (got_or (if b then g else None) None) old ≡ old
+  not_got true g old none = rw none refl
+  not_got false g old none = refl
+
+  quiet : (answer : Polled T) → ((value : Option T) → answer ≡ Ready value → ⊥) → got_by (told.Polled answer) ≡ None
+  quiet (Ready value) not_ready = absurd (not_ready value refl)
+  quiet Pending not_ready = refl
+  quiet NotReady not_ready = refl
+
+  -- a poll that gets nothing
+  settles_quiet : (P is_exact : Type 0) (from at : State T) (i : ℕ) (result : Result (Unit {0}) Refusal) (answer : Told T) → got_by answer ≡ None
+      → MatchResult result (λ done. was_refused answer ≡ false) (λ why. answer ≡ told.Refused why) → KeepsResults from at
+      → Drives (P → is_exact) from (line_of from (Poll i) answer ∷ []) at → SettlesOne is_exact from i result answer at
+  settles_quiet P is_exact from at i result answer none is stay drives = record {
+    drives = polled_drives P is_exact from at _ drives;
+    told = is;
+    keeps = λ j. stay j ∙ sym (not_got (is_poll_of j (Poll i) answer) (got_by answer) (result_at from.tasks j) none);
+  }
+
+  -- where the poll is refused
+  pub one_refused : (P is_exact : Type 0) (from at : State T) (i : ℕ) (why : Refusal) → KeepsResults from at
+      → Drives (P → is_exact) from (line_of from (Poll i) (told.Refused why) ∷ []) at → SettlesOne is_exact from i (Err why) (told.Refused why) at
+  one_refused P is_exact from at i why stay drives = settles_quiet P is_exact from at i (Err why) (told.Refused why) refl refl stay drives
+
+  -- where it is not ready
+  pub one_pending : (P is_exact : Type 0) (from at : State T) (i : ℕ) (answer : Polled T) → ((value : Option T) → answer ≡ Ready value → ⊥) → KeepsResults from at
+      → Drives (P → is_exact) from (line_of from (Poll i) (told.Polled answer) ∷ []) at
+      → SettlesOne is_exact from i (Ok tt) (told.Polled answer) at × (length at.tasks ≡ length from.tasks)
+  one_pending P is_exact from at i answer not_ready stay drives =
+      (settles_quiet P is_exact from at i (Ok tt) (told.Polled answer) (quiet answer not_ready) refl stay drives, size_same from at drives.kinds_are)
+
   pub size_kept : (from at : State T) (i : ℕ) (result : Option (Option T)) → map (λ task. task.kind) at.tasks ≡ map (λ task. task.kind) from.tasks ++ [] → length (change (with_result result) i at.tasks) ≡ length from.tasks
   size_kept from at i result kinds =
-      length-change (with_result result) i at.tasks ∙ (sym (length-map at.tasks (λ task. task.kind)) ∙ (ap length (kinds ∙ append-nil _) ∙ length-map from.tasks (λ task. task.kind)))
+      length-change (with_result result) i at.tasks ∙ size_same from at kinds
 
   past_ready : (at : State T) (i : ℕ) → length at.tasks ≤ i → is_ready at [] i ≡ false
   past_ready at i past = ready_now at i ∙ ap (λ t. is_ready_mark (option_map (λ task. task.mark) t)) (slice_get_past at.tasks i past)

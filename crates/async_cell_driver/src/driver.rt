@@ -1,5 +1,5 @@
-ghost use Rattle.std.specs.Prelude.{◌≡◌, ◌≢◌, ℕ, [], ◌∷◌, length, true, false, ⊤, Ok, ◌↔◌, IsTrue, IsOk, IfOk, IfErr, OnOk, OnErr};
-ghost use Rattle.async_cell_model.specs.Cell.{is_vacant};
+ghost use Rattle.std.specs.Prelude.{◌≡◌, ◌≢◌, ℕ, [], ◌∷◌, length, true, false, ⊤, Some, Ok, ◌↔◌, IsTrue, IsOk, IfOk, IfErr, OnOk, OnErr, MatchOption};
+ghost use Rattle.async_cell_model.specs.Cell.{content, is_vacant};
 ghost use Rattle.async_cell_model.specs.Legal.{Answers, may_refuse};
 ghost use Rattle.async_cell_core.specs.Polled.{IsExact, poll_reply};
 ghost use Rattle.async_cell_driver.specs.State.{State, kind_at};
@@ -66,7 +66,7 @@ impl<T: Clone> Driver<T> {
     /// Polls a task that is ready. A task that is done, not ready or not there is not polled. Refused where the waker's
     /// place, or a clone of the value, found no memory: the task is ready still.
     pub fn poll(&mut self, i: usize) -> Result<Polled<T>, Refusal>
-        ensures drives { Drives (IsExact T.is_clone) self.old (line_of self.old (Event.Poll i) (told_of result) ∷ []) self.new }
+        ensures drives { Drives (kind_at self.old.tasks i ≡ Some Kind.Get → IsExact T.is_clone) self.old (line_of self.old (Event.Poll i) (told_of result) ∷ []) self.new }
 
         ensures not_ready { (result ≡ Ok Polled.NotReady) ↔ (is_ready self.old [] i ≡ false) }
         ensures untouched { result ≡ Ok Polled.NotReady → self.new ≡ self.old }
@@ -75,6 +75,8 @@ impl<T: Clone> Driver<T> {
         ensures ready_no_more { OnOk result (is_ready self.new [] i ≡ false) }
         ensures others_stay { (j : ℕ) → j ≢ i → is_ready self.new [] j ≡ is_ready self.old [] j }
         ensures spared { may_refuse is_same true self.old.core (poll_of (kind_at self.old.tasks i) i) ≡ false → IsOk result }
+        ensures sure { is_vacant self.old.core.cell ≡ false → MatchOption (content self.old.core.cell) (IsOk result) (λ value. T.is_infallible value → IsOk result) }
+        ensures taker_sure { kind_at self.old.tasks i ≡ Some Kind.Take → is_vacant self.old.core.cell ≡ false → IsOk result }
     {
         self.core.begins();
         let Some(kind) = self.tasks.ready(i) else {
@@ -111,15 +113,17 @@ impl<T: Clone> Driver<T> {
 }
 
 /// Polls the core for a task of this kind.
+#[tactic(auto, using(crate::proofs::Polling::sure_anyway))]
 fn ask<T: Clone>(
     core: &mut Core<T, Named>,
     kind: Kind,
     name: Named,
 ) -> Result<Poll<Option<T>>, Refusal>
-    ensures model { IsExact T.is_clone → Answers is_same true core.old (poll_of (Some kind) name.0) (poll_reply result) [] core.new }
+    ensures model { (kind ≡ Kind.Get → IsExact T.is_clone) → Answers is_same true core.old (poll_of (Some kind) name.0) (poll_reply result) [] core.new }
     ensures refused { IfErr result (λ why. (why ≡ Refusal.Memory) × (core.new ≡ core.old)) }
     ensures waiting { IfOk result (λ polled. core.new.waiting ≡ waiting_when polled name core.old.waiting) }
     ensures spared { may_refuse is_same true core.old (poll_of (Some kind) name.0) ≡ false → IsOk result }
+    ensures sure { is_vacant core.old.cell ≡ false → MatchOption (content core.old.cell) (IsOk result) (λ value. T.is_infallible value → IsOk result) }
 {
     match kind {
         Kind::Take => core.poll_take(&name),

@@ -1,6 +1,6 @@
 //! Calls on the cell of a driver. Each makes one call of the core, and wakes the tasks whose names it hands out.
-ghost use Rattle.std.specs.Prelude.{◌≡◌, ◌↔◌, ◌+◌, ◌-◌, [], ◌∷◌, true, false, ⊤, Some, None, IsOk, IfOk, IfErr, OnOk, OnErr};
-ghost use Rattle.async_cell_model.specs.Cell.{is_closed, content, owners_of};
+ghost use Rattle.std.specs.Prelude.{◌≡◌, ◌↔◌, ◌+◌, ◌-◌, [], ◌∷◌, true, false, ⊤, Some, None, Err, IsOk, IfOk, IfErr, OnOk, OnErr};
+ghost use Rattle.async_cell_model.specs.Cell.{is_closed, content, owners_of, owners_limit};
 ghost use Rattle.async_cell_model.specs.declared.entry.Kept.TheVariants as kept;
 ghost use Rattle.async_cell_driver.specs.History.{line_of, told_by};
 ghost use Rattle.async_cell_driver.specs.Drives.{Drives, KeepsResults};
@@ -107,6 +107,8 @@ impl<T: Clone> Driver<T> {
         ensures done { OnOk result (Drives ⊤ self.old (line_of self.old Event.AddOwner (Told.Reply Reply.Done) ∷ []) self.new) }
         ensures refused { IfErr result (λ why. Drives ⊤ self.old (line_of self.old Event.AddOwner (Told.Reply (Reply.Refused why None)) ∷ []) self.new) }
 
+        ensures if_closed { (result ≡ Err Refusal.Closed) ↔ (is_closed self.old.core.cell ≡ true) }
+        ensures if_full { (result ≡ Err Refusal.OwnersFull) ↔ (owners_of self.old.core.cell ≡ owners_limit) }
         ensures counted { OnOk result (owners_of self.new.core.cell ≡ owners_of self.old.core.cell + 1) }
         ensures results_stay { KeepsResults self.old self.new }
         ensures unchanged { OnErr result (self.new ≡ self.old) }
@@ -122,6 +124,7 @@ impl<T: Clone> Driver<T> {
 
         ensures if_open { IsOk result ↔ (is_closed self.old.core.cell ≡ false) }
         ensures counted { owners_of self.new.core.cell ≡ owners_of self.old.core.cell - 1 }
+        ensures last { owners_of self.old.core.cell ≡ 1 → is_closed self.new.core.cell ≡ true }
         ensures results_stay { KeepsResults self.old self.new }
         ensures unchanged { OnErr result (self.new ≡ self.old) }
     {
@@ -137,6 +140,7 @@ impl<T: Clone> Driver<T> {
 
         ensures if_open { IsOk result ↔ (is_closed self.old.core.cell ≡ false) }
         ensures counted { owners_of self.new.core.cell ≡ owners_of self.old.core.cell - 1 }
+        ensures closes { owners_of self.old.core.cell ≡ 1 → is_closed self.new.core.cell ≡ true }
         ensures results_stay { KeepsResults self.old self.new }
         ensures unchanged { OnErr result (self.new ≡ self.old) }
     {

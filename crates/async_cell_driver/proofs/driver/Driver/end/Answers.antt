@@ -4,7 +4,7 @@ use Rattle.async_cell_model.specs.declared.reply.Reply.TheVariants as reply
 use Rattle.async_cell_driver.specs.declared.event.Event.TheVariants as event
 use Rattle.async_cell_driver.specs.declared.event.Told.TheVariants as told
 use Rattle.async_cell_driver.specs.State.{State}
-use Rattle.async_cell_driver.proofs.Calling.{call_drives, covered_called, results_woken, value_is}
+use Rattle.async_cell_driver.proofs.Calling.{call_drives, covered_called, results_woken, value_is, last_closes}
 use Rattle.async_cell_driver.proofs.driver.Driver.end.Goals as goal
 
 pub returns-in_err-last-clause-refused : goal.returns-in_err-last-clause-refused
@@ -32,3 +32,6 @@ returns-clause-results_stay g c i =
 
 pub returns-clause-last : goal.returns-clause-last
 returns-clause-last g c = rw (← c.self.view_is) (ap told.Reply (value_is _ _ _ _ _ c.in_ok-last.ensures.done))
+
+pub returns-clause-closes : goal.returns-clause-closes
+returns-clause-closes g c = rw (← c.self.view_is) (λ sole. last_closes _ _ _ _ c.in_ok-last.ensures.done sole)

@@ -1,17 +1,18 @@
-use Rattle.std.proofs.Common.{◌≡◌, false, refl, sym, ◌∙◌}
+use Rattle.std.proofs.Common.{◌≡◌, false, Some, refl, sym, ap, ◌∙◌}
 use Rattle.async_cell_core.specs.Polled.{IsExact}
+use Rattle.async_cell_driver.specs.declared.task.Kind.TheVariants.{Get}
 use Rattle.async_cell_driver.specs.Mark.{is_ready_mark}
-use Rattle.async_cell_driver.specs.State.{State, mark_at}
+use Rattle.async_cell_driver.specs.State.{State, mark_at, kind_at}
 use Rattle.async_cell_driver.proofs.Reading.{ready_now}
 use Rattle.async_cell_driver.proofs.Lines.{not_polled}
-use Rattle.async_cell_driver.proofs.Polling.{covered_polled, poll_drives_as, results-marked, ready_no_more, others_stay}
+use Rattle.async_cell_driver.proofs.Polling.{covered_polled, poll_drives_as, results-marked, ready_no_more, others_stay, sure_anyway, sure_polled, taker_sure}
 use Rattle.async_cell_driver.proofs.driver.Driver.poll.Goals as goal
 
 pub returns-in_default-clause-drives : goal.returns-in_default-clause-drives
 returns-in_default-clause-drives g c =
     let at : State g.row.T.Denot = record { core = c.self.inside.core; tasks = c.self.inside.tasks } in
     let not_ready : is_ready_mark (mark_at at.tasks c.args.i) ≡ false = rw c.in_default.is at c.ready.ensures.not_ready in
-    rw (← c.self.view_is) (not_polled at c.args.i (IsExact g.T.Clone.is_clone) c.begins.ensures c.self.invariant (ready_now at c.args.i ∙ not_ready))
+    rw (← c.self.view_is) (not_polled at c.args.i (kind_at at.tasks c.args.i ≡ Some Get → IsExact g.T.Clone.is_clone) c.begins.ensures c.self.invariant (ready_now at c.args.i ∙ not_ready))
 
 pub returns-in_default-clause-not_ready : goal.returns-in_default-clause-not_ready
 returns-in_default-clause-not_ready g c =
@@ -29,8 +30,10 @@ returns-clause-drives g c =
     let at : State g.row.T.Denot = record { core = c.self.inside.core; tasks = c.self.inside.tasks } in
     let asked = c.ask-asked.ensures in
     let ready = rw c.in-Some.is at c.ready.ensures.kind in
-    poll_drives_as (IsExact g.T.Clone.is_clone) at c.args.self.now c.self.view_is c.ask-asked.new.core c.set_mark.new.self c.args.i c.in-Some.kind c.ask-asked.result c.polled.result
-    c.begins-2.ensures c.self.invariant ready.0 ready.1 asked.model asked.refused asked.waiting (rw c.mark_of.ensures at c.set_mark.ensures) c.polled.ensures
+    let E = kind_at c.args.self.now.tasks c.args.i ≡ Some Get → IsExact g.T.Clone.is_clone in
+    poll_drives_as E at c.args.self.now c.self.view_is c.ask-asked.new.core c.set_mark.new.self c.args.i c.in-Some.kind c.ask-asked.result c.polled.result
+    c.begins-2.ensures c.self.invariant ready.0 ready.1
+    (λ e. asked.model (λ is_get. e (ap (λ (s : State g.row.T.Denot). kind_at s.tasks c.args.i) (sym c.self.view_is) ∙ (ready.0 ∙ ap Some is_get)))) asked.refused asked.waiting (rw c.mark_of.ensures at c.set_mark.ensures) c.polled.ensures
 
 pub returns-clause-results_stay : goal.returns-clause-results_stay
 returns-clause-results_stay g c j = rw (← c.self.view_is, c.set_mark.ensures) (results-marked c.mark_of.result c.args.i j c.self.inside.tasks)
@@ -43,3 +46,14 @@ returns-clause-ready_no_more g c =
 pub returns-clause-others_stay : goal.returns-clause-others_stay
 returns-clause-others_stay g c j other =
     rw (c.set_mark.ensures, ← c.self.view_is) (others_stay c.ask-asked.new.core (record { core = c.self.inside.core; tasks = c.self.inside.tasks }) c.mark_of.result c.args.i j (λ same. other (sym same)))
+
+pub returns-in_default-clause-sure : goal.returns-in_default-clause-sure
+returns-in_default-clause-sure g c not_vacant = sure_anyway _ _ _ refl
+
+pub returns-clause-sure : goal.returns-clause-sure
+returns-clause-sure g c = rw (← c.self.view_is, c.polled.ensures) (λ not_vacant. sure_polled _ _ c.ask-asked.result (c.ask-asked.ensures.sure not_vacant))
+
+pub returns-clause-taker_sure : goal.returns-clause-taker_sure
+returns-clause-taker_sure g c =
+    let ready = rw c.in-Some.is at c.ready.ensures.kind in
+    rw (← c.self.view_is, c.polled.ensures) (λ is_taker not_vacant. taker_sure c.self.inside.core c.in-Some.kind c.args.i c.ask-asked.result (sym ready.0 ∙ is_taker) not_vacant c.ask-asked.ensures.spared)

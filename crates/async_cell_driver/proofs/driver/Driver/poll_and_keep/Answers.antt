@@ -1,4 +1,5 @@
 use Rattle.std.proofs.Common.{[], ◌∷◌, Some, map, refl, ap, sym, subst, ◌∙◌}
+use Rattle.std.proofs.lemmas.Result.{err_from_is_err_and}
 use Rattle.async_cell_core.specs.Polled.{IsExact}
 use Rattle.async_cell_driver.specs.State.{State, result_at}
 use Rattle.async_cell_driver.specs.Log.{is_ready}
@@ -7,8 +8,9 @@ use Rattle.async_cell_driver.specs.Drives.{Drives}
 use Rattle.async_cell_driver.specs.declared.event.Event.TheVariants.{Poll}
 use Rattle.async_cell_driver.specs.declared.event.Told.TheVariants as told
 use Rattle.async_cell_driver.specs.declared.event.Polled.TheVariants.{Ready}
+use Rattle.async_cell_driver.proofs.Joining.{polled_drives}
 use Rattle.async_cell_driver.proofs.Keeping.{covered_keeping, ready-keeping, drives_keeping}
-use Rattle.async_cell_driver.proofs.Settling.{keeps_one, size_kept}
+use Rattle.async_cell_driver.proofs.Settling.{keeps_one, size_kept, one_refused, one_pending}
 use Rattle.async_cell_driver.proofs.driver.Driver.poll_and_keep.Goals as goal
 
 pub invariant_of-self : goal.invariant_of-self
@@ -22,7 +24,8 @@ returns-in-Ready-clause-settles g c =
     let E = IsExact g.T.Clone.is_clone in
     let answer = told.Polled (Ready c.in-Ready.content) in
     let polled : Drives E c.args.self.now (line_of c.args.self.now (Poll c.args.i) answer ∷ []) at =
-    subst (λ (s : State g.row.T.Denot). Drives E c.args.self.now (line_of c.args.self.now (Poll c.args.i) answer ∷ []) s) (sym c.self.view_is) (rw c.in-Ready.is at c.in_ok-content.ensures.drives) in (
+    subst (λ (s : State g.row.T.Denot). Drives E c.args.self.now (line_of c.args.self.now (Poll c.args.i) answer ∷ []) s) (sym c.self.view_is)
+    (polled_drives _ E c.args.self.now c.poll.new.self _ (rw c.in-Ready.is at c.in_ok-content.ensures.drives)) in (
       answer,
       record {
         drives = rw c.keep.ensures (drives_keeping E c.args.i (Some c.in-Ready.content) c.args.self.now at _ polled);
@@ -45,3 +48,15 @@ pub returns-in-Ready-clause-size : goal.returns-in-Ready-clause-size
 returns-in-Ready-clause-size g c =
     let at : State g.row.T.Denot = record { core = c.self.inside.core; tasks = c.self.inside.tasks } in
     rw c.keep.ensures (size_kept c.args.self.now at c.args.i (Some c.in-Ready.content) (ap (λ (s : State g.row.T.Denot). map (λ task. task.kind) s.tasks) c.self.view_is ∙ c.in_ok-content.ensures.drives.kinds_are))
+
+pub returns-in_err-content-clause-settles : goal.returns-in_err-content-clause-settles
+returns-in_err-content-clause-settles g c =
+    let p = err_from_is_err_and c.from_residual.result c.from_residual.ensures.1 in
+    let why = c.in_err-content.field-0.0 in
+    rw (p.1, p.2) (told.Refused why, one_refused _ (IsExact g.T.Clone.is_clone) c.args.self.now c.poll.new.self c.args.i why c.in_err-content.ensures.results_stay c.in_err-content.ensures.drives)
+
+pub returns-in_default : goal.returns-in_default
+returns-in_default g c =
+    let asked = c.in_ok-content.ensures in
+    let one = one_pending _ (IsExact g.T.Clone.is_clone) c.args.self.now c.poll.new.self c.args.i c.in_ok-content.field-0 c.in_default.not-Ready asked.results_stay asked.drives in
+    record { settles = (told.Polled c.in_ok-content.field-0, one.0); ready_no_more = asked.ready_no_more; others_stay = asked.others_stay; size = one.1 }
