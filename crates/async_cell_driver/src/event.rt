@@ -4,16 +4,23 @@ use async_cell_core::{Refusal, Reply};
 /// What can happen to a driver, as a list of events holds it. `E` is the type of the edits.
 #[derive(Clone, Copy, Debug, Drop, PartialEq, Eq)]
 pub enum Event<T, E> {
-    /// A task is started.
+    /// `Driver::start`, of a task of this kind. It is told `Started`, with the task's number.
     Start(Kind),
-    /// The task of this number is polled.
+    /// `Driver::poll`, of the task of this number. It is told `Polled`.
     Poll(usize),
+    /// `Driver::set`. It is told the reply `Done`.
     Set(T),
+    /// `Driver::or_set`. It is told the value that was not used.
     OrSet(T),
+    /// `Driver::replace`. It is told the old value.
     Replace(T),
+    /// `Driver::update`, by what the edit makes of the content. It is told the reply `Done`.
     Update(E),
+    /// `Driver::try_take`. It is told the value.
     TryTake,
+    /// `Driver::add_owner`. It is told the reply `Done`.
     AddOwner,
+    /// `Driver::end_owner`. It is told the value that the last owner leaves.
     EndOwner,
 }
 

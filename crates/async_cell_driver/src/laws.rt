@@ -10,7 +10,8 @@ ghost use Rattle.async_cell_driver.specs.declared.event.Event.{Event};
 ghost use Rattle.async_cell_driver.specs.declared.event.Told.{Told};
 
 /// Two logs, the second from where the first leads, are one. So what each call promises holds of any number of calls, one
-/// after the other. The last line of a log stands first, so the later log does.
+/// after the other. The last line of a log stands first, so the later log does. What a poll promises joins with the rest where
+/// the clones of values are exact, and what that of a taker promises whatever they are.
 pub fn two_logs_are_one<T: Clone>()
     ensures joined { (from at to : State T) (earlier later : Log T)
         → Drives (IsExact T.is_clone) from earlier at → Drives (IsExact T.is_clone) at later to

@@ -1,7 +1,7 @@
 //! Lists of events.
 ghost use Rattle.std.specs.Prelude.{◌≡◌, Some};
 
-use async_cell_driver::{Driver, Edit, Event, Kind, Polled, Refusal, Reply, Told};
+use async_cell_driver::{Driver, Edit, Event, Kind, Polled, Refusal, Reply, Told, laws};
 use std::test::Fail;
 
 /// An edit that puts a value in.
@@ -44,6 +44,7 @@ fn takers() -> [Event<u32, Put>; 12] {
     ]
 }
 
+/// The Rust crate's test `can_wake_multiple_takes`, as a list of events.
 #[test]
 fn three_takers_in_a_list_each_get_a_value(rt: HostRuntime) -> Result<(), Fail> {
     let mut driver: Driver<u32> = Driver::new(rt.alloc(), None);
@@ -125,4 +126,11 @@ fn each_call_on_the_cell_answers(rt: HostRuntime) -> Result<(), Fail> {
     assert_eq!(rt; driver.add_owner(), Err(Refusal::Closed));
     assert_eq!(rt; driver.end_owner(), Err(Refusal::Closed));
     Ok(())
+}
+
+/// The laws are proved for every type; here they are taken at two types of a program.
+#[test]
+fn the_laws_hold_at_numbers() {
+    laws::two_logs_are_one::<u32>();
+    laws::two_lists_are_one::<u32, Put>();
 }

@@ -1,4 +1,5 @@
-//! Polls that find no memory. The tests of lists are meant to be run with each request for memory refused in turn.
+//! Calls that find no memory. The tests are meant to be run with each request for memory refused in turn: where the driver
+//! answers the refusal they call again and go on, since only one is refused.
 use crate::lists::Put;
 use async_cell_driver::{Driver, Event, Kind, Polled, Refusal, Reply, Told};
 use std::alloc::{AllocError, Global};
@@ -25,6 +26,14 @@ impl Clone for Stubborn<'_> {
     }
 }
 
+/// Starts a task, a second time where the first found no memory.
+fn start<T: Clone>(driver: &mut Driver<T>, kind: Kind) -> Result<usize, Refusal> {
+    match driver.start(kind) {
+        Ok(number) => Ok(number),
+        Err(_) => driver.start(kind),
+    }
+}
+
 #[test]
 fn a_task_whose_poll_is_refused_stays_ready(rt: HostRuntime) -> Result<(), Fail> {
     let refuses = Cell::new(true);
@@ -33,8 +42,8 @@ fn a_task_whose_poll_is_refused_stays_ready(rt: HostRuntime) -> Result<(), Fail>
         refuses: &refuses,
     };
     let mut driver = Driver::new(rt.alloc(), Some(value));
-    for _ in 0..3u8 {
-        driver.start(Kind::Get)?;
+    for number in 0..3usize {
+        assert_eq!(rt; start(&mut driver, Kind::Get)?, number);
     }
     assert_eq!(rt; driver.poll(1).err(), Some(Refusal::Memory));
     assert!(rt; driver.is_ready(1));
@@ -51,19 +60,11 @@ fn a_task_whose_poll_is_refused_stays_ready(rt: HostRuntime) -> Result<(), Fail>
     Ok(())
 }
 
-/// Starts a taker, a second time where the first found no memory.
-fn start_taker(driver: &mut Driver<u32>) -> Result<usize, Refusal> {
-    match driver.start(Kind::Take) {
-        Ok(number) => Ok(number),
-        Err(_) => driver.start(Kind::Take),
-    }
-}
-
 #[test]
 fn a_taker_that_found_no_memory_is_polled_again(rt: HostRuntime) -> Result<(), Fail> {
     let mut driver: Driver<u32> = Driver::new(rt.alloc(), None);
-    assert_eq!(rt; start_taker(&mut driver)?, 0);
-    assert_eq!(rt; start_taker(&mut driver)?, 1);
+    assert_eq!(rt; start(&mut driver, Kind::Take)?, 0);
+    assert_eq!(rt; start(&mut driver, Kind::Take)?, 1);
     assert_eq!(rt;
         driver.poll(0)?,
         Polled::Pending,
@@ -144,53 +145,73 @@ fn told_without_memory_at(refused: Option<usize>) -> [Told<u32>; 10] {
     ]
 }
 
-#[test]
-fn a_list_that_finds_no_memory_comes_back_or_forgets_nobody(rt: HostRuntime) -> Result<(), Fail> {
-    let list = events().to_vec(rt.alloc())?;
-    let mut driver: Driver<u32> = Driver::new(rt.alloc(), None);
-    match driver.apply(list) {
+/// Applies the list. Where that finds no memory the list comes back as it was and nothing was done, and it is applied again.
+fn apply_or_again(
+    rt: &impl Abort,
+    alloc: Global,
+    driver: &mut Driver<u32>,
+    list: &[Event<u32, Put>],
+) -> Result<Vec<Told<u32>>, Fail> {
+    match driver.apply(list.to_vec(alloc)?) {
+        Ok(told) => Ok(told),
         Err(back) => {
-            assert_eq!(rt; back.as_slice(), events().as_slice());
-            assert!(rt; !driver.is_ready(0));
+            assert_eq!(rt; back.as_slice(), list);
+            assert!(rt; !driver.is_ready(0), "no task was started");
             assert_eq!(rt; driver.try_take(), None);
-        }
-        Ok(told) => {
-            let forgotten = (0..3usize).any(|i| driver.waits(i) && !driver.is_ready(i));
-            let full = driver.try_take().is_some();
-            assert!(rt; !(full && forgotten));
-            let refused = told
-                .iter()
-                .position(|line| matches!(line, Told::Refused(_)));
-            assert_eq!(rt; told.as_slice(), told_without_memory_at(refused).as_slice());
+            Ok(driver.apply(back).ok().ok_or("refused twice")?)
         }
     }
+}
+
+/// The place of the event that found no memory.
+fn refused_at(told: &[Told<u32>]) -> Option<usize> {
+    told.iter()
+        .position(|line| matches!(line, Told::Refused(_)))
+}
+
+#[test]
+fn a_list_that_finds_no_memory_comes_back_or_forgets_nobody(rt: HostRuntime) -> Result<(), Fail> {
+    let mut driver: Driver<u32> = Driver::new(rt.alloc(), None);
+    let told = apply_or_again(&rt, rt.alloc(), &mut driver, events().as_slice())?;
+    let expected = told_without_memory_at(refused_at(told.as_slice()));
+    assert_eq!(rt; told.as_slice(), expected.as_slice());
+    let forgotten = (0..3usize).any(|i| driver.waits(i) && !driver.is_ready(i));
+    let full = driver.try_take().is_some();
+    assert!(rt; !(full && forgotten));
     Ok(())
 }
 
-/// The events, and then this one, which leaves the cell full or closed.
-fn forgets_nobody(rt: &impl Abort, alloc: Global, last: Event<u32, Put>) -> Result<(), Fail> {
+/// The events, and then this one, which leaves the cell full or closed and is told this.
+fn forgets_nobody(
+    rt: &impl Abort,
+    alloc: Global,
+    last: Event<u32, Put>,
+    last_told: Told<u32>,
+) -> Result<(), Fail> {
     let mut list = events().to_vec(alloc)?;
     list.push(last)?;
     let mut driver: Driver<u32> = Driver::new(alloc, None);
-    if let Ok(told) = driver.apply(list) {
-        assert_eq!(rt; told.len(), 11);
-        for number in 0..3usize {
-            assert!(rt;
-                !driver.waits(number) || driver.is_ready(number),
-                "task {number}"
-            );
-        }
-        assert!(rt; driver.is_ready(1), "it took nothing");
+    let told = apply_or_again(rt, alloc, &mut driver, list.as_slice())?;
+    let mut expected = told_without_memory_at(refused_at(told.as_slice())).to_vec(alloc)?;
+    expected.push(last_told)?;
+    assert_eq!(rt; told.as_slice(), expected.as_slice());
+    for number in 0..3usize {
+        assert!(rt;
+            !driver.waits(number) || driver.is_ready(number),
+            "task {number}"
+        );
     }
+    assert!(rt; driver.is_ready(1), "it took nothing");
     Ok(())
 }
 
 #[test]
 fn a_list_that_ends_in_a_fill_forgets_nobody(rt: HostRuntime) -> Result<(), Fail> {
-    forgets_nobody(&rt, rt.alloc(), Event::Set(2))
+    forgets_nobody(&rt, rt.alloc(), Event::Set(2), DONE)
 }
 
 #[test]
 fn a_list_that_ends_in_a_close_forgets_nobody(rt: HostRuntime) -> Result<(), Fail> {
-    forgets_nobody(&rt, rt.alloc(), Event::EndOwner)
+    let told = Told::Reply(Reply::Value(None));
+    forgets_nobody(&rt, rt.alloc(), Event::EndOwner, told)
 }

@@ -20,6 +20,7 @@ const WOKEN: (bool, bool) = (true, true);
 
 const DONE: (bool, bool) = (false, false);
 
+/// The Rust crate's test `can_wake_multiple_takes`, with the tasks of a driver in place of futures.
 #[test]
 fn three_takers_each_get_a_value(rt: HostRuntime) -> Result<(), Fail> {
     let mut driver: Driver<u32> = Driver::new(rt.alloc(), None);
@@ -42,6 +43,7 @@ fn three_takers_each_get_a_value(rt: HostRuntime) -> Result<(), Fail> {
     Ok(())
 }
 
+/// The same, where `settle` polls.
 #[test]
 fn three_settled_takers_each_get_a_value(rt: HostRuntime) -> Result<(), Fail> {
     let mut driver: Driver<u32> = Driver::new(rt.alloc(), None);

@@ -13,7 +13,8 @@ use crate::event::Polled;
 use async_cell_core::Refusal;
 
 impl<T: Clone> Driver<T> {
-    /// What `settle` got for a task, if it got a value or a closed cell for it and this was not given yet.
+    /// Hands over what `settle` got for a task: `Some(Some(v))`, `Some(None)` from a closed cell, `None` if there is nothing or
+    /// it was handed over already.
     pub fn result(&mut self, i: usize) -> Option<Option<T>>
         ensures gives { result ≡ result_at self.old.tasks i }
         ensures once { result_at self.new.tasks i ≡ None }
@@ -25,7 +26,8 @@ impl<T: Clone> Driver<T> {
     }
 
     /// Polls each task that is ready now once, in order of number, and gives the number of these polls. What a poll is ready
-    /// with is kept for `result`. A refused poll stops it: that task and those after it are ready still.
+    /// with is kept for `result`. A refused poll stops it: that task and those after it are ready still. It looks at every
+    /// task that was ever started; a done task keeps its place.
     pub fn settle(&mut self) -> Result<usize, Refusal>
         ensures settles { (log : Log T) × Settles (IsExact T.is_clone) self.old result log self.new }
         ensures none_ready { OnOk result ((i : ℕ) → is_ready self.new [] i ≡ false) }
