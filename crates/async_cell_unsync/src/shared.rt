@@ -1,4 +1,5 @@
 ghost use Rattle.std.specs.Prelude.{◌≡◌, IfErr};
+ghost use Rattle.async_cell_unsync.specs.Refused.{IsOwnerRefusal};
 
 use crate::async_cell::AsyncCell;
 use crate::get::Get;
@@ -18,14 +19,14 @@ pub struct Shared<T> {
 impl<T: Drop> Shared<T> {
     /// The first owner of a new cell without a value. Refused with `Memory`.
     pub fn shared(alloc: Global) -> Result<Self, Refusal>
-        ensures { IfErr result (λ why. why ≡ Refusal.Memory) }
+        ensures refused { IfErr result (λ why. why ≡ Refusal.Memory) }
     {
         Shared::into_shared(AsyncCell::new(alloc)).map_err(|(why, _)| why)
     }
 
     /// The first owner of a cell. Refused with `Memory`, and then the cell comes back.
     pub fn into_shared(cell: AsyncCell<T>) -> Result<Self, (Refusal, AsyncCell<T>)>
-        ensures { IfErr result (λ refused. refused.0 ≡ Refusal.Memory) }
+        ensures comes_back { IfErr result (λ back. back ≡ (Refusal.Memory, cell)) }
     {
         match Rc::new(cell.allocator(), cell) {
             Ok(cell) => Ok(Shared { cell }),
@@ -35,23 +36,30 @@ impl<T: Drop> Shared<T> {
 
     /// One owner more, in place of a clone. Refused with `Memory` where the pointer can't be counted, and with
     /// `OwnersFull`.
-    pub fn another(&self) -> Result<Self, Refusal> {
+    pub fn another(&self) -> Result<Self, Refusal>
+        ensures refused { IfErr result IsOwnerRefusal }
+    {
         Shared::owning(&self.cell)
     }
 
     /// A new owner that takes the value. Refused as `another` is.
-    pub fn take_shared(&self) -> Result<Take<Self>, Refusal> {
+    pub fn take_shared(&self) -> Result<Take<Self>, Refusal>
+        ensures refused { IfErr result IsOwnerRefusal }
+    {
         Ok(Take(self.another()?))
     }
 
     /// A new owner that clones the value and leaves it. Refused as `another` is.
-    pub fn get_shared(&self) -> Result<Get<Self>, Refusal> {
+    pub fn get_shared(&self) -> Result<Get<Self>, Refusal>
+        ensures refused { IfErr result IsOwnerRefusal }
+    {
         Ok(Get(self.another()?))
     }
 
     /// A guard that is a new owner. Refused as `another` is, and then the value comes back.
     pub fn guard_shared(&self, cancel: T) -> Result<GuardedCell<T, Self>, (Refusal, T)>
-        ensures comes_back { IfErr result (λ refused. refused.1 ≡ cancel) }
+        ensures refused { IfErr result (λ back. IsOwnerRefusal back.0) }
+        ensures comes_back { IfErr result (λ back. back.1 ≡ cancel) }
     {
         match self.another() {
             Ok(owner) => Ok(GuardedCell::new(owner, cancel)),
@@ -71,20 +79,23 @@ impl<T: Drop> Shared<T> {
 
     /// Closes the cell of a sole owner and gives its content. All that wait are woken. Beside other owners this one comes
     /// back.
-    pub fn try_into_inner(self) -> Result<Option<T>, Self> {
+    pub fn try_into_inner(self) -> Result<Option<T>, Self>
+        ensures comes_back { IfErr result (λ back. back ≡ self) }
+    {
         match self.cell.take_inner() {
-            Ok(content) => {
-                let Shared { cell: _ } = self;
-                Ok(content)
-            }
             Err(Refusal::StillShared) => Err(self),
-            Err(_) => Ok(None),
+            taken => {
+                let Shared { cell: _ } = self;
+                Ok(taken.unwrap_or(None))
+            }
         }
     }
 
     /// A new owner of the cell. Refused with `Memory` where the pointer can't be counted, and else with `Closed` and
     /// `OwnersFull`.
-    pub(crate) fn owning(cell: &Rc<AsyncCell<T>>) -> Result<Self, Refusal> {
+    pub(crate) fn owning(cell: &Rc<AsyncCell<T>>) -> Result<Self, Refusal>
+        ensures refused { IfErr result IsOwnerRefusal }
+    {
         let pointer: Result<Rc<AsyncCell<T>>, AllocError> = cell.clone();
         let cell = pointer?;
         cell.add_owner()?;
@@ -100,7 +111,9 @@ impl<T: Drop> Shared<T> {
 
 impl Shared<()> {
     /// A new owner that waits for `notify`. Refused as `another` is.
-    pub fn wait_shared(&self) -> Result<Take<Self>, Refusal> {
+    pub fn wait_shared(&self) -> Result<Take<Self>, Refusal>
+        ensures refused { IfErr result IsOwnerRefusal }
+    {
         self.take_shared()
     }
 }

@@ -1,4 +1,5 @@
-ghost use Rattle.futures.specs.Poll.{OnPending};
+ghost use Rattle.std.specs.Prelude.{◌≡◌, ◌⊎◌, IfErr};
+ghost use Rattle.futures.specs.Poll.{IfReady, OnPending};
 ghost use Rattle.futures.specs.Task.{Covers, Keeps};
 
 use crate::cell_ref::CellRef;
@@ -16,11 +17,11 @@ impl<C: CellRef> Take<C> {
     pub fn poll_shared(&self, cx: &mut Context<'_>) -> Poll<Result<C::Value, Refusal>>
         ensures registered { OnPending result (Covers cx.new (C.waits_for self.now.0)) }
         ensures kept { Keeps cx.old cx.new }
+        ensures refused { IfReady result (λ answer. IfErr answer (λ why. (why ≡ Refusal.Memory) ⊎ (why ≡ Refusal.Closed))) }
     {
         match self.0.cell().poll_take(cx) {
-            Poll::Ready(taken) => Poll::Ready(taken.and_then(|content| content.ok_or(
-                Refusal::Closed,
-            ))),
+            Poll::Ready(Ok(taken)) => Poll::Ready(taken.ok_or(Refusal::Closed)),
+            Poll::Ready(Err(why)) => Poll::Ready(Err(why)),
             Poll::Pending => Poll::Pending,
         }
     }

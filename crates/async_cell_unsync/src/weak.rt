@@ -1,4 +1,4 @@
-ghost use Rattle.std.specs.Prelude.{◌≡◌, ℕ, IfOk, IfErr};
+ghost use Rattle.std.specs.Prelude.{◌≡◌, ◌⊎◌, ℕ, IfOk, IfErr};
 ghost use Rattle.futures.specs.Poll.{IfReady, OnPending};
 ghost use Rattle.futures.specs.Task.{Covers, Keeps};
 ghost use Rattle.async_cell_unsync.specs.Source.{source_of, IsSourceOf};
@@ -29,7 +29,7 @@ impl<T: Drop> Weak<T> {
     /// The cell. Refused with `Memory` where the pointer could not be counted when it was made.
     fn cell(&self) -> Result<&AsyncCell<T>, Refusal>
         ensures source { IfOk result (λ cell. (s : ℕ) → IsSourceOf self.now s → s ≡ source_of cell.now) }
-        ensures only_for_memory { IfErr result (λ why. why ≡ Refusal.Memory) }
+        ensures refused { IfErr result (λ why. why ≡ Refusal.Memory) }
     {
         match &self.cell {
             Some(cell) => Ok(cell.as_ref()),
@@ -38,7 +38,9 @@ impl<T: Drop> Weak<T> {
     }
 
     /// A new owner, or none of a closed cell. Refused with `Memory` and `OwnersFull`; want of memory is found first.
-    fn upgrade(&self) -> Result<Option<Shared<T>>, Refusal> {
+    fn upgrade(&self) -> Result<Option<Shared<T>>, Refusal>
+        ensures refused { IfErr result (λ why. (why ≡ Refusal.Memory) ⊎ (why ≡ Refusal.OwnersFull)) }
+    {
         let cell = self.cell.as_ref().ok_or(Refusal::Memory)?;
         match Shared::owning(cell) {
             Ok(owner) => Ok(Some(owner)),
@@ -71,7 +73,7 @@ impl<T: Drop> TakeWeak<T> {
     pub fn poll_shared(&self, cx: &mut Context<'_>) -> Poll<Result<Option<T>, Refusal>>
         ensures registered { OnPending result (Covers cx.new (IsSourceOf self.now.0)) }
         ensures kept { Keeps cx.old cx.new }
-        ensures only_for_memory { IfReady result (λ told. IfErr told (λ why. why ≡ Refusal.Memory)) }
+        ensures refused { IfReady result (λ answer. IfErr answer (λ why. why ≡ Refusal.Memory)) }
     {
         match self.0.cell() {
             Ok(cell) => cell.poll_take(cx),
@@ -81,7 +83,9 @@ impl<T: Drop> TakeWeak<T> {
 
     /// A new owner that takes the value, or none where the cell is closed. Refused with `Memory`, which is found first, and
     /// with `OwnersFull`.
-    pub fn upgrade(&self) -> Result<Option<Take<Shared<T>>>, Refusal> {
+    pub fn upgrade(&self) -> Result<Option<Take<Shared<T>>>, Refusal>
+        ensures refused { IfErr result (λ why. (why ≡ Refusal.Memory) ⊎ (why ≡ Refusal.OwnersFull)) }
+    {
         Ok(self.0.upgrade()?.map(Take))
     }
 }
@@ -114,7 +118,7 @@ impl<T: Clone> GetWeak<T> {
     pub fn poll_shared(&self, cx: &mut Context<'_>) -> Poll<Result<Option<T>, Refusal>>
         ensures registered { OnPending result (Covers cx.new (IsSourceOf self.now.0)) }
         ensures kept { Keeps cx.old cx.new }
-        ensures only_for_memory { IfReady result (λ told. IfErr told (λ why. why ≡ Refusal.Memory)) }
+        ensures refused { IfReady result (λ answer. IfErr answer (λ why. why ≡ Refusal.Memory)) }
     {
         match self.0.cell() {
             Ok(cell) => cell.poll_get(cx),
@@ -126,7 +130,9 @@ impl<T: Clone> GetWeak<T> {
 impl<T: Drop> GetWeak<T> {
     /// A new owner that clones the value and leaves it, or none where the cell is closed. Refused with `Memory`, which is
     /// found first, and with `OwnersFull`.
-    pub fn upgrade(&self) -> Result<Option<Get<Shared<T>>>, Refusal> {
+    pub fn upgrade(&self) -> Result<Option<Get<Shared<T>>>, Refusal>
+        ensures refused { IfErr result (λ why. (why ≡ Refusal.Memory) ⊎ (why ≡ Refusal.OwnersFull)) }
+    {
         Ok(self.0.upgrade()?.map(Get))
     }
 }

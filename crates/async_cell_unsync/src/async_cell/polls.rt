@@ -16,7 +16,7 @@ impl<T: Drop> AsyncCell<T> {
         ensures armed { OnPending result (IsArmed cx.new) }
         ensures heard { OnPending result (Hears cx.new (source_of self.now)) }
         ensures kept { Keeps cx.old cx.new }
-        ensures only_for_memory { IfReady result (λ told. IfErr told (λ why. why ≡ Refusal.Memory)) }
+        ensures refused { IfReady result (λ answer. IfErr answer (λ why. why ≡ Refusal.Memory)) }
     {
         let Some(mut core) = self.lend() else {
             return Poll::Ready(Ok(None));
@@ -48,7 +48,7 @@ impl<T: Drop> AsyncCell<T> {
         ensures armed { OnPending result (IsArmed cx.new) }
         ensures heard { OnPending result (Hears cx.new (source_of self.now)) }
         ensures kept { Keeps cx.old cx.new }
-        ensures only_for_memory { IfReady result (λ told. IfErr told (λ why. why ≡ Refusal.Memory)) }
+        ensures refused { IfReady result (λ answer. IfErr answer (λ why. why ≡ Refusal.Memory)) }
     {
         match self.poll_take(cx) {
             Poll::Ready(Ok(taken)) => Poll::Ready(self.copy_back(taken)),

@@ -1,5 +1,5 @@
 //! The steps on the core: between two of them the cell is in order, and only then are wakers woken and values dropped.
-ghost use Rattle.std.specs.Prelude.{◌≡◌, IfSome, IfErr};
+ghost use Rattle.std.specs.Prelude.{◌≡◌, ◌⊎◌, IfSome, IfErr};
 ghost use Rattle.std.specs.RefCell.{ref_mut_value};
 ghost use Rattle.async_cell_model.specs.History.{IsBeginning};
 
@@ -53,7 +53,7 @@ impl<T: Drop> AsyncCell<T> {
     pub(super) fn copy_back(&self, taken: Option<T>) -> Result<Option<T>, Refusal>
     where
         T: Clone,
-        ensures { IfErr result (λ why. why ≡ Refusal.Memory) }
+        ensures refused { IfErr result (λ why. why ≡ Refusal.Memory) }
     {
         let Some(value) = taken else {
             return Ok(None);
@@ -77,7 +77,9 @@ impl<T: Drop> AsyncCell<T> {
     }
 
     /// One owner more. Refused with `Closed` and `OwnersFull`.
-    pub(crate) fn add_owner(&self) -> Result<(), Refusal> {
+    pub(crate) fn add_owner(&self) -> Result<(), Refusal>
+        ensures refused { IfErr result (λ why. (why ≡ Refusal.Closed) ⊎ (why ≡ Refusal.OwnersFull)) }
+    {
         let mut core = self.lend().ok_or(Refusal::Closed)?;
         core.add_owner()
     }
