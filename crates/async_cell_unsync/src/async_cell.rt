@@ -42,14 +42,14 @@ impl<T: Drop> AsyncCell<T> {
 
     /// A cell without a value, with one counted owner. Refused with `Memory`.
     pub fn shared(alloc: Global) -> Result<Shared<T>, Refusal>
-        ensures { IfErr result (λ why. why ≡ Refusal.Memory) }
+        ensures refused { IfErr result (λ why. why ≡ Refusal.Memory) }
     {
         Shared::shared(alloc)
     }
 
     /// This cell, with one counted owner. Refused with `Memory`, and then the cell comes back.
     pub fn into_shared(self) -> Result<Shared<T>, (Refusal, AsyncCell<T>)>
-        ensures { IfErr result (λ refused. refused.0 ≡ Refusal.Memory) }
+        ensures comes_back { IfErr result (λ back. back ≡ (Refusal.Memory, self)) }
     {
         Shared::into_shared(self)
     }
@@ -105,7 +105,7 @@ impl<T: Drop> AsyncCell<T> {
     pub fn try_get(&self) -> Result<Option<T>, Refusal>
     where
         T: Clone,
-        ensures { IfErr result (λ why. why ≡ Refusal.Memory) }
+        ensures refused { IfErr result (λ why. why ≡ Refusal.Memory) }
     {
         self.copy_back(self.try_take())
     }

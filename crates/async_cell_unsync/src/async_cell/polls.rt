@@ -1,13 +1,16 @@
 //! Polls: a step that answers, or that leaves the task's waker.
-ghost use Rattle.std.specs.Prelude.{◌≡◌, IfErr};
+ghost use Rattle.std.specs.Prelude.{◌≡◌, true, IfErr};
+ghost use Rattle.std.specs.RefCell.{ref_mut_value};
 ghost use Rattle.futures.specs.Poll.{IfReady, OnPending};
 ghost use Rattle.futures.specs.Task.{Hears, IsArmed, Keeps};
+ghost use Rattle.async_cell_model.specs.Cell.{is_vacant};
 ghost use Rattle.async_cell_unsync.specs.Source.{source_of};
 
 use super::AsyncCell;
-use async_cell_core::Refusal;
+use async_cell_core::{Core, Refusal};
 use async_cell_task::TaskWaker;
-use futures::task::{Context, Poll};
+use futures::task::{Context, Poll, Source};
+use std::cell::RefMut;
 
 impl<T: Drop> AsyncCell<T> {
     /// Takes the value, or waits for one. Ready with none on a closed cell. Refused with `Memory` where the task's waker or
@@ -21,24 +24,10 @@ impl<T: Drop> AsyncCell<T> {
         let Some(mut core) = self.lend() else {
             return Poll::Ready(Ok(None));
         };
-        if !core.is_vacant() {
-            return Poll::Ready(Ok(core.try_take()));
+        if core.is_vacant() {
+            return wait(core, &self.source, cx);
         }
-        let Some(waker) = TaskWaker::register(cx, &self.source) else {
-            return Poll::Ready(Err(Refusal::Memory));
-        };
-        let registered = core.register(waker);
-        drop(core);
-        match registered {
-            Ok(unused) => {
-                drop(unused);
-                Poll::Pending
-            }
-            Err(waker) => {
-                drop(waker);
-                Poll::Ready(Err(Refusal::Memory))
-            }
-        }
+        Poll::Ready(Ok(core.try_take()))
     }
 
     /// Clones the value and leaves it, or waits for one as `poll_take` does. Refused with `Memory` where the clone was, too.
@@ -53,6 +42,36 @@ impl<T: Drop> AsyncCell<T> {
         match self.poll_take(cx) {
             Poll::Ready(Ok(taken)) => Poll::Ready(self.copy_back(taken)),
             other => other,
+        }
+    }
+}
+
+/// Leaves the task's waker in a cell that is vacant. One that finds no place is dropped after the step, and wakes its task
+/// then.
+fn wait<T: Drop>(
+    mut core: RefMut<'_, Core<T, TaskWaker>>,
+    source: &Source,
+    cx: &mut Context<'_>,
+) -> Poll<Result<Option<T>, Refusal>>
+    requires { is_vacant (ref_mut_value core).cell ≡ true }
+    ensures armed { OnPending result (IsArmed cx.new) }
+    ensures heard { OnPending result (Hears cx.new source.now.id) }
+    ensures kept { Keeps cx.old cx.new }
+    ensures refused { IfReady result (λ answer. IfErr answer (λ why. why ≡ Refusal.Memory)) }
+{
+    let Some(waker) = TaskWaker::register(cx, source) else {
+        return Poll::Ready(Err(Refusal::Memory));
+    };
+    let registered = core.register(waker);
+    drop(core);
+    match registered {
+        Ok(unused) => {
+            drop(unused);
+            Poll::Pending
+        }
+        Err(waker) => {
+            drop(waker);
+            Poll::Ready(Err(Refusal::Memory))
         }
     }
 }
