@@ -23,7 +23,7 @@ use std::sync::Wait;
 #[derive(Drop)]
 pub struct AsyncCell<T> {
     core: LockedCore<T, TaskWaker>,
-    /// What every task that waits here waits for.
+    /// The source that waiting tasks register with.
     source: Source,
     alloc: Global,
 }
@@ -43,14 +43,14 @@ impl<T: Drop> AsyncCell<T> {
     pub fn shared(alloc: Global) -> Result<Shared<T>, Refusal>
         ensures refused { IfErr result (λ why. why ≡ Refusal.Memory) }
     {
-        Shared::shared(alloc)
+        Shared::new(alloc)
     }
 
     /// This cell, with one counted owner. Refused with `Memory`, and then the cell comes back.
     pub fn into_shared(self) -> Result<Shared<T>, (Refusal, AsyncCell<T>)>
         ensures comes_back { IfErr result (λ back. back ≡ (Refusal.Memory, self)) }
     {
-        Shared::into_shared(self)
+        Shared::first_of(self)
     }
 
     /// Puts the value in and drops the old one. All that wait are woken.

@@ -4,6 +4,7 @@ use std::sync::{Arc, Wait};
 
 /// A pointer to a cell. `Take`, `Get` and guards work over any.
 pub trait CellRef {
+    /// What the cell holds.
     type Value: Drop;
 
     /// The cell that it points to.
@@ -37,7 +38,7 @@ impl<T: Drop> CellRef for Shared<T> {
     type Value = T;
 
     fn cell(&self) -> &AsyncCell<T> {
-        self.as_cell()
+        Shared::cell(self)
     }
 
     fn leave<R: Wait>(self, rt: &R) {
@@ -49,7 +50,7 @@ impl<T: Drop> CellRef for &Shared<T> {
     type Value = T;
 
     fn cell(&self) -> &AsyncCell<T> {
-        self.as_cell()
+        Shared::cell(*self)
     }
 
     fn leave<R: Wait>(self, _: &R) {}

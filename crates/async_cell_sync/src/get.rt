@@ -8,8 +8,9 @@ use async_cell_core::Refusal;
 use futures::task::{Context, Poll};
 use std::sync::Wait;
 
-/// Clones the value of a cell and leaves it. It may be polled again after it was ready, and gives further values. `with`
-/// gives the future.
+/// Clones the value of a cell and leaves it. It may be polled again after it was ready, and gives further values.
+/// `with` gives the future. Each poll that waits adds one waker, which stays until the next fill or close, also when
+/// the future is dropped.
 ///
 /// A `Get` of a `Shared` must be spent, as its owner must: by `.0.end(rt)`.
 #[derive(Clone, Copy, Drop)]
@@ -38,8 +39,9 @@ where
     }
 }
 
-impl<C> Get<C> {
-    /// The future, which keeps the right to wait for the lock: a poll of `futures` is lent none.
+impl<C: Drop> Get<C> {
+    /// The future, which keeps the right to wait for the lock: a poll of `futures` is lent none. Not for a `Get` of an
+    /// owner, which must be spent: poll that by `poll_shared`.
     pub fn with<R: Wait>(self, rt: R) -> With<Self, R> {
         With::new(self, rt)
     }

@@ -20,14 +20,14 @@ pub struct Shared<T> {
 
 impl<T: Drop> Shared<T> {
     /// The first owner of a new cell without a value. Refused with `Memory`.
-    pub fn shared(alloc: Global) -> Result<Self, Refusal>
+    pub(crate) fn new(alloc: Global) -> Result<Self, Refusal>
         ensures refused { IfErr result (λ why. why ≡ Refusal.Memory) }
     {
-        Shared::into_shared(AsyncCell::new(alloc)).map_err(|(why, _)| why)
+        Shared::first_of(AsyncCell::new(alloc)).map_err(|(why, _)| why)
     }
 
     /// The first owner of a cell. Refused with `Memory`, and then the cell comes back.
-    pub fn into_shared(cell: AsyncCell<T>) -> Result<Self, (Refusal, AsyncCell<T>)>
+    pub(crate) fn first_of(cell: AsyncCell<T>) -> Result<Self, (Refusal, AsyncCell<T>)>
         ensures comes_back { IfErr result (λ back. back ≡ (Refusal.Memory, cell)) }
     {
         match Arc::new(cell.allocator(), cell) {
@@ -36,8 +36,13 @@ impl<T: Drop> Shared<T> {
         }
     }
 
+    /// The cell, to call it.
+    pub fn cell(&self) -> &AsyncCell<T> {
+        self.cell.as_ref()
+    }
+
     /// One owner more, in place of a clone. Refused with `Memory` where the pointer can't be counted, and with
-    /// `OwnersFull`.
+    /// `OwnersFull`. `Closed` is in the contract, and does not come about while this owner lives.
     pub fn another<R: Wait>(&self, rt: &R) -> Result<Self, Refusal>
         ensures refused { IfErr result IsOwnerRefusal }
     {
@@ -111,10 +116,6 @@ impl<T: Drop> Shared<T> {
         let cell = Arc::try_clone(cell)?;
         cell.add_owner(rt)?;
         Ok(Shared { cell })
-    }
-
-    pub(crate) fn as_cell(&self) -> &AsyncCell<T> {
-        self.cell.as_ref()
     }
 }
 

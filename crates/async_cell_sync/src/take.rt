@@ -8,7 +8,9 @@ use async_cell_core::Refusal;
 use futures::task::{Context, Poll};
 use std::sync::Wait;
 
-/// Takes the value of a cell. It may be polled again after it was ready, and gives further values. `with` gives the future.
+/// Takes the value of a cell. It may be polled again after it was ready, and gives further values. `with` gives the
+/// future. Each poll that waits adds one waker, which stays until the next fill or close, also when the future is
+/// dropped.
 ///
 /// A `Take` of a `Shared` must be spent, as its owner must: by `.0.end(rt)`.
 #[derive(Clone, Copy, Drop)]
@@ -34,8 +36,9 @@ impl<C: CellRef> Take<C> {
     }
 }
 
-impl<C> Take<C> {
-    /// The future, which keeps the right to wait for the lock: a poll of `futures` is lent none.
+impl<C: Drop> Take<C> {
+    /// The future, which keeps the right to wait for the lock: a poll of `futures` is lent none. Not for a `Take` of an
+    /// owner, which must be spent: poll that by `poll_shared`.
     pub fn with<R: Wait>(self, rt: R) -> With<Self, R> {
         With::new(self, rt)
     }

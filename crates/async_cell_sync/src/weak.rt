@@ -62,6 +62,7 @@ impl<T: Drop> Clone for Weak<T> {
 }
 
 /// Takes the value of a cell and is no owner of it. It may be polled again after it was ready. `with` gives the future.
+/// Each poll that waits adds one waker, which stays until the next fill or close, also when the future is dropped.
 #[derive(Drop)]
 pub struct TakeWeak<T>(pub Weak<T>);
 
@@ -104,8 +105,9 @@ impl<T: Drop> Clone for TakeWeak<T> {
     }
 }
 
-/// Clones the value of a cell, leaves it, and is no owner of the cell. It may be polled again after it was ready. `with`
-/// gives the future.
+/// Clones the value of a cell, leaves it, and is no owner of the cell. It may be polled again after it was ready.
+/// `with` gives the future. Each poll that waits adds one waker, which stays until the next fill or close, also when
+/// the future is dropped.
 #[derive(Drop)]
 pub struct GetWeak<T>(pub Weak<T>);
 

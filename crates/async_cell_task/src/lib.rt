@@ -1,4 +1,4 @@
-//! The wakers of tasks, as the cells keep them, and what a poll of a cell owes to its task.
+//! The waker of a task of `futures`, as the cells keep it.
 #![tactic(auto)]
 
 mod task_waker;

@@ -21,9 +21,8 @@ impl Model for TaskWaker {
 }
 
 impl TaskWaker {
-    /// The waker of the task that this context polls, registered at the source. The source is one of what the task waits
-    /// for: whoever keeps the waker wakes or drops it when there is something new. None where there was no memory for a
-    /// waker, and then the task is polled again.
+    /// Makes a waker for the task being polled, and registers it with `source`. Keep it, and wake or drop it when there is
+    /// news. `None` if there was no memory; the task is then polled again.
     pub fn register(cx: &mut Context<'_>, source: &Source) -> Option<TaskWaker>
         ensures armed { IsArmed cx.new }
         ensures heard { Hears cx.new source.now.id }

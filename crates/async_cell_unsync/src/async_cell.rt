@@ -20,11 +20,11 @@ use std::cell::RefCell;
 /// Wakers are woken and values are dropped when the cell is in order again, so whatever runs then may call the cell. While
 /// a closure, a clone or a value's own printing runs, only the value is out: the cell then looks empty to calls made from
 /// inside, and pointers that are made or ended inside are counted. Afterwards the value is put over whatever came
-/// meanwhile. No call takes a lock or waits.
+/// meanwhile. No call takes a lock or waits. Dropping a cell wakes all that wait.
 #[derive(Drop)]
 pub struct AsyncCell<T> {
     core: RefCell<Core<T, TaskWaker>>,
-    /// What every task that waits here waits for.
+    /// The source that waiting tasks register with.
     source: Source,
     alloc: Global,
 }
@@ -44,14 +44,14 @@ impl<T: Drop> AsyncCell<T> {
     pub fn shared(alloc: Global) -> Result<Shared<T>, Refusal>
         ensures refused { IfErr result (λ why. why ≡ Refusal.Memory) }
     {
-        Shared::shared(alloc)
+        Shared::new(alloc)
     }
 
     /// This cell, with one counted owner. Refused with `Memory`, and then the cell comes back.
     pub fn into_shared(self) -> Result<Shared<T>, (Refusal, AsyncCell<T>)>
         ensures comes_back { IfErr result (λ back. back ≡ (Refusal.Memory, self)) }
     {
-        Shared::into_shared(self)
+        Shared::first_of(self)
     }
 
     /// Puts the value in and drops the old one. All that wait are woken.
@@ -74,8 +74,8 @@ impl<T: Drop> AsyncCell<T> {
         old
     }
 
-    /// Calls the closure on the content, and puts its answer over whatever came meanwhile: a value, and all that wait are
-    /// woken, or none.
+    /// Calls the closure on the content and stores its answer, over whatever calls made from inside have left. If the answer
+    /// is a value, all that wait are woken.
     pub fn update<F: FnOnce(Option<T>) -> Option<T> + Drop>(&self, change: F)
         requires { F.IsAlwaysCallable change }
     {
@@ -85,7 +85,7 @@ impl<T: Drop> AsyncCell<T> {
         }
     }
 
-    /// Calls the closure on the value, if there is one, and puts its answer over whatever came meanwhile.
+    /// Calls the closure on the value, if there is one, and stores its answer, over whatever calls made from inside have left.
     pub fn update_some<F: FnOnce(T) -> T + Drop>(&self, change: F)
         requires { F.IsAlwaysCallable change }
     {

@@ -7,9 +7,11 @@ use std::rc::Rc;
 
 /// A pointer to a cell. `Take`, `Get` and guards work over any.
 pub trait CellRef: Drop {
+    /// What the cell holds.
     type Value: Drop;
 
-    /// Holds of each source that a future over this pointer waits for. A pointer of a user's own may leave it out.
+    /// Names the source that a pending future over this pointer has registered with. Leave it out in your own impl: nothing
+    /// is then promised of the source.
     ghost waits_for: { Self → ℕ → Type 0 } = { λ _ _. ⊥ };
 
     /// The cell that it points to.
@@ -43,7 +45,7 @@ impl<T: Drop> CellRef for Shared<T> {
     ghost waits_for = { λ p s. s ≡ source_of p.cell.value };
 
     fn cell(&self) -> &AsyncCell<T> {
-        self.as_cell()
+        Shared::cell(self)
     }
 }
 
@@ -53,6 +55,6 @@ impl<T: Drop> CellRef for &Shared<T> {
     ghost waits_for = { λ p s. s ≡ source_of p.now.cell.value };
 
     fn cell(&self) -> &AsyncCell<T> {
-        self.as_cell()
+        Shared::cell(*self)
     }
 }

@@ -8,7 +8,8 @@ use futures::future::Future;
 use futures::task::{Context, Poll};
 
 /// A future that clones the value of a cell and leaves it. It may be polled again after it was ready, and gives further
-/// values.
+/// values. Each poll that waits adds one waker, which stays until the next fill or close, also when the future is
+/// dropped.
 #[derive(Clone, Copy, Drop)]
 pub struct Get<C>(pub C);
 

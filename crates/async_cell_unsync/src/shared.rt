@@ -18,14 +18,14 @@ pub struct Shared<T> {
 
 impl<T: Drop> Shared<T> {
     /// The first owner of a new cell without a value. Refused with `Memory`.
-    pub fn shared(alloc: Global) -> Result<Self, Refusal>
+    pub(crate) fn new(alloc: Global) -> Result<Self, Refusal>
         ensures refused { IfErr result (λ why. why ≡ Refusal.Memory) }
     {
-        Shared::into_shared(AsyncCell::new(alloc)).map_err(|(why, _)| why)
+        Shared::first_of(AsyncCell::new(alloc)).map_err(|(why, _)| why)
     }
 
     /// The first owner of a cell. Refused with `Memory`, and then the cell comes back.
-    pub fn into_shared(cell: AsyncCell<T>) -> Result<Self, (Refusal, AsyncCell<T>)>
+    pub(crate) fn first_of(cell: AsyncCell<T>) -> Result<Self, (Refusal, AsyncCell<T>)>
         ensures comes_back { IfErr result (λ back. back ≡ (Refusal.Memory, cell)) }
     {
         match Rc::new(cell.allocator(), cell) {
@@ -34,8 +34,15 @@ impl<T: Drop> Shared<T> {
         }
     }
 
+    /// The cell, to call it.
+    pub fn cell(&self) -> &AsyncCell<T>
+        ensures held { result.now ≡ self.now.cell.value }
+    {
+        self.cell.as_ref()
+    }
+
     /// One owner more, in place of a clone. Refused with `Memory` where the pointer can't be counted, and with
-    /// `OwnersFull`.
+    /// `OwnersFull`. `Closed` is in the contract, and does not come about while this owner lives.
     pub fn another(&self) -> Result<Self, Refusal>
         ensures refused { IfErr result IsOwnerRefusal }
     {
@@ -100,12 +107,6 @@ impl<T: Drop> Shared<T> {
         let cell = pointer?;
         cell.add_owner()?;
         Ok(Shared { cell })
-    }
-
-    pub(crate) fn as_cell(&self) -> &AsyncCell<T>
-        ensures { result.now ≡ self.now.cell.value }
-    {
-        self.cell.as_ref()
     }
 }
 

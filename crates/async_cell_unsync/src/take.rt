@@ -7,7 +7,8 @@ use async_cell_core::Refusal;
 use futures::future::Future;
 use futures::task::{Context, Poll};
 
-/// A future that takes the value of a cell. It may be polled again after it was ready, and gives further values.
+/// A future that takes the value of a cell. It may be polled again after it was ready, and gives further values. Each
+/// poll that waits adds one waker, which stays until the next fill or close, also when the future is dropped.
 #[derive(Clone, Copy, Drop)]
 pub struct Take<C>(pub C);
 

@@ -63,7 +63,8 @@ impl<T: Drop> Clone for Weak<T> {
     }
 }
 
-/// A future that takes the value of a cell and is no owner of it. It may be polled again after it was ready.
+/// A future that takes the value of a cell and is no owner of it. It may be polled again after it was ready. Each poll
+/// that waits adds one waker, which stays until the next fill or close, also when the future is dropped.
 #[derive(Drop)]
 pub struct TakeWeak<T>(pub Weak<T>);
 
@@ -107,8 +108,9 @@ impl<T: Drop> Future for TakeWeak<T> {
     }
 }
 
-/// A future that clones the value of a cell, leaves it, and is no owner of the cell. It may be polled again after it was
-/// ready.
+/// A future that clones the value of a cell, leaves it, and is no owner of the cell. It may be polled again after it
+/// was ready. Each poll that waits adds one waker, which stays until the next fill or close, also when the future is
+/// dropped.
 #[derive(Drop)]
 pub struct GetWeak<T>(pub Weak<T>);
 
