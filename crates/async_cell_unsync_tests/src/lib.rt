@@ -4,11 +4,11 @@
 #[cfg(test)]
 mod guards;
 #[cfg(test)]
+mod memory;
+#[cfg(test)]
 mod owners;
 #[cfg(test)]
 mod reentry;
-#[cfg(test)]
-mod refused;
 #[cfg(test)]
 mod texts;
 #[cfg(test)]

@@ -1,6 +1,6 @@
 //! Owners, weak futures and the close.
 use crate::ticks::tick_future;
-use async_cell_unsync::{AsyncCell, CellRef};
+use async_cell_unsync::AsyncCell;
 use futures::task::Poll;
 use futures::test::MockTask;
 use std::test::Fail;
@@ -98,5 +98,31 @@ fn weak_ones_are_cloned_and_are_no_owners(rt: HostRuntime) -> Result<(), Fail> {
     drop(shared);
     assert!(rt; flag.is_woken());
     assert_eq!(rt; tick_future(&mut get, &flag), Poll::Ready(Ok(None)));
+    Ok(())
+}
+
+#[test]
+fn each_future_is_polled_by_a_shared_reference(rt: HostRuntime) -> Result<(), Fail> {
+    let shared = AsyncCell::<u32>::shared(rt.alloc())?;
+    let flag = MockTask::new(&rt)?;
+    let (take, get) = (shared.take_shared()?, shared.get_shared()?);
+    let (take_weak, get_weak) = (shared.take_weak(), shared.get_weak());
+    assert_eq!(rt; flag.enter(|cx| get.poll_shared(cx)), Poll::Pending);
+    assert_eq!(rt; flag.enter(|cx| get_weak.poll_shared(cx)), Poll::Pending);
+    shared.cell().set(4);
+    assert!(rt; flag.is_woken());
+    assert_eq!(rt; flag.enter(|cx| get.poll_shared(cx)), Poll::Ready(Ok(4)));
+    assert_eq!(rt;
+        flag.enter(|cx| get_weak.poll_shared(cx)),
+        Poll::Ready(Ok(Some(4)))
+    );
+    assert_eq!(rt; flag.enter(|cx| take.poll_shared(cx)), Poll::Ready(Ok(4)));
+    assert_eq!(rt; flag.enter(|cx| take_weak.poll_shared(cx)), Poll::Pending);
+    shared.cell().set(5);
+    assert_eq!(rt;
+        flag.enter(|cx| take_weak.poll_shared(cx)),
+        Poll::Ready(Ok(Some(5)))
+    );
+    assert_eq!(rt; flag.enter(|cx| take.poll_shared(cx)), Poll::Pending);
     Ok(())
 }

@@ -1,6 +1,6 @@
-//! Calls made from inside a closure, a clone or a print: only the value is out then.
+//! Calls made from inside a closure of `update` or `update_some`: only the value is out then.
 use crate::ticks::tick_future;
-use async_cell_unsync::{AsyncCell, CellRef};
+use async_cell_unsync::AsyncCell;
 use futures::task::Poll;
 use futures::test::MockTask;
 use std::cell::Cell;
@@ -77,6 +77,19 @@ fn the_answer_is_put_over_what_was_set_inside(rt: HostRuntime) -> Result<(), Fai
     assert!(rt; flag.is_woken());
     assert_eq!(rt; cell.try_get(), Ok(Some(1)));
     Ok(())
+}
+
+#[test]
+fn the_answer_on_a_value_is_put_over_what_was_set_inside(rt: HostRuntime) {
+    let cell: AsyncCell<u32> = AsyncCell::new_with(rt.alloc(), 3);
+    let was_set = Cell::new(true);
+    cell.update_some(|value| {
+        was_set.set(cell.is_set());
+        cell.set(9);
+        value.saturating_add(1)
+    });
+    assert!(rt; !was_set.get());
+    assert_eq!(rt; cell.try_get(), Ok(Some(4)));
 }
 
 #[test]

@@ -1,6 +1,6 @@
 //! The examples in the crate's texts and in its README.
 use crate::ticks::tick_future;
-use async_cell_unsync::{AsyncCell, Shared};
+use async_cell_unsync::AsyncCell;
 use futures::task::Poll;
 use futures::test::MockTask;
 use std::test::Fail;
@@ -82,9 +82,9 @@ fn text_of_take_weak(rt: HostRuntime) -> Result<(), Fail> {
     let shared = AsyncCell::shared(rt.alloc())?;
     let flag = MockTask::new(&rt)?;
     let mut weak = shared.take_weak();
-    cell_of(&shared).set(42u32);
+    shared.cell().set(42u32);
     assert_eq!(rt; tick_future(&mut weak, &flag), Poll::Ready(Ok(Some(42))));
-    cell_of(&shared).set(43);
+    shared.cell().set(43);
     drop(shared);
     assert_eq!(rt; tick_future(&mut weak, &flag), Poll::Ready(Ok(None)));
     Ok(())
@@ -95,7 +95,7 @@ fn text_of_get_weak(rt: HostRuntime) -> Result<(), Fail> {
     let shared = AsyncCell::shared(rt.alloc())?;
     let flag = MockTask::new(&rt)?;
     let mut weak = shared.get_weak();
-    cell_of(&shared).set(43u32);
+    shared.cell().set(43u32);
     drop(shared);
     assert_eq!(rt; tick_future(&mut weak, &flag), Poll::Ready(Ok(None)));
     Ok(())
@@ -107,7 +107,7 @@ fn a_future_from_a_callback(rt: HostRuntime) -> Result<(), Fail> {
     let flag = MockTask::new(&rt)?;
     let mut future = shared.take_shared()?;
     assert_eq!(rt; tick_future(&mut future, &flag), Poll::Pending);
-    let callback = || cell_of(&shared).set("Hello, World!");
+    let callback = || shared.cell().set("Hello, World!");
     callback();
     assert!(rt; flag.is_woken());
     assert_eq!(rt;
@@ -123,15 +123,10 @@ fn a_timer_that_counts_down(rt: HostRuntime) -> Result<(), Fail> {
     let flag = MockTask::new(&rt)?;
     let mut weak = shared.take_weak();
     for passed in 0..60u32 {
-        cell_of(&shared).set(59 - passed);
+        shared.cell().set(59 - passed);
     }
     assert_eq!(rt; tick_future(&mut weak, &flag), Poll::Ready(Ok(Some(0))));
     drop(shared);
     assert_eq!(rt; tick_future(&mut weak, &flag), Poll::Ready(Ok(None)));
     Ok(())
-}
-
-/// The cell of an owner.
-fn cell_of<T: Drop>(owner: &Shared<T>) -> &AsyncCell<T> {
-    async_cell_unsync::CellRef::cell(owner)
 }

@@ -1,7 +1,7 @@
 //! Memory that is refused, at whichever request: `rt try --test --fail-alloc N` refuses the Nth one of each test. With ample
 //! memory nothing is refused.
 use crate::ticks::tick_future;
-use async_cell_unsync::{AsyncCell, CellRef, Refusal};
+use async_cell_unsync::{AsyncCell, Refusal, Shared};
 use futures::task::Poll;
 use futures::test::MockTask;
 use std::alloc::AllocError;
@@ -15,7 +15,7 @@ fn flag(rt: &(impl RandomSource + AllocGlobal)) -> Option<MockTask> {
 }
 
 /// Asserts that this was the cell's last owner: its end closes the cell.
-fn assert_closes(rt: &impl Abort, owner: async_cell_unsync::Shared<u32>, flag: &MockTask) {
+fn assert_closes(rt: &impl Abort, owner: Shared<u32>, flag: &MockTask) {
     let mut weak = owner.take_weak();
     drop(owner);
     assert_eq!(rt; tick_future(&mut weak, flag), Poll::Ready(Ok(None)));
