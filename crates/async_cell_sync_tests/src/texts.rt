@@ -1,6 +1,6 @@
 //! The examples in the crate's texts and in its README.
 use crate::ticks::tick_future;
-use async_cell_sync::{AsyncCell, CellRef};
+use async_cell_sync::AsyncCell;
 use futures::task::Poll;
 use futures::test::MockTask;
 use std::test::Fail;
