@@ -1,4 +1,4 @@
-ghost use Rattle.std.specs.Prelude.{◌≡◌, None, IfErr, IsSomeAnd, true, ◌⊎◌};
+ghost use Rattle.std.specs.Prelude.{◌≡◌, Option, None, IfErr, IfSome, IsSomeAnd, OnOk, true, ◌⊎◌};
 ghost use Rattle.std.specs.Sync.Mutex.{mutex_guard_value};
 ghost use Rattle.async_cell_model.specs.History.{IsBeginning};
 
@@ -72,12 +72,14 @@ impl<T: Drop, W: Wakes> LockedCore<T, W> {
         F: FnOnce(Option<T>) -> Option<T> + Drop,
         R: Wait,
         requires { F.IsAlwaysCallable change }
+        ensures called { OnOk result ((saw put : Option T) × F.post change saw put) }
         ensures refused { IfErr result (λ why. why ≡ Refusal.Closed) }
     {
         let mut change = Some(change);
         let updated = self.lock(rt).update(
             |content: Option<T>| -> Option<T>
                 requires { IsSomeAnd change (λ f. F.IsAlwaysCallable f) }
+                ensures { IfSome change.entry (λ f. F.post f content result) }
             {
                 match change.take() {
                     Some(change) => change(content),
