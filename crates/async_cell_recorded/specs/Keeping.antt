@@ -37,6 +37,6 @@ module _ {T W : Type 0} where
   abbrev pub IsKept : {E : Type 0} → (E → Option T → Option T) → (E → T → T) → Call T W E → Kept T W → Type 0
   IsKept edit edit_some call kept = (c : Cell T) × (kept ≡ kept_call edit edit_some c call)
 
--- a recorded call is refused out of turn, or for want of memory
-abbrev pub IsRefusedBy : Refusal → Type 0
-IsRefusedBy why = (why ≡ OutOfTurn) ⊎ (why ≡ Memory)
+-- the refusals of a recorded call itself, which are no replies: out of turn, or for want of memory
+abbrev pub IsStepRefusal : Refusal → Type 0
+IsStepRefusal why = (why ≡ OutOfTurn) ⊎ (why ≡ Memory)

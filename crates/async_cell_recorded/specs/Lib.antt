@@ -1,3 +1,4 @@
 pub mod Counting
+pub mod Giving
 pub mod Keeping
 pub mod Recording

@@ -33,7 +33,7 @@ impl<M: Marker> Model for Books<M> {
 }
 
 impl<M: Marker> Books<M> {
-    /// New books, and the shares.
+    /// New books, and the shares. Refused where there was no memory, which is asked first.
     pub(crate) fn open(
         alloc: Global,
         shares: u32,
@@ -45,17 +45,18 @@ impl<M: Marker> Books<M> {
         ensures empty { IfOk result (λ new. new.0 ≡ record { calls = 0; picked = 0 }) }
         ensures fresh { IfOk result (λ new. new.1.items ≡ fresh shares) }
     {
+        let mut made = Vec::new(alloc);
+        made.reserve_exact(shares as usize)?;
         let Blanks { calls, answers } = blanks;
         let (calls, mut calls_left) = calls.open::<Calls<M>>();
         let (answers, mut answers_left) = answers.open::<Answers<M>>();
-        let mut made = Vec::new(alloc);
         for number in 0..shares {
-            made.push(Share {
+            made.push_reserved(Share {
                 number,
                 count: 0,
                 calls: calls_left.split_off(1, 0),
                 answers: answers_left.split_off(1, 0),
-            })?;
+            });
         }
         let books = Books {
             calls,

@@ -18,6 +18,6 @@ pub use entry::{Entry, Kept};
 pub use history::History;
 pub use journal::Journal;
 pub use marker::{Blanks, Marker, Pick};
-pub use recorded::Recorded;
+pub use recorded::{Answered, Recorded};
 pub use session::{Session, with_recorded};
 pub use share::Share;

@@ -56,7 +56,10 @@ impl<M: Marker> Ledger for Answers<M> {
 /// The two blank ledgers that a new recorded cell spends, with a part for each share.
 #[derive(Drop)]
 pub struct Blanks {
+    /// That of the calls.
     pub calls: Blank,
+
+    /// That of the answers that are picked.
     pub answers: Blank,
 }
 

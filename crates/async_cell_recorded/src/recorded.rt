@@ -1,7 +1,7 @@
-ghost use Rattle.std.specs.Prelude.{◌≡◌, ◌↔◌, ◌≤◌, length, vec_len, IsOk, IfOk, IfErr};
+ghost use Rattle.std.specs.Prelude.{◌≡◌, ◌↔◌, ◌≤◌, length, vec_len, IsOk, IfOk, IfErr, OnErr};
 ghost use Rattle.std.specs.List.{sum_by};
 ghost use Rattle.async_cell_recorded.specs.Recording.{IsRecorded};
-ghost use Rattle.async_cell_recorded.specs.Keeping.{IsKept, IsRefusedBy};
+ghost use Rattle.async_cell_recorded.specs.Keeping.{IsKept, IsStepRefusal};
 ghost use Rattle.async_cell_recorded.specs.Counting.{fresh, counted, picked};
 
 use crate::entry::Entry;
@@ -19,16 +19,21 @@ use std::sync::{Mutex, Wait};
 ///
 /// A call waits for the cell's lock, and then makes one step of its journal. It answers the entry that was made, with the
 /// wakers that it hands out, which the caller has the duty to wake. It is refused, and leaves no entry, for want of memory,
-/// or out of turn, where the share counts more calls than the history has entries; with a share of this cell the latter
-/// does not come about.
+/// or out of turn, where the share counts more calls than the history has entries. No contract says that the latter never
+/// comes about; tests meet none with a share of the cell.
+///
+/// An edit is called, and dropped, while the lock is held: one that calls its own cell waits for ever.
 #[derive(Drop)]
 pub struct Recorded<T, M: Pick<T>> {
     journal: Mutex<Journal<T, M>>,
     count: ShareCount<M>,
 }
 
-/// What a recorded call answers.
-type Answered<T> = Result<(Entry<T>, Wakers<Named>), Refusal>;
+/// What a recorded call answers: its entry, with the names that it hands out, or why there is no entry.
+pub type Answered<T> = Result<(Entry<T>, Wakers<Named>), Refusal>;
+
+/// A call that is given no edit.
+type Plain<T> = Call<T, Named, NoEdit>;
 
 /// The edit of the calls that have none.
 #[derive(Drop)]
@@ -101,7 +106,8 @@ impl<T: Copy, M: Pick<T>> Recorded<T, M> {
     ) -> Answered<T>
         ensures call { IfOk result (λ answer. IsKept E.edit E.edit_some call answer.0.call) }
         ensures counted { IfOk result (λ answer. share.new ≡ counted M.pick share.old answer.0 answer.1) }
-        ensures refused { IfErr result (λ why. IsRefusedBy why × (share.new ≡ share.old)) }
+        ensures refused { IfErr result IsStepRefusal }
+        ensures unchanged { OnErr result (share.new ≡ share.old) }
     {
         self.journal.lock(rt).step(share, call)
     }
@@ -110,27 +116,30 @@ impl<T: Copy, M: Pick<T>> Recorded<T, M> {
     pub fn set(&self, share: &mut Share<M>, value: T, rt: &impl Wait) -> Answered<T>
         ensures call { IfOk result (λ answer. answer.0.call ≡ Kept.Set value) }
         ensures counted { IfOk result (λ answer. share.new ≡ counted M.pick share.old answer.0 answer.1) }
-        ensures refused { IfErr result (λ why. IsRefusedBy why × (share.new ≡ share.old)) }
+        ensures refused { IfErr result IsStepRefusal }
+        ensures unchanged { OnErr result (share.new ≡ share.old) }
     {
-        self.call(share, Call::<T, Named, NoEdit>::Set(value), rt)
+        self.call(share, Plain::<T>::Set(value), rt)
     }
 
     /// Puts the value in where there is none; all that wait are handed out then. Else the reply has the value.
     pub fn or_set(&self, share: &mut Share<M>, value: T, rt: &impl Wait) -> Answered<T>
         ensures call { IfOk result (λ answer. answer.0.call ≡ Kept.OrSet value) }
         ensures counted { IfOk result (λ answer. share.new ≡ counted M.pick share.old answer.0 answer.1) }
-        ensures refused { IfErr result (λ why. IsRefusedBy why × (share.new ≡ share.old)) }
+        ensures refused { IfErr result IsStepRefusal }
+        ensures unchanged { OnErr result (share.new ≡ share.old) }
     {
-        self.call(share, Call::<T, Named, NoEdit>::OrSet(value), rt)
+        self.call(share, Plain::<T>::OrSet(value), rt)
     }
 
     /// Puts the value in, and replies the old one. All that wait are handed out.
     pub fn replace(&self, share: &mut Share<M>, value: T, rt: &impl Wait) -> Answered<T>
         ensures call { IfOk result (λ answer. answer.0.call ≡ Kept.Replace value) }
         ensures counted { IfOk result (λ answer. share.new ≡ counted M.pick share.old answer.0 answer.1) }
-        ensures refused { IfErr result (λ why. IsRefusedBy why × (share.new ≡ share.old)) }
+        ensures refused { IfErr result IsStepRefusal }
+        ensures unchanged { OnErr result (share.new ≡ share.old) }
     {
-        self.call(share, Call::<T, Named, NoEdit>::Replace(value), rt)
+        self.call(share, Plain::<T>::Replace(value), rt)
     }
 
     /// Makes the new content of the old one. A value where there was none hands out all that wait.
@@ -142,7 +151,8 @@ impl<T: Copy, M: Pick<T>> Recorded<T, M> {
     ) -> Answered<T>
         ensures call { IfOk result (λ answer. IsKept E.edit E.edit_some (Call.Update edit) answer.0.call) }
         ensures counted { IfOk result (λ answer. share.new ≡ counted M.pick share.old answer.0 answer.1) }
-        ensures refused { IfErr result (λ why. IsRefusedBy why × (share.new ≡ share.old)) }
+        ensures refused { IfErr result IsStepRefusal }
+        ensures unchanged { OnErr result (share.new ≡ share.old) }
     {
         self.call(share, Call::Update(edit), rt)
     }
@@ -156,7 +166,8 @@ impl<T: Copy, M: Pick<T>> Recorded<T, M> {
     ) -> Answered<T>
         ensures call { IfOk result (λ answer. IsKept E.edit E.edit_some (Call.UpdateSome edit) answer.0.call) }
         ensures counted { IfOk result (λ answer. share.new ≡ counted M.pick share.old answer.0 answer.1) }
-        ensures refused { IfErr result (λ why. IsRefusedBy why × (share.new ≡ share.old)) }
+        ensures refused { IfErr result IsStepRefusal }
+        ensures unchanged { OnErr result (share.new ≡ share.old) }
     {
         self.call(share, Call::UpdateSome(edit), rt)
     }
@@ -165,71 +176,79 @@ impl<T: Copy, M: Pick<T>> Recorded<T, M> {
     pub fn try_take(&self, share: &mut Share<M>, rt: &impl Wait) -> Answered<T>
         ensures call { IfOk result (λ answer. answer.0.call ≡ Kept.TryTake) }
         ensures counted { IfOk result (λ answer. share.new ≡ counted M.pick share.old answer.0 answer.1) }
-        ensures refused { IfErr result (λ why. IsRefusedBy why × (share.new ≡ share.old)) }
+        ensures refused { IfErr result IsStepRefusal }
+        ensures unchanged { OnErr result (share.new ≡ share.old) }
     {
-        self.call(share, Call::<T, Named, NoEdit>::TryTake, rt)
+        self.call(share, Plain::<T>::TryTake, rt)
     }
 
     /// Copies the value, if there is one.
     pub fn try_get(&self, share: &mut Share<M>, rt: &impl Wait) -> Answered<T>
         ensures call { IfOk result (λ answer. answer.0.call ≡ Kept.TryGet) }
         ensures counted { IfOk result (λ answer. share.new ≡ counted M.pick share.old answer.0 answer.1) }
-        ensures refused { IfErr result (λ why. IsRefusedBy why × (share.new ≡ share.old)) }
+        ensures refused { IfErr result IsStepRefusal }
+        ensures unchanged { OnErr result (share.new ≡ share.old) }
     {
-        self.call(share, Call::<T, Named, NoEdit>::TryGet, rt)
+        self.call(share, Plain::<T>::TryGet, rt)
     }
 
     /// Whether there is a value.
     pub fn is_set(&self, share: &mut Share<M>, rt: &impl Wait) -> Answered<T>
         ensures call { IfOk result (λ answer. answer.0.call ≡ Kept.IsSet) }
         ensures counted { IfOk result (λ answer. share.new ≡ counted M.pick share.old answer.0 answer.1) }
-        ensures refused { IfErr result (λ why. IsRefusedBy why × (share.new ≡ share.old)) }
+        ensures refused { IfErr result IsStepRefusal }
+        ensures unchanged { OnErr result (share.new ≡ share.old) }
     {
-        self.call(share, Call::<T, Named, NoEdit>::IsSet, rt)
+        self.call(share, Plain::<T>::IsSet, rt)
     }
 
     /// Takes the value, or waits for one under this name.
     pub fn poll_take(&self, share: &mut Share<M>, name: Named, rt: &impl Wait) -> Answered<T>
         ensures call { IfOk result (λ answer. answer.0.call ≡ Kept.PollTake name) }
         ensures counted { IfOk result (λ answer. share.new ≡ counted M.pick share.old answer.0 answer.1) }
-        ensures refused { IfErr result (λ why. IsRefusedBy why × (share.new ≡ share.old)) }
+        ensures refused { IfErr result IsStepRefusal }
+        ensures unchanged { OnErr result (share.new ≡ share.old) }
     {
-        self.call(share, Call::<T, Named, NoEdit>::PollTake(name), rt)
+        self.call(share, Plain::<T>::PollTake(name), rt)
     }
 
     /// Copies the value, or waits for one under this name.
     pub fn poll_get(&self, share: &mut Share<M>, name: Named, rt: &impl Wait) -> Answered<T>
         ensures call { IfOk result (λ answer. answer.0.call ≡ Kept.PollGet name) }
         ensures counted { IfOk result (λ answer. share.new ≡ counted M.pick share.old answer.0 answer.1) }
-        ensures refused { IfErr result (λ why. IsRefusedBy why × (share.new ≡ share.old)) }
+        ensures refused { IfErr result IsStepRefusal }
+        ensures unchanged { OnErr result (share.new ≡ share.old) }
     {
-        self.call(share, Call::<T, Named, NoEdit>::PollGet(name), rt)
+        self.call(share, Plain::<T>::PollGet(name), rt)
     }
 
     /// One owner more.
     pub fn add_owner(&self, share: &mut Share<M>, rt: &impl Wait) -> Answered<T>
         ensures call { IfOk result (λ answer. answer.0.call ≡ Kept.AddOwner) }
         ensures counted { IfOk result (λ answer. share.new ≡ counted M.pick share.old answer.0 answer.1) }
-        ensures refused { IfErr result (λ why. IsRefusedBy why × (share.new ≡ share.old)) }
+        ensures refused { IfErr result IsStepRefusal }
+        ensures unchanged { OnErr result (share.new ≡ share.old) }
     {
-        self.call(share, Call::<T, Named, NoEdit>::AddOwner, rt)
+        self.call(share, Plain::<T>::AddOwner, rt)
     }
 
     /// One owner less. The last one closes the cell: the reply has its value, and all that wait are handed out.
     pub fn end_owner(&self, share: &mut Share<M>, rt: &impl Wait) -> Answered<T>
         ensures call { IfOk result (λ answer. answer.0.call ≡ Kept.EndOwner) }
         ensures counted { IfOk result (λ answer. share.new ≡ counted M.pick share.old answer.0 answer.1) }
-        ensures refused { IfErr result (λ why. IsRefusedBy why × (share.new ≡ share.old)) }
+        ensures refused { IfErr result IsStepRefusal }
+        ensures unchanged { OnErr result (share.new ≡ share.old) }
     {
-        self.call(share, Call::<T, Named, NoEdit>::EndOwner, rt)
+        self.call(share, Plain::<T>::EndOwner, rt)
     }
 
     /// Closes the cell of a sole owner: the reply has its value, and all that wait are handed out.
     pub fn take_inner(&self, share: &mut Share<M>, rt: &impl Wait) -> Answered<T>
         ensures call { IfOk result (λ answer. answer.0.call ≡ Kept.TakeInner) }
         ensures counted { IfOk result (λ answer. share.new ≡ counted M.pick share.old answer.0 answer.1) }
-        ensures refused { IfErr result (λ why. IsRefusedBy why × (share.new ≡ share.old)) }
+        ensures refused { IfErr result IsStepRefusal }
+        ensures unchanged { OnErr result (share.new ≡ share.old) }
     {
-        self.call(share, Call::<T, Named, NoEdit>::TakeInner, rt)
+        self.call(share, Plain::<T>::TakeInner, rt)
     }
 }

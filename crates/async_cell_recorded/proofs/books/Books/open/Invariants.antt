@@ -1,4 +1,4 @@
-use Rattle.std.proofs.Common.{◌≡◌, ◌+◌}
+use Rattle.std.proofs.Common.{◌≡◌, ◌≤◌, ◌+◌, vec_len, vec_capacity}
 use Rattle.async_cell_recorded.specs.Counting.{fresh}
 use Rattle.async_cell_recorded.proofs.books.Books.open.Given as goal
 
@@ -10,4 +10,6 @@ invariant-loop-number g l = record {
   answers : l.answers_left.parts + l.number ≡ l.shares;
   answers_none : l.answers_left.amount ≡ 0;
   fresh : l.made.items ≡ fresh l.number;
+  made : vec_len l.made ≡ l.number;
+  room : l.shares ≤ vec_capacity l.made;
 }
