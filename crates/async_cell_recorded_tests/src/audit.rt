@@ -1,5 +1,6 @@
 //! An audit: four threads share a cell, and its history is looked at afterwards.
-ghost use Rattle.std.specs.Prelude.{◌≡◌, IfOk};
+ghost use Rattle.std.specs.Prelude.{◌≡◌, length, IfOk};
+ghost use Rattle.std.specs.List.{sum};
 ghost use Rattle.async_cell_recorded.specs.Recording.{IsRecorded};
 
 use async_cell_recorded::{History, Pick, Recorded, Refusal, Reply, Session, Share, with_recorded};
@@ -19,6 +20,8 @@ impl Session for Replacing {
 
     type Outcome = u64;
 
+    ghost told = { λ answered count. answered ≡ count };
+
     /// Gives how many calls were answered.
     fn run<M: Pick<u64>, R: Wait>(
         &self,
@@ -36,13 +39,15 @@ impl Session for Replacing {
     }
 }
 
-/// What four threads did with one cell: how many calls of each were answered, and the history. It is legal, and begins with
-/// four owners.
+/// What four threads did with one cell: how many calls of each were answered, and the history. It is legal, begins with four
+/// owners, and has as many entries as calls were answered.
+#[tactic(auto, using(crate::proofs::Audited::sum_told))]
 pub fn audited<R: Threads + Wait + Sync>(
     rt: &R,
     alloc: Global,
 ) -> Result<(Vec<u64>, History<u64>), Refusal>
-    ensures { IfOk result (λ done. IsRecorded done.1 × (done.1.begin ≡ 4)) }
+    ensures recorded { IfOk result (λ done. IsRecorded done.1 × (done.1.begin ≡ 4)) }
+    ensures counted { IfOk result (λ done. length done.1.entries ≡ sum done.0.items) }
 {
     with_recorded(rt, alloc, 4, &Replacing)
 }

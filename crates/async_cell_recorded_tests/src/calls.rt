@@ -8,20 +8,36 @@ use std::test::Fail;
 use std::thread::Threads;
 
 /// What is answered by a wait, two updates that find nothing, a value, the end and an update after it.
-pub const WAIT_AND_CLOSE: &str =
-    "PollTake(Named(1)): Pending\nUpdate { saw: None, put: None }: Done\nUpdateSome { saw: None, put: None }: Done\nSet(5): Done woke 1\nEndOwner: Value(Some(5))\nUpdate { saw: None, put: None }: Refused(Closed, None)\n";
+pub const WAIT_AND_CLOSE: &str = "PollTake(Named(1)): Pending\n\
+    Update { saw: None, put: None }: Done\n\
+    UpdateSome { saw: None, put: None }: Done\n\
+    Set(5): Done woke 1\n\
+    EndOwner: Value(Some(5))\n\
+    Update { saw: None, put: None }: Refused(Closed, None)\n";
 
 /// The history of the same calls.
-pub const WAIT_AND_CLOSE_KEPT: &str =
-    "PollTake(Named(1)): Pending\nUpdate { saw: None, put: None }: Done\nUpdateSome { saw: None, put: None }: Done\nSet(5): Done\nEndOwner: Value(Some(5))\nUpdate { saw: None, put: None }: Refused(Closed, None)\n";
+pub const WAIT_AND_CLOSE_KEPT: &str = "PollTake(Named(1)): Pending\n\
+    Update { saw: None, put: None }: Done\n\
+    UpdateSome { saw: None, put: None }: Done\n\
+    Set(5): Done\n\
+    EndOwner: Value(Some(5))\n\
+    Update { saw: None, put: None }: Refused(Closed, None)\n";
 
 /// What the calls on owners are answered, with values between them.
-pub const OWNERS: &str =
-    "AddOwner: Done\nTakeInner: Refused(StillShared, None)\nOrSet(3): Value(None)\nIsSet: Is(true)\nPollGet(Named(1)): Ready(Some(3))\nTryTake: Value(Some(3))\nReplace(4): Value(None)\nEndOwner: Value(None)\nTakeInner: Value(Some(4))\n";
+pub const OWNERS: &str = "AddOwner: Done\n\
+    TakeInner: Refused(StillShared, None)\n\
+    OrSet(3): Value(None)\n\
+    IsSet: Is(true)\n\
+    PollGet(Named(1)): Ready(Some(3))\n\
+    TryTake: Value(Some(3))\n\
+    Replace(4): Value(None)\n\
+    EndOwner: Value(None)\n\
+    TakeInner: Value(Some(4))\n";
 
 /// The calls that a test makes with the only share of a cell.
 #[derive(Clone, Copy)]
 pub enum Calls {
+    None,
     SetAndGet,
     WaitAndClose,
     Owners,
@@ -38,6 +54,7 @@ impl Calls {
         rt: &R,
     ) -> Result<(), Refusal> {
         match self {
+            Calls::None => Ok(()),
             Calls::SetAndGet => {
                 note(text, cell.set(share, 5, rt))?;
                 note(text, cell.try_get(share, rt))
@@ -105,9 +122,21 @@ fn answers_and_history<R: Threads + Wait + Sync>(
 }
 
 #[test]
+fn a_cell_without_calls_has_an_empty_history(rt: HostRuntime) -> Result<(), Fail> {
+    let (answers, history) = answers_and_history(Calls::None, rt.alloc(), &rt)?;
+    assert!(rt; answers.is_empty());
+    assert!(rt; history.is_empty());
+    assert_eq!(rt; history.begin(), 1);
+    let (_, history) = answers_and_history(Calls::SetAndGet, rt.alloc(), &rt)?;
+    assert!(rt; !history.is_empty());
+    Ok(())
+}
+
+#[test]
 fn a_value_that_was_set_is_got(rt: HostRuntime) -> Result<(), Fail> {
     let (answers, history) = answers_and_history(Calls::SetAndGet, rt.alloc(), &rt)?;
-    let wanted = "Set(5): Done\nTryGet: Value(Some(5))\n";
+    let wanted = "Set(5): Done\n\
+    TryGet: Value(Some(5))\n";
     assert_eq!(rt; answers.as_str(), wanted);
     let kept = text_of(&history, String::new(rt.alloc()))?;
     assert_eq!(rt; kept.as_str(), wanted);
@@ -139,8 +168,9 @@ fn owners_of_a_cell_with_one_share(rt: HostRuntime) -> Result<(), Fail> {
 #[test]
 fn an_update_is_kept_with_what_it_saw_and_put(rt: HostRuntime) -> Result<(), Fail> {
     let (answers, history) = answers_and_history(Calls::Changes, rt.alloc(), &rt)?;
-    let wanted =
-        "Update { saw: None, put: Some(1) }: Done\nUpdateSome { saw: Some(1), put: Some(2) }: Done\nPollTake(Named(1)): Ready(Some(2))\n";
+    let wanted = "Update { saw: None, put: Some(1) }: Done\n\
+    UpdateSome { saw: Some(1), put: Some(2) }: Done\n\
+    PollTake(Named(1)): Ready(Some(2))\n";
     assert_eq!(rt; answers.as_str(), wanted);
     let kept = text_of(&history, String::new(rt.alloc()))?;
     assert_eq!(rt; kept.as_str(), wanted);

@@ -1,8 +1,8 @@
 //! Steps of a journal, and what needs a marker of its own.
 ghost use Rattle.std.specs.Prelude.{◌≡◌, IfOk};
 
+use crate::calls::{OWNERS, WAIT_AND_CLOSE};
 use crate::edits::{Leave, Put};
-use crate::rows::{OWNERS, WAIT_AND_CLOSE};
 use crate::text::note;
 use async_cell_recorded::{Blanks, Call, Journal, Named, Pick, Recorded, Refusal, Share};
 use std::alloc::Global;

@@ -3,9 +3,9 @@
 ghost use Rattle.std.specs.Prelude.{◌≡◌};
 
 use crate::edits::{Leave, Put};
-use crate::text::Answered;
 use async_cell_recorded::{
-    Blanks, Call, Entry, History, Journal, Kept, Named, Pick, Recorded, Refusal, Reply, Share,
+    Answered, Blanks, Call, Entry, History, Journal, Kept, Named, Pick, Recorded, Refusal, Reply,
+    Share,
 };
 use std::alloc::Global;
 use std::marker::Brand;
@@ -18,7 +18,7 @@ type Step<E> = Call<u32, Named, E>;
 /// What a call was answered, with how many names it handed out, or none where it found no memory.
 type Made = Option<(Entry<u32>, usize)>;
 
-fn found(answer: Answered) -> Result<Made, Refusal> {
+fn found(answer: Answered<u32>) -> Result<Made, Refusal> {
     match answer {
         Ok((entry, woken)) => Ok(Some((entry, woken.len()))),
         Err(Refusal::Memory) => Ok(None),

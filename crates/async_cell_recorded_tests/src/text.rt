@@ -1,12 +1,9 @@
 //! What was answered, as text.
-use async_cell_recorded::{Entry, History, Named, Refusal, Wakers};
+use async_cell_recorded::{Answered, History, Named, Refusal};
 use std::fmt::Write;
 
-/// What a call answers.
-pub type Answered = Result<(Entry<u32>, Wakers<Named>), Refusal>;
-
 /// Adds the entry that a call answered, with the names that it handed out.
-pub fn note(text: &mut String, answer: Answered) -> Result<(), Refusal> {
+pub fn note(text: &mut String, answer: Answered<u32>) -> Result<(), Refusal> {
     let (entry, mut woken) = answer?;
     write!(text, "{:?}: {:?}", entry.call, entry.reply).map_err(|_| Refusal::Memory)?;
     for _ in 0..woken.len() {

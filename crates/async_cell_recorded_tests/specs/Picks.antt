@@ -1,0 +1,13 @@
+-- A test on answers: the call put five in.
+use Rattle.std.specs.Prelude.{ℕ, Bool, false, List, nat_eq}
+use Rattle.async_cell_cons.specs.declared.named.Named.{Named}
+use Rattle.async_cell_model.specs.declared.entry.Kept.{Kept}
+use Rattle.async_cell_model.specs.declared.entry.Kept.TheVariants.{Set}
+use Rattle.async_cell_recorded.specs.declared.entry.Entry.{Entry}
+
+abbrev pub puts_five_in : Kept ℕ Named → Bool
+puts_five_in (Set value) = nat_eq value 5
+puts_five_in call = false
+
+abbrev pub is_set_of_five : Entry ℕ → List Named → Bool
+is_set_of_five entry names = puts_five_in entry.call
