@@ -21,7 +21,7 @@ module _ {T W E : Type 0} (edit : E → Option T → Option T) (edit_some : E �
   -- the calls of two lists, one after the other
   history_of-append : (c : Cell T) (calls more : List (Call T W E)) (replies others : List (Reply T)) → length replies ≡ length calls
       → history_of edit edit_some c (calls ++ more) (replies ++ others)
-        ≡ history_of edit edit_some c calls replies ++ history_of edit edit_some (cell_after c (history_of edit edit_some c calls replies)) more others
+      ≡ history_of edit edit_some c calls replies ++ history_of edit edit_some (cell_after c (history_of edit edit_some c calls replies)) more others
   history_of-append c [] more [] others same = refl
   history_of-append c [] more (r ∷ replies) others same = absurd (omega arith)
   history_of-append c (x ∷ calls) more [] others same = absurd (omega arith)
@@ -37,7 +37,7 @@ module _ {T W E : Type 0} (edit : E → Option T → Option T) (edit_some : E �
       → Leads will_wake sure from (history_of edit edit_some from.cell (calls ++ more) (replies ++ others)) (first ++ second) to
   two_runs will_wake sure from at to calls more replies others first second same before after =
       let there : Leads will_wake sure at (history_of edit edit_some (cell_after from.cell (history_of edit edit_some from.cell calls replies)) more others) second to =
-        subst (λ (c : Cell T). Leads will_wake sure at (history_of edit edit_some c more others) second to) before.cell_is after in
+      subst (λ (c : Cell T). Leads will_wake sure at (history_of edit edit_some c more others) second to) before.cell_is after in
       let joined = history_of-append from.cell calls more replies others same in
       rw joined (Leads-join will_wake sure from at to _ _ _ _ before there)
 

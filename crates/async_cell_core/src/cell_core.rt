@@ -53,7 +53,7 @@ impl<T: Drop, W: Wakes> Core<T, W> {
         Core::owned_by(alloc, Some(value), 1)
     }
 
-    /// An open cell with this content and this number of owners, which is at least 1.
+    /// An open cell with this content and this number of owners: at least one.
     pub fn owned_by(alloc: Global, value: Option<T>, owners: u32) -> Self
         requires { 1 ≤ owners }
         ensures { result ≡ record { cell = Cell.Open value owners; waiting = []; room = 0 } }
