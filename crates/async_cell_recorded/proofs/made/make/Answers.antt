@@ -7,8 +7,8 @@ use Rattle.async_cell_recorded.proofs.made.make.Goals as goal
 pub returns-clause-kept : goal.returns-clause-kept
 returns-clause-kept g c =
     let found : is_memory c.step_copied-reply.result.reply ≡ false = search rules in
-    let made = kept_made g.E.Edit.edit g.E.Edit.edit_some names_wake true c.args.core.now c.step_copied-reply.new.core c.args.call c.step_copied-reply.result.reply c.step_copied-reply.result.woken found c.step_copied-reply.ensures in
+    let made = kept_made g.E.Edit.edit g.E.Edit.edit_some names_wake true c.args.core.now c.step_copied-reply.new.core c.args.call c.step_copied-reply.result.reply c.step_copied-reply.result.woken found c.step_copied-reply.ensures.model in
     cc
 
 pub returns-clause-model : goal.returns-clause-model
-returns-clause-model g c = rw (returns-clause-kept g c) c.step_copied-reply.ensures
+returns-clause-model g c = rw (returns-clause-kept g c) c.step_copied-reply.ensures.model
