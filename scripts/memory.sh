@@ -7,45 +7,46 @@ top=$(cd "$(dirname "$0")/.." && pwd)
 work=$(mktemp -d)
 trap 'rm -rf "$work"' EXIT
 
-# A line a test: its crate, a word that picks the crate's tests, its name, and the first and the last request that is refused
-# of it. The last is at least the number of its requests. The first is 1, or the one after those that it demands for itself.
+# A line a test: its crate, a word that picks the crate's tests, its name, and up to which request it is tried, which is at
+# least the number of its requests. A request of the test's own, as for the list that it makes, ends it with that error; it
+# is told apart and is no failure.
 tests='
-async_cell_core_tests      ::a_       a_run_without_memory_gives_the_list_back                    1   4
-async_cell_core_tests      ::a_       a_list_of_bytes_is_cloned_or_stays                          1   3
-async_cell_core_tests      ::a_       a_poll_whose_clone_is_refused_changes_nothing               1   1
-async_cell_driver_tests    refusals   a_taker_that_found_no_memory_is_polled_again                1   6
-async_cell_driver_tests    refusals   a_list_that_finds_no_memory_comes_back_or_forgets_nobody    2  10
-async_cell_driver_tests    refusals   a_list_that_ends_in_a_fill_forgets_nobody                   3  10
-async_cell_driver_tests    refusals   a_list_that_ends_in_a_close_forgets_nobody                  3  10
-async_cell_unsync_tests    ::         a_refused_owner_leaves_the_cell                             1   7
-async_cell_unsync_tests    ::         more_owners_take_no_memory                                  1   7
-async_cell_unsync_tests    ::         a_refused_clone_leaves_the_value                            1   7
-async_cell_unsync_tests    ::         a_value_that_cannot_be_cloned_stays                         1   7
-async_cell_unsync_tests    ::         a_refused_poll_leaves_those_that_wait                       1   7
-async_cell_sync_tests      memory     a_value_whose_clone_is_refused_stays                        1   7
-async_cell_sync_tests      memory     each_refused_request_leaves_the_owners_as_they_were         1  16
-async_cell_sync_tests      memory     a_refused_new_owner_is_none                                 1   1
-async_cell_recorded_tests  memory     a_recorded_call_without_memory_leaves_no_entry              1   3
-async_cell_recorded_tests  memory     a_step_without_memory_does_not_count                        1   3
-cellrun                    want_of    want_of_memory_is_told_or_ends_the_script                   1   4
+async_cell_core_tests      ::a_       a_run_without_memory_gives_the_list_back                   4
+async_cell_core_tests      ::a_       a_list_of_bytes_is_cloned_or_stays                         3
+async_cell_core_tests      ::a_       a_poll_whose_clone_is_refused_changes_nothing              1
+async_cell_driver_tests    refusals   a_taker_that_found_no_memory_is_polled_again               6
+async_cell_driver_tests    refusals   a_list_that_finds_no_memory_comes_back_or_forgets_nobody  10
+async_cell_driver_tests    refusals   a_list_that_ends_in_a_fill_forgets_nobody                 10
+async_cell_driver_tests    refusals   a_list_that_ends_in_a_close_forgets_nobody                10
+async_cell_unsync_tests    ::         a_refused_owner_leaves_the_cell                            7
+async_cell_unsync_tests    ::         more_owners_take_no_memory                                 7
+async_cell_unsync_tests    ::         a_refused_clone_leaves_the_value                           7
+async_cell_unsync_tests    ::         a_value_that_cannot_be_cloned_stays                        7
+async_cell_unsync_tests    ::         a_refused_poll_leaves_those_that_wait                      7
+async_cell_sync_tests      memory     a_value_whose_clone_is_refused_stays                       7
+async_cell_sync_tests      memory     each_refused_request_leaves_the_owners_as_they_were       16
+async_cell_sync_tests      memory     a_refused_new_owner_is_none                                1
+async_cell_recorded_tests  memory     a_recorded_call_without_memory_leaves_no_entry             3
+async_cell_recorded_tests  memory     a_step_without_memory_does_not_count                       3
+cellrun                    want_of    want_of_memory_is_told_or_ends_the_script                  4
 '
 
 # The lines of the crates that are asked for.
 picked() {
-    local crate word name first last asked
-    while read -r crate word name first last; do
+    local crate word name last asked
+    while read -r crate word name last; do
         [ -n "$crate" ] || continue
         for asked in "${@:-$crate}"; do
-            [ "$asked" != "$crate" ] || echo "$crate $word $name $first $last"
+            [ "$asked" != "$crate" ] || echo "$crate $word $name $last"
         done
     done <<<"$tests"
 }
 
 # The runs, each once: a crate, its word and the number of the request.
 runs() {
-    local crate word name first last
-    while read -r crate word name first last; do
-        seq -f "$crate $word %.0f" "$first" "$last"
+    local crate word name last
+    while read -r crate word name last; do
+        seq -f "$crate $word %.0f" "$last"
     done | sort -u
 }
 
@@ -59,22 +60,37 @@ export -f try
 picked "$@" >"$work/picked"
 runs <"$work/picked" | xargs -r -P "${JOBS:-$(nproc)}" -L 1 bash -c 'try "$@"' try
 
+# What became of a test in a run: ok, its own request, or wrong. RUN NAME.
+outcome() {
+    local line
+    line=$(grep -A 1 "^test .*::$2 \.\.\. " "$1" || true)
+    case $line in
+        *'... ok'*) echo ok ;;
+        *'... FAILED'*'error: Alloc'*) echo own ;;
+        *) echo wrong ;;
+    esac
+}
+
 passed=0
 failed=0
-while read -r crate word name first last; do
-    wrong=''
-    for number in $(seq "$first" "$last"); do
-        if ! grep -q "^test .*::$name \.\.\. ok" "$work/$crate.$number"; then
-            wrong+=" $number"
-            grep -A 4 "^test .*::$name " "$work/$crate.$number" || tail -n 5 "$work/$crate.$number"
-        fi
+while read -r crate word name last; do
+    held=0 own='' wrong=''
+    for number in $(seq "$last"); do
+        case $(outcome "$work/$crate.$number" "$name") in
+            ok) held=$((held + 1)) ;;
+            own) own+=" $number" ;;
+            wrong)
+                wrong+=" $number"
+                grep -A 4 "^test .*::$name " "$work/$crate.$number" || tail -n 5 "$work/$crate.$number"
+                ;;
+        esac
     done
-    if [ -z "$wrong" ]; then
+    if [ -z "$wrong" ] && [ "$held" -gt 0 ]; then
         passed=$((passed + 1))
-        echo "passed $crate $name: requests $first to $last"
+        echo "passed $crate $name: requests 1 to $last${own:+, its own$own}"
     else
         failed=$((failed + 1))
-        echo "failed $crate $name: at$wrong of $first to $last"
+        echo "failed $crate $name: at${wrong:- none, but all are its own} of 1 to $last"
     fi
 done <"$work/picked"
 echo "memory: $passed passed, $failed failed"
