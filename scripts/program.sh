@@ -8,7 +8,7 @@ work=$(mktemp -d)
 trap 'rm -rf "$work"' EXIT
 
 program=$top/crates/cellrun/out/cellrun
-if [ ! -x "$program" ] || [ -n "$(find "$top/crates" -name '*.rt' -newer "$program" -print -quit)" ]; then
+if [ ! -x "$program" ] || [ -n "$(find "$top/crates" -path '*/out' -prune -o -name '*.rt' -newer "$program" -print -quit)" ]; then
     if ! (cd "$top/crates/cellrun" && rt run </dev/null) >"$work/build.log" 2>&1; then
         tail -n 20 "$work/build.log"
         echo "program: it could not be built" >&2
