@@ -1,5 +1,5 @@
 #!/usr/bin/env bash
-# Runs the tests of want of memory with each request for memory refused in turn: one `rt try --test --fail-alloc N` for each
+# Runs the tests of want of memory with each allocation refused in turn: one `rt try --test --fail-alloc N` for each
 # crate and each N, which proves nothing and needs no proof. Prints a line a test, and at the end how many passed and failed;
 # the status is 0 if none failed. JOBS says how many runs go side by side, and words say which crates (none: all).
 set -euo pipefail
@@ -7,8 +7,8 @@ top=$(cd "$(dirname "$0")/.." && pwd)
 work=$(mktemp -d)
 trap 'rm -rf "$work"' EXIT
 
-# A line a test: its crate, a word that picks the crate's tests, its name, and up to which request it is tried, which is at
-# least the number of its requests. A request of the test's own, as for the list that it makes, ends it with that error; it
+# A line a test: its crate, a word that picks the crate's tests, its name, and up to which allocation it is tried, which is at
+# least the number of its allocations. One of the test's own, as for the list that it makes, ends it with that error; it
 # is told apart and is no failure.
 tests='
 async_cell_core_tests      ::a_       a_run_without_memory_gives_the_list_back                   4
@@ -42,7 +42,7 @@ picked() {
     done <<<"$tests"
 }
 
-# The runs, each once: a crate, its word and the number of the request.
+# The runs, each once: a crate, its word and the number of the allocation.
 runs() {
     local crate word name last
     while read -r crate word name last; do
@@ -50,7 +50,7 @@ runs() {
     done | sort -u
 }
 
-# Tries the crate's tests with one request refused, and keeps what is told.
+# Tries the crate's tests with one allocation refused, and keeps what is told.
 try() {
     (cd "$top/crates/$1" && rt try --test --fail-alloc "$3" -- "$2") >"$work/$1.$3" 2>&1 </dev/null || true
 }
@@ -60,7 +60,7 @@ export -f try
 picked "$@" >"$work/picked"
 runs <"$work/picked" | xargs -r -P "${JOBS:-$(nproc)}" -L 1 bash -c 'try "$@"' try
 
-# What became of a test in a run: ok, its own request, or wrong. RUN NAME.
+# What became of a test in a run: ok, its own allocation, or wrong. RUN NAME.
 outcome() {
     local line
     line=$(grep -A 1 "^test .*::$2 \.\.\. " "$1" || true)
@@ -87,7 +87,7 @@ while read -r crate word name last; do
     done
     if [ -z "$wrong" ] && [ "$held" -gt 0 ]; then
         passed=$((passed + 1))
-        echo "passed $crate $name: requests 1 to $last${own:+, its own$own}"
+        echo "passed $crate $name: allocations 1 to $last${own:+, its own$own}"
     else
         failed=$((failed + 1))
         echo "failed $crate $name: at${wrong:- none, but all are its own} of 1 to $last"
