@@ -1,41 +1,119 @@
--- What one more waker makes of a list that is kept.
-use Rattle.std.proofs.Common.{◌≡◌, ◌≤◌, suc, Bool, true, false, List, [], ◌∷◌, ◌++◌, length, refl, ap, arith, zero-le}
-use Rattle.std.specs.Prelude.{if◌then◌else◌}
-use Rattle.async_cell_model.specs.Waiting.{keep, drop_while, skips}
+-- What one more waker makes of those that wait, and what is kept of longer lists.
+use Rattle.std.proofs.Common.{◌≡◌, ◌≤◌, ◌<◌, ◌⊎◌, inl, inr, ℕ, Bool, true, false, not, ◌||◌, List, [], ◌∷◌, ◌++◌, length, get_or, refl, ap, sym, subst, ◌∙◌, arith, le_refl, le_trans, append-nil, length-append}
+use Rattle.std.specs.Prelude.{◌≢◌, if◌then◌else◌, filter, fold, Contains, AllPairs}
+use Rattle.std.specs.List.{list_any}
+use Rattle.std.proofs.lemmas.List.Sums.{fold-append}
+use Rattle.std.proofs.lemmas.List.Folds.{list_any-append, list_any_at}
+use Rattle.std.proofs.lemmas.List.Elements.{Contains-append_left, Contains-push}
+use Rattle.std.proofs.lemmas.List.Quantifiers.{all_pairs_push}
+use Rattle.async_cell_model.specs.Waiting.{keep, skips, with_one_more, IsCovered}
 
 module _ {W : Type 0} (will_wake : W → W → Bool) where
-  shorter_step : (w v : W) (b : Bool) → will_wake w v ≡ b → (xs : List W) → length (drop_while (will_wake w) xs) ≤ length xs → length (drop_while (will_wake w) (v ∷ xs)) ≤ suc (length xs)
-  shorter_step w v true is xs rest = rw is (omega arith)
-  shorter_step w v false is xs rest = rw is (omega arith)
+  -- a longer list is kept from where the shorter one ends
+  keep_more : (xs ys : List W) → keep will_wake (xs ++ ys) ≡ fold (with_one_more will_wake) (keep will_wake xs) ys
+  keep_more xs ys = fold-append (with_one_more will_wake) [] xs ys
 
-  drop_while-shorter : (w : W) (xs : List W) → length (drop_while (will_wake w) xs) ≤ length xs
-  drop_while-shorter w [] = zero-le
-  drop_while-shorter w (v ∷ xs) = shorter_step w v (will_wake w v) refl xs (drop_while-shorter w xs)
-
-  -- where the first would not wake the second, all that follow stay
-  stays_step : (v u : W) (b : Bool) → will_wake v u ≡ b → (rest ys : List W) → keep will_wake (v ∷ u ∷ rest) ≡ v ∷ u ∷ rest → keep will_wake ((v ∷ u ∷ rest) ++ ys) ≡ (v ∷ u ∷ rest) ++ ys
-  stays_step v u true is rest ys kept =
-      let short : length (drop_while (will_wake v) rest) ≤ length rest = drop_while-shorter v rest in
-      let same : suc (length (drop_while (will_wake v) rest)) ≡ suc (suc (length rest)) = ap length (rw is at kept) in
-      absurd (omega arith)
-  stays_step v u false is rest ys kept = rw is refl
-
-  -- a waker that is not skipped is added last
-  pub keep_added : (l : List W) (w : W) → keep will_wake l ≡ l → skips will_wake l w ≡ false → keep will_wake (l ++ w ∷ []) ≡ l ++ w ∷ []
-  keep_added [] w kept not = refl
-  keep_added (v ∷ []) w kept not = rw not refl
-  keep_added (v ∷ u ∷ rest) w kept not = stays_step v u (will_wake v u) refl rest (w ∷ []) kept
-
-  -- one that is skipped is not
-  pub keep_skipped : (l : List W) (w : W) → skips will_wake l w ≡ true → keep will_wake (l ++ w ∷ []) ≡ l
-  keep_skipped [] w skipped = cc
-  keep_skipped (v ∷ []) w skipped = rw skipped refl
-  keep_skipped (v ∷ u ∷ rest) w skipped = cc
-
-  added_or_skipped : (l : List W) (w : W) (b : Bool) → skips will_wake l w ≡ b → keep will_wake l ≡ l → keep will_wake (l ++ w ∷ []) ≡ (if b then l else l ++ w ∷ [])
-  added_or_skipped l w true is kept = keep_skipped l w is
-  added_or_skipped l w false is kept = keep_added l w kept is
-
-  -- so one more waker is added last, or not at all
+  -- one more waker is added last, or skipped
   pub keep-one : (l : List W) (w : W) → keep will_wake l ≡ l → keep will_wake (l ++ w ∷ []) ≡ (if skips will_wake l w then l else l ++ w ∷ [])
-  keep-one l w kept = added_or_skipped l w (skips will_wake l w) refl kept
+  keep-one l w kept = keep_more l (w ∷ []) ∙ ap (λ m. with_one_more will_wake m w) kept
+
+  -- added, where it is not skipped
+  pub keep_added : (l : List W) (w : W) → keep will_wake l ≡ l → skips will_wake l w ≡ false → keep will_wake (l ++ w ∷ []) ≡ l ++ w ∷ []
+  keep_added l w kept not = keep-one l w kept ∙ (rw not refl)
+
+  -- and not added, where it is
+  pub keep_skipped : (l : List W) (w : W) → keep will_wake l ≡ l → skips will_wake l w ≡ true → keep will_wake (l ++ w ∷ []) ≡ l
+  keep_skipped l w kept skipped = keep-one l w kept ∙ (rw skipped refl)
+
+  kept_if : (m : List W) (x : W) (b : Bool) → skips will_wake m x ≡ b → keep will_wake m ≡ m → keep will_wake (if b then m else m ++ x ∷ []) ≡ (if b then m else m ++ x ∷ [])
+  kept_if m x true is kept = kept
+  kept_if m x false is kept = keep_added m x kept is
+
+  kept_each : (m xs : List W) → keep will_wake m ≡ m → keep will_wake (fold (with_one_more will_wake) m xs) ≡ fold (with_one_more will_wake) m xs
+  kept_each m [] kept = kept
+  kept_each m (x ∷ xs) kept = kept_each (with_one_more will_wake m x) xs (kept_if m x (skips will_wake m x) refl kept)
+
+  -- what is kept stays when it is kept again
+  pub keep-keep : (l : List W) → keep will_wake (keep will_wake l) ≡ keep will_wake l
+  keep-keep l = kept_each [] l refl
+
+  -- who waits may be kept first, and again with those who come later
+  pub keep-append : (xs ys : List W) → keep will_wake (keep will_wake xs ++ ys) ≡ keep will_wake (xs ++ ys)
+  keep-append xs ys = keep_more (keep will_wake xs) ys ∙ (ap (λ m. fold (with_one_more will_wake) m ys) (keep-keep xs) ∙ sym (keep_more xs ys))
+
+  longer_if : (m : List W) (x : W) (b : Bool) → length m ≤ length (if b then m else m ++ x ∷ [])
+  longer_if m x true = le_refl _
+  longer_if m x false = rw length-append (omega arith)
+
+  longer_each : (m xs : List W) → length m ≤ length (fold (with_one_more will_wake) m xs)
+  longer_each m [] = le_refl _
+  longer_each m (x ∷ xs) = le_trans (longer_if m x (skips will_wake m x)) (longer_each (with_one_more will_wake m x) xs)
+
+  -- what is kept of a longer list is no shorter
+  pub keep-longer : (xs ys : List W) → length (keep will_wake xs) ≤ length (keep will_wake (xs ++ ys))
+  keep-longer xs ys = subst (λ (l : List W). length (keep will_wake xs) ≤ length l) (sym (keep_more xs ys)) (longer_each (keep will_wake xs) ys)
+
+  or_left : (a b : Bool) → a ≡ true → (a || b) ≡ true
+  or_left a b is = rw is refl
+
+  -- whoever is covered stays covered
+  covered_if : (m : List W) (x w : W) (b : Bool) → IsCovered will_wake m w → IsCovered will_wake (if b then m else m ++ x ∷ []) w
+  covered_if m x w true covered = covered
+  covered_if m x w false covered = elim covered [
+    | inl waits ↦ inl (Contains-append_left m (x ∷ []) w waits)
+    | inr skipped ↦ inr (list_any-append (λ v. will_wake v w) m (x ∷ []) ∙ or_left _ _ skipped)
+  ]
+
+  covered_each : (m xs : List W) (w : W) → IsCovered will_wake m w → IsCovered will_wake (fold (with_one_more will_wake) m xs) w
+  covered_each m [] w covered = covered
+  covered_each m (x ∷ xs) w covered = covered_each (with_one_more will_wake m x) xs w (covered_if m x w (skips will_wake m x) covered)
+
+  -- one more waker is covered
+  covers_one : (m : List W) (w : W) (b : Bool) → skips will_wake m w ≡ b → IsCovered will_wake (if b then m else m ++ w ∷ []) w
+  covers_one m w true is = inr is
+  covers_one m w false is = inl (Contains-push m w)
+
+  -- whoever asked is covered by those that are kept
+  pub keep-covers : (w : W) (xs ys : List W) → IsCovered will_wake (keep will_wake (xs ++ w ∷ ys)) w
+  keep-covers w xs ys =
+      let m = keep will_wake xs in
+      subst (λ (l : List W). IsCovered will_wake l w) (sym (keep_more xs (w ∷ ys))) (covered_each (with_one_more will_wake m w) ys w (covers_one m w (skips will_wake m w) refl))
+
+  -- a waker that comes first is kept, and skips all others that it would wake
+  first_both : (w x : W) (m rest : List W) (b : Bool) → skips will_wake m x ≡ b
+      → ((l : List W) → fold (with_one_more will_wake) (w ∷ l) rest ≡ w ∷ fold (with_one_more will_wake) l (filter (λ v. not (will_wake w v)) rest))
+      → fold (with_one_more will_wake) (if b then w ∷ m else w ∷ (m ++ x ∷ [])) rest ≡ w ∷ fold (with_one_more will_wake) (if b then m else m ++ x ∷ []) (filter (λ v. not (will_wake w v)) rest)
+  first_both w x m rest true is later = later m
+  first_both w x m rest false is later = later (m ++ x ∷ [])
+
+  first_step : (w x : W) (m rest : List W) (b : Bool) → will_wake w x ≡ b
+      → ((l : List W) → fold (with_one_more will_wake) (w ∷ l) rest ≡ w ∷ fold (with_one_more will_wake) l (filter (λ v. not (will_wake w v)) rest))
+      → fold (with_one_more will_wake) (w ∷ m) (x ∷ rest) ≡ w ∷ fold (with_one_more will_wake) m (filter (λ v. not (will_wake w v)) (x ∷ rest))
+  first_step w x m rest true is later = rw is (later m)
+  first_step w x m rest false is later = rw is (first_both w x m rest (skips will_wake m x) refl later)
+
+  first_each : (w : W) (m rest : List W) → fold (with_one_more will_wake) (w ∷ m) rest ≡ w ∷ fold (with_one_more will_wake) m (filter (λ v. not (will_wake w v)) rest)
+  first_each w m [] = refl
+  first_each w m (x ∷ rest) = first_step w x m rest (will_wake w x) refl (λ l. first_each w l rest)
+
+  pub keep_first : (w : W) (rest : List W) → keep will_wake (w ∷ rest) ≡ w ∷ keep will_wake (filter (λ v. not (will_wake w v)) rest)
+  keep_first w rest = first_each w [] rest
+
+  -- a waker that is not skipped is none of those that wait, where each would wake itself
+  other_than : (m : List W) (x : W) → ((w : W) → will_wake w w ≡ true) → skips will_wake m x ≡ false → (k : ℕ) (d : W) → k < length m → get_or m k d ≢ x
+  other_than m x itself is k d within same =
+      let woken : will_wake (get_or m k d) x ≡ true = ap (λ v. will_wake v x) same ∙ itself x in
+      let skipped : skips will_wake m x ≡ true = list_any_at (λ v. will_wake v x) m k d within woken in
+      cc
+
+  distinct_if : (m : List W) (x : W) (b : Bool) → ((w : W) → will_wake w w ≡ true) → skips will_wake m x ≡ b → AllPairs (λ u v. u ≢ v) m → AllPairs (λ u v. u ≢ v) (if b then m else m ++ x ∷ [])
+  distinct_if m x true itself is distinct = distinct
+  distinct_if m x false itself is distinct = all_pairs_push (λ u v. u ≢ v) m x distinct (other_than m x itself is)
+
+  distinct_each : (m xs : List W) → ((w : W) → will_wake w w ≡ true) → AllPairs (λ u v. u ≢ v) m → AllPairs (λ u v. u ≢ v) (fold (with_one_more will_wake) m xs)
+  distinct_each m [] itself distinct = distinct
+  distinct_each m (x ∷ xs) itself distinct = distinct_each (with_one_more will_wake m x) xs itself (distinct_if m x (skips will_wake m x) itself refl distinct)
+
+  -- where each waker would wake itself, none is kept twice
+  pub keep-distinct : (l : List W) → ((w : W) → will_wake w w ≡ true) → AllPairs (λ u v. u ≢ v) (keep will_wake l)
+  keep-distinct l itself = distinct_each [] l itself (λ i j d less within. absurd (omega arith))

@@ -7,9 +7,9 @@ use Rattle.async_cell_model.specs.Cell.{is_vacant, ends_waiting}
 use Rattle.async_cell_model.specs.Step.{next}
 use Rattle.async_cell_model.specs.Waiting.{keep, skips}
 use Rattle.async_cell_model.specs.History.{Beginning, History, cell_after, asked, pending_waker, waiting, room, after}
-use Rattle.async_cell_model.specs.Legal.{IsLegal, MayFollow}
-use Rattle.async_cell_model.proofs.Joining.{waiting-append, room-append, keep-keep}
-use Rattle.async_cell_model.proofs.Adding.{keep-one}
+use Rattle.async_cell_model.specs.Legal.{IsLegalAfterBy, MayFollowBy, UpToClones}
+use Rattle.async_cell_model.proofs.Joining.{waiting-append, room-append}
+use Rattle.async_cell_model.proofs.Adding.{keep-keep, keep-one}
 use Rattle.async_cell_model.proofs.Whole.{IsLegalAfter-second, waits_there, pending_stays_vacant}
 
 -- the wakers that one entry adds to those that asked: one or none
@@ -63,13 +63,13 @@ module _ {T W : Type 0} (will_wake : W → W → Bool) where
   pub waiting-ended : (b : Beginning T W) (h : History T W) (e : Entry T W) → ends_waiting (cell_after b.cell h) (next (cell_after b.cell h) e) ≡ true → waiting will_wake b (h ++ e ∷ []) ≡ []
   waiting-ended b h e ends = rw (waiting-append will_wake b h (e ∷ []), ends) refl
 
-module _ {T W : Type 0} (will_wake : W → W → Bool) (sure : Bool) where
+module _ {T W : Type 0} (is_clone : T → T → Type 0) (will_wake : W → W → Bool) (sure : Bool) where
   -- the waker of a poll that waits is added last, or skipped
-  pub waiting-one_more : (b : Beginning T W) (h : History T W) (e : Entry T W) (w : W) → IsLegal will_wake sure b (h ++ e ∷ []) → pending_waker e ≡ Some w
+  pub waiting-one_more : (b : Beginning T W) (h : History T W) (e : Entry T W) (w : W) → IsLegalAfterBy (UpToClones is_clone) will_wake sure b [] (h ++ e ∷ []) → pending_waker e ≡ Some w
       → waiting will_wake b (h ++ e ∷ []) ≡ (if skips will_wake (waiting will_wake b h) w then waiting will_wake b h else waiting will_wake b h ++ w ∷ [])
   waiting-one_more b h e w legal asked_for =
       let there : Beginning T W = after will_wake b h in
-      let may : MayFollow will_wake sure there e = (IsLegalAfter-second will_wake sure b [] h (e ∷ []) legal).0 in
-      let vacant : is_vacant there.cell ≡ true = waits_there will_wake sure there e w (is_vacant there.cell) refl may asked_for in
+      let may : MayFollowBy (UpToClones is_clone) will_wake sure there e = (IsLegalAfter-second is_clone will_wake sure b [] h (e ∷ []) legal).0 in
+      let vacant : is_vacant there.cell ≡ true = waits_there is_clone will_wake sure there e w (is_vacant there.cell) refl may asked_for in
       let quiet : ends_waiting there.cell (next there.cell e) ≡ false = pending_stays_vacant there.cell e w vacant asked_for in
       rw (waiting-append will_wake b h (e ∷ []), waiting_one will_wake there e quiet, asked_for) (keep-one will_wake (waiting will_wake b h) w (keep-keep will_wake (asked b h)))

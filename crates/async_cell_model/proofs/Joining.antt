@@ -6,8 +6,9 @@ use Rattle.std.specs.Prelude.{if◌then◌else◌}
 use Rattle.async_cell_model.specs.declared.cell.Cell.{Cell}
 use Rattle.async_cell_model.specs.Cell.{ends_waiting}
 use Rattle.async_cell_model.specs.Step.{next}
-use Rattle.async_cell_model.specs.Waiting.{keep, drop_while}
+use Rattle.async_cell_model.specs.Waiting.{keep}
 use Rattle.async_cell_model.specs.History.{Beginning, History, cell_after, has_fill_or_close, since, asked, pending_waker, waiting, room, after}
+use Rattle.async_cell_model.proofs.Adding.{keep-append, keep-keep, keep-longer}
 
 or_over : (p q r s : Bool) → s ≡ (q || r) → (p || s) ≡ ((p || q) || r)
 or_over true q r s e = refl
@@ -36,35 +37,6 @@ front_over true false l a b c = refl
 front_over false true l a b c = refl
 front_over false false l a b c = sym (append_assoc l a c)
 
-module _ {W : Type 0} (will_wake : W → W → Bool) where
-  drop_while_step : (w v : W) (b : Bool) → will_wake w v ≡ b → (xs ys : List W) → drop_while (will_wake w) (drop_while (will_wake w) xs ++ ys) ≡ drop_while (will_wake w) (xs ++ ys)
-      → drop_while (will_wake w) (drop_while (will_wake w) (v ∷ xs) ++ ys) ≡ drop_while (will_wake w) ((v ∷ xs) ++ ys)
-  drop_while_step w v true e xs ys rest = rw e rest
-  drop_while_step w v false e xs ys rest = simp e refl
-
-  drop_while-append : (w : W) (xs ys : List W) → drop_while (will_wake w) (drop_while (will_wake w) xs ++ ys) ≡ drop_while (will_wake w) (xs ++ ys)
-  drop_while-append w [] ys = refl
-  drop_while-append w (v ∷ xs) ys = drop_while_step w v (will_wake w v) refl xs ys (drop_while-append w xs ys)
-
-  -- what is kept of a longer list is no shorter
-  longer_step : (w v : W) (b : Bool) → will_wake w v ≡ b → (xs ys : List W) → length (drop_while (will_wake w) xs) ≤ length (drop_while (will_wake w) (xs ++ ys))
-      → length (drop_while (will_wake w) (v ∷ xs)) ≤ length (drop_while (will_wake w) ((v ∷ xs) ++ ys))
-  longer_step w v true e xs ys rest = rw e rest
-  longer_step w v false e xs ys rest = rw e (let more : suc (length xs) ≤ suc (length (xs ++ ys)) = rw length-append (omega arith) in more)
-
-  drop_while-longer : (w : W) (xs ys : List W) → length (drop_while (will_wake w) xs) ≤ length (drop_while (will_wake w) (xs ++ ys))
-  drop_while-longer w [] ys = zero-le
-  drop_while-longer w (v ∷ xs) ys = longer_step w v (will_wake w v) refl xs ys (drop_while-longer w xs ys)
-
-  pub keep-longer : (xs ys : List W) → length (keep will_wake xs) ≤ length (keep will_wake (xs ++ ys))
-  keep-longer [] ys = zero-le
-  keep-longer (w ∷ xs) ys = suc-le-suc (drop_while-longer w xs ys)
-
-  -- who waits may be kept first, and again with those who come later
-  pub keep-append : (xs ys : List W) → keep will_wake (keep will_wake xs ++ ys) ≡ keep will_wake (xs ++ ys)
-  keep-append [] ys = refl
-  keep-append (w ∷ xs) ys = ap (λ l. w ∷ l) (drop_while-append w xs ys)
-
 module _ {T W : Type 0} where
   pub cell_after-append : (c : Cell T) (g h : History T W) → cell_after c (g ++ h) ≡ cell_after (cell_after c g) h
   cell_after-append c [] h = refl
@@ -92,13 +64,6 @@ module _ {T W : Type 0} where
   asked-append b g h =
       rw (has_fill_or_close-append b.cell g h, since-append b.cell g h, split_map pending_waker (has_fill_or_close (cell_after b.cell g) h) (since (cell_after b.cell g) h) (since b.cell g) h)
       (front_over (has_fill_or_close b.cell g) (has_fill_or_close (cell_after b.cell g) h) b.waiting _ _ _)
-
--- what is kept stays when it is kept again
-pub keep-keep : {W : Type 0} (will_wake : W → W → Bool) (l : List W) → keep will_wake (keep will_wake l) ≡ keep will_wake l
-keep-keep {W} will_wake l =
-    let again = keep-append will_wake l [] in
-    let same : (m : List W) → keep will_wake (m ++ []) ≡ keep will_wake m = λ m. ap (keep will_wake) (append-nil m) in
-    sym (same (keep will_wake l)) ∙ (again ∙ same l)
 
 -- those that wait, kept up to the joint and behind it
 kept_over : {W : Type 0} (will_wake : W → W → Bool) (q : Bool) (first later cut : List W) → (q ≡ false → cut ≡ later)

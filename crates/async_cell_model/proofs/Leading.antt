@@ -9,15 +9,16 @@ use Rattle.async_cell_model.specs.declared.entry.Kept.TheVariants.{TryGet, PollT
 use Rattle.async_cell_model.specs.Cell.{is_full, is_vacant}
 use Rattle.async_cell_model.specs.Waiting.{keep, skips, is_empty}
 use Rattle.async_cell_model.specs.History.{Beginning, History, IsBeginning, has_fill_or_close, room, after}
-use Rattle.async_cell_model.specs.Legal.{MayFollow, IsLegalAfter, IsLegal, hands, hands_after, may_refuse, Leads}
+use Rattle.async_cell_model.specs.Legal.{Exactly, MayFollowBy, IsLegalAfterBy, LeadsBy, hands, hands_after, may_refuse, Leads}
+use Rattle.async_cell_model.specs.declared.reply.Reply.{Reply}
 use Rattle.async_cell_model.proofs.Joining.{after-append}
 
-module _ {T W : Type 0} (will_wake : W → W → Bool) (sure : Bool) where
+module _ {T W : Type 0} (MayReply : Kept T W → Reply T → Reply T → Type 0) (will_wake : W → W → Bool) (sure : Bool) where
   -- a history is legal in two parts
-  pub IsLegalAfter-append : (b : Beginning T W) (h xs ys : History T W) → IsLegalAfter will_wake sure b h xs → IsLegalAfter will_wake sure b (h ++ xs) ys → IsLegalAfter will_wake sure b h (xs ++ ys)
-  IsLegalAfter-append b h [] ys first second = subst (λ (g : History T W). IsLegalAfter will_wake sure b g ys) (append-nil h) second
+  pub IsLegalAfter-append : (b : Beginning T W) (h xs ys : History T W) → IsLegalAfterBy MayReply will_wake sure b h xs → IsLegalAfterBy MayReply will_wake sure b (h ++ xs) ys → IsLegalAfterBy MayReply will_wake sure b h (xs ++ ys)
+  IsLegalAfter-append b h [] ys first second = subst (λ (g : History T W). IsLegalAfterBy MayReply will_wake sure b g ys) (append-nil h) second
   IsLegalAfter-append b h (e ∷ xs) ys first second =
-      (first.0, IsLegalAfter-append b (h ++ e ∷ []) xs ys first.1 (subst (λ (g : History T W). IsLegalAfter will_wake sure b g ys) (sym (append_assoc h (e ∷ []) xs)) second))
+      (first.0, IsLegalAfter-append b (h ++ e ∷ []) xs ys first.1 (subst (λ (g : History T W). IsLegalAfterBy MayReply will_wake sure b g ys) (sym (append_assoc h (e ∷ []) xs)) second))
 
   pub hands_after-append : (b : Beginning T W) (h xs ys : History T W) → hands_after will_wake b h (xs ++ ys) ≡ hands_after will_wake b h xs ++ hands_after will_wake b (h ++ xs) ys
   hands_after-append b h [] ys = ap (λ (g : History T W). hands_after will_wake b g ys) (sym (append-nil h))
@@ -26,11 +27,11 @@ module _ {T W : Type 0} (will_wake : W → W → Bool) (sure : Bool) where
       (hands_after-append b (h ++ e ∷ []) xs ys ∙ ap (λ (g : History T W). hands_after will_wake b (h ++ e ∷ []) xs ++ hands_after will_wake b g ys) (append_assoc h (e ∷ []) xs))
 
   -- what is legal where a history leads is legal after it
-  pub IsLegalAfter-begun : (b : Beginning T W) (g h rest : History T W) → keep will_wake b.waiting ≡ b.waiting → IsLegalAfter will_wake sure (after will_wake b g) h rest → IsLegalAfter will_wake sure b (g ++ h) rest
+  pub IsLegalAfter-begun : (b : Beginning T W) (g h rest : History T W) → keep will_wake b.waiting ≡ b.waiting → IsLegalAfterBy MayReply will_wake sure (after will_wake b g) h rest → IsLegalAfterBy MayReply will_wake sure b (g ++ h) rest
   IsLegalAfter-begun b g h [] kept legal = tt
   IsLegalAfter-begun b g h (e ∷ rest) kept legal = (
-    subst (λ (at : Beginning T W). MayFollow will_wake sure at e) (sym (after-append will_wake b g h kept)) legal.0,
-    subst (λ (l : History T W). IsLegalAfter will_wake sure b l rest) (sym (append_assoc g h (e ∷ []))) (IsLegalAfter-begun b g (h ++ e ∷ []) rest kept legal.1),
+    subst (λ (at : Beginning T W). MayFollowBy MayReply will_wake sure at e) (sym (after-append will_wake b g h kept)) legal.0,
+    subst (λ (l : History T W). IsLegalAfterBy MayReply will_wake sure b l rest) (sym (append_assoc g h (e ∷ []))) (IsLegalAfter-begun b g (h ++ e ∷ []) rest kept legal.1),
   )
 
   pub hands_after-begun : (b : Beginning T W) (g h rest : History T W) → keep will_wake b.waiting ≡ b.waiting → hands_after will_wake b (g ++ h) rest ≡ hands_after will_wake (after will_wake b g) h rest
@@ -56,7 +57,7 @@ room_more_if : (ends : Bool) (r n taken : ℕ) → r ≤ n → (if ends then 0 e
 room_more_if true r n taken more = zero-le
 room_more_if false r n taken more = omega arith
 
-module _ {T W : Type 0} (will_wake : W → W → Bool) (sure : Bool) where
+module _ {T W : Type 0} (MayReply : Kept T W → Reply T → Reply T → Type 0) (will_wake : W → W → Bool) (sure : Bool) where
   -- more room only makes fewer refusals legal
   may_refuse-room : (b : Beginning T W) (r : ℕ) → b.room ≤ r → (call : Kept T W) → may_refuse will_wake sure (record b { room = r }) call ≡ true → may_refuse will_wake sure b call ≡ true
   may_refuse-room b r more TryGet refused = refused
@@ -65,7 +66,7 @@ module _ {T W : Type 0} (will_wake : W → W → Bool) (sure : Bool) where
       full_or (is_full b.cell) _ _ (poll_room (is_vacant b.cell) (skips will_wake b.waiting w) sure (is_empty b.waiting) _ _ (below_more_room b.room r more)) refused
   may_refuse-room b r more call refused = refused
 
-  MayFollow-room : (b : Beginning T W) (r : ℕ) → b.room ≤ r → (e : Entry T W) → MayFollow will_wake sure (record b { room = r }) e → MayFollow will_wake sure b e
+  MayFollow-room : (b : Beginning T W) (r : ℕ) → b.room ≤ r → (e : Entry T W) → MayFollowBy MayReply will_wake sure (record b { room = r }) e → MayFollowBy MayReply will_wake sure b e
   MayFollow-room b r more e may = record {
     replied = elim may.replied [ inl same ↦ inl same | inr refused ↦ inr (refused.0, may_refuse-room b r more e.call refused.1) ];
     updated = may.updated;
@@ -74,7 +75,7 @@ module _ {T W : Type 0} (will_wake : W → W → Bool) (sure : Bool) where
   room-more : (b : Beginning T W) (r : ℕ) → b.room ≤ r → (h : History T W) → room will_wake b h ≤ room will_wake (record b { room = r }) h
   room-more b r more h = room_more_if (has_fill_or_close b.cell h) b.room r _ more
 
-  IsLegalAfter-room : (b : Beginning T W) (r : ℕ) → b.room ≤ r → (h rest : History T W) → IsLegalAfter will_wake sure (record b { room = r }) h rest → IsLegalAfter will_wake sure b h rest
+  IsLegalAfter-room : (b : Beginning T W) (r : ℕ) → b.room ≤ r → (h rest : History T W) → IsLegalAfterBy MayReply will_wake sure (record b { room = r }) h rest → IsLegalAfterBy MayReply will_wake sure b h rest
   IsLegalAfter-room b r more h [] legal = tt
   IsLegalAfter-room b r more h (e ∷ rest) legal =
       (MayFollow-room (after will_wake b h) (room will_wake (record b { room = r }) h) (room-more b r more h) e legal.0, IsLegalAfter-room b r more (h ++ e ∷ []) rest legal.1)
@@ -93,18 +94,18 @@ module _ {T W : Type 0} (will_wake : W → W → Bool) (sure : Bool) where
       → ws ++ us ≡ hands_after will_wake b [] (g ++ h)
   handed_both b r g h ws us kept first second =
       let later : us ≡ hands_after will_wake b g h =
-      second ∙ (hands_after-room (after will_wake b g) r [] h ∙ (sym (hands_after-begun will_wake sure b g [] h kept) ∙ ap (λ (l : History T W). hands_after will_wake b l h) (append-nil g))) in
-      ap (λ (l : List (List W)). l ++ us) first ∙ (ap (λ (l : List (List W)). hands_after will_wake b [] g ++ l) later ∙ sym (hands_after-append will_wake sure b [] g h))
+      second ∙ (hands_after-room (after will_wake b g) r [] h ∙ (sym (hands_after-begun MayReply will_wake sure b g [] h kept) ∙ ap (λ (l : History T W). hands_after will_wake b l h) (append-nil g))) in
+      ap (λ (l : List (List W)). l ++ us) first ∙ (ap (λ (l : List (List W)). hands_after will_wake b [] g ++ l) later ∙ sym (hands_after-append MayReply will_wake sure b [] g h))
 
   -- a history that leads on, from the beginning that the first one left, with room to spare
-  join_at : (b : Beginning T W) (r : ℕ) (to : Beginning T W) (g h : History T W) (ws us : List (List W)) → IsBeginning will_wake b → IsLegal will_wake sure b g → room will_wake b g ≤ r → ws ≡ hands_after will_wake b [] g
-      → Leads will_wake sure (record (after will_wake b g) { room = r }) h us to → Leads will_wake sure b (g ++ h) (ws ++ us) to
+  join_at : (b : Beginning T W) (r : ℕ) (to : Beginning T W) (g h : History T W) (ws us : List (List W)) → IsBeginning will_wake b → IsLegalAfterBy MayReply will_wake sure b [] g → room will_wake b g ≤ r → ws ≡ hands_after will_wake b [] g
+      → LeadsBy MayReply will_wake sure (record (after will_wake b g) { room = r }) h us to → LeadsBy MayReply will_wake sure b (g ++ h) (ws ++ us) to
   join_at b r to g h ws us begins legal more handed second =
-      let begun = IsLegalAfter-begun will_wake sure b g [] h begins.kept (IsLegalAfter-room (after will_wake b g) r more [] h second.legal) in
+      let begun = IsLegalAfter-begun MayReply will_wake sure b g [] h begins.kept (IsLegalAfter-room (after will_wake b g) r more [] h second.legal) in
       let joined = after-append will_wake b g h begins.kept in
       record {
         begins = begins;
-        legal = IsLegalAfter-append will_wake sure b [] g h legal (subst (λ (l : History T W). IsLegalAfter will_wake sure b l h) (append-nil g) begun);
+        legal = IsLegalAfter-append MayReply will_wake sure b [] g h legal (subst (λ (l : History T W). IsLegalAfterBy MayReply will_wake sure b l h) (append-nil g) begun);
         cell_is = second.cell_is ∙ sym (ap (λ (at : Beginning T W). at.cell) joined);
         waiting_is = second.waiting_is ∙ sym (ap (λ (at : Beginning T W). at.waiting) joined);
         room_is_left = joined_room b r to g h begins.kept more second.room_is_left;
@@ -112,14 +113,14 @@ module _ {T W : Type 0} (will_wake : W → W → Bool) (sure : Bool) where
       }
 
   -- two histories, one where the other leads, are one
-  pub Leads-join : (b mid to : Beginning T W) (g h : History T W) (ws us : List (List W)) → Leads will_wake sure b g ws mid → Leads will_wake sure mid h us to → Leads will_wake sure b (g ++ h) (ws ++ us) to
-  Leads-join b mid to g h ws us first second =
+  pub Leads-join-by : (b mid to : Beginning T W) (g h : History T W) (ws us : List (List W)) → LeadsBy MayReply will_wake sure b g ws mid → LeadsBy MayReply will_wake sure mid h us to → LeadsBy MayReply will_wake sure b (g ++ h) (ws ++ us) to
+  Leads-join-by b mid to g h ws us first second =
       let there : mid ≡ record (after will_wake b g) { room = mid.room } = λ i. record { cell = first.cell_is i; waiting = first.waiting_is i; room = mid.room } in
-      join_at b mid.room to g h ws us first.begins first.legal first.room_is_left first.handed_is (subst (λ (at : Beginning T W). Leads will_wake sure at h us to) there second)
+      join_at b mid.room to g h ws us first.begins first.legal first.room_is_left first.handed_is (subst (λ (at : Beginning T W). LeadsBy MayReply will_wake sure at h us to) there second)
 
   -- the empty history leads nowhere else
-  pub Leads-nil : (b : Beginning T W) → IsBeginning will_wake b → Leads will_wake sure b [] [] b
-  Leads-nil b begins = record {
+  pub Leads-nil-by : (b : Beginning T W) → IsBeginning will_wake b → LeadsBy MayReply will_wake sure b [] [] b
+  Leads-nil-by b begins = record {
     begins = begins;
     legal = tt;
     cell_is = refl;
@@ -127,3 +128,10 @@ module _ {T W : Type 0} (will_wake : W → W → Bool) (sure : Bool) where
     room_is_left = omega arith;
     handed_is = refl;
   }
+
+module _ {T W : Type 0} (will_wake : W → W → Bool) (sure : Bool) where
+  pub Leads-join : (b mid to : Beginning T W) (g h : History T W) (ws us : List (List W)) → Leads will_wake sure b g ws mid → Leads will_wake sure mid h us to → Leads will_wake sure b (g ++ h) (ws ++ us) to
+  Leads-join b mid to g h ws us first second = Leads-join-by Exactly will_wake sure b mid to g h ws us first second
+
+  pub Leads-nil : (b : Beginning T W) → IsBeginning will_wake b → Leads will_wake sure b [] [] b
+  Leads-nil b begins = Leads-nil-by Exactly will_wake sure b begins

@@ -1,4 +1,5 @@
 pub mod Adding
+pub mod Exact
 pub mod Growing
 pub mod Joining
 pub mod Keeping
@@ -6,4 +7,5 @@ pub mod Leading
 pub mod Once
 pub mod Polling
 pub mod Refusing
+pub mod UpTo
 pub mod Whole

@@ -13,7 +13,7 @@ use Rattle.async_cell_model.specs.Cell.{ends_waiting, owners_limit, IsCounted, i
 use Rattle.async_cell_model.specs.Step.{next, next_open, reply, reply_open, is_memory, is_refused}
 use Rattle.async_cell_model.specs.Waiting.{keep}
 use Rattle.async_cell_model.specs.History.{Beginning, History, IsBeginning, pending_waker, waiting}
-use Rattle.async_cell_model.specs.Legal.{MayFollow, Leads, hands_after}
+use Rattle.async_cell_model.specs.Legal.{IsCloned, LeadsBy, MayFollowBy, UpToClones, hands_after}
 use Rattle.async_cell_model.proofs.Whole.{after-nil, IsBeginning-after}
 
 module _ {T : Type 0} where
@@ -72,25 +72,30 @@ module _ {T W : Type 0} where
   refused_silent call (Is b) is = cc
   refused_silent call (Ready v) is = cc
 
-module _ {T W : Type 0} (will_wake : W → W → Bool) (sure : Bool) where
-  next-refused : (at : Beginning T W) (e : Entry T W) → MayFollow will_wake sure at e → is_refused e.reply ≡ true → next at.cell e ≡ at.cell
+cloned_answers : {T W : Type 0} (is_clone : T → T → Type 0) (call : Kept T W) (r s : Reply T) → IsCloned is_clone call r s → is_refused s ≡ true → ⊥
+cloned_answers is_clone TryGet (Value (Some a)) (Value (Some b)) cloned is = cc
+cloned_answers is_clone (PollGet w) (Ready (Some a)) (Ready (Some b)) cloned is = cc
+cloned_answers is_clone call r s cloned is = absurd cloned
+
+module _ {T W : Type 0} (is_clone : T → T → Type 0) (will_wake : W → W → Bool) (sure : Bool) where
+  next-refused : (at : Beginning T W) (e : Entry T W) → MayFollowBy (UpToClones is_clone) will_wake sure at e → is_refused e.reply ≡ true → next at.cell e ≡ at.cell
   next-refused at e may is = elim may.replied [
-    | inl same ↦ subst (λ (r : Reply T). is_refused r ≡ true → next at.cell (record { call = e.call; reply = r }) ≡ at.cell) (sym same) (refused_same at.cell e.call) is
+    | inl same ↦ elim same [ inl it ↦ subst (λ (r : Reply T). is_refused r ≡ true → next at.cell (record { call = e.call; reply = r }) ≡ at.cell) (sym it) (refused_same at.cell e.call) is | inr cloned ↦ absurd (cloned_answers is_clone e.call (reply at.cell e.call) e.reply cloned is) ]
     | inr refused ↦ subst (λ (r : Reply T). next at.cell (record { call = e.call; reply = r }) ≡ at.cell) (sym refused.0) (memory_same at.cell e.call)
   ]
 
   -- a refused entry leaves the cell as it was
-  pub refused_cell : (from to : Beginning T W) (e : Entry T W) (handed_out : List (List W)) → Leads will_wake sure from (e ∷ []) handed_out to → is_refused e.reply ≡ true → next from.cell e ≡ from.cell
+  pub refused_cell : (from to : Beginning T W) (e : Entry T W) (handed_out : List (List W)) → LeadsBy (UpToClones is_clone) will_wake sure from (e ∷ []) handed_out to → is_refused e.reply ≡ true → next from.cell e ≡ from.cell
   refused_cell from to e handed_out leads is =
-      let here : MayFollow will_wake sure from e = subst (λ (at : Beginning T W). MayFollow will_wake sure at e) (after-nil will_wake sure from leads.begins.kept) leads.legal.0 in
+      let here : MayFollowBy (UpToClones is_clone) will_wake sure from e = subst (λ (at : Beginning T W). MayFollowBy (UpToClones is_clone) will_wake sure at e) (after-nil is_clone will_wake sure from leads.begins.kept) leads.legal.0 in
       next-refused from e here is
 
   -- and so neither fills nor closes
-  quiet_if_refused : (from to : Beginning T W) (e : Entry T W) (handed_out : List (List W)) → Leads will_wake sure from (e ∷ []) handed_out to → is_refused e.reply ≡ true → ends_waiting from.cell (next from.cell e) ≡ false
+  quiet_if_refused : (from to : Beginning T W) (e : Entry T W) (handed_out : List (List W)) → LeadsBy (UpToClones is_clone) will_wake sure from (e ∷ []) handed_out to → is_refused e.reply ≡ true → ends_waiting from.cell (next from.cell e) ≡ false
   quiet_if_refused from to e handed_out leads is = subst (λ (c : Cell T). ends_waiting from.cell c ≡ false) (sym (refused_cell from to e handed_out leads is)) (stays from.cell)
 
   -- leaves those that wait
-  pub refused_waiting : (from to : Beginning T W) (e : Entry T W) (handed_out : List (List W)) → Leads will_wake sure from (e ∷ []) handed_out to → is_refused e.reply ≡ true → to.waiting ≡ from.waiting
+  pub refused_waiting : (from to : Beginning T W) (e : Entry T W) (handed_out : List (List W)) → LeadsBy (UpToClones is_clone) will_wake sure from (e ∷ []) handed_out to → is_refused e.reply ≡ true → to.waiting ≡ from.waiting
   refused_waiting from to e handed_out leads is =
       let quiet = quiet_if_refused from to e handed_out leads is in
       let silent : pending_waker e ≡ None = refused_silent e.call e.reply is in
@@ -98,26 +103,26 @@ module _ {T W : Type 0} (will_wake : W → W → Bool) (sure : Bool) where
       leads.waiting_is ∙ list
 
   -- an entry that neither fills nor closes hands out none
-  pub handed_none : (from to : Beginning T W) (e : Entry T W) (handed_out : List (List W)) → Leads will_wake sure from (e ∷ []) handed_out to → ends_waiting from.cell (next from.cell e) ≡ false → handed_out ≡ [] ∷ []
+  pub handed_none : (from to : Beginning T W) (e : Entry T W) (handed_out : List (List W)) → LeadsBy (UpToClones is_clone) will_wake sure from (e ∷ []) handed_out to → ends_waiting from.cell (next from.cell e) ≡ false → handed_out ≡ [] ∷ []
   handed_none from to e handed_out leads quiet =
       let none : hands_after will_wake from [] (e ∷ []) ≡ [] ∷ [] = rw quiet refl in
       leads.handed_is ∙ none
 
   -- and nor does a refused one
-  pub refused_handed : (from to : Beginning T W) (e : Entry T W) (handed_out : List (List W)) → Leads will_wake sure from (e ∷ []) handed_out to → is_refused e.reply ≡ true → handed_out ≡ [] ∷ []
+  pub refused_handed : (from to : Beginning T W) (e : Entry T W) (handed_out : List (List W)) → LeadsBy (UpToClones is_clone) will_wake sure from (e ∷ []) handed_out to → is_refused e.reply ≡ true → handed_out ≡ [] ∷ []
   refused_handed from to e handed_out leads is = handed_none from to e handed_out leads (quiet_if_refused from to e handed_out leads is)
 
   -- one that fills or closes hands out all that waited
-  pub handed_all : (from to : Beginning T W) (e : Entry T W) (handed_out : List (List W)) → Leads will_wake sure from (e ∷ []) handed_out to → ends_waiting from.cell (next from.cell e) ≡ true → handed_out ≡ from.waiting ∷ []
+  pub handed_all : (from to : Beginning T W) (e : Entry T W) (handed_out : List (List W)) → LeadsBy (UpToClones is_clone) will_wake sure from (e ∷ []) handed_out to → ends_waiting from.cell (next from.cell e) ≡ true → handed_out ≡ from.waiting ∷ []
   handed_all from to e handed_out leads ends =
       let list : keep will_wake (from.waiting ++ []) ≡ from.waiting = ap (keep will_wake) (append-nil from.waiting) ∙ leads.begins.kept in
       let all : hands_after will_wake from [] (e ∷ []) ≡ from.waiting ∷ [] = rw (ends, list) refl in
       leads.handed_is ∙ all
 
   -- where a history leads is a beginning
-  pub Leads-begins : (from to : Beginning T W) (h : History T W) (handed_out : List (List W)) → Leads will_wake sure from h handed_out to → IsBeginning will_wake to
+  pub Leads-begins : (from to : Beginning T W) (h : History T W) (handed_out : List (List W)) → LeadsBy (UpToClones is_clone) will_wake sure from h handed_out to → IsBeginning will_wake to
   Leads-begins from to h handed_out leads =
-      let there = IsBeginning-after will_wake sure from h leads.begins leads.legal in
+      let there = IsBeginning-after is_clone will_wake sure from h leads.begins leads.legal in
       record {
         counted = subst (λ (c : Cell T). IsCounted c) (sym leads.cell_is) there.counted;
         waits_vacant = λ not. leads.waiting_is ∙ there.waits_vacant (subst (λ (c : Cell T). is_vacant c ≡ false) leads.cell_is not);

@@ -1,7 +1,7 @@
 -- Laws of every legal history.
 use Rattle.std.proofs.Common.{◌≡◌, ◌⊎◌, inl, inr, ℕ, Bool, true, false, List, [], ◌∷◌, ◌++◌, length, Some, None, refl, ap, sym, subst, ◌∙◌, arith, append_assoc, append-nil, ◌-◌}
-use Rattle.std.specs.List.{filter_map, Contains}
-use Rattle.std.proofs.lemmas.List.Elements.{Contains-append_right}
+use Rattle.std.specs.Prelude.{◌↔◌}
+use Rattle.std.specs.List.{filter_map}
 use Rattle.async_cell_model.specs.declared.entry.Entry.{Entry}
 use Rattle.async_cell_model.specs.declared.cell.Cell.{Cell}
 use Rattle.async_cell_model.specs.declared.cell.Cell.TheVariants.{Closed, Open}
@@ -11,34 +11,36 @@ use Rattle.async_cell_model.specs.declared.reply.Reply.{Reply}
 use Rattle.async_cell_model.specs.declared.reply.Reply.TheVariants.{Pending, Done, Value, Is, Ready, Refused}
 use Rattle.async_cell_model.specs.Cell.{is_vacant, ends_waiting}
 use Rattle.async_cell_model.specs.Step.{next}
-use Rattle.async_cell_model.specs.Waiting.{keep, drop_while, IsCovered}
+use Rattle.async_cell_model.specs.Taken.{IsDistinct}
+use Rattle.async_cell_model.specs.Waiting.{keep, IsCovered}
 use Rattle.async_cell_model.specs.History.{Beginning, History, IsBeginning, cell_after, has_fill_or_close, asked, pending_waker, waiting, after}
-use Rattle.async_cell_model.specs.Legal.{MayFollow, IsLegalAfter, IsLegal}
+use Rattle.async_cell_model.specs.Legal.{IsLegalAfterBy, MayFollowBy, UpToClones}
+use Rattle.async_cell_model.proofs.Adding.{keep-covers, keep-distinct}
 use Rattle.async_cell_model.proofs.Joining.{after-append, asked-append, cell_after-append}
 use Rattle.async_cell_model.proofs.Keeping.{IsBeginning-step, no_waker}
 
-module _ {T W : Type 0} (will_wake : W → W → Bool) (sure : Bool) where
+module _ {T W : Type 0} (is_clone : T → T → Type 0) (will_wake : W → W → Bool) (sure : Bool) where
   -- what is legal after a history is legal where it leads
-  pub IsLegalAfter-anew : (b : Beginning T W) (g h rest : History T W) → keep will_wake b.waiting ≡ b.waiting → IsLegalAfter will_wake sure b (g ++ h) rest → IsLegalAfter will_wake sure (after will_wake b g) h rest
+  pub IsLegalAfter-anew : (b : Beginning T W) (g h rest : History T W) → keep will_wake b.waiting ≡ b.waiting → IsLegalAfterBy (UpToClones is_clone) will_wake sure b (g ++ h) rest → IsLegalAfterBy (UpToClones is_clone) will_wake sure (after will_wake b g) h rest
   IsLegalAfter-anew b g h [] kept legal = tt
   IsLegalAfter-anew b g h (e ∷ rest) kept legal = (
-    subst (λ (at : Beginning T W). MayFollow will_wake sure at e) (after-append will_wake b g h kept) legal.0,
-    IsLegalAfter-anew b g (h ++ e ∷ []) rest kept (subst (λ (l : History T W). IsLegalAfter will_wake sure b l rest) (append_assoc g h (e ∷ [])) legal.1),
+    subst (λ (at : Beginning T W). MayFollowBy (UpToClones is_clone) will_wake sure at e) (after-append will_wake b g h kept) legal.0,
+    IsLegalAfter-anew b g (h ++ e ∷ []) rest kept (subst (λ (l : History T W). IsLegalAfterBy (UpToClones is_clone) will_wake sure b l rest) (append_assoc g h (e ∷ [])) legal.1),
   )
 
   -- the second part of a legal history is legal, and so is the first
-  pub IsLegalAfter-second : (b : Beginning T W) (h xs ys : History T W) → IsLegalAfter will_wake sure b h (xs ++ ys) → IsLegalAfter will_wake sure b (h ++ xs) ys
-  IsLegalAfter-second b h [] ys legal = subst (λ (l : History T W). IsLegalAfter will_wake sure b l ys) (sym (append-nil h)) legal
-  IsLegalAfter-second b h (e ∷ xs) ys legal = subst (λ (l : History T W). IsLegalAfter will_wake sure b l ys) (append_assoc h (e ∷ []) xs) (IsLegalAfter-second b (h ++ e ∷ []) xs ys legal.1)
+  pub IsLegalAfter-second : (b : Beginning T W) (h xs ys : History T W) → IsLegalAfterBy (UpToClones is_clone) will_wake sure b h (xs ++ ys) → IsLegalAfterBy (UpToClones is_clone) will_wake sure b (h ++ xs) ys
+  IsLegalAfter-second b h [] ys legal = subst (λ (l : History T W). IsLegalAfterBy (UpToClones is_clone) will_wake sure b l ys) (sym (append-nil h)) legal
+  IsLegalAfter-second b h (e ∷ xs) ys legal = subst (λ (l : History T W). IsLegalAfterBy (UpToClones is_clone) will_wake sure b l ys) (append_assoc h (e ∷ []) xs) (IsLegalAfter-second b (h ++ e ∷ []) xs ys legal.1)
 
-  pub IsLegalAfter-first : (b : Beginning T W) (h xs ys : History T W) → IsLegalAfter will_wake sure b h (xs ++ ys) → IsLegalAfter will_wake sure b h xs
+  pub IsLegalAfter-first : (b : Beginning T W) (h xs ys : History T W) → IsLegalAfterBy (UpToClones is_clone) will_wake sure b h (xs ++ ys) → IsLegalAfterBy (UpToClones is_clone) will_wake sure b h xs
   IsLegalAfter-first b h [] ys legal = tt
   IsLegalAfter-first b h (e ∷ xs) ys legal = (legal.0, IsLegalAfter-first b (h ++ e ∷ []) xs ys legal.1)
 
-  pub IsLegal-anew : (b : Beginning T W) (g h : History T W) → IsBeginning will_wake b → IsLegal will_wake sure b (g ++ h) → IsLegal will_wake sure (after will_wake b g) h
+  pub IsLegal-anew : (b : Beginning T W) (g h : History T W) → IsBeginning will_wake b → IsLegalAfterBy (UpToClones is_clone) will_wake sure b [] (g ++ h) → IsLegalAfterBy (UpToClones is_clone) will_wake sure (after will_wake b g) [] h
   IsLegal-anew b g h begins legal =
       let second = IsLegalAfter-second b [] g h legal in
-      IsLegalAfter-anew b g [] h begins.kept (subst (λ (l : History T W). IsLegalAfter will_wake sure b l h) (sym (append-nil g)) second)
+      IsLegalAfter-anew b g [] h begins.kept (subst (λ (l : History T W). IsLegalAfterBy (UpToClones is_clone) will_wake sure b l h) (sym (append-nil g)) second)
 
   -- the empty history leads nowhere else
   pub after-nil : (b : Beginning T W) → keep will_wake b.waiting ≡ b.waiting → after will_wake b [] ≡ b
@@ -47,33 +49,12 @@ module _ {T W : Type 0} (will_wake : W → W → Bool) (sure : Bool) where
       let left : b.room - (length (keep will_wake (b.waiting ++ [])) - length b.waiting) ≡ b.room = rw same (omega arith) in
       λ i. record { cell = b.cell; waiting = same i; room = left i }
 
-  pub IsBeginning-after : (b : Beginning T W) (h : History T W) → IsBeginning will_wake b → IsLegal will_wake sure b h → IsBeginning will_wake (after will_wake b h)
+  pub IsBeginning-after : (b : Beginning T W) (h : History T W) → IsBeginning will_wake b → IsLegalAfterBy (UpToClones is_clone) will_wake sure b [] h → IsBeginning will_wake (after will_wake b h)
   IsBeginning-after b [] begins legal = subst (λ (at : Beginning T W). IsBeginning will_wake at) (sym (after-nil b begins.kept)) begins
   IsBeginning-after b (e ∷ h) begins legal =
-      let may : MayFollow will_wake sure b e = subst (λ (at : Beginning T W). MayFollow will_wake sure at e) (after-nil b begins.kept) legal.0 in
-      let anew : IsLegalAfter will_wake sure (after will_wake b (e ∷ [])) [] h = IsLegalAfter-anew b (e ∷ []) [] h begins.kept legal.1 in
-      subst (λ (at : Beginning T W). IsBeginning will_wake at) (sym (after-append will_wake b (e ∷ []) h begins.kept)) (IsBeginning-after (after will_wake b (e ∷ [])) h (IsBeginning-step will_wake sure b e begins may) anew)
-
-module _ {W : Type 0} (will_wake : W → W → Bool) where
-  stands : (xs ys : List W) (w : W) → Contains (xs ++ w ∷ ys) w
-  stands xs ys w = Contains-append_right xs (w ∷ ys) w (0, omega arith, refl)
-
-  woken_or_stands : (v w u : W) (b : Bool) → will_wake v u ≡ b → (xs ys : List W) → Contains (drop_while (will_wake v) (xs ++ w ∷ ys)) w ⊎ (will_wake v w ≡ true) → Contains (drop_while (will_wake v) ((u ∷ xs) ++ w ∷ ys)) w ⊎ (will_wake v w ≡ true)
-  woken_or_stands v w u true is xs ys rest = rw is rest
-  woken_or_stands v w u false is xs ys rest = rw is (inl (stands (u ∷ xs) ys w))
-
-  first_or_stands : (v w : W) (b : Bool) → will_wake v w ≡ b → (ys : List W) → Contains (drop_while (will_wake v) (w ∷ ys)) w ⊎ (will_wake v w ≡ true)
-  first_or_stands v w true is ys = inr is
-  first_or_stands v w false is ys = inl (rw is (stands [] ys w))
-
-  covers_after : (v w : W) (xs ys : List W) → Contains (drop_while (will_wake v) (xs ++ w ∷ ys)) w ⊎ (will_wake v w ≡ true)
-  covers_after v w [] ys = first_or_stands v w (will_wake v w) refl ys
-  covers_after v w (u ∷ xs) ys = woken_or_stands v w u (will_wake v u) refl xs ys (covers_after v w xs ys)
-
-  -- whoever asked is covered by those that are kept
-  pub keep-covers : (w : W) (xs ys : List W) → IsCovered will_wake (keep will_wake (xs ++ w ∷ ys)) w
-  keep-covers w [] ys = inl (stands [] _ w)
-  keep-covers w (v ∷ xs) ys = elim (covers_after v w xs ys) [ inl among ↦ inl (Contains-append_right (v ∷ []) _ w among) | inr woken ↦ inr woken ]
+      let may : MayFollowBy (UpToClones is_clone) will_wake sure b e = subst (λ (at : Beginning T W). MayFollowBy (UpToClones is_clone) will_wake sure at e) (after-nil b begins.kept) legal.0 in
+      let anew : IsLegalAfterBy (UpToClones is_clone) will_wake sure (after will_wake b (e ∷ [])) [] h = IsLegalAfter-anew b (e ∷ []) [] h begins.kept legal.1 in
+      subst (λ (at : Beginning T W). IsBeginning will_wake at) (sym (after-append will_wake b (e ∷ []) h begins.kept)) (IsBeginning-after (after will_wake b (e ∷ [])) h (IsBeginning-step is_clone will_wake sure b e begins may) anew)
 
 module _ {T W : Type 0} where
   -- a poll that waits neither fills nor closes
@@ -103,21 +84,25 @@ module _ {T W : Type 0} where
   pending_stays_vacant (Open (Some v) n) e w vacant asked = cc
   pending_stays_vacant (Open None n) e w vacant asked = pending_stays n e.call e.reply w asked
 
-module _ {T W : Type 0} (will_wake : W → W → Bool) (sure : Bool) where
-  pub waits_there : (at : Beginning T W) (e : Entry T W) (w : W) (vacant : Bool) → is_vacant at.cell ≡ vacant → MayFollow will_wake sure at e → pending_waker e ≡ Some w → vacant ≡ true
+module _ {T W : Type 0} (is_clone : T → T → Type 0) (will_wake : W → W → Bool) (sure : Bool) where
+  pub waits_there : (at : Beginning T W) (e : Entry T W) (w : W) (vacant : Bool) → is_vacant at.cell ≡ vacant → MayFollowBy (UpToClones is_clone) will_wake sure at e → pending_waker e ≡ Some w → vacant ≡ true
   waits_there at e w true is may asked = refl
-  waits_there at e w false is may asked = let silent = no_waker will_wake sure at e is may in cc
+  waits_there at e w false is may asked = let silent = no_waker is_clone will_wake sure at e is may in cc
 
   -- the waker of a poll that waits is covered until the next fill or close
-  pub stays_covered : (b : Beginning T W) (g rest : History T W) (e : Entry T W) (w : W) → IsLegal will_wake sure b (g ++ e ∷ rest) → pending_waker e ≡ Some w
+  pub stays_covered : (b : Beginning T W) (g rest : History T W) (e : Entry T W) (w : W) → IsLegalAfterBy (UpToClones is_clone) will_wake sure b [] (g ++ e ∷ rest) → pending_waker e ≡ Some w
       → has_fill_or_close (cell_after b.cell (g ++ e ∷ [])) rest ≡ false → IsCovered will_wake (waiting will_wake b (g ++ e ∷ rest)) w
   stays_covered b g rest e w legal asked_for none =
-      let may : MayFollow will_wake sure (after will_wake b g) e = (IsLegalAfter-second will_wake sure b [] g (e ∷ rest) legal).0 in
+      let may : MayFollowBy (UpToClones is_clone) will_wake sure (after will_wake b g) e = (IsLegalAfter-second is_clone will_wake sure b [] g (e ∷ rest) legal).0 in
       let vacant : is_vacant (cell_after b.cell g) ≡ true = waits_there (after will_wake b g) e w (is_vacant (cell_after b.cell g)) refl may asked_for in
       let quiet : ends_waiting (cell_after b.cell g) (next (cell_after b.cell g) e) ≡ false = pending_stays_vacant (cell_after b.cell g) e w vacant asked_for in
       let on : has_fill_or_close (next (cell_after b.cell g) e) rest ≡ false = subst (λ (c : Cell T). has_fill_or_close c rest ≡ false) (cell_after-append b.cell g (e ∷ [])) none in
       rw (asked-append b g (e ∷ rest), quiet, on, asked_for) (keep-covers will_wake w (asked b g) (filter_map pending_waker rest))
 
   -- a legal history leads to a beginning, so wakers wait only where the cell is open without a value
-  pub waits_only_vacant : (b : Beginning T W) (h : History T W) → IsBeginning will_wake b → IsLegal will_wake sure b h → is_vacant (cell_after b.cell h) ≡ false → waiting will_wake b h ≡ []
-  waits_only_vacant b h begins legal = (IsBeginning-after will_wake sure b h begins legal).waits_vacant
+  pub waits_only_vacant : (b : Beginning T W) (h : History T W) → IsBeginning will_wake b → IsLegalAfterBy (UpToClones is_clone) will_wake sure b [] h → is_vacant (cell_after b.cell h) ≡ false → waiting will_wake b h ≡ []
+  waits_only_vacant b h begins legal = (IsBeginning-after is_clone will_wake sure b h begins legal).waits_vacant
+
+-- where a waker would wake another exactly if the two are equal, none waits twice
+pub waits_once : {T W : Type 0} (will_wake : W → W → Bool) (b : Beginning T W) (h : History T W) → ((v w : W) → (will_wake v w ≡ true) ↔ (v ≡ w)) → IsDistinct (waiting will_wake b h)
+waits_once will_wake b h same = keep-distinct will_wake (asked b h) (λ w. (same w w).1 refl)

@@ -9,6 +9,7 @@ use Rattle.async_cell_model.specs.declared.refusal.Refusal.TheVariants as why
 use Rattle.async_cell_model.specs.Cell.{is_full, is_vacant, ends_waiting}
 use Rattle.async_cell_model.specs.Step.{reply, next, FitsUpdate}
 use Rattle.async_cell_model.specs.Waiting.{is_empty, skips}
+pub use Rattle.async_cell_model.specs.Clones.{copies, is_copy, Exactly, IsCloned, UpToClones}
 use Rattle.async_cell_model.specs.History.{Beginning, History, IsBeginning, cell_after, waiting, room, after}
 
 -- the wakers that an entry hands out: all that wait, where it fills or closes, and else none
@@ -34,29 +35,67 @@ module _ {T W : Type 0} (will_wake : W → W → Bool) (sure : Bool) where
   may_refuse at (PollGet w) = is_full at.cell || (is_vacant at.cell && not (needs_no_memory at w))
   may_refuse at _ = false
 
-  -- the entry may come here: its reply is that of the cell, or that there was no memory where that may be
-  pub record MayFollow (at : Beginning T W) (e : Entry T W) : Type 0 where
-    pub replied : (e.reply ≡ reply at.cell e.call) ⊎ ((e.reply ≡ Refused why.Memory None) × (may_refuse at e.call ≡ true))
+-- `MayReply` says of a call and the cell's own reply what may be replied in its place
+module _ {T W : Type 0} (MayReply : Kept T W → Reply T → Reply T → Type 0)
+    (will_wake : W → W → Bool) (sure : Bool) where
+  -- the entry may come here: its reply is one that the cell may give, or that there was no memory
+  -- where that may be
+  pub record MayFollowBy (at : Beginning T W) (e : Entry T W) : Type 0 where
+    pub replied : MayReply e.call (reply at.cell e.call) e.reply
+        ⊎ ((e.reply ≡ Refused why.Memory None) × (may_refuse will_wake sure at e.call ≡ true))
     pub updated : FitsUpdate at.cell e.call
 
   -- each of these entries may follow those before it, where the entries h came first
-  abbrev pub IsLegalAfter : Beginning T W → History T W → History T W → Type 0
-  IsLegalAfter b h [] = ⊤
-  IsLegalAfter b h (e ∷ rest) = MayFollow (after will_wake b h) e × IsLegalAfter b (h ++ e ∷ []) rest
+  abbrev pub IsLegalAfterBy : Beginning T W → History T W → History T W → Type 0
+  IsLegalAfterBy b h [] = ⊤
+  IsLegalAfterBy b h (e ∷ rest) =
+      MayFollowBy (after will_wake b h) e × IsLegalAfterBy b (h ++ e ∷ []) rest
 
-  -- each entry may follow those before it
-  abbrev pub IsLegal : Beginning T W → History T W → Type 0
-  IsLegal b h = IsLegalAfter b [] h
-
-  -- The promise: from one beginning a legal history leads to another, and hands out these lists of wakers, one an entry.
-  pub record Leads (from : Beginning T W) (h : History T W) (handed_out : List (List W)) (to : Beginning T W) : Type 0 where
+  -- The promise: from one beginning a legal history leads to another, and hands out these lists of
+  -- wakers, one an entry.
+  pub record LeadsBy (from : Beginning T W) (h : History T W)
+      (handed_out : List (List W)) (to : Beginning T W) : Type 0 where
     pub begins : IsBeginning will_wake from
-    pub legal : IsLegal from h
+    pub legal : IsLegalAfterBy from [] h
     pub cell_is : to.cell ≡ cell_after from.cell h
     pub waiting_is : to.waiting ≡ waiting will_wake from h
     pub room_is_left : room will_wake from h ≤ to.room
     pub handed_is : handed_out ≡ hands_after will_wake from [] h
 
+-- Each reply is the cell's own, or that there was no memory.
+module _ {T W : Type 0} (will_wake : W → W → Bool) (sure : Bool) where
+  -- the entry may come here
+  abbrev pub MayFollow : Beginning T W → Entry T W → Type 0
+  MayFollow at e = MayFollowBy Exactly will_wake sure at e
+
+  -- each of these entries may follow those before it, where the entries h came first
+  abbrev pub IsLegalAfter : Beginning T W → History T W → History T W → Type 0
+  IsLegalAfter b h rest = IsLegalAfterBy Exactly will_wake sure b h rest
+
+  -- each entry may follow those before it
+  abbrev pub IsLegal : Beginning T W → History T W → Type 0
+  IsLegal b h = IsLegalAfter b [] h
+
+  -- the promise of a list of calls
+  abbrev pub Leads : Beginning T W → History T W → List (List W) → Beginning T W → Type 0
+  Leads from h handed_out to = LeadsBy Exactly will_wake sure from h handed_out to
+
   -- the promise of one call: answered so, it leads there, and hands out these wakers
   abbrev pub Answers : Beginning T W → Kept T W → Reply T → List W → Beginning T W → Type 0
-  Answers from call answer handed_out to = Leads from (record { call = call; reply = answer } ∷ []) (handed_out ∷ []) to
+  Answers from call answer handed_out to =
+      Leads from (record { call = call; reply = answer } ∷ []) (handed_out ∷ []) to
+
+-- The same up to clones: a get of a full cell may give a clone of the value.
+module _ {T W : Type 0} (will_wake : W → W → Bool) (sure : Bool) (is_clone : T → T → Type 0) where
+  -- each entry may follow those before it
+  abbrev pub IsLegalUpTo : Beginning T W → History T W → Type 0
+  IsLegalUpTo b h = IsLegalAfterBy (UpToClones is_clone) will_wake sure b [] h
+
+  -- the promise of a list of calls
+  abbrev pub LeadsUpTo : Beginning T W → History T W → List (List W) → Beginning T W → Type 0
+  LeadsUpTo from h handed_out to = LeadsBy (UpToClones is_clone) will_wake sure from h handed_out to
+
+  -- the promise of one call
+  abbrev pub AnswersUpTo : Beginning T W → Kept T W → Reply T → List W → Beginning T W → Type 0
+  AnswersUpTo from call answer handed_out to =
+      LeadsUpTo from (record { call = call; reply = answer } ∷ []) (handed_out ∷ []) to

@@ -1,4 +1,5 @@
 pub mod Cell
+pub mod Clones
 pub mod History
 pub mod Legal
 pub mod Step

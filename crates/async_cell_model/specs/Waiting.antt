@@ -1,33 +1,25 @@
 -- Lists of waiting wakers, under a test that says whether one waker would wake what another would.
-use Rattle.std.specs.Prelude.{◌≡◌, ◌⊎◌, Bool, true, false, List, [], ◌∷◌, Contains, if◌then◌else◌}
+use Rattle.std.specs.Prelude.{◌≡◌, ◌⊎◌, Bool, true, false, List, [], ◌∷◌, ◌++◌, Contains, fold, if◌then◌else◌}
+use Rattle.std.specs.List.{list_any}
 
 -- whether a list is empty
 abbrev pub is_empty : {A : Type 0} → List A → Bool
 is_empty [] = true
 is_empty (x ∷ xs) = false
 
--- the list from the first element on that does not pass the test
-abbrev pub drop_while : {A : Type 0} → (A → Bool) → List A → List A
-drop_while test [] = []
-drop_while test (x ∷ xs) = if test x then drop_while test xs else x ∷ xs
-
 module _ {W : Type 0} (will_wake : W → W → Bool) where
-  -- those of the wakers that asked who are kept waiting: the first, and all from the first other one on that it would not wake
-  abbrev pub keep : List W → List W
-  keep [] = []
-  keep (w ∷ rest) = w ∷ drop_while (will_wake w) rest
-
-  -- whether a waker is not added to those that wait: a single one waits, and would wake it
+  -- whether w need not be added: some waiting waker would wake it
   abbrev pub skips : List W → W → Bool
-  skips [] w = false
-  skips (v ∷ []) w = will_wake v w
-  skips (v ∷ u ∷ rest) w = false
+  skips waiting w = list_any (λ v. will_wake v w) waiting
 
-  -- whether the first that waits would wake w
-  abbrev pub first_wakes : List W → W → Bool
-  first_wakes [] w = false
-  first_wakes (v ∷ rest) w = will_wake v w
+  -- the wait list with one more waker: it is added last, or skipped
+  abbrev pub with_one_more : List W → W → List W
+  with_one_more waiting w = if skips waiting w then waiting else waiting ++ w ∷ []
 
-  -- w waits, or the first that waits would wake it
+  -- The wakers that wait, of those that asked to: each in order, less each that an earlier waiting one would wake.
+  abbrev pub keep : List W → List W
+  keep asked = fold with_one_more [] asked
+
+  -- w waits, or some waiting waker would wake it
   abbrev pub IsCovered : List W → W → Type 0
-  IsCovered waiting w = Contains waiting w ⊎ (first_wakes waiting w ≡ true)
+  IsCovered waiting w = Contains waiting w ⊎ (skips waiting w ≡ true)

@@ -4,10 +4,10 @@ use Rattle.std.proofs.Common.{[]}
 use Rattle.async_cell_model.proofs.laws.a_history_can_begin_anew.Goals as goal
 
 pub returns : goal.returns
-returns g c = record {
-  begins = λ will_wake sure b g begins legal. IsBeginning-after will_wake sure b g begins legal;
-  front = λ will_wake sure b g h legal. IsLegalAfter-first will_wake sure b [] g h legal;
-  legal = λ will_wake sure b g h begins legal. IsLegal-anew will_wake sure b g h begins legal;
+returns ctx c = record {
+  begins = λ will_wake sure b g begins legal. IsBeginning-after ctx.T.Clone.is_clone will_wake sure b g begins legal;
+  front = λ will_wake sure b g h legal. IsLegalAfter-first ctx.T.Clone.is_clone will_wake sure b [] g h legal;
+  legal = λ will_wake sure b g h begins legal. IsLegal-anew ctx.T.Clone.is_clone will_wake sure b g h begins legal;
   cell = λ will_wake b g h. cell_after-append b.cell g h;
   waiting = λ will_wake b g h. waiting-append will_wake b g h;
   room = λ will_wake b g h begins. room-append will_wake b g h begins.kept;

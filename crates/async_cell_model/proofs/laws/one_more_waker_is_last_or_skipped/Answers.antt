@@ -5,5 +5,5 @@ use Rattle.async_cell_model.proofs.laws.one_more_waker_is_last_or_skipped.Goals 
 pub returns : goal.returns
 returns g c = record {
   list = λ will_wake l w kept. keep-one will_wake l w kept;
-  poll = λ will_wake sure b h e w legal asked. waiting-one_more will_wake sure b h e w legal asked;
+  poll = λ will_wake sure b h e w legal asked. waiting-one_more g.T.Clone.is_clone will_wake sure b h e w legal asked;
 }

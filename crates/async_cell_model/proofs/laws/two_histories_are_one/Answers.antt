@@ -1,5 +1,6 @@
-use Rattle.async_cell_model.proofs.Leading.{Leads-join}
+use Rattle.async_cell_model.specs.Clones.{UpToClones}
+use Rattle.async_cell_model.proofs.Leading.{Leads-join-by}
 use Rattle.async_cell_model.proofs.laws.two_histories_are_one.Goals as goal
 
 pub returns : goal.returns
-returns g c = λ will_wake sure from at to first second woken others here there. Leads-join will_wake sure from at to first second woken others here there
+returns ctx c = λ will_wake sure. Leads-join-by (UpToClones ctx.T.Clone.is_clone) will_wake sure

@@ -1,0 +1,103 @@
+-- Histories that are legal up to clones, and exact ones.
+use Rattle.std.proofs.Common.{◌≡◌, inl, inr, Bool, true, false, ◌||◌, List, [], ◌∷◌, ◌++◌, refl, ap}
+use Rattle.std.specs.List.{list_any}
+use Rattle.std.specs.Prelude.{Some}
+use Rattle.async_cell_model.specs.declared.entry.Kept.{Kept}
+use Rattle.async_cell_model.specs.declared.entry.Kept.TheVariants.{TryGet, PollGet}
+use Rattle.async_cell_model.specs.declared.reply.Reply.{Reply}
+use Rattle.async_cell_model.specs.declared.reply.Reply.TheVariants.{Value, Ready}
+use Rattle.async_cell_model.specs.Step.{reply}
+use Rattle.async_cell_model.specs.History.{Beginning, History}
+use Rattle.async_cell_model.specs.Clones.{IsExact, IsCloned, UpToClones, copies, is_copy}
+use Rattle.async_cell_model.specs.Legal.{IsLegalAfterBy, IsLegalAfter, Leads, LeadsUpTo}
+
+none_step : (a b : Bool) → (a || b) ≡ false → (a ≡ false) × (b ≡ false)
+none_step false b none = (refl, none)
+none_step true b none = cc
+
+module _ {T W : Type 0} (is_clone : T → T → Type 0) where
+  -- a reply with an exact clone is the cell's own
+  cloned_same : IsExact is_clone → (call : Kept T W) (r s : Reply T) → IsCloned is_clone call r s → s ≡ r
+  cloned_same exact TryGet (Value (Some a)) (Value (Some b)) cloned = ap (λ v. Value (Some v)) (exact a b cloned)
+  cloned_same exact (PollGet w) (Ready (Some a)) (Ready (Some b)) cloned = ap (λ v. Ready (Some v)) (exact a b cloned)
+  cloned_same exact call r s cloned = absurd cloned
+
+  -- and a call that copies nothing gives no clone
+  moved_same : (call : Kept T W) (r s : Reply T) → is_copy call ≡ false → IsCloned is_clone call r s → s ≡ r
+  moved_same TryGet r s none cloned = cc
+  moved_same (PollGet w) r s none cloned = cc
+  moved_same call r s none cloned = absurd cloned
+
+  module _ (will_wake : W → W → Bool) (sure : Bool) where
+    -- a history that is legal up to clones is exact where the clones are
+    legal_exactly : IsExact is_clone → (b : Beginning T W) (h rest : History T W) → IsLegalAfterBy (UpToClones is_clone) will_wake sure b h rest → IsLegalAfter will_wake sure b h rest
+    legal_exactly exact b h [] legal = tt
+    legal_exactly exact b h (e ∷ rest) legal = (
+      record {
+        replied = elim legal.0.replied [
+          | inl same ↦ inl (elim same [ inl is ↦ is | inr cloned ↦ cloned_same exact e.call _ e.reply cloned ])
+          | inr refused ↦ inr refused
+        ];
+        updated = legal.0.updated;
+      },
+      legal_exactly exact b (h ++ e ∷ []) rest legal.1,
+    )
+
+    -- so is one in which nothing is copied
+    legal_moved : (b : Beginning T W) (h rest : History T W) → list_any copies rest ≡ false → IsLegalAfterBy (UpToClones is_clone) will_wake sure b h rest → IsLegalAfter will_wake sure b h rest
+    legal_moved b h [] none legal = tt
+    legal_moved b h (e ∷ rest) none legal =
+        let both = none_step (copies e) (list_any copies rest) none in (
+          record {
+            replied = elim legal.0.replied [
+              | inl same ↦ inl (elim same [ inl is ↦ is | inr cloned ↦ moved_same e.call _ e.reply both.0 cloned ])
+              | inr refused ↦ inr refused
+            ];
+            updated = legal.0.updated;
+          },
+          legal_moved b (h ++ e ∷ []) rest both.1 legal.1,
+        )
+
+    legal_exactly_if : (copied : Bool) (b : Beginning T W) (h rest : History T W)
+        → list_any copies rest ≡ copied → (copied ≡ true → IsExact is_clone)
+        → IsLegalAfterBy (UpToClones is_clone) will_wake sure b h rest → IsLegalAfter will_wake sure b h rest
+    legal_exactly_if true b h rest is exact legal = legal_exactly (exact refl) b h rest legal
+    legal_exactly_if false b h rest is exact legal = legal_moved b h rest is legal
+
+    -- and so one with either
+    pub legal_told : (b : Beginning T W) (h rest : History T W) → (list_any copies rest ≡ true → IsExact is_clone)
+        → IsLegalAfterBy (UpToClones is_clone) will_wake sure b h rest → IsLegalAfter will_wake sure b h rest
+    legal_told b h rest exact legal = legal_exactly_if (list_any copies rest) b h rest refl exact legal
+
+    -- an exact history is legal up to clones
+    pub legal_up_to : (b : Beginning T W) (h rest : History T W) → IsLegalAfter will_wake sure b h rest → IsLegalAfterBy (UpToClones is_clone) will_wake sure b h rest
+    legal_up_to b h [] legal = tt
+    legal_up_to b h (e ∷ rest) legal = (
+      record { replied = elim legal.0.replied [ inl same ↦ inl (inl same) | inr refused ↦ inr refused ]; updated = legal.0.updated },
+      legal_up_to b (h ++ e ∷ []) rest legal.1,
+    )
+
+    -- a history up to clones is exact where the clones are, or where nothing is copied
+    pub exact_told : (from to : Beginning T W) (h : History T W) (handed_out : List (List W))
+        → (list_any copies h ≡ true → IsExact is_clone)
+        → LeadsUpTo will_wake sure is_clone from h handed_out to → Leads will_wake sure from h handed_out to
+    exact_told from to h handed_out exact leads = record {
+      begins = leads.begins;
+      legal = legal_told from [] h exact leads.legal;
+      cell_is = leads.cell_is;
+      waiting_is = leads.waiting_is;
+      room_is_left = leads.room_is_left;
+      handed_is = leads.handed_is;
+    }
+
+    -- an exact history is one up to clones
+    pub up_to_clones : (from to : Beginning T W) (h : History T W) (handed_out : List (List W))
+        → Leads will_wake sure from h handed_out to → LeadsUpTo will_wake sure is_clone from h handed_out to
+    up_to_clones from to h handed_out leads = record {
+      begins = leads.begins;
+      legal = legal_up_to from [] h leads.legal;
+      cell_is = leads.cell_is;
+      waiting_is = leads.waiting_is;
+      room_is_left = leads.room_is_left;
+      handed_is = leads.handed_is;
+    }

@@ -1,0 +1,13 @@
+use Rattle.async_cell_model.proofs.Exact.{NoClone, leads_of_exact}
+use Rattle.async_cell_model.proofs.Growing.{waiting-ended}
+use Rattle.async_cell_model.proofs.Refusing.{handed_all, handed_none}
+use Rattle.async_cell_model.proofs.laws.exact.a_fill_or_close_ends_all_waiting.Goals as goal
+
+pub returns : goal.returns
+returns ctx c = record {
+  nobody_waits = λ will_wake b h e ends. waiting-ended will_wake b h e ends;
+  all_are_handed_out = λ will_wake sure from to e handed_out leads ends.
+      handed_all NoClone will_wake sure from to e handed_out (leads_of_exact will_wake sure from to _ handed_out leads) ends;
+  others_hand_out_none = λ will_wake sure from to e handed_out leads quiet.
+      handed_none NoClone will_wake sure from to e handed_out (leads_of_exact will_wake sure from to _ handed_out leads) quiet;
+}
