@@ -1,1 +1,1 @@
-pub mod Spine
+pub mod WaitList

@@ -5,7 +5,6 @@
 mod named;
 #[cfg(test)]
 mod tests;
-mod tree;
 mod waiting;
 mod wakers;
 mod wakes;

@@ -60,7 +60,7 @@ impl<C: Count> Wakes for InTurn<C> {
     ghost clone_is_sure = { Prim.search rules };
 }
 
-const MANY: u64 = 100_000;
+const MANY: u64 = 1_000_000;
 
 /// A list with the wakers of the numbers below `MANY`, in order.
 fn many(alloc: Global, woken: &Cell<u64>) -> Result<Waiting<InTurn<&Cell<u64>>>, AllocError> {
@@ -140,15 +140,17 @@ fn many_wakers_are_dropped_in_order(rt: HostRuntime) -> Result<(), Fail> {
 }
 
 #[test]
-fn one_waker_skips_its_own_name_and_two_skip_none(rt: HostRuntime) -> Result<(), Fail> {
+fn each_waiting_waker_skips_its_own_name(rt: HostRuntime) -> Result<(), Fail> {
     let mut waiting = Waiting::new(rt.alloc());
-    assert!(rt; !waiting.skips(&Named(1)));
-    waiting.push(&Named(1))?;
-    assert!(rt; waiting.skips(&Named(1)));
-    assert!(rt; !waiting.skips(&Named(2)));
-    waiting.push(&Named(1))?;
-    assert!(rt; !waiting.skips(&Named(1)));
-    assert_eq!(rt; waiting.len(), 2);
+    assert!(rt; !waiting.skips(&Named(1)), "nobody waits");
+    for name in 1..4 {
+        assert!(rt; !waiting.skips(&Named(name)));
+        waiting.push(&Named(name))?;
+        for earlier in 1..name + 1 {
+            assert!(rt; waiting.skips(&Named(earlier)));
+        }
+    }
+    assert_eq!(rt; waiting.len(), 3);
     Ok(())
 }
 

@@ -1,159 +1,145 @@
-ghost use Rattle.std.specs.Prelude.{◌≡◌, ◌<◌, List, [], ◌∷◌, ◌++◌, length, IsTrue, IsOk, IfSome, IfErr, OnOk, OnErr, ◌↔◌};
+ghost use Rattle.std.specs.Prelude.{◌≡◌, ◌<◌, ◌≤◌, ◌-◌, [], ◌∷◌, ◌++◌, length, IsTrue, IsOk, IfErr, OnOk, OnErr, ◌↔◌};
 ghost use Rattle.async_cell_model.specs.Waiting.{skips};
 
-use crate::tree::Tree;
 use crate::wakers::Wakers;
 use crate::wakes::Wakes;
 use std::alloc::{AllocError, Global};
 use std::marker::Model;
 use std::mem;
 
-/// The wakers that wait in a cell, in order of registration. The list grows until all of it is handed out.
-/// A list that is dropped drops its wakers unwoken.
+/// The wakers that wait in a cell, in order of registration: the first inline, the others in a
+/// vector. A list that is dropped drops its wakers unwoken.
+#[derive(Drop)]
 pub struct Waiting<W> {
-    tree: Tree<W>,
-    len: usize,
-    alloc: Global,
+    first: Option<W>,
+    rest: Vec<W>,
 }
 
-/// Contracts see the list of the wakers, in order of registration.
+/// Contracts see the wakers, in order of registration, and for how many more there is room.
 impl<W> Model for Waiting<W> {
-    ghost use Rattle.std.specs.Prelude.{◌≡◌, List, length};
-    ghost use Rattle.async_cell_cons.specs.Spine.{inner_first};
+    ghost use Rattle.std.specs.Prelude.{◌≡◌, ◌-◌, [], None};
+    ghost use Rattle.std.specs.Vec.{vec_capacity, vec_len};
+    ghost use Rattle.async_cell_cons.specs.WaitList.{WaitList, first_then};
 
-    ghost Value = { List W };
+    ghost Value = { WaitList W };
 
-    ghost view = { λ s. inner_first s.tree };
+    ghost view = { λ s. record { wakers = first_then s.first s.rest.items; room = vec_capacity s.rest - vec_len s.rest } };
 
-    ghost invariant = { λ s. s.len ≡ length (inner_first s.tree) };
+    ghost invariant = { λ s. s.first ≡ None → s.rest.items ≡ [] };
 }
 
 impl<W: Drop> Waiting<W> {
-    /// An empty list, without memory. Its boxes will come from `alloc`.
+    /// An empty list, without memory. What it grows by will come from `alloc`.
     pub fn new(alloc: Global) -> Self
-        ensures { result ≡ [] }
+        ensures { result ≡ record { wakers = []; room = 0 } }
     {
         Waiting {
-            tree: Tree::Empty,
-            len: 0,
-            alloc,
+            first: None,
+            rest: Vec::new(alloc),
         }
     }
 
     /// The number of wakers that wait, in constant time.
     pub fn len(&self) -> usize
-        ensures { result ≡ length self.now }
+        ensures { result ≡ length self.now.wakers }
     {
-        self.len
+        match &self.first {
+            Some(_) => 1 + self.rest.len(),
+            None => 0,
+        }
     }
 
     /// Whether no waker waits.
     pub fn is_empty(&self) -> bool
-        ensures { IsTrue result ↔ (self.now ≡ []) }
+        ensures { IsTrue result ↔ (self.now.wakers ≡ []) }
     {
-        self.len == 0
+        self.first.is_none()
     }
 
-    /// Adds a waker that is handed over, as the last. It comes back where there is no memory, or where
-    /// `usize::MAX` wakers wait already: the list is then as it was. An empty list takes it without memory.
+    /// Makes room: the next `additional` wakers need no memory beyond their clones, until the list is
+    /// handed out. It is refused where there is no memory for them: the list is then as it was.
+    pub fn reserve(&mut self, additional: usize) -> Result<(), AllocError>
+        ensures wakers_stay { self.new.wakers ≡ self.old.wakers }
+        ensures makes_room { OnOk result (additional ≤ self.new.room) }
+        ensures keeps_room { self.old.room ≤ self.new.room }
+    {
+        self.rest.reserve(additional)
+    }
+
+    /// Adds a waker that is handed over, as the last. It comes back where there is no memory: the list
+    /// is then as it was. An empty list takes it without memory, and so does one with room.
     pub fn push_owned(&mut self, waker: W) -> Result<(), W>
-        ensures added { OnOk result (self.new ≡ self.old ++ waker ∷ []) }
+        ensures added { OnOk result (self.new.wakers ≡ self.old.wakers ++ waker ∷ []) }
+        ensures takes_room { OnOk result (self.old.room - 1 ≤ self.new.room) }
         ensures unchanged { OnErr result (self.new ≡ self.old) }
         ensures comes_back { IfErr result (λ back. back ≡ waker) }
-        ensures first_is_added { self.old ≡ [] → IsOk result }
+        ensures first_is_added { self.old.wakers ≡ [] → IsOk result }
+        ensures room_suffices { 0 < self.old.room → IsOk result }
     {
-        if self.len == 0 {
-            self.put_first(waker);
+        if self.is_empty() {
+            self.first = Some(waker);
             return Ok(());
         }
-        let Some(room) = self.room() else {
+        if self.rest.reserve(1).is_err() {
             return Err(waker);
-        };
-        self.put_last(waker, room);
+        }
+        self.rest.push_reserved(waker);
         Ok(())
     }
 
-    /// Hands out all wakers, and leaves none, in constant time and without memory.
+    /// Hands out all wakers, and leaves neither wakers nor room, in constant time and without memory.
     pub fn hand_out(&mut self) -> Wakers<W>
-        ensures hands_out_all { result ≡ self.old }
-        ensures leaves_none { self.new ≡ [] }
+        ensures hands_out_all { result ≡ self.old.wakers }
+        ensures leaves_none { self.new ≡ record { wakers = []; room = 0 } }
     {
-        let tree = mem::replace(&mut self.tree, Tree::Empty);
-        let len = mem::replace(&mut self.len, 0);
-        Wakers::of(tree, len)
+        let first = self.first.take();
+        let none = Vec::new(*self.rest.allocator());
+        if self.rest.capacity() == 0 {
+            return Wakers::of(first, none);
+        }
+        let rest = mem::replace(&mut self.rest, none);
+        Wakers::of(first, rest)
     }
 }
 
 impl<W: Wakes> Waiting<W> {
-    /// Whether a waker need not be added: a single one waits, and it would wake this one.
+    /// Whether a waker need not be added: some waiting waker would wake it. They are asked in order, up to the
+    /// first that would.
     pub fn skips(&self, waker: &W) -> bool
-        ensures { result ≡ skips W.will_wake self.now waker.now }
+        ensures { result ≡ skips W.will_wake self.now.wakers waker.now }
     {
-        match &self.tree {
-            Tree::Leaf(only) | Tree::Joined(_, only) if self.len == 1 => only.will_wake(waker),
-            _ => false,
+        match &self.first {
+            Some(first) => first.will_wake(waker) || any_wakes(&self.rest, waker),
+            None => false,
         }
     }
 
-    /// Adds a clone of the waker, as the last. It is refused where there is no memory, where the clone is
-    /// refused, and where `usize::MAX` wakers wait already: the list is then as it was. The room is got before
-    /// the clone, so that a clone is made only where it will be kept. An empty list needs only the clone.
+    /// Adds a clone of the waker, as the last. It is refused where there is no memory and where the clone
+    /// is refused: the wakers are then as they were. The room is got before the clone, so that a clone is
+    /// made only where it will be kept. An empty list needs only the clone, and so does one with room.
     pub fn push(&mut self, waker: &W) -> Result<(), AllocError>
-        ensures added { OnOk result (self.new ≡ self.old ++ waker.now ∷ []) }
-        ensures unchanged { OnErr result (self.new ≡ self.old) }
-        ensures first_is_added { self.old ≡ [] → IsTrue W.SURE_CLONE → IsOk result }
+        ensures added { OnOk result (self.new.wakers ≡ self.old.wakers ++ waker.now ∷ []) }
+        ensures takes_room { OnOk result (self.old.room - 1 ≤ self.new.room) }
+        ensures unchanged { OnErr result (self.new.wakers ≡ self.old.wakers) }
+        ensures keeps_room { OnErr result (self.old.room ≤ self.new.room) }
+        ensures first_is_added { self.old.wakers ≡ [] → IsTrue W.SURE_CLONE → IsOk result }
+        ensures room_suffices { 0 < self.old.room → IsTrue W.SURE_CLONE → IsOk result }
     {
-        if self.len == 0 {
+        if self.is_empty() {
             let clone: W = waker.clone()?;
-            self.put_first(clone);
+            self.first = Some(clone);
             return Ok(());
         }
-        let room = self.room().ok_or(AllocError)?;
+        self.rest.reserve(1)?;
         let clone: W = waker.clone()?;
-        self.put_last(clone, room);
+        self.rest.push_reserved(clone);
         Ok(())
     }
 }
 
-impl<W: Drop> Waiting<W> {
-    /// A box for one more waker, where there is memory and the wakers can still be counted.
-    fn room(&self) -> Option<Box<Tree<W>>>
-        ensures countable { IfSome result (λ _. length self.now < usize.MAX) }
-    {
-        if self.len == usize::MAX {
-            return None;
-        }
-        Box::new(self.alloc, Tree::Empty).ok()
-    }
-
-    /// The first waker stands inline.
-    fn put_first(&mut self, waker: W)
-        requires { self.old ≡ [] }
-        ensures { self.new ≡ waker ∷ [] }
-    {
-        self.tree = Tree::Leaf(waker);
-        self.len = 1;
-    }
-
-    /// A further waker stands before a box with all the others.
-    fn put_last(&mut self, waker: W, mut room: Box<Tree<W>>)
-        requires { length self.old < usize.MAX }
-        ensures { self.new ≡ self.old ++ waker ∷ [] }
-    {
-        *room = mem::replace(&mut self.tree, Tree::Empty);
-        self.tree = Tree::Joined(room, waker);
-        self.len += 1;
-    }
-}
-
-/// Drops the wakers in order of registration, and takes no more of the stack for a long list.
-impl<W: Drop> Drop for Waiting<W> {
-    fn drop(mut self) {
-        let _ = self.hand_out();
-        let Waiting {
-            tree: _,
-            len: _,
-            alloc: _,
-        } = self;
-    }
+/// Whether any of these would wake the waker.
+fn any_wakes<W: Wakes>(waiting: &[W], waker: &W) -> bool
+    ensures { result ≡ skips W.will_wake waiting.now waker.now }
+{
+    waiting.iter().any(|earlier| earlier.will_wake(waker))
 }

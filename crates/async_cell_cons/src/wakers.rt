@@ -1,80 +1,78 @@
 ghost use Rattle.std.specs.Prelude.{◌≡◌, List, [], ◌∷◌, length, IsTrue, IsNone, IfSome, IfNone, ◌↔◌};
-ghost use Rattle.async_cell_cons.specs.Spine.{inner_first};
+ghost use Rattle.async_cell_cons.specs.WaitList.{first_then};
 
-use crate::tree::Tree;
 use crate::wakes::Wakes;
 use std::alloc::Global;
 use std::marker::Model;
-use std::{fmt, mem};
+use std::{fmt, vec};
 
 /// Wakers that were handed out, in order of registration. Whoever was handed them has the duty to wake them:
 /// those that are left are dropped unwoken with the list.
+#[derive(Drop)]
 pub struct Wakers<W> {
-    tree: Tree<W>,
-    /// Whether the first waker stands outermost in the tree, and not innermost.
-    is_turned: bool,
-    len: usize,
+    first: Option<W>,
+    rest: vec::IntoIter<W>,
 }
 
 /// Contracts see the list of the wakers that are left, the next one first.
 impl<W> Model for Wakers<W> {
-    ghost use Rattle.std.specs.Prelude.{◌≡◌, List, length, if◌then◌else◌};
-    ghost use Rattle.async_cell_cons.specs.Spine.{inner_first, outer_first};
+    ghost use Rattle.std.specs.Prelude.{List};
+    ghost use Rattle.std.specs.Vec.Iter.{into_iter_items};
+    ghost use Rattle.async_cell_cons.specs.WaitList.{first_then};
 
     ghost Value = { List W };
 
-    ghost view = { λ s. if s.is_turned then outer_first s.tree else inner_first s.tree };
-
-    ghost invariant = { λ s. s.len ≡ length (if s.is_turned then outer_first s.tree else inner_first s.tree) };
+    ghost view = { λ s. first_then s.first (into_iter_items s.rest) };
 }
 
-impl<W: Drop> Wakers<W> {
-    /// No wakers, without memory.
-    pub fn none(_alloc: Global) -> Self
-        ensures { result ≡ [] }
-    {
-        Wakers::of(Tree::Empty, 0)
-    }
-
+impl<W> Wakers<W> {
     /// The number of wakers that are left, in constant time.
     pub fn len(&self) -> usize
         ensures { result ≡ length self.now }
     {
-        self.len
+        match &self.first {
+            Some(_) => 1 + self.rest.len(),
+            None => self.rest.len(),
+        }
     }
 
     /// Whether no waker is left.
     pub fn is_empty(&self) -> bool
         ensures { IsTrue result ↔ (self.now ≡ []) }
     {
-        self.len == 0
+        self.first.is_none() && self.rest.len() == 0
+    }
+}
+
+impl<W: Drop> Wakers<W> {
+    /// No wakers, without memory.
+    pub fn none(alloc: Global) -> Self
+        ensures { result ≡ [] }
+    {
+        Wakers::of(None, Vec::new(alloc))
     }
 
     /// Takes the next waker, without memory: `None` once none is left. To take all of them one by one takes
     /// time in proportion to their number.
+    #[inline(always)]
     pub fn next(&mut self) -> Option<W>
         ensures first { IfSome result (λ waker. self.old ≡ waker ∷ self.new) }
         ensures end { IsNone result ↔ (self.old ≡ []) }
         ensures stays_empty { IfNone result (self.new ≡ []) }
     {
-        let tree = mem::replace(&mut self.tree, Tree::Empty);
-        let turned = if self.is_turned { tree } else { tree.turned() };
-        self.is_turned = true;
-        let (waker, rest) = turned.split_outer()?;
-        self.tree = rest;
-        self.len -= 1;
-        Some(waker)
+        match self.first.take() {
+            Some(waker) => Some(waker),
+            None => self.rest.next(),
+        }
     }
 
-    /// The wakers of a tree that has them from the innermost on.
-    pub(crate) fn of(tree: Tree<W>, len: usize) -> Self
-        requires { len ≡ length (inner_first tree) }
-        ensures { result ≡ inner_first tree }
+    /// The first waker, and then those of the vector.
+    pub(crate) fn of(first: Option<W>, rest: Vec<W>) -> Self
+        ensures { result ≡ first_then first rest.items }
     {
         Wakers {
-            tree,
-            is_turned: false,
-            len,
+            first,
+            rest: rest.into_iter(),
         }
     }
 }
@@ -98,27 +96,19 @@ impl<W: Drop> Iterator for Wakers<W> {
 impl<W: Wakes> Wakers<W> {
     /// Wakes the wakers that are left, the next one first.
     pub fn wake_all(self) {
-        for waker in self {
+        let Wakers { first, rest } = self;
+        if let Some(waker) = first {
             waker.wake();
         }
-    }
-}
-
-/// Drops the wakers that are left unwoken, the next one first, and takes no more of the stack for many.
-impl<W: Drop> Drop for Wakers<W> {
-    fn drop(mut self) {
-        while let Some(_) = self.next() {}
-        let Wakers {
-            tree: _,
-            is_turned: _,
-            len: _,
-        } = self;
+        for waker in rest {
+            waker.wake();
+        }
     }
 }
 
 /// Shows how many wakers are left.
 impl<W> fmt::Debug for Wakers<W> {
     fn fmt<F: fmt::Write>(&self, f: &mut fmt::Formatter<F>) -> fmt::Result {
-        write!(f, "Wakers({})", self.len)
+        write!(f, "Wakers({})", self.len())
     }
 }
