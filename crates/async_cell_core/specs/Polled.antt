@@ -1,8 +1,9 @@
 -- What polls and copies answer.
-use Rattle.std.specs.Prelude.{◌≡◌, Option, Some, None, Result, Ok, Err}
+use Rattle.std.specs.Prelude.{Option, Some, None, Result, Ok, Err}
 use Rattle.async_cell_model.specs.declared.refusal.Refusal.{Refusal}
 use Rattle.async_cell_model.specs.declared.reply.Reply.{Reply}
 use Rattle.async_cell_model.specs.declared.reply.Reply.TheVariants as reply
+pub use Rattle.async_cell_model.specs.Clones.{IsExact}
 use Rattle.futures.specs.declared.task.Poll.{Poll}
 use Rattle.futures.specs.declared.task.Poll.TheVariants.{Ready, Pending}
 
@@ -11,10 +12,6 @@ abbrev pub poll_reply : {T : Type 0} → Result (Poll (Option T)) Refusal → Re
 poll_reply (Ok (Ready value)) = reply.Ready value
 poll_reply (Ok Pending) = reply.Pending
 poll_reply (Err why) = reply.Refused why None
-
--- a type whose clones are their sources
-abbrev pub IsExact : {T : Type 0} → (T → T → Type 0) → Type 0
-IsExact {T} is_clone = (a b : T) → is_clone a b → b ≡ a
 
 -- a clone of the content, if there is one
 abbrev pub IsCloneOf : {T : Type 0} → (T → T → Type 0) → Option T → Option T → Type 0

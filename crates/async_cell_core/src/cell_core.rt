@@ -3,7 +3,7 @@ ghost use Rattle.std.specs.Option.{ForSome};
 ghost use Rattle.async_cell_model.specs.Cell.{content, owners_of, owners_limit, is_closed, is_full, is_vacant};
 ghost use Rattle.async_cell_model.specs.History.{IsBeginning};
 ghost use Rattle.async_cell_model.specs.Waiting.{keep};
-ghost use Rattle.async_cell_model.specs.Legal.{Answers, needs_no_memory};
+ghost use Rattle.async_cell_model.specs.Legal.{Answers, AnswersUpTo, needs_no_memory};
 ghost use Rattle.async_cell_core.specs.Polled.{poll_reply, IsExact, IsCloneOf, IsReadyWith};
 
 mod parts;
@@ -78,11 +78,8 @@ impl<T: Drop, W: Wakes> Core<T, W> {
         ensures unchanged { OnErr result (self.new ≡ self.old) }
         ensures comes_back { IfErr result (λ back. back ≡ value) }
     {
-        if self.is_closed() {
-            return Err(value);
-        }
-        let _old = self.value.take();
-        let woken = self.fill(value);
+        let (old, woken) = self.replace(value)?;
+        drop(old);
         Ok(woken)
     }
 
@@ -101,8 +98,10 @@ impl<T: Drop, W: Wakes> Core<T, W> {
         if self.is_closed() {
             return Err(value);
         }
-        let old = self.value.take();
-        Ok((old, self.fill(value)))
+        match self.value.replace(value) {
+            Some(old) => Ok((Some(old), self.no_wakers())),
+            None => Ok((None, self.waiting.hand_out())),
+        }
     }
 
     /// Puts the value in where there is none; all that wait are handed out then. Else it is not used, and is the first
@@ -112,6 +111,9 @@ impl<T: Drop, W: Wakes> Core<T, W> {
         ensures refused { IfErr result (λ back. Answers W.will_wake W.SURE_CLONE self.old (Kept.OrSet value) (Reply.Refused Refusal.Closed (Some back)) [] self.new) }
 
         ensures if_open { IsOk result ↔ (is_closed self.old.cell ≡ false) }
+        ensures holds { is_vacant self.old.cell ≡ true → content self.new.cell ≡ Some value }
+        ensures keeps { is_full self.old.cell ≡ true
+            → content self.new.cell ≡ content self.old.cell }
         ensures unused { IfOk result (λ answer. IsSome answer.0 ↔ (is_full self.old.cell ≡ true)) }
         ensures hands_out_all { IfOk result (λ answer. answer.1 ≡ self.old.waiting) }
         ensures unchanged { OnErr result (self.new ≡ self.old) }
@@ -124,7 +126,8 @@ impl<T: Drop, W: Wakes> Core<T, W> {
             let unused = Some(value);
             return Ok((unused, self.no_wakers()));
         }
-        Ok((None, self.fill(value)))
+        self.value = Some(value);
+        Ok((None, self.waiting.hand_out()))
     }
 
     /// Calls the closure on the content, and puts in what it answers. Where there was no value and now is one, all that wait
@@ -144,10 +147,12 @@ impl<T: Drop, W: Wakes> Core<T, W> {
         if self.is_closed() {
             return Err(Refusal::Closed);
         }
-        match change(self.value.take()) {
-            Some(value) => Ok(self.fill(value)),
-            None => Ok(self.no_wakers()),
+        let was_set = self.value.is_some();
+        self.value = change(self.value.take());
+        if was_set || self.value.is_none() {
+            return Ok(self.no_wakers());
         }
+        Ok(self.waiting.hand_out())
     }
 
     /// Calls the closure on the value, if there is one, and puts in what it answers. Refused on a closed cell. The closure
@@ -187,7 +192,7 @@ impl<T: Drop, W: Wakes> Core<T, W> {
         self.value.is_some()
     }
 
-    /// Takes the value, or waits for one: the waker is added last, unless a single one waits that would wake it. Ready with
+    /// Takes the value, or waits for one: the waker is added last, unless some waiting waker would wake it. Ready with
     /// none on a closed cell. Refused where the waker's clone or the growth of the list found no memory.
     pub fn poll_take(&mut self, waker: &W) -> Result<Poll<Option<T>>, Refusal>
         ensures model { Answers W.will_wake W.SURE_CLONE self.old (Kept.PollTake waker.now) (poll_reply result) [] self.new }
@@ -196,13 +201,33 @@ impl<T: Drop, W: Wakes> Core<T, W> {
         ensures pending { is_vacant self.old.cell ≡ true → IfOk result (λ polled. polled ≡ Poll.Pending) }
         ensures waits { result ≡ Ok Poll.Pending → self.new.waiting ≡ keep W.will_wake (self.old.waiting ++ waker.now ∷ []) }
         ensures spared { needs_no_memory W.will_wake W.SURE_CLONE self.old waker.now ≡ true → IsOk result }
-        ensures unchanged { OnErr result (self.new ≡ self.old) }
+        ensures unchanged { OnErr result ((self.new.cell ≡ self.old.cell) × (self.new.waiting ≡ self.old.waiting)) }
+        ensures keeps_room { OnErr result (self.old.room ≤ self.new.room) }
     {
         if self.is_vacant() {
             self.wait(waker)?;
             return Ok(Poll::Pending);
         }
         Ok(Poll::Ready(self.value.take()))
+    }
+
+    /// Makes room: the next `additional` wakers that are added need no memory beyond their clones, until
+    /// a fill or a close gives the room up. A poll that adds no waker uses none up. Refused where there is
+    /// no memory for so many. On a closed cell it does nothing.
+    pub fn reserve(&mut self, additional: usize) -> Result<(), Refusal>
+        ensures cell_stays { self.new.cell ≡ self.old.cell }
+        ensures waiting_stay { self.new.waiting ≡ self.old.waiting }
+        ensures makes_room { is_closed self.old.cell ≡ false → OnOk result (additional ≤ self.new.room) }
+        ensures keeps_room { self.old.room ≤ self.new.room }
+        ensures refused { IfErr result (λ why. why ≡ Refusal.Memory) }
+        ensures closed { is_closed self.old.cell ≡ true → IsOk result × (self.new ≡ self.old) }
+        ensures begins { IsBeginning W.will_wake self.new }
+    {
+        if self.is_closed() {
+            return Ok(());
+        }
+        self.waiting.reserve(additional)?;
+        Ok(())
     }
 
     /// One owner more. Refused on a closed cell, and beyond 4,294,967,295 owners.
@@ -306,29 +331,23 @@ impl<T: Drop, W: Wakes> Core<T, W> {
     }
 
     /// The waker waits for a value.
-    #[tactic(auto, using(async_cell_model::proofs::Adding::keep_added, async_cell_model::proofs::Adding::keep_skipped, async_cell_model::proofs::Polling::get_waits, async_cell_model::proofs::Polling::get_refused))]
+    #[tactic(auto, using(async_cell_model::proofs::Adding::keep_added, async_cell_model::proofs::Adding::keep_skipped, async_cell_model::proofs::Polling::get_added, async_cell_model::proofs::Polling::get_skipped, async_cell_model::proofs::Polling::get_refused, async_cell_model::proofs::Polling::take_added, async_cell_model::proofs::Polling::take_skipped, async_cell_model::proofs::Polling::take_refused))]
     fn wait(&mut self, waker: &W) -> Result<(), Refusal>
         requires { is_vacant self.old.cell ≡ true }
-        ensures waits { OnOk result (self.new ≡ record self.old { waiting = keep W.will_wake (self.old.waiting ++ waker.now ∷ []) }) }
-        ensures refused { IfErr result (λ why. (why ≡ Refusal.Memory) × (self.new ≡ self.old)) }
+        ensures waits { OnOk result ((self.new.cell ≡ self.old.cell) × (self.new.waiting ≡ keep W.will_wake (self.old.waiting ++ waker.now ∷ []))) }
+        ensures refused { IfErr result (λ why. why ≡ Refusal.Memory) }
+        ensures unchanged { OnErr result ((self.new.cell ≡ self.old.cell) × (self.new.waiting ≡ self.old.waiting)) }
+        ensures keeps_room { OnErr result (self.old.room ≤ self.new.room) }
         ensures get_waits { OnOk result (Answers W.will_wake W.SURE_CLONE self.old (Kept.PollGet waker.now) Reply.Pending [] self.new) }
         ensures get_refused { IfErr result (λ why. Answers W.will_wake W.SURE_CLONE self.old (Kept.PollGet waker.now) (Reply.Refused why None) [] self.new) }
+        ensures take_waits { OnOk result (Answers W.will_wake W.SURE_CLONE self.old (Kept.PollTake waker.now) Reply.Pending [] self.new) }
+        ensures take_refused { IfErr result (λ why. Answers W.will_wake W.SURE_CLONE self.old (Kept.PollTake waker.now) (Reply.Refused why None) [] self.new) }
         ensures spared { needs_no_memory W.will_wake W.SURE_CLONE self.old waker.now ≡ true → IsOk result }
     {
         if !self.waiting.skips(waker) {
             self.waiting.push(waker)?;
         }
         Ok(())
-    }
-
-    /// Puts a value in: all that wait are handed out.
-    fn fill(&mut self, value: T) -> Wakers<W>
-        requires { is_closed self.old.cell ≡ false }
-        ensures filled { self.new ≡ record { cell = Cell.Open (Some value) (owners_of self.old.cell); waiting = []; room = 0 } }
-        ensures hands_out_all { result ≡ self.old.waiting }
-    {
-        self.value = Some(value);
-        self.waiting.hand_out()
     }
 
     /// Closes the cell.
@@ -343,13 +362,19 @@ impl<T: Drop, W: Wakes> Core<T, W> {
 }
 
 impl<T: Clone, W: Wakes> Core<T, W> {
-    /// A clone of the value, if there is one. Refused where the clone found no memory.
+    /// A clone of the value, if there is one. Refused where the clone found no memory. The answer
+    /// is the model's up to clones, and exactly the model's where the type's clones are exact.
+    #[tactic(auto, using(crate::proofs::UpTo::get_cloned))]
     pub fn try_get(&self) -> Result<Option<T>, Refusal>
+        ensures up_to_clones { IfOk result (λ copy.
+            AnswersUpTo W.will_wake W.SURE_CLONE T.is_clone
+            self.now Kept.TryGet (Reply.Value copy) [] self.now) }
         ensures done { IsExact T.is_clone → IfOk result (λ copy. Answers W.will_wake W.SURE_CLONE self.now Kept.TryGet (Reply.Value copy) [] self.now) }
         ensures refused { IfErr result (λ why. Answers W.will_wake W.SURE_CLONE self.now Kept.TryGet (Reply.Refused why None) [] self.now) }
 
         ensures gives { IsExact T.is_clone → IfOk result (λ copy. copy ≡ content self.now.cell) }
         ensures clones { IfOk result (IsCloneOf T.is_clone (content self.now.cell)) }
+        ensures gives_none { is_full self.now.cell ≡ false → result ≡ Ok None }
         ensures sure { MatchOption (content self.now.cell) (IsOk result) (λ value. T.is_infallible value → IsOk result) }
     {
         match &self.value {
@@ -361,10 +386,18 @@ impl<T: Clone, W: Wakes> Core<T, W> {
         }
     }
 
-    /// Gives a clone of the value, or waits for one as `poll_take` does. Ready with none on a closed cell. Refused where the
-    /// value's or the waker's clone or the growth of the list found no memory.
+    /// Gives a clone of the value, or waits for one as `poll_take` does. Ready with none on a
+    /// closed cell. Refused where the value's or the waker's clone or the growth of the list found no
+    /// memory. The answer is the model's up to clones, and exactly the model's where the type's
+    /// clones are exact or there is no value.
+    #[tactic(auto, using(crate::proofs::UpTo::poll_cloned, async_cell_model::proofs::UpTo::up_to_clones))]
     pub fn poll_get(&mut self, waker: &W) -> Result<Poll<Option<T>>, Refusal>
+        ensures up_to_clones { AnswersUpTo W.will_wake W.SURE_CLONE T.is_clone
+            self.old (Kept.PollGet waker.now) (poll_reply result) [] self.new }
         ensures model { IsExact T.is_clone → Answers W.will_wake W.SURE_CLONE self.old (Kept.PollGet waker.now) (poll_reply result) [] self.new }
+        ensures if_not_full { is_full self.old.cell ≡ false
+            → Answers W.will_wake W.SURE_CLONE
+            self.old (Kept.PollGet waker.now) (poll_reply result) [] self.new }
         ensures refused { IfErr result (λ why. Answers W.will_wake W.SURE_CLONE self.old (Kept.PollGet waker.now) (Reply.Refused why None) [] self.new) }
 
         ensures gives { IsExact T.is_clone → is_vacant self.old.cell ≡ false → IfOk result (λ polled. polled ≡ Poll.Ready (content self.old.cell)) }
@@ -374,7 +407,8 @@ impl<T: Clone, W: Wakes> Core<T, W> {
         ensures pending { is_vacant self.old.cell ≡ true → OnOk result (Answers W.will_wake W.SURE_CLONE self.old (Kept.PollGet waker.now) Reply.Pending [] self.new) }
         ensures waits { is_vacant self.old.cell ≡ true → IfOk result (λ polled. (polled ≡ Poll.Pending) × (self.new.waiting ≡ keep W.will_wake (self.old.waiting ++ waker.now ∷ []))) }
         ensures spared { is_vacant self.old.cell ≡ true → needs_no_memory W.will_wake W.SURE_CLONE self.old waker.now ≡ true → IsOk result }
-        ensures unchanged { OnErr result (self.new ≡ self.old) }
+        ensures unchanged { OnErr result ((self.new.cell ≡ self.old.cell) × (self.new.waiting ≡ self.old.waiting)) }
+        ensures keeps_room { OnErr result (self.old.room ≤ self.new.room) }
     {
         if self.is_vacant() {
             self.wait(waker)?;

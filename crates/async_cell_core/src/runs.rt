@@ -1,9 +1,9 @@
 //! Lists of calls, made in order.
-ghost use Rattle.std.specs.Prelude.{◌≡◌, ◌≤◌, map, length, vec_len, true, false, [], MatchResult, IfOk, IfErr, OnErr};
+ghost use Rattle.std.specs.Prelude.{◌≡◌, ◌≤◌, map, length, vec_len, true, false, [], MatchResult, IfOk, IfErr, OnErr, IsOk};
 ghost use Rattle.std.specs.List.{list_any};
 ghost use Rattle.async_cell_model.specs.Cell.{content, is_vacant};
 ghost use Rattle.async_cell_model.specs.Step.{is_memory};
-ghost use Rattle.async_cell_model.specs.Legal.{Answers, Leads};
+ghost use Rattle.async_cell_model.specs.Legal.{Answers, AnswersUpTo, Leads, LeadsUpTo};
 ghost use Rattle.async_cell_core.specs.Kept.{is_get, kept_call, history_of};
 ghost use Rattle.async_cell_core.specs.Polled.{IsExact, poll_reply};
 
@@ -94,12 +94,24 @@ fn step_moved<T: Drop, W: Wakes, E: Edit<T> + Drop>(
     }
 }
 
-/// Makes one call. The answer is the model's, where the clones of values are exact or the call makes none.
+/// Makes one call. The answer is the model's up to clones: a get of a full cell may give a clone of
+/// the value. It is exactly the model's where the call is no get, or the type's clones are exact.
+#[tactic(auto, using(async_cell_model::proofs::UpTo::up_to_clones))]
 pub fn step<T: Clone, W: Wakes, E: Edit<T> + Drop>(
     core: &mut Core<T, W>,
     call: Call<T, W, E>,
 ) -> Answer<T, W>
-    ensures { (is_get call ≡ true → IsExact T.is_clone) → Answers W.will_wake W.SURE_CLONE core.old (kept_call E.edit E.edit_some core.old.cell call) result.reply result.woken core.new }
+    ensures up_to_clones { AnswersUpTo W.will_wake W.SURE_CLONE T.is_clone
+        core.old (kept_call E.edit E.edit_some core.old.cell call)
+        result.reply result.woken core.new }
+    ensures if_no_get { is_get call ≡ false
+        → Answers W.will_wake W.SURE_CLONE
+        core.old (kept_call E.edit E.edit_some core.old.cell call)
+        result.reply result.woken core.new }
+    ensures if_exact { IsExact T.is_clone
+        → Answers W.will_wake W.SURE_CLONE
+        core.old (kept_call E.edit E.edit_some core.old.cell call)
+        result.reply result.woken core.new }
 {
     match call {
         Call::TryGet => match core.try_get() {
@@ -114,8 +126,8 @@ pub fn step<T: Clone, W: Wakes, E: Edit<T> + Drop>(
     }
 }
 
-/// Makes one call on a cell of `Copy` values, which are copied and not cloned: the answer is the model's. It is no part of
-/// the surface.
+/// Makes one call on a cell of `Copy` values, which are copied and not cloned: the answer is the
+/// model's. It is no part of the surface.
 pub fn step_copied<T: Copy, W: Wakes, E: Edit<T> + Drop>(
     core: &mut Core<T, W>,
     call: Call<T, W, E>,
@@ -133,15 +145,28 @@ pub fn step_copied<T: Copy, W: Wakes, E: Edit<T> + Drop>(
     }
 }
 
-/// Makes the calls in order, and gives one answer for each: a call that is refused has its refusal as its reply, and those
-/// after it are made. The answers are the model's, where the clones of values are exact or no call makes one. The answers' room is got first; where there is none, nothing is called and the list comes back.
+/// Makes the calls in order, and gives one answer for each: a call that is refused has its refusal
+/// as its reply, and those after it are made. The room for the answers is got first; where there is
+/// none, nothing is called and the list comes back. An empty list is never refused.
+///
+/// The answers are the model's up to clones, for every type: a get of a full cell may give a clone
+/// of the value. Without a get in the list they are exactly the model's. With a get they are, too,
+/// where the type's clones are exact: by `up_to_clones` and the law
+/// `with_exact_clones_a_history_is_exact` of `async_cell_model`.
 pub fn run<T: Clone, W: Wakes, E: Edit<T> + Drop>(
     core: &mut Core<T, W>,
     calls: Vec<Call<T, W, E>>,
 ) -> Result<Vec<Answer<T, W>>, Vec<Call<T, W, E>>>
     ensures one_each { IfOk result (λ answers. vec_len answers ≡ vec_len calls) }
-    ensures model { (list_any is_get calls.items ≡ true → IsExact T.is_clone) → IfOk result (λ answers. Leads W.will_wake W.SURE_CLONE core.old
-        (history_of E.edit E.edit_some core.old.cell calls.items (map (λ a. a.reply) answers.items)) (map (λ a. a.woken) answers.items) core.new) }
+    ensures up_to_clones { IfOk result (λ answers.
+        LeadsUpTo W.will_wake W.SURE_CLONE T.is_clone core.old
+        (history_of E.edit E.edit_some core.old.cell calls.items (map (λ a. a.reply) answers.items))
+        (map (λ a. a.woken) answers.items) core.new) }
+    ensures if_no_get { list_any is_get calls.items ≡ false → IfOk result (λ answers.
+        Leads W.will_wake W.SURE_CLONE core.old
+        (history_of E.edit E.edit_some core.old.cell calls.items (map (λ a. a.reply) answers.items))
+        (map (λ a. a.woken) answers.items) core.new) }
+    ensures empty_is_ok { calls.items ≡ [] → IsOk result }
     ensures comes_back { IfErr result (λ back. back ≡ calls) }
     ensures unchanged { OnErr result (core.new ≡ core.old) }
 {

@@ -1,7 +1,10 @@
 //! An edit, as lists of calls hold it.
-ghost use Rattle.std.specs.Prelude.{◌≡◌, IfSome, vec_len};
+ghost use Rattle.std.specs.Prelude.{◌≡◌, IfSome, Some, map, nat_eq, true, vec_len};
+ghost use Rattle.async_cell_core.specs.Kept.{history_of};
+ghost use Rattle.async_cell_model.specs.Legal.{Leads};
 
 use async_cell_core::{Answer, Call, Core, Edit, Named, run};
+use async_cell_model::laws::with_exact_clones_a_history_is_exact;
 
 /// Puts this number in, whatever there was.
 #[derive(Clone, Copy, Drop)]
@@ -27,12 +30,20 @@ impl Edit<u64> for Put {
     }
 }
 
-/// Makes the calls, and gives one answer for each. None where there was no memory, and then nothing was called.
+/// Makes the calls, and gives one answer for each: exactly those of an optional number with counted
+/// owners, since the clone of a number is the number. None where there was no memory, and then
+/// nothing was called.
 pub fn made(
     core: &mut Core<u64, Named>,
     calls: Vec<Call<u64, Named, Put>>,
 ) -> Option<Vec<Answer<u64, Named>>>
-    ensures { IfSome result (λ answers. vec_len answers ≡ vec_len calls) }
+    ensures one_each { IfSome result (λ answers. vec_len answers ≡ vec_len calls) }
+    ensures model { IfSome result (λ answers.
+        Leads (λ a b. nat_eq a.0 b.0) true core.old
+        (history_of (λ put content. Some put.0) (λ put value. put.0) core.old.cell
+        calls.items (map (λ a. a.reply) answers.items))
+        (map (λ a. a.woken) answers.items) core.new) }
 {
+    with_exact_clones_a_history_is_exact::<u64, Named>();
     run(core, calls).ok()
 }

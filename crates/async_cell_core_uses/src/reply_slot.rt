@@ -33,7 +33,7 @@ impl ReplySlot {
         ensures waits { is_vacant self.old.core.cell ≡ true → IfOk result (λ polled. (polled ≡ Poll.Pending)
             × (self.new.core.waiting ≡ keep (λ a b. nat_eq a.0 b.0) (self.old.core.waiting ++ record { 0 = asker } ∷ []))) }
         ensures first_waits { self.old.core.waiting ≡ [] → IsOk result }
-        ensures unchanged { OnErr result (self.new.core ≡ self.old.core) }
+        ensures unchanged { OnErr result ((self.new.core.cell ≡ self.old.core.cell) × (self.new.core.waiting ≡ self.old.core.waiting)) }
     {
         self.core.poll_take(&Named(asker))
     }

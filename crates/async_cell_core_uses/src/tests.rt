@@ -1,3 +1,4 @@
+use crate::notice::Notice;
 use crate::put::{Put, made};
 use crate::reply_slot::{ReplySlot, is_answered_once};
 use crate::shutdown::end_is_seen;
@@ -59,5 +60,21 @@ fn a_list_of_calls_puts_and_takes(rt: HostRuntime) -> Result<(), Fail> {
     assert_eq!(rt; answers[1].reply, Reply::Done);
     assert_eq!(rt; answers[1].woken.len(), 1);
     assert_eq!(rt; answers[2].reply, Reply::Value(Some(5)));
+    Ok(())
+}
+
+#[test]
+fn a_notice_stays_when_it_is_looked_at(rt: HostRuntime) -> Result<(), Fail> {
+    let text = String::from_str(rt.alloc(), "closed on Monday")?;
+    let mut notice = Notice::new(rt.alloc(), text);
+    for _ in 0..2 {
+        let seen = notice.look();
+        assert_eq!(rt; seen.woken.len(), 0);
+        let text = match &seen.reply {
+            Reply::Value(Some(text)) => Some(text.as_str()),
+            _ => None,
+        };
+        assert_eq!(rt; text, Some("closed on Monday"));
+    }
     Ok(())
 }

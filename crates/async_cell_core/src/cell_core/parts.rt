@@ -1,5 +1,5 @@
 //! What the crates above build on: no part of the surface.
-ghost use Rattle.std.specs.Prelude.{◌≡◌, [], true, false, Ok, IsOk, IfOk, IfErr, OnOk, OnErr, MatchOption};
+ghost use Rattle.std.specs.Prelude.{◌≡◌, ◌<◌, [], true, false, Ok, IsOk, IfOk, IfErr, OnOk, OnErr, MatchOption};
 ghost use Rattle.async_cell_model.specs.Cell.{content, is_vacant};
 ghost use Rattle.async_cell_model.specs.History.{IsBeginning};
 ghost use Rattle.async_cell_model.specs.Waiting.{skips};
@@ -26,9 +26,9 @@ impl<T: Drop, W: Wakes> Core<T, W> {
     }
 
     /// A poll that waits, with a waker that is handed over: it is added last and not cloned. The answer is the waker where
-    /// it was not added, since a single one waits that would wake it. Refused where the growth of the list found no memory,
+    /// it was not added, since some waiting waker would wake it. Refused where the growth of the list found no memory,
     /// and the waker comes back. It is no part of the surface.
-    #[tactic(auto, using(async_cell_model::proofs::Adding::keep_added, async_cell_model::proofs::Adding::keep_skipped, async_cell_model::proofs::Polling::get_waits, async_cell_model::proofs::Polling::get_refused))]
+    #[tactic(auto, using(async_cell_model::proofs::Adding::keep_added, async_cell_model::proofs::Adding::keep_skipped, async_cell_model::proofs::Polling::get_added, async_cell_model::proofs::Polling::get_skipped, async_cell_model::proofs::Polling::get_refused, async_cell_model::proofs::Polling::take_added, async_cell_model::proofs::Polling::take_skipped, async_cell_model::proofs::Polling::take_refused))]
     pub fn register(&mut self, waker: W) -> Result<Option<W>, W>
         requires { is_vacant self.old.cell ≡ true }
         ensures take { OnOk result (Answers W.will_wake W.SURE_CLONE self.old (Kept.PollTake waker) Reply.Pending [] self.new) }
@@ -40,6 +40,7 @@ impl<T: Drop, W: Wakes> Core<T, W> {
         ensures unchanged { OnErr result (self.new ≡ self.old) }
         ensures comes_back { IfErr result (λ back. back ≡ waker) }
         ensures first_waits { self.old.waiting ≡ [] → IsOk result }
+        ensures room_suffices { 0 < self.old.room → IsOk result }
     {
         if self.waiting.skips(&waker) {
             return Ok(Some(waker));
@@ -76,7 +77,7 @@ impl<T: Copy, W: Wakes> Core<T, W> {
     pub fn poll_get_copied(&mut self, waker: &W) -> Result<Poll<Option<T>>, Refusal>
         ensures model { Answers W.will_wake W.SURE_CLONE self.old (Kept.PollGet waker.now) (poll_reply result) [] self.new }
         ensures ready { is_vacant self.old.cell ≡ false → result ≡ Ok (Poll.Ready (content self.old.cell)) }
-        ensures unchanged { OnErr result (self.new ≡ self.old) }
+        ensures unchanged { OnErr result ((self.new.cell ≡ self.old.cell) × (self.new.waiting ≡ self.old.waiting)) }
     {
         if self.is_vacant() {
             self.wait(waker)?;
