@@ -7,9 +7,9 @@ use std::test::Fail;
 fn set_hands_out_the_waiting_wakers_in_order(rt: HostRuntime) -> Result<(), Fail> {
     let mut core = polled_by(rt.alloc(), &[1, 1, 2]);
     assert_eq!(rt; core.poll_take(&Named(1)), Ok(Poll::Pending));
-    assert_eq!(rt; core.waiting(), 3);
+    assert_eq!(rt; core.waiting(), 2);
     let woken = core.set(7).ok().ok_or("refused")?;
-    assert_eq!(rt; names(rt.alloc(), woken)?.as_slice(), [1, 2, 1].as_slice());
+    assert_eq!(rt; names(rt.alloc(), woken)?.as_slice(), [1, 2].as_slice());
     assert_eq!(rt; core.waiting(), 0);
     assert_eq!(rt; core.poll_take(&Named(3)), Ok(Poll::Ready(Some(7))));
     Ok(())
@@ -68,17 +68,14 @@ fn or_set_writes_only_where_there_is_no_value(rt: HostRuntime) -> Result<(), Fai
 }
 
 #[test]
-fn ten_thousand_polls_by_two_in_turn_all_wait(rt: HostRuntime) -> Result<(), Fail> {
+fn after_ten_thousand_polls_by_two_in_turn_two_wait(rt: HostRuntime) -> Result<(), Fail> {
     let mut core: Core<u64, Named> = Core::new(rt.alloc());
     for turn in 0..10_000u64 {
         assert_eq!(rt; core.poll_take(&Named(turn % 2 + 1)), Ok(Poll::Pending));
     }
-    assert_eq!(rt; core.waiting(), 10_000);
-    let mut woken = core.set(0).ok().ok_or("refused")?;
-    for turn in 0..10_000u64 {
-        assert_eq!(rt; woken.next(), Some(Named(turn % 2 + 1)));
-    }
-    assert_eq!(rt; woken.next(), None);
+    assert_eq!(rt; core.waiting(), 2);
+    let woken = core.set(0).ok().ok_or("refused")?;
+    assert_eq!(rt; names(rt.alloc(), woken)?.as_slice(), [1, 2].as_slice());
     Ok(())
 }
 

@@ -1,10 +1,12 @@
 use async_cell_core::Edit;
 
-/// What the tests' updates do: put in a content, or keep it.
+/// What the tests' updates do: put in a content, or keep it, or put in the second where they see
+/// the first, and else 404, which no test expects.
 #[derive(Clone, Copy, Debug, PartialEq, Eq)]
 pub enum Change {
     Put(Option<u64>),
     Keep,
+    FromTo(Option<u64>, Option<u64>),
 }
 
 impl Edit<u64> for Change {
@@ -21,6 +23,11 @@ impl Edit<u64> for Change {
         match *self {
             Change::Put(new) => new,
             Change::Keep => content,
+            Change::FromTo(seen, new) => match (seen, content) {
+                (None, None) => new,
+                (Some(seen), Some(value)) if seen == value => new,
+                _ => Some(404),
+            },
         }
     }
 
@@ -30,6 +37,8 @@ impl Edit<u64> for Change {
         match *self {
             Change::Put(Some(new)) => new,
             Change::Put(None) | Change::Keep => value,
+            Change::FromTo(Some(seen), Some(new)) if seen == value => new,
+            Change::FromTo(..) => 404,
         }
     }
 }

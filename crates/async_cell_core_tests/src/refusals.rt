@@ -10,7 +10,7 @@ use std::test::Fail;
 
 /// A waker whose clone is refused where its name is odd.
 #[derive(Debug, Drop, PartialEq, Eq)]
-struct Even(u64);
+pub struct Even(pub u64);
 
 impl Clone for Even {
     ghost is_clone = { λ a b. b ≡ a };
@@ -57,7 +57,7 @@ fn a_poll_whose_clone_is_refused_changes_nothing(rt: HostRuntime) -> Result<(), 
 
 /// A value whose clone is refused.
 #[derive(Debug, Drop, PartialEq, Eq)]
-struct Single(u64);
+pub struct Single(pub u64);
 
 impl Clone for Single {
     fn clone(&self) -> Result<Single, AllocError> {

@@ -1,7 +1,7 @@
 //! Lists of calls.
 use crate::change::Change;
-use crate::names::{assert_names, names};
-use async_cell_core::{Answer, Call, Core, Named, Refusal, Reply, run};
+use crate::names::{assert_names, names, polled_by};
+use async_cell_core::{Answer, Call, Core, Named, Refusal, Reply, laws, run};
 use std::alloc::{AllocError, Global};
 use std::process::Abort;
 use std::test::Fail;
@@ -52,7 +52,7 @@ fn a_list_of_polls_and_a_set(rt: HostRuntime) -> Result<(), Fail> {
             (Reply::Pending, none),
             (Reply::Pending, none),
             (Reply::Pending, none),
-            (Reply::Done, &[1, 2, 1]),
+            (Reply::Done, &[1, 2]),
         ],
     )
 }
@@ -78,7 +78,7 @@ fn takes_and_gets_and_a_set(rt: HostRuntime) -> Result<(), Fail> {
             (Reply::Pending, none),
             (Reply::Pending, none),
             (Reply::Pending, none),
-            (Reply::Done, &[1, 2, 1]),
+            (Reply::Done, &[1, 2]),
             (Reply::Ready(Some(7)), none),
             (Reply::Value(Some(7)), none),
             (Reply::Value(None), none),
@@ -170,17 +170,16 @@ fn updates_store_what_their_edits_answer(rt: HostRuntime) -> Result<(), Fail> {
 /// every other call, needs none.
 fn answered_without_memory_at(refused: Option<usize>) -> [(Reply<u64>, &'static [u64]); 8] {
     let no_memory = Reply::Refused(Refusal::Memory, None);
-    let (get, take, woken): (Reply<u64>, Reply<u64>, &'static [u64]) = match refused {
-        Some(2) => (no_memory, Reply::Pending, &[1]),
-        Some(3) => (Reply::Pending, no_memory, &[1, 2]),
-        _ => (Reply::Pending, Reply::Pending, &[1, 2, 1]),
+    let (get, woken): (Reply<u64>, &'static [u64]) = match refused {
+        Some(2) => (no_memory, &[1]),
+        _ => (Reply::Pending, &[1, 2]),
     };
     let nobody: &'static [u64] = &[];
     [
         (Reply::Pending, nobody),
         (Reply::Pending, nobody),
         (get, nobody),
-        (take, nobody),
+        (Reply::Pending, nobody),
         (Reply::Done, woken),
         (Reply::Ready(Some(7)), nobody),
         (Reply::Value(Some(7)), nobody),
@@ -225,4 +224,22 @@ fn a_run_without_memory_gives_the_list_back(rt: HostRuntime) -> Result<(), Fail>
         }
     }
     Ok(())
+}
+
+/// An empty list needs no memory.
+#[test]
+fn an_empty_list_is_never_refused(rt: HostRuntime) {
+    let mut core = polled_by(rt.alloc(), &[1]);
+    let calls: Vec<TestCall> = Vec::new(rt.alloc());
+    let answers = run(&mut core, calls);
+    assert_eq!(rt; answers.map(|answers| answers.len()).ok(), Some(0));
+    assert_eq!(rt; core.waiting(), 1);
+}
+
+/// The laws are proved for every type; here they are taken at types of a program.
+#[test]
+fn the_laws_of_runs_hold_at_numbers_and_strings() {
+    laws::two_runs_are_one::<u64, Named, Change>();
+    laws::two_runs_are_one::<String, Named, Change>();
+    laws::two_exact_runs_are_one::<u64, Named, Change>();
 }

@@ -1,132 +1,133 @@
-//! Each call on each kind of cell, as `Core` makes it and as the plain program of the definitions has it.
-use crate::change::Change;
-use crate::names::names;
-use async_cell_core::{Call, Core, Named, Reply, step};
-use async_cell_model::{Cell, Entry, Kept};
-use async_cell_plain::{Beginning, replay};
-use std::alloc::Global;
-use std::process::Abort;
+//! Each call on each kind of cell, by `Core` and by the oracle. What is expected was worked out by
+//! hand.
+use crate::steps::{CLOSED, MOST, ONE, THREE, TWO, each_call_goes, then, update, update_some};
+use async_cell_core::{Call, Named, Refusal, Reply};
+use async_cell_model::Cell;
 use std::test::Fail;
 
-const CELLS: [Cell<u64>; 8] = [
-    Cell::Open(None, 1),
-    Cell::Open(None, 2),
-    Cell::Open(None, 4_294_967_295),
-    Cell::Open(Some(4), 1),
-    Cell::Open(Some(4), 2),
-    Cell::Open(Some(4), 4_294_967_295),
-    Cell::Closed,
-    Cell::Open(Some(9), 1),
-];
-
-/// Each call, and as a history keeps it on a cell with this content, where it is open.
-fn calls(
-    content: Option<u64>,
-    is_open: bool,
-) -> [(Call<u64, Named, Change>, Kept<u64, Named>); 16] {
-    let seen = if is_open { content } else { None };
-    let kept = |put: Option<u64>| Kept::Update {
-        saw: seen,
-        put: if is_open { put } else { None },
-    };
-    let put_some = if seen.is_some() { Some(8) } else { None };
-    [
-        (Call::Set(9), Kept::Set(9)),
-        (Call::OrSet(9), Kept::OrSet(9)),
-        (Call::Replace(9), Kept::Replace(9)),
-        (Call::Update(Change::Put(Some(7))), kept(Some(7))),
-        (Call::Update(Change::Put(None)), kept(None)),
-        (Call::Update(Change::Keep), kept(content)),
-        (
-            Call::UpdateSome(Change::Put(Some(8))),
-            Kept::UpdateSome {
-                saw: seen,
-                put: put_some,
-            },
-        ),
-        (Call::TryTake, Kept::TryTake),
-        (Call::TryGet, Kept::TryGet),
-        (Call::IsSet, Kept::IsSet),
-        (Call::PollTake(Named(1)), Kept::PollTake(Named(1))),
-        (Call::PollTake(Named(3)), Kept::PollTake(Named(3))),
-        (Call::PollGet(Named(3)), Kept::PollGet(Named(3))),
-        (Call::AddOwner, Kept::AddOwner),
-        (Call::EndOwner, Kept::EndOwner),
-        (Call::TakeInner, Kept::TakeInner),
-    ]
-}
-
-/// A core that has this cell, on which these have polled.
-fn core_of(alloc: Global, cell: Cell<u64>, polls: &[u64]) -> Core<u64, Named> {
-    let mut core = match cell {
-        Cell::Open(content, owners) => Core::owned_by(alloc, content, owners.max(1)),
-        Cell::Closed => {
-            let mut core = Core::new(alloc);
-            let _ = core.end_owner();
-            core
-        }
-    };
-    for name in polls {
-        let _ = core.poll_take(&Named(*name));
-    }
-    core
-}
-
-/// Makes each call on the cell, after these polls, and compares answer and list with the plain program's.
-fn agrees(rt: &impl Abort, alloc: Global, cell: Cell<u64>, polls: &[u64]) -> Result<(), Fail> {
-    let (content, is_open) = match cell {
-        Cell::Open(content, _) => (content, true),
-        Cell::Closed => (None, false),
-    };
-    for (call, kept) in calls(content, is_open) {
-        let mut core = core_of(alloc, cell, polls);
-        let answer = step(&mut core, call);
-        let mut history = Vec::new(alloc);
-        for name in polls {
-            history.push(Entry {
-                call: Kept::PollTake(Named(*name)),
-                reply: Reply::Pending,
-            })?;
-        }
-        history.push(Entry {
-            call: kept,
-            reply: answer.reply,
-        })?;
-        let told = replay(alloc, &Beginning::new(alloc, cell), &history)?;
-        let last = told.last().ok_or("no entry")?;
-        assert_eq!(rt; answer.reply, *last.reply(), "{call:?} on {cell:?}");
-        let handed_out: &[Named] = last.handed_out();
-        let is: Vec<u64> = names(alloc, answer.woken)?;
-        assert!(rt;
-            is.iter()
-                .copied()
-                .eq(handed_out.iter().map(|waker| waker.0)),
-            "{call:?} on {cell:?}"
-        );
-        assert_eq!(rt;
-            core.waiting(),
-            last.after().waiting().len(),
-            "{call:?} on {cell:?}"
-        );
-        let there = *last.after().cell();
-        let (content, owners) = match there {
-            Cell::Open(content, owners) => (content, owners),
-            Cell::Closed => (None, 0),
-        };
-        assert_eq!(rt; core.owners(), owners, "{call:?} on {cell:?}");
-        assert_eq!(rt; core.try_take(), content, "{call:?} on {cell:?}");
+#[test]
+fn each_call_on_an_open_cell_without_a_value(rt: HostRuntime) -> Result<(), Fail> {
+    let (all, more) = ([ONE, TWO], [ONE, TWO, THREE]);
+    for owners in [1, 2, MOST] {
+        let vacant = Cell::Open(None, owners);
+        let holds = |value| Cell::Open(Some(value), owners);
+        let calls = [
+            then(Call::Set(7), Reply::Done, holds(7), &all, &[]),
+            then(Call::OrSet(7), Reply::Value(None), holds(7), &all, &[]),
+            then(Call::Replace(7), Reply::Value(None), holds(7), &all, &[]),
+            then(update(None, Some(8)), Reply::Done, holds(8), &all, &[]),
+            then(update(None, None), Reply::Done, vacant, &[], &all),
+            then(update_some(None, None), Reply::Done, vacant, &[], &all),
+            then(Call::TryTake, Reply::Value(None), vacant, &[], &all),
+            then(Call::TryGet, Reply::Value(None), vacant, &[], &all),
+            then(Call::IsSet, Reply::Is(false), vacant, &[], &all),
+        ];
+        let adds = [
+            then(Call::PollTake(THREE), Reply::Pending, vacant, &[], &more),
+            then(Call::PollGet(THREE), Reply::Pending, vacant, &[], &more),
+        ];
+        let skipped = [
+            then(Call::PollTake(ONE), Reply::Pending, vacant, &[], &all),
+            then(Call::PollGet(TWO), Reply::Pending, vacant, &[], &all),
+        ];
+        let (rt, alloc) = (&rt, rt.alloc());
+        each_call_goes(rt, alloc, "without a value", (vacant, &all), &calls)?;
+        each_call_goes(rt, alloc, "one more waits", (vacant, &all), &adds)?;
+        each_call_goes(rt, alloc, "it waits already", (vacant, &all), &skipped)?;
     }
     Ok(())
 }
 
 #[test]
-fn each_call_on_each_cell_is_that_of_the_definitions(rt: HostRuntime) -> Result<(), Fail> {
-    for cell in CELLS {
-        agrees(&rt, rt.alloc(), cell, &[])?;
+fn each_call_on_an_open_cell_with_a_value(rt: HostRuntime) -> Result<(), Fail> {
+    for owners in [1, 2, MOST] {
+        let vacant = Cell::Open(None, owners);
+        let holds = |value| Cell::Open(Some(value), owners);
+        let five = holds(5);
+        let calls = [
+            then(Call::Set(7), Reply::Done, holds(7), &[], &[]),
+            then(Call::OrSet(7), Reply::Value(Some(7)), five, &[], &[]),
+            then(Call::Replace(7), Reply::Value(Some(5)), holds(7), &[], &[]),
+            then(update(Some(5), Some(8)), Reply::Done, holds(8), &[], &[]),
+            then(update(Some(5), None), Reply::Done, vacant, &[], &[]),
+            then(
+                update_some(Some(5), Some(8)),
+                Reply::Done,
+                holds(8),
+                &[],
+                &[],
+            ),
+            then(Call::TryTake, Reply::Value(Some(5)), vacant, &[], &[]),
+            then(Call::IsSet, Reply::Is(true), five, &[], &[]),
+            then(Call::PollTake(ONE), Reply::Ready(Some(5)), vacant, &[], &[]),
+            then(Call::TryGet, Reply::Value(Some(5)), five, &[], &[]),
+            then(Call::PollGet(ONE), Reply::Ready(Some(5)), five, &[], &[]),
+        ];
+        each_call_goes(&rt, rt.alloc(), "with a value", (five, &[]), &calls)?;
     }
-    for owners in [1, 2, 4_294_967_295] {
-        agrees(&rt, rt.alloc(), Cell::Open(None, owners), &[1])?;
-        agrees(&rt, rt.alloc(), Cell::Open(None, owners), &[1, 2])?;
+    Ok(())
+}
+
+#[test]
+fn each_owner_call_on_an_open_cell(rt: HostRuntime) -> Result<(), Fail> {
+    let both = [ONE, TWO];
+    let full_up = Reply::Refused(Refusal::OwnersFull, None);
+    let shared = Reply::Refused(Refusal::StillShared, None);
+    let none = Reply::Value(None);
+    let contents: [(Option<u64>, &[Named]); 2] = [(None, &both), (Some(5), &[])];
+    for (content, all) in contents {
+        let owned = |owners| Cell::Open(content, owners);
+        let given = Reply::Value(content);
+        let with_one = [
+            then(Call::AddOwner, Reply::Done, owned(2), &[], all),
+            then(Call::EndOwner, given, CLOSED, all, &[]),
+            then(Call::TakeInner, given, CLOSED, all, &[]),
+        ];
+        let with_two = [
+            then(Call::AddOwner, Reply::Done, owned(3), &[], all),
+            then(Call::EndOwner, none, owned(1), &[], all),
+            then(Call::TakeInner, shared, owned(2), &[], all),
+        ];
+        let with_all_but_one = [then(Call::AddOwner, Reply::Done, owned(MOST), &[], all)];
+        let with_the_most = [
+            then(Call::AddOwner, full_up, owned(MOST), &[], all),
+            then(Call::EndOwner, none, owned(MOST - 1), &[], all),
+            then(Call::TakeInner, shared, owned(MOST), &[], all),
+        ];
+        let (rt, alloc) = (&rt, rt.alloc());
+        each_call_goes(rt, alloc, "one owner", (owned(1), all), &with_one)?;
+        each_call_goes(rt, alloc, "two owners", (owned(2), all), &with_two)?;
+        let before = (owned(MOST - 1), all);
+        each_call_goes(rt, alloc, "all owners but one", before, &with_all_but_one)?;
+        each_call_goes(
+            rt,
+            alloc,
+            "the most owners",
+            (owned(MOST), all),
+            &with_the_most,
+        )?;
     }
+    Ok(())
+}
+
+#[test]
+fn each_call_on_a_closed_cell(rt: HostRuntime) -> Result<(), Fail> {
+    let closed = |back| Reply::Refused(Refusal::Closed, back);
+    let steps = [
+        then(Call::Set(7), closed(Some(7)), CLOSED, &[], &[]),
+        then(Call::OrSet(7), closed(Some(7)), CLOSED, &[], &[]),
+        then(Call::Replace(7), closed(Some(7)), CLOSED, &[], &[]),
+        then(update(None, None), closed(None), CLOSED, &[], &[]),
+        then(update_some(None, None), closed(None), CLOSED, &[], &[]),
+        then(Call::TryTake, Reply::Value(None), CLOSED, &[], &[]),
+        then(Call::TryGet, Reply::Value(None), CLOSED, &[], &[]),
+        then(Call::IsSet, Reply::Is(false), CLOSED, &[], &[]),
+        then(Call::PollTake(ONE), Reply::Ready(None), CLOSED, &[], &[]),
+        then(Call::PollGet(ONE), Reply::Ready(None), CLOSED, &[], &[]),
+        then(Call::AddOwner, closed(None), CLOSED, &[], &[]),
+        then(Call::EndOwner, closed(None), CLOSED, &[], &[]),
+        then(Call::TakeInner, closed(None), CLOSED, &[], &[]),
+    ];
+    each_call_goes(&rt, rt.alloc(), "a closed cell", (CLOSED, &[]), &steps)?;
     Ok(())
 }

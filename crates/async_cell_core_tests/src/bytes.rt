@@ -1,0 +1,67 @@
+//! Lists of calls on a cell of bytes, whose clones are no sources.
+use async_cell_core::{Call, Core, Edit, Named, Reply, run};
+use std::test::Fail;
+
+/// An edit that leaves the bytes as they are.
+#[derive(Clone, Copy, Drop)]
+struct Keep;
+
+impl Edit<Vec<u8>> for Keep {
+    ghost use Rattle.std.specs.Prelude.{◌≡◌};
+
+    ghost edit = { λ keep content. content };
+
+    ghost edit_some = { λ keep value. value };
+
+    fn edit(&self, content: Option<Vec<u8>>) -> Option<Vec<u8>>
+        ensures { result ≡ content }
+    {
+        content
+    }
+
+    fn edit_some(&self, value: Vec<u8>) -> Vec<u8>
+        ensures { result ≡ value }
+    {
+        value
+    }
+}
+
+/// The bytes that a reply gives.
+fn given(reply: &Reply<Vec<u8>>) -> Option<&[u8]> {
+    match reply {
+        Reply::Value(Some(bytes)) | Reply::Ready(Some(bytes)) => Some(bytes.as_slice()),
+        _ => None,
+    }
+}
+
+#[test]
+fn gets_in_a_list_leave_the_bytes_and_those_that_wait(rt: HostRuntime) -> Result<(), Fail> {
+    let mut core: Core<Vec<u8>, Named> = Core::new(rt.alloc());
+    let mut calls: Vec<Call<Vec<u8>, Named, Keep>> = Vec::new(rt.alloc());
+    calls.push(Call::PollTake(Named(1)))?;
+    calls.push(Call::TryGet)?;
+    calls.push(Call::Set(b"abc".to_vec(rt.alloc())?))?;
+    calls.push(Call::TryGet)?;
+    calls.push(Call::PollGet(Named(2)))?;
+    calls.push(Call::UpdateSome(Keep))?;
+    calls.push(Call::TryTake)?;
+    calls.push(Call::TryGet)?;
+    let answers = run(&mut core, calls).ok().ok_or("no memory")?;
+    let abc: Option<&[u8]> = Some(b"abc");
+    let want = [
+        (None, 0),
+        (None, 0),
+        (None, 1),
+        (abc, 0),
+        (abc, 0),
+        (None, 0),
+        (abc, 0),
+        (None, 0),
+    ];
+    assert_eq!(rt; answers.len(), want.len());
+    for (place, (answer, (bytes, woken))) in answers.iter().zip(want).enumerate() {
+        assert_eq!(rt; given(&answer.reply), bytes, "call {place}");
+        assert_eq!(rt; answer.woken.len(), woken, "call {place}");
+    }
+    Ok(())
+}
