@@ -1,4 +1,4 @@
-ghost use Rattle.std.specs.Prelude.{◌≡◌, Option, None, IfErr, IfSome, IsSomeAnd, OnOk, true, ◌⊎◌};
+ghost use Rattle.std.specs.Prelude.{◌≡◌, ◌⊎◌, Option, None, true, IsOk, IfErr, IfSome, IsSomeAnd, OnOk};
 ghost use Rattle.std.specs.Sync.Mutex.{mutex_guard_value};
 ghost use Rattle.async_cell_model.specs.History.{IsBeginning};
 
@@ -126,12 +126,21 @@ impl<T: Drop, W: Wakes> LockedCore<T, W> {
         self.lock(rt).is_set()
     }
 
-    /// Takes the value, or waits for one: the waker is added last, unless a single one waits that would wake it. Ready with
+    /// Takes the value, or waits for one: the waker is added last, unless some waiting waker would wake it. Ready with
     /// none on a closed cell. Refused where the waker's clone or the growth of the list found no memory.
     pub fn poll_take<R: Wait>(&self, waker: &W, rt: &R) -> Result<Poll<Option<T>>, Refusal>
         ensures refused { IfErr result (λ why. why ≡ Refusal.Memory) }
     {
         self.lock(rt).poll_take(waker)
+    }
+
+    /// Makes room: the next `additional` wakers that are added need no memory beyond their clones, until
+    /// a fill or a close gives the room up. Refused where there is no memory for so many. On a closed
+    /// cell it does nothing.
+    pub fn reserve<R: Wait>(&self, additional: usize, rt: &R) -> Result<(), Refusal>
+        ensures refused { IfErr result (λ why. why ≡ Refusal.Memory) }
+    {
+        self.lock(rt).reserve(additional)
     }
 
     /// One owner more. Refused on a closed cell, and beyond 4,294,967,295 owners.
@@ -189,6 +198,7 @@ impl<T: Drop, W: Wakes> LockedCore<T, W> {
 impl<T: Clone, W: Wakes> LockedCore<T, W> {
     /// A clone of the value, if there is one, made while the lock is held. Refused where the clone found no memory.
     pub fn try_get<R: Wait>(&self, rt: &R) -> Result<Option<T>, Refusal>
+        ensures sure { ((value : T) → T.is_infallible value) → IsOk result }
         ensures refused { IfErr result (λ why. why ≡ Refusal.Memory) }
     {
         self.lock(rt).try_get()

@@ -1,4 +1,5 @@
-ghost use Rattle.std.specs.Prelude.{◌≡◌, IfErr};
+ghost use Rattle.std.specs.Prelude.{◌≡◌, IsOk, IfOk, IfErr};
+ghost use Rattle.async_cell_sync.specs.Names.{cell_of};
 
 mod polls;
 mod show;
@@ -43,14 +44,15 @@ impl<T: Drop> AsyncCell<T> {
     pub fn shared(alloc: Global) -> Result<Shared<T>, Refusal>
         ensures refused { IfErr result (λ why. why ≡ Refusal.Memory) }
     {
-        Shared::new(alloc)
+        Shared::shared(alloc)
     }
 
     /// This cell, with one counted owner. Refused with `Memory`, and then the cell comes back.
     pub fn into_shared(self) -> Result<Shared<T>, (Refusal, AsyncCell<T>)>
+        ensures owns { IfOk result (λ owner. cell_of owner ≡ self) }
         ensures comes_back { IfErr result (λ back. back ≡ (Refusal.Memory, self)) }
     {
-        Shared::first_of(self)
+        Shared::into_shared(self)
     }
 
     /// Puts the value in and drops the old one. All that wait are woken.
@@ -98,6 +100,7 @@ impl<T: Drop> AsyncCell<T> {
     pub fn try_get<R: Wait>(&self, rt: &R) -> Result<Option<T>, Refusal>
     where
         T: Clone,
+        ensures sure { ((value : T) → T.is_infallible value) → IsOk result }
         ensures refused { IfErr result (λ why. why ≡ Refusal.Memory) }
     {
         self.core.try_get(rt)
@@ -119,17 +122,24 @@ impl<T: Drop> AsyncCell<T> {
     }
 
     /// A future that takes the value.
-    pub fn take(&self) -> Take<&Self> {
+    pub fn take(&self) -> Take<&Self>
+        ensures of_this { result.0.now ≡ self.now }
+    {
         Take(self)
     }
 
     /// A future that clones the value and leaves it.
-    pub fn get(&self) -> Get<&Self> {
+    pub fn get(&self) -> Get<&Self>
+        ensures of_this { result.0.now ≡ self.now }
+    {
         Get(self)
     }
 
     /// A guard that puts this value into the cell when it is cancelled, unless there is a value then. It must be spent.
-    pub fn guard(&self, cancel: T) -> GuardedCell<T, &Self> {
+    pub fn guard(&self, cancel: T) -> GuardedCell<T, &Self>
+        ensures of_this { result.pointer.now ≡ self.now }
+        ensures keeps { result.cancel ≡ cancel }
+    {
         GuardedCell::new(self, cancel)
     }
 }
@@ -141,7 +151,9 @@ impl AsyncCell<()> {
     }
 
     /// A future that waits for `notify`.
-    pub fn wait(&self) -> Take<&AsyncCell<()>> {
+    pub fn wait(&self) -> Take<&AsyncCell<()>>
+        ensures of_this { result.0.now ≡ self.now }
+    {
         self.take()
     }
 }

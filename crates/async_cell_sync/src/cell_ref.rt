@@ -1,3 +1,6 @@
+ghost use Rattle.std.specs.Prelude.{◌≡◌, ℕ};
+ghost use Rattle.async_cell_sync.specs.Source.{source_of};
+
 use crate::async_cell::AsyncCell;
 use crate::shared::Shared;
 use std::sync::{Arc, Wait};
@@ -7,8 +10,13 @@ pub trait CellRef {
     /// What the cell holds.
     type Value: Drop;
 
+    /// Names the source that a pending future over this pointer has registered with. Leave it out
+    /// in your own impl: nothing is then promised of the source.
+    ghost waits_for: { Self → ℕ → Type 0 } = { λ _ _. ⊥ };
+
     /// The cell that it points to.
-    fn cell(&self) -> &AsyncCell<Self::Value>;
+    fn cell(&self) -> &AsyncCell<Self::Value>
+        ensures { (s : ℕ) → waits_for self.now s → s ≡ source_of result.now };
 
     /// Lets the pointer go: an owner ends, and any other is only dropped.
     fn leave<R: Wait>(self, rt: &R);
@@ -16,6 +24,8 @@ pub trait CellRef {
 
 impl<T: Drop> CellRef for &AsyncCell<T> {
     type Value = T;
+
+    ghost waits_for = { λ p s. s ≡ source_of p.now };
 
     fn cell(&self) -> &AsyncCell<T> {
         *self
@@ -27,6 +37,8 @@ impl<T: Drop> CellRef for &AsyncCell<T> {
 impl<T: Drop> CellRef for Arc<AsyncCell<T>> {
     type Value = T;
 
+    ghost waits_for = { λ p s. s ≡ source_of p.value };
+
     fn cell(&self) -> &AsyncCell<T> {
         self.as_ref()
     }
@@ -36,6 +48,8 @@ impl<T: Drop> CellRef for Arc<AsyncCell<T>> {
 
 impl<T: Drop> CellRef for Shared<T> {
     type Value = T;
+
+    ghost waits_for = { λ p s. s ≡ source_of p.cell.value };
 
     fn cell(&self) -> &AsyncCell<T> {
         Shared::cell(self)
@@ -48,6 +62,8 @@ impl<T: Drop> CellRef for Shared<T> {
 
 impl<T: Drop> CellRef for &Shared<T> {
     type Value = T;
+
+    ghost waits_for = { λ p s. s ≡ source_of p.now.cell.value };
 
     fn cell(&self) -> &AsyncCell<T> {
         Shared::cell(*self)

@@ -1,3 +1,6 @@
+ghost use Rattle.std.specs.Prelude.{◌≡◌, ℕ};
+ghost use Rattle.async_cell_sync.specs.Source.{source_of};
+
 use crate::async_cell::AsyncCell;
 use crate::cell_ref::CellRef;
 use std::sync::Wait;
@@ -10,12 +13,17 @@ pub struct GuardedCell<T, C: CellRef<Value = T>> {
 }
 
 impl<T: Drop, C: CellRef<Value = T>> GuardedCell<T, C> {
-    pub(crate) fn new(pointer: C, cancel: T) -> Self {
+    pub(crate) fn new(pointer: C, cancel: T) -> Self
+        ensures of_this { result.pointer ≡ pointer }
+        ensures keeps { result.cancel ≡ cancel }
+    {
         GuardedCell { pointer, cancel }
     }
 
     /// The cell that it guards.
-    pub fn cell(&self) -> &AsyncCell<T> {
+    pub fn cell(&self) -> &AsyncCell<T>
+        ensures { (s : ℕ) → C.waits_for self.now.pointer s → s ≡ source_of result.now }
+    {
         self.pointer.cell()
     }
 

@@ -1,4 +1,6 @@
-ghost use Rattle.std.specs.Prelude.{◌≡◌, IfErr};
+ghost use Rattle.std.specs.Prelude.{◌≡◌, IfOk, IfErr};
+ghost use Rattle.std.specs.Arc.{arc_value};
+ghost use Rattle.async_cell_sync.specs.Names.{cell_of, NamesAtMost};
 ghost use Rattle.async_cell_sync.specs.Refused.{IsOwnerRefusal};
 
 use crate::async_cell::AsyncCell;
@@ -20,14 +22,15 @@ pub struct Shared<T> {
 
 impl<T: Drop> Shared<T> {
     /// The first owner of a new cell without a value. Refused with `Memory`.
-    pub(crate) fn new(alloc: Global) -> Result<Self, Refusal>
+    pub fn shared(alloc: Global) -> Result<Self, Refusal>
         ensures refused { IfErr result (λ why. why ≡ Refusal.Memory) }
     {
-        Shared::first_of(AsyncCell::new(alloc)).map_err(|(why, _)| why)
+        Shared::into_shared(AsyncCell::new(alloc)).map_err(|(why, _)| why)
     }
 
-    /// The first owner of a cell. Refused with `Memory`, and then the cell comes back.
-    pub(crate) fn first_of(cell: AsyncCell<T>) -> Result<Self, (Refusal, AsyncCell<T>)>
+    /// The first owner of this cell. Refused with `Memory`, and then the cell is given back.
+    pub fn into_shared(cell: AsyncCell<T>) -> Result<Self, (Refusal, AsyncCell<T>)>
+        ensures owns { IfOk result (λ owner. cell_of owner ≡ cell) }
         ensures comes_back { IfErr result (λ back. back ≡ (Refusal.Memory, cell)) }
     {
         match Arc::new(cell.allocator(), cell) {
@@ -37,13 +40,16 @@ impl<T: Drop> Shared<T> {
     }
 
     /// The cell, to call it.
-    pub fn cell(&self) -> &AsyncCell<T> {
+    pub fn cell(&self) -> &AsyncCell<T>
+        ensures held { result.now ≡ cell_of self.now }
+    {
         self.cell.as_ref()
     }
 
     /// One owner more, in place of a clone. Refused with `Memory` where the pointer can't be counted, and with
     /// `OwnersFull`. `Closed` is in the contract, and does not come about while this owner lives.
     pub fn another<R: Wait>(&self, rt: &R) -> Result<Self, Refusal>
+        ensures of_this { IfOk result (λ owner. cell_of owner ≡ cell_of self.now) }
         ensures refused { IfErr result IsOwnerRefusal }
     {
         Shared::owning(&self.cell, rt)
@@ -51,6 +57,7 @@ impl<T: Drop> Shared<T> {
 
     /// A new owner that takes the value. Refused as `another` is.
     pub fn take_shared<R: Wait>(&self, rt: &R) -> Result<Take<Self>, Refusal>
+        ensures of_this { IfOk result (λ polled. cell_of polled.0 ≡ cell_of self.now) }
         ensures refused { IfErr result IsOwnerRefusal }
     {
         Ok(Take(self.another(rt)?))
@@ -58,6 +65,7 @@ impl<T: Drop> Shared<T> {
 
     /// A new owner that clones the value and leaves it. Refused as `another` is.
     pub fn get_shared<R: Wait>(&self, rt: &R) -> Result<Get<Self>, Refusal>
+        ensures of_this { IfOk result (λ polled. cell_of polled.0 ≡ cell_of self.now) }
         ensures refused { IfErr result IsOwnerRefusal }
     {
         Ok(Get(self.another(rt)?))
@@ -69,6 +77,8 @@ impl<T: Drop> Shared<T> {
         cancel: T,
         rt: &R,
     ) -> Result<GuardedCell<T, Self>, (Refusal, T)>
+        ensures of_this { IfOk result (λ guard. cell_of guard.pointer ≡ cell_of self.now) }
+        ensures keeps { IfOk result (λ guard. guard.cancel ≡ cancel) }
         ensures refused { IfErr result (λ back. IsOwnerRefusal back.0) }
         ensures comes_back { IfErr result (λ back. back.1 ≡ cancel) }
     {
@@ -79,12 +89,16 @@ impl<T: Drop> Shared<T> {
     }
 
     /// A future that takes the value and is no owner.
-    pub fn take_weak(&self) -> TakeWeak<T> {
+    pub fn take_weak(&self) -> TakeWeak<T>
+        ensures of_this { NamesAtMost result.0 (cell_of self.now) }
+    {
         TakeWeak(Weak::of(&self.cell))
     }
 
     /// A future that clones the value, leaves it and is no owner.
-    pub fn get_weak(&self) -> GetWeak<T> {
+    pub fn get_weak(&self) -> GetWeak<T>
+        ensures of_this { NamesAtMost result.0 (cell_of self.now) }
+    {
         GetWeak(Weak::of(&self.cell))
     }
 
@@ -111,6 +125,7 @@ impl<T: Drop> Shared<T> {
     /// A new owner of the cell. Refused with `Memory` where the pointer can't be counted, and else with `Closed` and
     /// `OwnersFull`.
     pub(crate) fn owning<R: Wait>(cell: &Arc<AsyncCell<T>>, rt: &R) -> Result<Self, Refusal>
+        ensures of_this { IfOk result (λ owner. cell_of owner ≡ arc_value cell.now) }
         ensures refused { IfErr result IsOwnerRefusal }
     {
         let cell = Arc::try_clone(cell)?;
@@ -122,6 +137,7 @@ impl<T: Drop> Shared<T> {
 impl Shared<()> {
     /// A new owner that waits for `notify`. Refused as `another` is.
     pub fn wait_shared<R: Wait>(&self, rt: &R) -> Result<Take<Self>, Refusal>
+        ensures of_this { IfOk result (λ polled. cell_of polled.0 ≡ cell_of self.now) }
         ensures refused { IfErr result IsOwnerRefusal }
     {
         self.take_shared(rt)

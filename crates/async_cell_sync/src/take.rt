@@ -1,6 +1,6 @@
 ghost use Rattle.std.specs.Prelude.{◌≡◌, IfErr, ◌⊎◌};
 ghost use Rattle.futures.specs.Poll.{IfReady, OnPending};
-ghost use Rattle.futures.specs.Task.{IsArmed, Keeps};
+ghost use Rattle.futures.specs.Task.{Covers, Keeps};
 
 use crate::cell_ref::CellRef;
 use crate::with::With;
@@ -24,7 +24,7 @@ impl<C: CellRef> Take<C> {
         cx: &mut Context<'_>,
         rt: &R,
     ) -> Poll<Result<C::Value, Refusal>>
-        ensures armed { OnPending result (IsArmed cx.new) }
+        ensures registered { OnPending result (Covers cx.new (C.waits_for self.now.0)) }
         ensures kept { Keeps cx.old cx.new }
         ensures refused { IfReady result (λ answer. IfErr answer (λ why. (why ≡ Refusal.Memory) ⊎ (why ≡ Refusal.Closed))) }
     {
@@ -39,7 +39,9 @@ impl<C: CellRef> Take<C> {
 impl<C: Drop> Take<C> {
     /// The future, which keeps the right to wait for the lock: a poll of `futures` is lent none. Not for a `Take` of an
     /// owner, which must be spent: poll that by `poll_shared`.
-    pub fn with<R: Wait>(self, rt: R) -> With<Self, R> {
+    pub fn with<R: Wait>(self, rt: R) -> With<Self, R>
+        ensures polls { result.polled ≡ self }
+    {
         With::new(self, rt)
     }
 }

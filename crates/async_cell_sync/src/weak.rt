@@ -1,6 +1,9 @@
-ghost use Rattle.std.specs.Prelude.{◌≡◌, IfErr, ◌⊎◌};
+ghost use Rattle.std.specs.Prelude.{◌≡◌, ◌⊎◌, ℕ, Err, IfOk, IfErr, IfSome};
+ghost use Rattle.std.specs.Arc.{arc_value};
 ghost use Rattle.futures.specs.Poll.{IfReady, OnPending};
-ghost use Rattle.futures.specs.Task.{IsArmed, Keeps};
+ghost use Rattle.futures.specs.Task.{Covers, Keeps};
+ghost use Rattle.async_cell_sync.specs.Names.{IsLost, NamesAtMost, NameTheSame, OwnsNamed};
+ghost use Rattle.async_cell_sync.specs.Source.{source_of, IsSourceOf};
 
 use crate::async_cell::AsyncCell;
 use crate::get::Get;
@@ -20,7 +23,9 @@ pub struct Weak<T> {
 }
 
 impl<T: Drop> Weak<T> {
-    pub(crate) fn of(cell: &Arc<AsyncCell<T>>) -> Self {
+    pub(crate) fn of(cell: &Arc<AsyncCell<T>>) -> Self
+        ensures of_this { NamesAtMost result (arc_value cell.now) }
+    {
         Weak {
             cell: Arc::try_clone(cell).ok(),
         }
@@ -28,6 +33,8 @@ impl<T: Drop> Weak<T> {
 
     /// The cell. Refused with `Memory` where the pointer could not be counted when it was made.
     fn cell(&self) -> Result<&AsyncCell<T>, Refusal>
+        ensures source { IfOk result (λ c. (s : ℕ) → IsSourceOf self.now s → s ≡ source_of c.now) }
+        ensures lost { IsLost self.now → result ≡ Err Refusal.Memory }
         ensures refused { IfErr result (λ why. why ≡ Refusal.Memory) }
     {
         match &self.cell {
@@ -38,6 +45,8 @@ impl<T: Drop> Weak<T> {
 
     /// A new owner, or none of a closed cell. Refused with `Memory` and `OwnersFull`; want of memory is found first.
     fn upgrade<R: Wait>(&self, rt: &R) -> Result<Option<Shared<T>>, Refusal>
+        ensures of_this { IfOk result (λ found. IfSome found (OwnsNamed self.now)) }
+        ensures lost { IsLost self.now → result ≡ Err Refusal.Memory }
         ensures refused { IfErr result (λ why. (why ≡ Refusal.Memory) ⊎ (why ≡ Refusal.OwnersFull)) }
     {
         let cell = self.cell.as_ref().ok_or(Refusal::Memory)?;
@@ -51,6 +60,8 @@ impl<T: Drop> Weak<T> {
 
 /// Names the same cell.
 impl<T: Drop> Clone for Weak<T> {
+    ghost is_clone = { λ weak copy. NameTheSame weak copy };
+
     fn clone(&self) -> Result<Weak<T>, AllocError> {
         let Some(cell) = &self.cell else {
             return Ok(Weak { cell: None });
@@ -74,7 +85,8 @@ impl<T: Drop> TakeWeak<T> {
         cx: &mut Context<'_>,
         rt: &R,
     ) -> Poll<Result<Option<T>, Refusal>>
-        ensures armed { OnPending result (IsArmed cx.new) }
+        ensures lost { IsLost self.now.0 → result ≡ Poll.Ready (Err Refusal.Memory) }
+        ensures registered { OnPending result (Covers cx.new (IsSourceOf self.now.0)) }
         ensures kept { Keeps cx.old cx.new }
         ensures refused { IfReady result (λ answer. IfErr answer (λ why. why ≡ Refusal.Memory)) }
     {
@@ -85,13 +97,17 @@ impl<T: Drop> TakeWeak<T> {
     }
 
     /// The future, which keeps the right to wait for the lock: a poll of `futures` is lent none.
-    pub fn with<R: Wait>(self, rt: R) -> With<Self, R> {
+    pub fn with<R: Wait>(self, rt: R) -> With<Self, R>
+        ensures polls { result.polled ≡ self }
+    {
         With::new(self, rt)
     }
 
     /// A new owner that takes the value, or none where the cell is closed. Refused with `Memory`, which is found first, and
     /// with `OwnersFull`.
     pub fn upgrade<R: Wait>(&self, rt: &R) -> Result<Option<Take<Shared<T>>>, Refusal>
+        ensures of_this { IfOk result (λ found. IfSome found (λ take. OwnsNamed self.now.0 take.0)) }
+        ensures lost { IsLost self.now.0 → result ≡ Err Refusal.Memory }
         ensures refused { IfErr result (λ why. (why ≡ Refusal.Memory) ⊎ (why ≡ Refusal.OwnersFull)) }
     {
         Ok(self.0.upgrade(rt)?.map(Take))
@@ -100,6 +116,8 @@ impl<T: Drop> TakeWeak<T> {
 
 /// Names the same cell.
 impl<T: Drop> Clone for TakeWeak<T> {
+    ghost is_clone = { λ weak copy. NameTheSame weak.0 copy.0 };
+
     fn clone(&self) -> Result<TakeWeak<T>, AllocError> {
         Ok(TakeWeak(self.0.clone()?))
     }
@@ -119,7 +137,8 @@ impl<T: Clone> GetWeak<T> {
         cx: &mut Context<'_>,
         rt: &R,
     ) -> Poll<Result<Option<T>, Refusal>>
-        ensures armed { OnPending result (IsArmed cx.new) }
+        ensures lost { IsLost self.now.0 → result ≡ Poll.Ready (Err Refusal.Memory) }
+        ensures registered { OnPending result (Covers cx.new (IsSourceOf self.now.0)) }
         ensures kept { Keeps cx.old cx.new }
         ensures refused { IfReady result (λ answer. IfErr answer (λ why. why ≡ Refusal.Memory)) }
     {
@@ -132,13 +151,17 @@ impl<T: Clone> GetWeak<T> {
 
 impl<T: Drop> GetWeak<T> {
     /// The future, which keeps the right to wait for the lock: a poll of `futures` is lent none.
-    pub fn with<R: Wait>(self, rt: R) -> With<Self, R> {
+    pub fn with<R: Wait>(self, rt: R) -> With<Self, R>
+        ensures polls { result.polled ≡ self }
+    {
         With::new(self, rt)
     }
 
     /// A new owner that clones the value and leaves it, or none where the cell is closed. Refused with `Memory`, which is
     /// found first, and with `OwnersFull`.
     pub fn upgrade<R: Wait>(&self, rt: &R) -> Result<Option<Get<Shared<T>>>, Refusal>
+        ensures of_this { IfOk result (λ found. IfSome found (λ get. OwnsNamed self.now.0 get.0)) }
+        ensures lost { IsLost self.now.0 → result ≡ Err Refusal.Memory }
         ensures refused { IfErr result (λ why. (why ≡ Refusal.Memory) ⊎ (why ≡ Refusal.OwnersFull)) }
     {
         Ok(self.0.upgrade(rt)?.map(Get))
@@ -147,6 +170,8 @@ impl<T: Drop> GetWeak<T> {
 
 /// Names the same cell.
 impl<T: Drop> Clone for GetWeak<T> {
+    ghost is_clone = { λ weak copy. NameTheSame weak.0 copy.0 };
+
     fn clone(&self) -> Result<GetWeak<T>, AllocError> {
         Ok(GetWeak(self.0.clone()?))
     }

@@ -1,3 +1,6 @@
+ghost use Rattle.std.specs.Prelude.{◌≡◌};
+ghost use Rattle.async_cell_sync.specs.Source.{IsSourceOf};
+
 use crate::cell_ref::CellRef;
 use crate::get::Get;
 use crate::take::Take;
@@ -15,13 +18,17 @@ pub struct With<P, R: Wait> {
 }
 
 impl<P, R: Wait> With<P, R> {
-    pub(crate) fn new(polled: P, rt: R) -> Self {
+    pub(crate) fn new(polled: P, rt: R) -> Self
+        ensures polls { result.polled ≡ polled }
+    {
         With { polled, rt }
     }
 }
 
 impl<C: CellRef + Drop, R: Wait + Drop> Future for With<Take<C>, R> {
     type Output = Result<C::Value, Refusal>;
+
+    ghost needs = { λ future. C.waits_for future.polled.0 };
 
     fn poll(&mut self, cx: &mut Context<'_>) -> Poll<Result<C::Value, Refusal>> {
         self.polled.poll_shared(cx, &self.rt)
@@ -34,6 +41,8 @@ where
 {
     type Output = Result<C::Value, Refusal>;
 
+    ghost needs = { λ future. C.waits_for future.polled.0 };
+
     fn poll(&mut self, cx: &mut Context<'_>) -> Poll<Result<C::Value, Refusal>> {
         self.polled.poll_shared(cx, &self.rt)
     }
@@ -42,6 +51,8 @@ where
 impl<T: Drop, R: Wait + Drop> Future for With<TakeWeak<T>, R> {
     type Output = Result<Option<T>, Refusal>;
 
+    ghost needs = { λ future. IsSourceOf future.polled.0 };
+
     fn poll(&mut self, cx: &mut Context<'_>) -> Poll<Result<Option<T>, Refusal>> {
         self.polled.poll_shared(cx, &self.rt)
     }
@@ -49,6 +60,8 @@ impl<T: Drop, R: Wait + Drop> Future for With<TakeWeak<T>, R> {
 
 impl<T: Clone, R: Wait + Drop> Future for With<GetWeak<T>, R> {
     type Output = Result<Option<T>, Refusal>;
+
+    ghost needs = { λ future. IsSourceOf future.polled.0 };
 
     fn poll(&mut self, cx: &mut Context<'_>) -> Poll<Result<Option<T>, Refusal>> {
         self.polled.poll_shared(cx, &self.rt)

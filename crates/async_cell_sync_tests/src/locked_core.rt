@@ -4,6 +4,7 @@ ghost use Rattle.std.proofs.Common.{rules};
 
 use async_cell_core::{Core, Named, Poll, Refusal, Wakes};
 use async_cell_locked::LockedCore;
+use std::alloc::AllocError;
 use std::sync::Wait;
 use std::sync::atomic::{AtomicU64, Ordering};
 
@@ -188,4 +189,86 @@ fn the_number_of_owners_has_an_end(rt: HostRuntime) {
     let cell = LockedCore::new(core);
     assert_eq!(rt; cell.add_owner(&rt), Err(Refusal::OwnersFull));
     assert_eq!(rt; cell.owners(&rt), u32::MAX);
+}
+
+/// How often a closure was called.
+fn add_call(calls: &AtomicU64) {
+    calls.fetch_add(1, Ordering::SeqCst);
+}
+
+#[test]
+fn an_update_calls_its_closure_once_and_not_where_it_is_refused(rt: HostRuntime) {
+    let calls = AtomicU64::new(0);
+    let change = |content: Option<u32>| {
+        add_call(&calls);
+        content
+    };
+    let change_some = |value: u32| {
+        add_call(&calls);
+        value
+    };
+    let cell: LockedCore<u32, Named> = LockedCore::new(Core::new(rt.alloc()));
+    assert_eq!(rt; cell.update_some(change_some, &rt), Ok(()));
+    assert_eq!(rt; calls.load(Ordering::SeqCst), 0);
+    assert_eq!(rt; cell.update(change, &rt), Ok(()));
+    assert_eq!(rt; calls.load(Ordering::SeqCst), 1);
+    assert_eq!(rt; cell.set(7, &rt), Ok(()));
+    assert_eq!(rt; cell.update(change, &rt), Ok(()));
+    assert_eq!(rt; cell.update_some(change_some, &rt), Ok(()));
+    assert_eq!(rt; calls.load(Ordering::SeqCst), 3);
+    assert_eq!(rt; cell.end_owner(&rt), Ok(()));
+    assert_eq!(rt; cell.update(change, &rt), Err(Refusal::Closed));
+    assert_eq!(rt; cell.update_some(change_some, &rt), Err(Refusal::Closed));
+    assert_eq!(rt; calls.load(Ordering::SeqCst), 3);
+}
+
+#[test]
+fn a_closed_cell_is_not_set(rt: HostRuntime) {
+    let cell: LockedCore<u32, Named> = LockedCore::new(Core::new_with(rt.alloc(), 4));
+    assert!(rt; cell.is_set(&rt));
+    assert_eq!(rt; cell.end_owner(&rt), Ok(()));
+    assert!(rt; !cell.is_set(&rt));
+}
+
+#[test]
+fn into_inner_gives_the_content_whatever_the_number_of_owners(rt: HostRuntime) {
+    let core: Core<u32, Named> = Core::owned_by(rt.alloc(), Some(4), 3);
+    assert_eq!(rt; LockedCore::new(core).into_inner(), Some(4));
+}
+
+/// A value that can't be cloned.
+#[derive(Debug, Drop, PartialEq, Eq)]
+struct Single(u32);
+
+impl Clone for Single {
+    fn clone(&self) -> Result<Single, AllocError> {
+        Err(AllocError)
+    }
+}
+
+#[test]
+fn a_value_whose_clone_is_refused_stays_in_the_core(rt: HostRuntime) {
+    let cell: LockedCore<Single, Named> = LockedCore::new(Core::new_with(rt.alloc(), Single(8)));
+    assert_eq!(rt; cell.try_get(&rt), Err(Refusal::Memory));
+    assert!(rt; matches!(cell.poll_get(&Named(1), &rt), Err(Refusal::Memory)));
+    assert_eq!(rt; cell.waiting(&rt), 0);
+    assert_eq!(rt; cell.try_take(&rt), Some(Single(8)));
+}
+
+/// It holds whichever request for memory is refused: where it is that of `reserve`, that is called again.
+#[test]
+fn polls_find_the_room_that_was_made(rt: HostRuntime) {
+    let cell: LockedCore<u32, Named> = LockedCore::new(Core::new(rt.alloc()));
+    if cell.reserve(3, &rt).is_err() {
+        assert_eq!(rt; cell.reserve(3, &rt), Ok(()));
+    }
+    for name in 1..4 {
+        assert_eq!(rt; cell.poll_take(&Named(name), &rt), Ok(Poll::Pending));
+    }
+    assert_eq!(rt; cell.waiting(&rt), 3);
+    assert_eq!(rt; cell.set(5, &rt), Ok(()));
+    assert_eq!(rt; cell.waiting(&rt), 0);
+    assert_eq!(rt; cell.reserve(usize::MAX, &rt), Err(Refusal::Memory));
+    assert_eq!(rt; cell.end_owner(&rt), Ok(()));
+    assert_eq!(rt; cell.reserve(usize::MAX, &rt), Ok(()));
 }

@@ -118,7 +118,8 @@ fn copy_often<R: Wait + Abort>(
     }
 }
 
-/// Two polls that wait, of which the second takes memory. Either is refused, or the task is woken by the end of the owner.
+/// Polls that wait, of which some take memory. Each is refused, or leaves a waker that the end of
+/// the owner wakes. A poll that waits has not woken its task.
 fn wait_often<R: Wait + Abort>(
     weak: &GetWeak<Vec<u8>>,
     flag: &MockTask,
@@ -126,9 +127,12 @@ fn wait_often<R: Wait + Abort>(
     rt: &R,
 ) {
     for _ in 0..3u32 {
-        if let Poll::Ready(answer) = flag.enter(|cx| weak.poll_shared(cx, rt)) {
-            let none = counted(answer, refused, rt);
-            assert!(rt; none.is_none());
+        match flag.enter(|cx| weak.poll_shared(cx, rt)) {
+            Poll::Ready(answer) => {
+                let none = counted(answer, refused, rt);
+                assert!(rt; none.is_none());
+            }
+            Poll::Pending => assert!(rt; !flag.is_woken()),
         }
     }
 }

@@ -1,9 +1,11 @@
 //! Owners, weak futures and the close.
 use crate::ticks::tick_future;
-use async_cell_sync::{AsyncCell, CellRef, Shared, Take};
+use async_cell_sync::{AsyncCell, CellRef, Get, Shared, Take, TakeWeak};
 use futures::task::Poll;
 use futures::test::MockTask;
+use std::alloc::AllocError;
 use std::process::Abort;
+use std::sync::Wait;
 use std::test::Fail;
 
 /// The first owner of a cell that holds this value.
@@ -180,5 +182,155 @@ fn a_borrowed_owner_leaves_without_an_end(rt: HostRuntime) -> Result<(), Fail> {
         Poll::Ready(Ok(3))
     );
     shared.end(&rt);
+    Ok(())
+}
+
+/// Whether the cell has no owner left, as a weak poll sees it.
+fn is_closed(weak: &TakeWeak<u32>, flag: &MockTask, rt: &impl Wait) -> bool {
+    flag.enter(|cx| weak.poll_shared(cx, rt)) == Poll::Ready(Ok(None))
+}
+
+#[test]
+fn a_first_owner_is_made_of_nothing_or_of_a_cell(rt: HostRuntime) -> Result<(), Fail> {
+    let flag = MockTask::new(&rt)?;
+    let empty: Shared<u32> = Shared::shared(rt.alloc()).expect(&rt, "there is memory");
+    assert_eq!(rt; empty.cell().try_take(&rt), None);
+    let weak = empty.take_weak();
+    empty.end(&rt);
+    assert!(rt; is_closed(&weak, &flag, &rt));
+    let cell = AsyncCell::new_with(rt.alloc(), 3u32);
+    assert_eq!(rt;
+        tick_future(Take(&cell).with(&rt), &flag),
+        Poll::Ready(Ok(3))
+    );
+    assert_eq!(rt; tick_future(Take(&cell).with(&rt), &flag), Poll::Pending);
+    let first = Shared::into_shared(cell)
+        .map_err(|(why, _)| why)
+        .expect(&rt, "there is memory");
+    first.cell().set(4, &rt);
+    assert!(rt; flag.is_woken());
+    let weak = first.take_weak();
+    assert_eq!(rt;
+        flag.enter(|cx| weak.poll_shared(cx, &rt)),
+        Poll::Ready(Ok(Some(4)))
+    );
+    first.end(&rt);
+    assert!(rt; is_closed(&weak, &flag, &rt));
+    Ok(())
+}
+
+#[test]
+fn weak_futures_wait_while_the_cell_is_open(rt: HostRuntime) -> Result<(), Fail> {
+    let (takes, gets) = (MockTask::new(&rt)?, MockTask::new(&rt)?);
+    let shared = AsyncCell::<u32>::shared(rt.alloc()).expect(&rt, "there is memory");
+    let mut get = shared.get_weak().with(&rt);
+    let mut take = shared.take_weak().with(&rt);
+    for value in 0..3u32 {
+        assert_eq!(rt; gets.poll(&mut get), Poll::Pending);
+        assert_eq!(rt; takes.poll(&mut take), Poll::Pending);
+        shared.cell().set(value, &rt);
+        assert!(rt; gets.is_woken());
+        assert!(rt; takes.is_woken());
+        assert_eq!(rt; gets.poll(&mut get), Poll::Ready(Ok(Some(value))));
+        assert_eq!(rt; takes.poll(&mut take), Poll::Ready(Ok(Some(value))));
+    }
+    shared.end(&rt);
+    assert_eq!(rt; gets.poll(&mut get), Poll::Ready(Ok(None)));
+    assert_eq!(rt; takes.poll(&mut take), Poll::Ready(Ok(None)));
+    Ok(())
+}
+
+#[test]
+fn a_pending_poll_of_a_weak_one_counts_no_owner(rt: HostRuntime) -> Result<(), Fail> {
+    let flag = MockTask::new(&rt)?;
+    let shared = AsyncCell::<u32>::shared(rt.alloc()).expect(&rt, "there is memory");
+    let (get, take) = (shared.get_weak(), shared.take_weak());
+    assert_eq!(rt; flag.enter(|cx| get.poll_shared(cx, &rt)), Poll::Pending);
+    assert_eq!(rt; flag.enter(|cx| take.poll_shared(cx, &rt)), Poll::Pending);
+    assert!(rt; !flag.is_woken());
+    match shared.try_into_inner(&rt) {
+        Ok(content) => assert_eq!(rt; content, None),
+        Err(back) => {
+            back.end(&rt);
+            panic!(rt; "it is the only owner");
+        }
+    }
+    assert!(rt; flag.is_woken());
+    assert!(rt; is_closed(&take, &flag, &rt));
+    assert_eq!(rt;
+        flag.enter(|cx| get.poll_shared(cx, &rt)),
+        Poll::Ready(Ok(None))
+    );
+    Ok(())
+}
+
+#[test]
+fn an_upgrade_of_a_closed_cell_is_none(rt: HostRuntime) {
+    let shared = AsyncCell::<u32>::shared(rt.alloc()).expect(&rt, "there is memory");
+    let (get, take) = (shared.get_weak(), shared.take_weak());
+    shared.end(&rt);
+    match get.upgrade(&rt) {
+        Ok(None) => {}
+        Ok(Some(late)) => {
+            late.0.end(&rt);
+            panic!(rt; "the cell is closed");
+        }
+        Err(why) => panic!(rt; "{why}"),
+    }
+    match take.upgrade(&rt) {
+        Ok(None) => {}
+        Ok(Some(late)) => {
+            late.0.end(&rt);
+            panic!(rt; "the cell is closed");
+        }
+        Err(why) => panic!(rt; "{why}"),
+    }
+}
+
+#[test]
+fn a_shared_waiter_is_a_counted_owner(rt: HostRuntime) -> Result<(), Fail> {
+    let flag = MockTask::new(&rt)?;
+    let shared = AsyncCell::<()>::shared(rt.alloc()).expect(&rt, "there is memory");
+    let weak = shared.take_weak();
+    let waits = shared.wait_shared(&rt).expect(&rt, "an owner");
+    shared.end(&rt);
+    assert_eq!(rt; flag.enter(|cx| waits.poll_shared(cx, &rt)), Poll::Pending);
+    waits.0.cell().notify(&rt);
+    assert_eq!(rt;
+        flag.enter(|cx| waits.poll_shared(cx, &rt)),
+        Poll::Ready(Ok(()))
+    );
+    assert_eq!(rt; flag.enter(|cx| weak.poll_shared(cx, &rt)), Poll::Pending);
+    waits.0.end(&rt);
+    assert!(rt; flag.is_woken());
+    assert_eq!(rt;
+        flag.enter(|cx| weak.poll_shared(cx, &rt)),
+        Poll::Ready(Ok(None))
+    );
+    Ok(())
+}
+
+/// A copy and a clone.
+fn copied<P: Clone + Copy>(one: P, rt: &impl Abort) -> (P, P) {
+    let clone: Result<P, AllocError> = one.clone();
+    (one, clone.ok().expect(rt, "a clone"))
+}
+
+#[test]
+fn takers_and_getters_are_copied_and_cloned(rt: HostRuntime) -> Result<(), Fail> {
+    let flag = MockTask::new(&rt)?;
+    let cell = AsyncCell::new_with(rt.alloc(), 6u32);
+    let get: Get<&AsyncCell<u32>> = cell.get();
+    let (copy, clone) = copied(get, &rt);
+    for one in [get, copy, clone] {
+        assert_eq!(rt; tick_future(one.with(&rt), &flag), Poll::Ready(Ok(6)));
+    }
+    let take: Take<&AsyncCell<u32>> = cell.take();
+    let (copy, clone) = copied(take, &rt);
+    for one in [take, copy, clone] {
+        assert_eq!(rt; tick_future(one.with(&rt), &flag), Poll::Ready(Ok(6)));
+        assert_eq!(rt; tick_future(one.with(&rt), &flag), Poll::Pending);
+        cell.set(6, &rt);
+    }
     Ok(())
 }

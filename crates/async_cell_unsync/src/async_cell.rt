@@ -1,5 +1,6 @@
-ghost use Rattle.std.specs.Prelude.{◌≡◌, IfErr};
+ghost use Rattle.std.specs.Prelude.{◌≡◌, IsOk, IfOk, IfErr, Some};
 ghost use Rattle.async_cell_model.specs.History.{IsBeginning};
+ghost use Rattle.async_cell_unsync.specs.Names.{cell_of};
 
 mod polls;
 mod show;
@@ -20,7 +21,7 @@ use std::cell::RefCell;
 /// Wakers are woken and values are dropped when the cell is in order again, so whatever runs then may call the cell. While
 /// a closure, a clone or a value's own printing runs, only the value is out: the cell then looks empty to calls made from
 /// inside, and pointers that are made or ended inside are counted. Afterwards the value is put over whatever came
-/// meanwhile. No call takes a lock or waits. Dropping a cell wakes all that wait.
+/// meanwhile. No call waits. Dropping a cell wakes all that wait.
 #[derive(Drop)]
 pub struct AsyncCell<T> {
     core: RefCell<Core<T, TaskWaker>>,
@@ -44,14 +45,15 @@ impl<T: Drop> AsyncCell<T> {
     pub fn shared(alloc: Global) -> Result<Shared<T>, Refusal>
         ensures refused { IfErr result (λ why. why ≡ Refusal.Memory) }
     {
-        Shared::new(alloc)
+        Shared::shared(alloc)
     }
 
     /// This cell, with one counted owner. Refused with `Memory`, and then the cell comes back.
     pub fn into_shared(self) -> Result<Shared<T>, (Refusal, AsyncCell<T>)>
+        ensures owns { IfOk result (λ owner. cell_of owner ≡ self) }
         ensures comes_back { IfErr result (λ back. back ≡ (Refusal.Memory, self)) }
     {
-        Shared::first_of(self)
+        Shared::into_shared(self)
     }
 
     /// Puts the value in and drops the old one. All that wait are woken.
@@ -105,6 +107,7 @@ impl<T: Drop> AsyncCell<T> {
     pub fn try_get(&self) -> Result<Option<T>, Refusal>
     where
         T: Clone,
+        ensures sure { ((value : T) → T.is_infallible value) → IsOk result }
         ensures refused { IfErr result (λ why. why ≡ Refusal.Memory) }
     {
         self.copy_back(self.try_take())
@@ -137,17 +140,24 @@ impl<T: Drop> AsyncCell<T> {
     }
 
     /// A future that takes the value.
-    pub fn take(&self) -> Take<&Self> {
+    pub fn take(&self) -> Take<&Self>
+        ensures of_this { result.0.now ≡ self.now }
+    {
         Take(self)
     }
 
     /// A future that clones the value and leaves it.
-    pub fn get(&self) -> Get<&Self> {
+    pub fn get(&self) -> Get<&Self>
+        ensures of_this { result.0.now ≡ self.now }
+    {
         Get(self)
     }
 
     /// A guard that puts this value into the cell when it is dropped, unless it is released or there is a value then.
-    pub fn guard(&self, cancel: T) -> GuardedCell<T, &Self> {
+    pub fn guard(&self, cancel: T) -> GuardedCell<T, &Self>
+        ensures of_this { result.pointer.now ≡ self.now }
+        ensures keeps { result.cancel ≡ Some cancel }
+    {
         GuardedCell::new(self, cancel)
     }
 }
@@ -159,7 +169,9 @@ impl AsyncCell<()> {
     }
 
     /// A future that waits for `notify`.
-    pub fn wait(&self) -> Take<&AsyncCell<()>> {
+    pub fn wait(&self) -> Take<&AsyncCell<()>>
+        ensures of_this { result.0.now ≡ self.now }
+    {
         self.take()
     }
 }

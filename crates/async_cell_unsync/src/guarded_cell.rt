@@ -1,3 +1,6 @@
+ghost use Rattle.std.specs.Prelude.{◌≡◌, ℕ, Some};
+ghost use Rattle.async_cell_unsync.specs.Source.{source_of};
+
 use crate::async_cell::AsyncCell;
 use crate::cell_ref::CellRef;
 
@@ -10,7 +13,10 @@ pub struct GuardedCell<T, C: CellRef<Value = T>> {
 }
 
 impl<T: Drop, C: CellRef<Value = T>> GuardedCell<T, C> {
-    pub(crate) fn new(pointer: C, cancel: T) -> Self {
+    pub(crate) fn new(pointer: C, cancel: T) -> Self
+        ensures of_this { result.pointer ≡ pointer }
+        ensures keeps { result.cancel ≡ Some cancel }
+    {
         GuardedCell {
             pointer,
             cancel: Some(cancel),
@@ -18,7 +24,9 @@ impl<T: Drop, C: CellRef<Value = T>> GuardedCell<T, C> {
     }
 
     /// The cell that it guards.
-    pub fn cell(&self) -> &AsyncCell<T> {
+    pub fn cell(&self) -> &AsyncCell<T>
+        ensures { (s : ℕ) → C.waits_for self.now.pointer s → s ≡ source_of result.now }
+    {
         self.pointer.cell()
     }
 

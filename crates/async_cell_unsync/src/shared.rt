@@ -1,4 +1,6 @@
-ghost use Rattle.std.specs.Prelude.{◌≡◌, IfErr};
+ghost use Rattle.std.specs.Prelude.{◌≡◌, IfOk, IfErr, Some};
+ghost use Rattle.std.specs.Rc.{rc_value};
+ghost use Rattle.async_cell_unsync.specs.Names.{cell_of, NamesAtMost};
 ghost use Rattle.async_cell_unsync.specs.Refused.{IsOwnerRefusal};
 
 use crate::async_cell::AsyncCell;
@@ -18,14 +20,15 @@ pub struct Shared<T> {
 
 impl<T: Drop> Shared<T> {
     /// The first owner of a new cell without a value. Refused with `Memory`.
-    pub(crate) fn new(alloc: Global) -> Result<Self, Refusal>
+    pub fn shared(alloc: Global) -> Result<Self, Refusal>
         ensures refused { IfErr result (λ why. why ≡ Refusal.Memory) }
     {
-        Shared::first_of(AsyncCell::new(alloc)).map_err(|(why, _)| why)
+        Shared::into_shared(AsyncCell::new(alloc)).map_err(|(why, _)| why)
     }
 
-    /// The first owner of a cell. Refused with `Memory`, and then the cell comes back.
-    pub(crate) fn first_of(cell: AsyncCell<T>) -> Result<Self, (Refusal, AsyncCell<T>)>
+    /// The first owner of this cell. Refused with `Memory`, and then the cell is given back.
+    pub fn into_shared(cell: AsyncCell<T>) -> Result<Self, (Refusal, AsyncCell<T>)>
+        ensures owns { IfOk result (λ owner. cell_of owner ≡ cell) }
         ensures comes_back { IfErr result (λ back. back ≡ (Refusal.Memory, cell)) }
     {
         match Rc::new(cell.allocator(), cell) {
@@ -36,7 +39,7 @@ impl<T: Drop> Shared<T> {
 
     /// The cell, to call it.
     pub fn cell(&self) -> &AsyncCell<T>
-        ensures held { result.now ≡ self.now.cell.value }
+        ensures held { result.now ≡ cell_of self.now }
     {
         self.cell.as_ref()
     }
@@ -44,6 +47,7 @@ impl<T: Drop> Shared<T> {
     /// One owner more, in place of a clone. Refused with `Memory` where the pointer can't be counted, and with
     /// `OwnersFull`. `Closed` is in the contract, and does not come about while this owner lives.
     pub fn another(&self) -> Result<Self, Refusal>
+        ensures of_this { IfOk result (λ owner. cell_of owner ≡ cell_of self.now) }
         ensures refused { IfErr result IsOwnerRefusal }
     {
         Shared::owning(&self.cell)
@@ -51,6 +55,7 @@ impl<T: Drop> Shared<T> {
 
     /// A new owner that takes the value. Refused as `another` is.
     pub fn take_shared(&self) -> Result<Take<Self>, Refusal>
+        ensures of_this { IfOk result (λ polled. cell_of polled.0 ≡ cell_of self.now) }
         ensures refused { IfErr result IsOwnerRefusal }
     {
         Ok(Take(self.another()?))
@@ -58,6 +63,7 @@ impl<T: Drop> Shared<T> {
 
     /// A new owner that clones the value and leaves it. Refused as `another` is.
     pub fn get_shared(&self) -> Result<Get<Self>, Refusal>
+        ensures of_this { IfOk result (λ polled. cell_of polled.0 ≡ cell_of self.now) }
         ensures refused { IfErr result IsOwnerRefusal }
     {
         Ok(Get(self.another()?))
@@ -65,6 +71,8 @@ impl<T: Drop> Shared<T> {
 
     /// A guard that is a new owner. Refused as `another` is, and then the value comes back.
     pub fn guard_shared(&self, cancel: T) -> Result<GuardedCell<T, Self>, (Refusal, T)>
+        ensures of_this { IfOk result (λ guard. cell_of guard.pointer ≡ cell_of self.now) }
+        ensures keeps { IfOk result (λ guard. guard.cancel ≡ Some cancel) }
         ensures refused { IfErr result (λ back. IsOwnerRefusal back.0) }
         ensures comes_back { IfErr result (λ back. back.1 ≡ cancel) }
     {
@@ -75,12 +83,16 @@ impl<T: Drop> Shared<T> {
     }
 
     /// A future that takes the value and is no owner.
-    pub fn take_weak(&self) -> TakeWeak<T> {
+    pub fn take_weak(&self) -> TakeWeak<T>
+        ensures of_this { NamesAtMost result.0 (cell_of self.now) }
+    {
         TakeWeak(Weak::of(&self.cell))
     }
 
     /// A future that clones the value, leaves it and is no owner.
-    pub fn get_weak(&self) -> GetWeak<T> {
+    pub fn get_weak(&self) -> GetWeak<T>
+        ensures of_this { NamesAtMost result.0 (cell_of self.now) }
+    {
         GetWeak(Weak::of(&self.cell))
     }
 
@@ -101,6 +113,7 @@ impl<T: Drop> Shared<T> {
     /// A new owner of the cell. Refused with `Memory` where the pointer can't be counted, and else with `Closed` and
     /// `OwnersFull`.
     pub(crate) fn owning(cell: &Rc<AsyncCell<T>>) -> Result<Self, Refusal>
+        ensures of_this { IfOk result (λ owner. cell_of owner ≡ rc_value cell.now) }
         ensures refused { IfErr result IsOwnerRefusal }
     {
         let pointer: Result<Rc<AsyncCell<T>>, AllocError> = cell.clone();
@@ -113,6 +126,7 @@ impl<T: Drop> Shared<T> {
 impl Shared<()> {
     /// A new owner that waits for `notify`. Refused as `another` is.
     pub fn wait_shared(&self) -> Result<Take<Self>, Refusal>
+        ensures of_this { IfOk result (λ polled. cell_of polled.0 ≡ cell_of self.now) }
         ensures refused { IfErr result IsOwnerRefusal }
     {
         self.take_shared()

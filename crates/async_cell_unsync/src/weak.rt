@@ -1,6 +1,8 @@
-ghost use Rattle.std.specs.Prelude.{◌≡◌, ◌⊎◌, ℕ, IfOk, IfErr};
+ghost use Rattle.std.specs.Prelude.{◌≡◌, ◌⊎◌, ℕ, Err, IfOk, IfErr, IfSome};
+ghost use Rattle.std.specs.Rc.{rc_value};
 ghost use Rattle.futures.specs.Poll.{IfReady, OnPending};
 ghost use Rattle.futures.specs.Task.{Covers, Keeps};
+ghost use Rattle.async_cell_unsync.specs.Names.{IsLost, NamesAtMost, NameTheSame, OwnsNamed};
 ghost use Rattle.async_cell_unsync.specs.Source.{source_of, IsSourceOf};
 
 use crate::async_cell::AsyncCell;
@@ -21,14 +23,17 @@ pub struct Weak<T> {
 }
 
 impl<T: Drop> Weak<T> {
-    pub(crate) fn of(cell: &Rc<AsyncCell<T>>) -> Self {
+    pub(crate) fn of(cell: &Rc<AsyncCell<T>>) -> Self
+        ensures of_this { NamesAtMost result (rc_value cell.now) }
+    {
         let pointer: Result<Rc<AsyncCell<T>>, AllocError> = cell.clone();
         Weak { cell: pointer.ok() }
     }
 
     /// The cell. Refused with `Memory` where the pointer could not be counted when it was made.
     fn cell(&self) -> Result<&AsyncCell<T>, Refusal>
-        ensures source { IfOk result (λ cell. (s : ℕ) → IsSourceOf self.now s → s ≡ source_of cell.now) }
+        ensures source { IfOk result (λ c. (s : ℕ) → IsSourceOf self.now s → s ≡ source_of c.now) }
+        ensures lost { IsLost self.now → result ≡ Err Refusal.Memory }
         ensures refused { IfErr result (λ why. why ≡ Refusal.Memory) }
     {
         match &self.cell {
@@ -39,6 +44,8 @@ impl<T: Drop> Weak<T> {
 
     /// A new owner, or none of a closed cell. Refused with `Memory` and `OwnersFull`; want of memory is found first.
     fn upgrade(&self) -> Result<Option<Shared<T>>, Refusal>
+        ensures of_this { IfOk result (λ found. IfSome found (OwnsNamed self.now)) }
+        ensures lost { IsLost self.now → result ≡ Err Refusal.Memory }
         ensures refused { IfErr result (λ why. (why ≡ Refusal.Memory) ⊎ (why ≡ Refusal.OwnersFull)) }
     {
         let cell = self.cell.as_ref().ok_or(Refusal::Memory)?;
@@ -52,6 +59,8 @@ impl<T: Drop> Weak<T> {
 
 /// Names the same cell.
 impl<T: Drop> Clone for Weak<T> {
+    ghost is_clone = { λ weak copy. NameTheSame weak copy };
+
     fn clone(&self) -> Result<Weak<T>, AllocError> {
         let Some(cell) = &self.cell else {
             return Ok(Weak { cell: None });
@@ -72,6 +81,7 @@ impl<T: Drop> TakeWeak<T> {
     /// Polls by a shared reference. Ready with the value, which leaves none behind; with none on a closed cell; and with
     /// `Memory` where the poll would have to wait and found none.
     pub fn poll_shared(&self, cx: &mut Context<'_>) -> Poll<Result<Option<T>, Refusal>>
+        ensures lost { IsLost self.now.0 → result ≡ Poll.Ready (Err Refusal.Memory) }
         ensures registered { OnPending result (Covers cx.new (IsSourceOf self.now.0)) }
         ensures kept { Keeps cx.old cx.new }
         ensures refused { IfReady result (λ answer. IfErr answer (λ why. why ≡ Refusal.Memory)) }
@@ -85,6 +95,8 @@ impl<T: Drop> TakeWeak<T> {
     /// A new owner that takes the value, or none where the cell is closed. Refused with `Memory`, which is found first, and
     /// with `OwnersFull`.
     pub fn upgrade(&self) -> Result<Option<Take<Shared<T>>>, Refusal>
+        ensures of_this { IfOk result (λ found. IfSome found (λ take. OwnsNamed self.now.0 take.0)) }
+        ensures lost { IsLost self.now.0 → result ≡ Err Refusal.Memory }
         ensures refused { IfErr result (λ why. (why ≡ Refusal.Memory) ⊎ (why ≡ Refusal.OwnersFull)) }
     {
         Ok(self.0.upgrade()?.map(Take))
@@ -93,6 +105,8 @@ impl<T: Drop> TakeWeak<T> {
 
 /// Names the same cell.
 impl<T: Drop> Clone for TakeWeak<T> {
+    ghost is_clone = { λ weak copy. NameTheSame weak.0 copy.0 };
+
     fn clone(&self) -> Result<TakeWeak<T>, AllocError> {
         Ok(TakeWeak(self.0.clone()?))
     }
@@ -118,6 +132,7 @@ impl<T: Clone> GetWeak<T> {
     /// Polls by a shared reference. Ready with a clone of the value; with none on a closed cell; and with `Memory` where the
     /// clone found none, or the poll would have to wait and found none.
     pub fn poll_shared(&self, cx: &mut Context<'_>) -> Poll<Result<Option<T>, Refusal>>
+        ensures lost { IsLost self.now.0 → result ≡ Poll.Ready (Err Refusal.Memory) }
         ensures registered { OnPending result (Covers cx.new (IsSourceOf self.now.0)) }
         ensures kept { Keeps cx.old cx.new }
         ensures refused { IfReady result (λ answer. IfErr answer (λ why. why ≡ Refusal.Memory)) }
@@ -133,6 +148,8 @@ impl<T: Drop> GetWeak<T> {
     /// A new owner that clones the value and leaves it, or none where the cell is closed. Refused with `Memory`, which is
     /// found first, and with `OwnersFull`.
     pub fn upgrade(&self) -> Result<Option<Get<Shared<T>>>, Refusal>
+        ensures of_this { IfOk result (λ found. IfSome found (λ get. OwnsNamed self.now.0 get.0)) }
+        ensures lost { IsLost self.now.0 → result ≡ Err Refusal.Memory }
         ensures refused { IfErr result (λ why. (why ≡ Refusal.Memory) ⊎ (why ≡ Refusal.OwnersFull)) }
     {
         Ok(self.0.upgrade()?.map(Get))
@@ -141,6 +158,8 @@ impl<T: Drop> GetWeak<T> {
 
 /// Names the same cell.
 impl<T: Drop> Clone for GetWeak<T> {
+    ghost is_clone = { λ weak copy. NameTheSame weak.0 copy.0 };
+
     fn clone(&self) -> Result<GetWeak<T>, AllocError> {
         Ok(GetWeak(self.0.clone()?))
     }

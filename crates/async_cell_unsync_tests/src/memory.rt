@@ -111,6 +111,9 @@ fn a_refused_poll_leaves_those_that_wait(rt: HostRuntime) {
     if waits.is_pending() {
         assert!(rt; !flag.is_woken());
     }
+    if refused.is_pending() {
+        assert!(rt; !other.is_woken());
+    }
     cell.set(6);
     assert!(rt; flag.is_woken());
     assert_eq!(rt; cell.try_take(), Some(6));

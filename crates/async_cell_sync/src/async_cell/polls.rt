@@ -2,8 +2,9 @@
 ghost use Rattle.std.specs.Prelude.{◌≡◌, true, IfErr};
 ghost use Rattle.std.specs.Sync.Mutex.{mutex_guard_value};
 ghost use Rattle.futures.specs.Poll.{IfReady, OnPending};
-ghost use Rattle.futures.specs.Task.{IsArmed, Keeps};
+ghost use Rattle.futures.specs.Task.{Hears, IsArmed, Keeps};
 ghost use Rattle.async_cell_model.specs.Cell.{is_vacant};
+ghost use Rattle.async_cell_sync.specs.Source.{source_of};
 
 use super::AsyncCell;
 use async_cell_core::{Core, Refusal};
@@ -20,6 +21,7 @@ impl<T: Drop> AsyncCell<T> {
         rt: &R,
     ) -> Poll<Result<Option<T>, Refusal>>
         ensures armed { OnPending result (IsArmed cx.new) }
+        ensures heard { OnPending result (Hears cx.new (source_of self.now)) }
         ensures kept { Keeps cx.old cx.new }
         ensures refused { IfReady result (λ answer. IfErr answer (λ why. why ≡ Refusal.Memory)) }
     {
@@ -39,6 +41,7 @@ impl<T: Drop> AsyncCell<T> {
     where
         T: Clone,
         ensures armed { OnPending result (IsArmed cx.new) }
+        ensures heard { OnPending result (Hears cx.new (source_of self.now)) }
         ensures kept { Keeps cx.old cx.new }
         ensures refused { IfReady result (λ answer. IfErr answer (λ why. why ≡ Refusal.Memory)) }
     {
@@ -59,6 +62,7 @@ fn wait<T: Drop>(
 ) -> Poll<Result<Option<T>, Refusal>>
     requires { is_vacant (mutex_guard_value core).cell ≡ true }
     ensures armed { OnPending result (IsArmed cx.new) }
+    ensures heard { OnPending result (Hears cx.new source.now.id) }
     ensures kept { Keeps cx.old cx.new }
     ensures refused { IfReady result (λ answer. IfErr answer (λ why. why ≡ Refusal.Memory)) }
 {

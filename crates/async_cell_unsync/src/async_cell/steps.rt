@@ -1,5 +1,5 @@
 //! The steps on the core: between two of them the cell is in order, and only then are wakers woken and values dropped.
-ghost use Rattle.std.specs.Prelude.{◌≡◌, ◌⊎◌, IfSome, IfErr};
+ghost use Rattle.std.specs.Prelude.{◌≡◌, ◌⊎◌, IsOk, IfSome, IfErr};
 ghost use Rattle.std.specs.RefCell.{ref_mut_value};
 ghost use Rattle.async_cell_model.specs.History.{IsBeginning};
 
@@ -53,6 +53,7 @@ impl<T: Drop> AsyncCell<T> {
     pub(super) fn copy_back(&self, taken: Option<T>) -> Result<Option<T>, Refusal>
     where
         T: Clone,
+        ensures sure { ((value : T) → T.is_infallible value) → IsOk result }
         ensures refused { IfErr result (λ why. why ≡ Refusal.Memory) }
     {
         let Some(value) = taken else {
