@@ -1,6 +1,6 @@
 -- Logs joined line by line.
 use Rattle.std.proofs.Common.{◌≡◌, ℕ, zero, suc, Bool, true, false, not, ◌&&◌, ◌||◌, List, [], ◌∷◌, ◌++◌, Option, Some, None, map, length, refl, ap, sym, ◌∙◌, subst, arith, append_assoc, append-nil, length-append, ◌+◌}
-use Rattle.std.specs.Prelude.{slice_get, is_some, if◌then◌else◌, ⊤, option_to_list, reverse}
+use Rattle.std.specs.Prelude.{slice_get, is_some, if◌then◌else◌, option_to_list, reverse}
 use Rattle.std.specs.Option.{option_map}
 use Rattle.std.proofs.lemmas.Bool.{eqb-true}
 use Rattle.std.proofs.Math.Bool.{or-true}
@@ -8,9 +8,12 @@ use Rattle.std.proofs.lemmas.List.{map-append, length-map, reverse-append}
 use Rattle.async_cell_cons.specs.declared.named.Named.{Named}
 use Rattle.async_cell_model.specs.declared.cell.Cell.{Cell}
 use Rattle.async_cell_model.specs.History.{History, IsBeginning, cell_after}
-use Rattle.async_cell_model.specs.Legal.{Leads}
 use Rattle.async_cell_model.proofs.Joining.{cell_after-append}
-use Rattle.async_cell_model.proofs.Leading.{Leads-nil, Leads-join}
+use Rattle.async_cell_model.proofs.Leading.{Leads-nil}
+use Rattle.async_cell_model.specs.Legal.{LeadsUpTo}
+use Rattle.async_cell_model.specs.Legal.{UpToClones}
+use Rattle.async_cell_model.proofs.Leading.{Leads-join-by}
+use Rattle.async_cell_model.proofs.UpTo.{up_to_clones}
 use Rattle.async_cell_driver.specs.declared.task.Kind.{Kind}
 use Rattle.async_cell_driver.specs.declared.task.Mark.{Mark}
 use Rattle.async_cell_driver.specs.declared.event.Event.{Event}
@@ -22,7 +25,7 @@ use Rattle.async_cell_driver.specs.Mark.{is_due_mark}
 use Rattle.async_cell_driver.specs.State.{State, mark_at, is_named, IsCovered}
 use Rattle.async_cell_driver.specs.Log.{Line, Log, lines, log_of, with_edit, kinds, is_started, is_done, waits, is_due, is_ready, is_poll_of, was_ready, was_pending, was_refused, started}
 use Rattle.async_cell_driver.specs.History.{line_of, history, handed_out, call_of, reply_of, entry_of}
-use Rattle.async_cell_driver.specs.Drives.{Drives, FitsTold, IsLegal, is_same}
+use Rattle.async_cell_driver.specs.Drives.{Drives, FitsTold, IsLegal, is_same, IsSpared, AllSpared}
 use Rattle.async_cell_driver.proofs.Reading.{awake, started_now}
 
 not_started_mark : (m : Option Mark) → is_some m ≡ false → is_due_mark m ≡ true
@@ -44,36 +47,16 @@ due_step false s d f true u ready gone is = refl
 due_step false s d f false u ready gone is = is
 
 module _ {T : Type 0} where
-  -- what leads there with a premise leads there with a stronger one
-  pub weaker_drives : (is_exact more : Type 0) (from to : State T) (log : Log T) → (more → is_exact) → Drives is_exact from log to → Drives more from log to
-  weaker_drives is_exact more from to log since drives = record {
-    legal = drives.legal;
-    core_leads = λ e. drives.core_leads (since e);
-    kinds_are = drives.kinds_are;
-    done_is = drives.done_is;
-    waits_is = drives.waits_is;
-    ready_is = drives.ready_is;
-    none_forgotten = drives.none_forgotten;
-  }
-
-  -- what leads there without a premise leads there with one
-  pub exact_drives : (is_exact : Type 0) (from to : State T) (log : Log T) → Drives ⊤ from log to → Drives is_exact from log to
-  exact_drives is_exact from to log drives = weaker_drives ⊤ is_exact from to log (λ e. tt) drives
-
-  -- what has its premise only in some case leads there with that premise
-  pub polled_drives : (P is_exact : Type 0) (from to : State T) (log : Log T) → Drives (P → is_exact) from log to → Drives is_exact from log to
-  polled_drives P is_exact from to log drives = weaker_drives (P → is_exact) is_exact from to log (λ e p. e) drives
-
   -- no line leads nowhere
-  pub drives_nil : (is_exact : Type 0) (from : State T) → IsBeginning is_same from.core → IsCovered from → Drives is_exact from [] from
-  drives_nil is_exact from begins covered = record {
+  pub drives_nil : (is_clone : T → T → Type 0) (from : State T) → IsBeginning is_same from.core → IsCovered from → Drives is_clone from [] from
+  drives_nil is_clone from begins covered = record {
     legal = tt;
-    core_leads = λ e. Leads-nil is_same true from.core begins;
+    core_leads = up_to_clones is_clone is_same true from.core from.core [] [] (Leads-nil is_same true from.core begins);
     kinds_are = refl;
     done_is = λ i. refl;
     waits_is = λ i. refl;
     ready_is = λ i. refl;
-    none_forgotten = awake from begins covered;
+    none_forgotten = awake from begins covered.0;
   }
 
   -- only a ready task is polled
@@ -139,11 +122,11 @@ module _ {T : Type 0} where
   waits_join from at earlier (line ∷ later) i same = ap (λ w. if is_poll_of i line.event line.told then was_pending line.told else w) (waits_join from at earlier later i same)
 
   -- the later lines fit the earlier ones too, and leave the same tasks ready
-  ready_join : (is_exact : Type 0) (from at : State T) (earlier later : Log T) → Drives is_exact from earlier at → IsLegal at later
+  ready_join : (is_clone : T → T → Type 0) (from at : State T) (earlier later : Log T) → Drives is_clone from earlier at → IsLegal at later
       → IsLegal from (later ++ earlier) × ((i : ℕ) → is_ready at later i ≡ is_ready from (later ++ earlier) i)
-  ready_join is_exact from at earlier [] first legal = (first.legal, first.ready_is)
-  ready_join is_exact from at earlier (line ∷ later) first legal =
-      let rest = ready_join is_exact from at earlier later first legal.1 in
+  ready_join is_clone from at earlier [] first legal = (first.legal, first.ready_is)
+  ready_join is_clone from at earlier (line ∷ later) first legal =
+      let rest = ready_join is_clone from at earlier later first legal.1 in
       let same : kinds at later ≡ kinds from (later ++ earlier) = kinds_join from at earlier later first.kinds_are in (
         (
           subst (λ (ready : ℕ → Bool). FitsTold (length (kinds from (later ++ earlier))) ready line.event line.told line.names) (λ k i. rest.1 i k)
@@ -178,15 +161,15 @@ module _ {T : Type 0} where
       )
 
   -- a log, and another from where it leads
-  pub drives_join : (is_exact : Type 0) (from at to : State T) (earlier later : Log T) → Drives is_exact from earlier at → Drives is_exact at later to → Drives is_exact from (later ++ earlier) to
-  drives_join is_exact from at to earlier later first second =
-      let fits = ready_join is_exact from at earlier later first second.legal in record {
+  pub drives_join : (is_clone : T → T → Type 0) (from at to : State T) (earlier later : Log T) → Drives is_clone from earlier at → Drives is_clone at later to → Drives is_clone from (later ++ earlier) to
+  drives_join is_clone from at to earlier later first second =
+      let fits = ready_join is_clone from at earlier later first second.legal in record {
         legal = fits.0;
-        core_leads = λ e.
-            let joined = core_join from at earlier later first.kinds_are (first.core_leads e).cell_is in
-            subst (λ (h : History T Named). Leads is_same true from.core h (handed_out from (later ++ earlier)) to.core) (sym joined.0)
-            (subst (λ (names : List (List Named)). Leads is_same true from.core (history from earlier ++ history at later) names to.core) (sym joined.1)
-            (Leads-join is_same true from.core at.core to.core _ _ _ _ (first.core_leads e) (second.core_leads e)));
+        core_leads =
+            let joined = core_join from at earlier later first.kinds_are first.core_leads.cell_is in
+            subst (λ (h : History T Named). LeadsUpTo is_same true is_clone from.core h (handed_out from (later ++ earlier)) to.core) (sym joined.0)
+            (subst (λ (names : List (List Named)). LeadsUpTo is_same true is_clone from.core (history from earlier ++ history at later) names to.core) (sym joined.1)
+            (Leads-join-by (UpToClones is_clone) is_same true from.core at.core to.core _ _ _ _ first.core_leads second.core_leads));
         kinds_are = second.kinds_are ∙ kinds_join from at earlier later first.kinds_are;
         done_is = λ i. second.done_is i ∙ done_join from at earlier later i (first.done_is i);
         waits_is = λ i. second.waits_is i ∙ waits_join from at earlier later i (first.waits_is i);
@@ -195,8 +178,8 @@ module _ {T : Type 0} where
       }
 
   -- a log, and one line from where it leads
-  pub drives_more : (is_exact : Type 0) (from at to : State T) (log : Log T) (line : Line T) → Drives is_exact from log at → Drives is_exact at (line ∷ []) to → Drives is_exact from (line ∷ log) to
-  drives_more is_exact from at to log line first second = drives_join is_exact from at to log (line ∷ []) first second
+  pub drives_more : (is_clone : T → T → Type 0) (from at to : State T) (log : Log T) (line : Line T) → Drives is_clone from log at → Drives is_clone at (line ∷ []) to → Drives is_clone from (line ∷ log) to
+  drives_more is_clone from at to log line first second = drives_join is_clone from at to log (line ∷ []) first second
 
   lines-append : (events more : List (Event T (Option T → Option T))) (answers others : List (Told T)) (handed later : List (List Named)) → length answers ≡ length events → length handed ≡ length events
       → lines (events ++ more) (answers ++ others) (handed ++ later) ≡ lines events answers handed ++ lines more others later
@@ -228,12 +211,15 @@ module _ {T : Type 0} where
   log_of-push events answers handed line same same' = log_of-append events (line.event ∷ []) answers (line.told ∷ []) handed (line.names ∷ []) same same'
 
   -- events that happened, and one more
-  pub happen_more : {E : Type 0} (edit : E → Option T → Option T) (is_exact : Type 0) (from at to : State T) (events : List (Event T E)) (answers : List (Told T)) (event : Event T E) (answer : Told T)
+  pub happen_more : {E : Type 0} (edit : E → Option T → Option T) (is_clone : T → T → Type 0) (is_infallible : T → Type 0) (from at to : State T)
+      (events : List (Event T E)) (answers : List (Told T)) (event : Event T E) (answer : Told T)
       → length answers ≡ length events
-      → (handed : List (List Named)) × (length handed ≡ length events) × Drives is_exact from (log_of (map (with_edit edit) events) answers handed) at
-      → Drives is_exact at (line_of at (with_edit edit event) answer ∷ []) to
-      → (handed : List (List Named)) × (length handed ≡ length (events ++ event ∷ [])) × Drives is_exact from (log_of (map (with_edit edit) (events ++ event ∷ [])) (answers ++ answer ∷ []) handed) to
-  happen_more edit is_exact from at to events answers event answer same before one =
+      → (handed : List (List Named)) × (length handed ≡ length events) × Drives is_clone from (log_of (map (with_edit edit) events) answers handed) at
+      × AllSpared is_infallible from (log_of (map (with_edit edit) events) answers handed)
+      → Drives is_clone at (line_of at (with_edit edit event) answer ∷ []) to → IsSpared is_infallible at.core.cell (with_edit edit event) answer
+      → (handed : List (List Named)) × (length handed ≡ length (events ++ event ∷ [])) × Drives is_clone from (log_of (map (with_edit edit) (events ++ event ∷ [])) (answers ++ answer ∷ []) handed) to
+      × AllSpared is_infallible from (log_of (map (with_edit edit) (events ++ event ∷ [])) (answers ++ answer ∷ []) handed)
+  happen_more edit is_clone is_infallible from at to events answers event answer same before one spared =
       let line : Line T = line_of at (with_edit edit event) answer in
       let mapped = length-map events (with_edit edit) in
       let log_is : log_of (map (with_edit edit) (events ++ event ∷ [])) (answers ++ answer ∷ []) (before.0 ++ line.names ∷ []) ≡ line ∷ log_of (map (with_edit edit) events) answers before.0 =
@@ -241,5 +227,7 @@ module _ {T : Type 0} where
       ∙ log_of-push (map (with_edit edit) events) answers before.0 line (same ∙ sym mapped) (before.1 ∙ sym mapped) in (
         before.0 ++ line.names ∷ [],
         length-append before.0 (line.names ∷ []) ∙ (ap (λ n. n + 1) before.1 ∙ sym (length-append events (event ∷ []))),
-        subst (λ (l : Log T). Drives is_exact from l to) (sym log_is) (drives_more is_exact from at to _ line before.2 one),
+        subst (λ (l : Log T). Drives is_clone from l to) (sym log_is) (drives_more is_clone from at to _ line before.2 one),
+        subst (λ (l : Log T). AllSpared is_infallible from l) (sym log_is)
+            (subst (λ (c : Cell T). IsSpared is_infallible c (with_edit edit event) answer) before.2.core_leads.cell_is spared, before.3),
       )

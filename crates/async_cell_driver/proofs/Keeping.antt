@@ -8,7 +8,7 @@ use Rattle.async_cell_driver.specs.State.{State, mark_at, result_at, result_of, 
 use Rattle.async_cell_driver.specs.Log.{Log, is_ready}
 use Rattle.async_cell_driver.specs.Drives.{Drives}
 use Rattle.async_cell_driver.proofs.Reading.{ready_now}
-use Rattle.async_cell_driver.proofs.Waking.{says_same, map-change, slice_get-change_same, slice_get-change_other}
+use Rattle.async_cell_driver.proofs.Waking.{says_same, length-change, map-change, slice_get-change_same, slice_get-change_other}
 
 module _ {T : Type 0} where
   -- the state with what is kept for task i
@@ -23,14 +23,17 @@ module _ {T : Type 0} where
   mark-keeping i j result tasks = says_same (option_map (λ task. task.mark)) (with_result result) (mark_kept result) i j tasks
 
   pub covered_keeping : (i : ℕ) (result : Option (Option T)) (at : State T) → IsCovered at → IsCovered (keeping i result at)
-  covered_keeping i result at covered j stands = covered j (sym (mark-keeping i j result at.tasks) ∙ stands)
+  covered_keeping i result at covered = (
+    λ j stands. covered.0 j (sym (mark-keeping i j result at.tasks) ∙ stands),
+    λ j named. rw length-change (covered.1 j named),
+  )
 
   pub ready-keeping : (i j : ℕ) (result : Option (Option T)) (at : State T) → is_ready (keeping i result at) [] j ≡ is_ready at [] j
   ready-keeping i j result at = ready_now (keeping i result at) j ∙ (ap is_ready_mark (mark-keeping i j result at.tasks) ∙ sym (ready_now at j))
 
   -- where a log leads, something may be kept
-  pub drives_keeping : (is_exact : Type 0) (i : ℕ) (result : Option (Option T)) (from at : State T) (log : Log T) → Drives is_exact from log at → Drives is_exact from log (keeping i result at)
-  drives_keeping is_exact i result from at log drives = record {
+  pub drives_keeping : (is_clone : T → T → Type 0) (i : ℕ) (result : Option (Option T)) (from at : State T) (log : Log T) → Drives is_clone from log at → Drives is_clone from log (keeping i result at)
+  drives_keeping is_clone i result from at log drives = record {
     legal = drives.legal;
     core_leads = drives.core_leads;
     kinds_are = map-change (λ task. task.kind) (with_result result) (λ t. refl) i at.tasks ∙ drives.kinds_are;

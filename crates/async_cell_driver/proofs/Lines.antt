@@ -1,11 +1,12 @@
 -- Where one line leads.
-use Rattle.std.proofs.Common.{append-nil, ◌≡◌, ℕ, zero, suc, true, false, List, [], ◌∷◌, ◌++◌, Option, Some, None, map, length, refl, ap, sym, ◌∙◌}
-use Rattle.std.specs.Prelude.{⊤, Result, Ok, Err, IfOk, IfErr}
+use Rattle.std.proofs.Common.{append-nil, ◌≡◌, ℕ, zero, suc, true, false, List, [], ◌∷◌, ◌++◌, Option, Some, None, map, length, refl, ap, sym, ◌∙◌, arith, length-append}
+use Rattle.std.specs.Prelude.{Result, Ok, Err, IfOk, IfErr}
 use Rattle.std.proofs.lemmas.List.{map-append, length-map}
 use Rattle.async_cell_model.specs.declared.refusal.Refusal.{Refusal}
 use Rattle.async_cell_model.specs.declared.refusal.Refusal.TheVariants.{Memory}
 use Rattle.async_cell_model.specs.History.{IsBeginning}
 use Rattle.async_cell_model.proofs.Leading.{Leads-nil}
+use Rattle.async_cell_model.proofs.UpTo.{up_to_clones}
 use Rattle.async_cell_driver.specs.declared.task.Kind.{Kind}
 use Rattle.async_cell_driver.specs.declared.task.Mark.{Mark}
 use Rattle.async_cell_driver.specs.declared.task.Mark.TheVariants.{Ready, Waiting}
@@ -46,59 +47,62 @@ module _ {T : Type 0} where
 
   -- a new task waits for nothing
   pub covered_with_fresh : (from : State T) (kind : Kind) → IsCovered from → IsCovered (record from { tasks = from.tasks ++ fresh kind ∷ [] })
-  covered_with_fresh from kind covered i stands = covered i (waiting_with_fresh from.tasks kind i stands)
+  covered_with_fresh from kind covered = (
+    λ i stands. covered.0 i (waiting_with_fresh from.tasks kind i stands),
+    λ i named. let before = covered.1 i named in rw length-append (omega arith),
+  )
 
   kinds_with_fresh : (tasks : List (Task T)) (kind : Kind) → map (λ task. task.kind) (tasks ++ fresh kind ∷ []) ≡ map (λ task. task.kind) tasks ++ kind ∷ []
   kinds_with_fresh tasks kind = map-append (λ task. task.kind) tasks (fresh kind ∷ [])
 
   -- where a task is started
-  pub starts : (from : State T) (kind : Kind) → IsBeginning is_same from.core → IsCovered from
-      → Drives ⊤ from (line_of from (Start kind) (Started (length from.tasks)) ∷ []) (record from { tasks = from.tasks ++ fresh kind ∷ [] })
-  starts from kind begins covered = record {
+  pub starts : (is_clone : T → T → Type 0) (from : State T) (kind : Kind) → IsBeginning is_same from.core → IsCovered from
+      → Drives is_clone from (line_of from (Start kind) (Started (length from.tasks)) ∷ []) (record from { tasks = from.tasks ++ fresh kind ∷ [] })
+  starts is_clone from kind begins covered = record {
     legal = ((sym (length-map from.tasks (λ task. task.kind)), refl), tt);
-    core_leads = λ e. Leads-nil is_same true from.core begins;
+    core_leads = up_to_clones is_clone is_same true from.core from.core [] [] (Leads-nil is_same true from.core begins);
     kinds_are = kinds_with_fresh from.tasks kind;
     done_is = λ i. says_with_fresh is_done_mark refl from.tasks kind i;
     waits_is = λ i. says_with_fresh waits_mark refl from.tasks kind i;
     ready_is = λ i. rw (kinds_with_fresh from.tasks kind, says_with_fresh is_done_mark refl from.tasks kind i, says_with_fresh is_due_mark refl from.tasks kind i) refl;
-    none_forgotten = awake _ begins (covered_with_fresh from kind covered);
+    none_forgotten = awake _ begins (covered_with_fresh from kind covered).0;
   }
 
   -- where a start is refused
-  pub start_refused : (from : State T) (kind : Kind) → IsBeginning is_same from.core → IsCovered from
-      → Drives ⊤ from (line_of from (Start kind) (Refused Memory) ∷ []) from
-  start_refused from kind begins covered = record {
+  pub start_refused : (is_clone : T → T → Type 0) (from : State T) (kind : Kind) → IsBeginning is_same from.core → IsCovered from
+      → Drives is_clone from (line_of from (Start kind) (Refused Memory) ∷ []) from
+  start_refused is_clone from kind begins covered = record {
     legal = ((refl, refl), tt);
-    core_leads = λ e. Leads-nil is_same true from.core begins;
+    core_leads = up_to_clones is_clone is_same true from.core from.core [] [] (Leads-nil is_same true from.core begins);
     kinds_are = sym (append-nil (map (λ task. task.kind) from.tasks));
     done_is = λ i. refl;
     waits_is = λ i. refl;
     ready_is = λ i. rw (append-nil (map (λ task. task.kind) from.tasks)) refl;
-    none_forgotten = awake from begins covered;
+    none_forgotten = awake from begins covered.0;
   }
 
   -- where a task is not polled
-  pub not_polled : (from : State T) (i : ℕ) (is_exact : Type 0) → IsBeginning is_same from.core → IsCovered from → is_ready from [] i ≡ false
-      → Drives is_exact from (line_of from (Poll i) (Polled NotReady) ∷ []) from
-  not_polled from i is_exact begins covered not_ready = record {
+  pub not_polled : (from : State T) (i : ℕ) (is_clone : T → T → Type 0) → IsBeginning is_same from.core → IsCovered from → is_ready from [] i ≡ false
+      → Drives is_clone from (line_of from (Poll i) (Polled NotReady) ∷ []) from
+  not_polled from i is_clone begins covered not_ready = record {
     legal = ((not_ready, refl), tt);
-    core_leads = λ e. Leads-nil is_same true from.core begins;
+    core_leads = up_to_clones is_clone is_same true from.core from.core [] [] (Leads-nil is_same true from.core begins);
     kinds_are = sym (append-nil (map (λ task. task.kind) from.tasks));
     done_is = λ j. refl;
     waits_is = λ j. refl;
     ready_is = λ j. rw (append-nil (map (λ task. task.kind) from.tasks)) refl;
-    none_forgotten = awake from begins covered;
+    none_forgotten = awake from begins covered.0;
   }
 
   -- the same, where the new task and its number are known by what they equal
-  pub starts_as : (from : State T) (kind : Kind) (tasks : List (Task T)) (number : ℕ) → IsBeginning is_same from.core → IsCovered from
+  pub starts_as : (is_clone : T → T → Type 0) (from : State T) (kind : Kind) (tasks : List (Task T)) (number : ℕ) → IsBeginning is_same from.core → IsCovered from
       → number ≡ length from.tasks → tasks ≡ from.tasks ++ fresh kind ∷ []
-      → Drives ⊤ from (line_of from (Start kind) (Started number) ∷ []) (record { core = from.core; tasks = tasks })
-  starts_as from kind tasks number begins covered counts made = rw (counts, made) (starts from kind begins covered)
+      → Drives is_clone from (line_of from (Start kind) (Started number) ∷ []) (record { core = from.core; tasks = tasks })
+  starts_as is_clone from kind tasks number begins covered counts made = rw (counts, made) (starts is_clone from kind begins covered)
 
-  pub start_refused_as : (from : State T) (kind : Kind) (tasks : List (Task T)) (why : Refusal) → IsBeginning is_same from.core → IsCovered from
-      → why ≡ Memory → tasks ≡ from.tasks → Drives ⊤ from (line_of from (Start kind) (Refused why) ∷ []) (record { core = from.core; tasks = tasks })
-  start_refused_as from kind tasks why begins covered for_memory same = rw (for_memory, same) (start_refused from kind begins covered)
+  pub start_refused_as : (is_clone : T → T → Type 0) (from : State T) (kind : Kind) (tasks : List (Task T)) (why : Refusal) → IsBeginning is_same from.core → IsCovered from
+      → why ≡ Memory → tasks ≡ from.tasks → Drives is_clone from (line_of from (Start kind) (Refused why) ∷ []) (record { core = from.core; tasks = tasks })
+  start_refused_as is_clone from kind tasks why begins covered for_memory same = rw (for_memory, same) (start_refused is_clone from kind begins covered)
 
   -- a start, refused or not, leaves the results
   pub results_stay : (before now : List (Task T)) (kind : Kind) (i : ℕ) (result : Result ℕ Refusal)

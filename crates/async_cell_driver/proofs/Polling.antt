@@ -1,5 +1,5 @@
 -- Where a poll leads.
-use Rattle.std.proofs.Common.{◌≡◌, ◌≢◌, ℕ, Bool, true, false, not, ◌&&◌, ◌||◌, List, [], ◌∷◌, ◌++◌, Option, Some, None, map, length, refl, ap, sym, ◌∙◌, subst, append-nil}
+use Rattle.std.proofs.Common.{◌≡◌, ◌≢◌, ◌<◌, ℕ, zero, suc, Bool, true, false, not, ◌&&◌, ◌||◌, List, [], ◌∷◌, ◌++◌, Option, Some, None, map, length, refl, ap, sym, ◌∙◌, subst, append-nil, arith}
 use Rattle.std.specs.Prelude.{slice_get, is_some, nat_eq, if◌then◌else◌, Result, Ok, Err, IsOk, IfOk, IfErr, OnOk, MatchOption}
 use Rattle.std.specs.Option.{option_map}
 use Rattle.std.proofs.lemmas.Bool.{eqb-true, eqb-false, eq-eqb}
@@ -13,12 +13,13 @@ use Rattle.async_cell_model.specs.declared.reply.Reply.{Reply}
 use Rattle.async_cell_model.specs.declared.reply.Reply.TheVariants as reply
 use Rattle.async_cell_model.specs.declared.refusal.Refusal.{Refusal}
 use Rattle.async_cell_model.specs.declared.refusal.Refusal.TheVariants.{Memory}
-use Rattle.async_cell_model.specs.Cell.{ends_waiting, is_vacant}
+use Rattle.async_cell_model.specs.Cell.{content, ends_waiting, is_vacant}
 use Rattle.async_cell_model.specs.Step.{next, is_memory}
 use Rattle.async_cell_model.specs.History.{Beginning, IsBeginning}
-use Rattle.async_cell_model.specs.Legal.{hands, Leads, Answers, may_refuse}
+use Rattle.async_cell_model.specs.Legal.{hands, may_refuse}
 use Rattle.async_cell_model.specs.Waiting.{keep}
-use Rattle.async_cell_core.specs.Polled.{poll_reply}
+use Rattle.async_cell_core.specs.Polled.{poll_reply, IsReadyWith}
+use Rattle.async_cell_model.specs.Legal.{LeadsUpTo, AnswersUpTo}
 use Rattle.async_cell_driver.specs.declared.task.Kind.{Kind}
 use Rattle.async_cell_driver.specs.declared.task.Kind.TheVariants.{Take, Get}
 use Rattle.async_cell_driver.specs.declared.task.Mark.{Mark}
@@ -30,13 +31,13 @@ use Rattle.async_cell_driver.specs.declared.event.Told.TheVariants as told
 use Rattle.async_cell_driver.specs.declared.event.Polled.{Polled}
 use Rattle.async_cell_driver.specs.declared.event.Polled.TheVariants as polled
 use Rattle.async_cell_driver.specs.Mark.{is_done_mark, waits_mark, is_due_mark, is_ready_mark}
-use Rattle.async_cell_driver.specs.State.{State, name_of, mark_at, result_of, result_at, kind_at, IsCovered, is_named, change, with_mark}
+use Rattle.async_cell_driver.specs.State.{State, name_of, mark_at, result_of, result_at, kind_at, IsCovered, AllNamed, AllStarted, is_named, change, with_mark}
 use Rattle.async_cell_driver.specs.Log.{Line, kinds, is_ready, is_poll_of, was_ready, was_pending, was_refused}
 use Rattle.async_cell_driver.specs.History.{poll_of, told_of, line_of, history, handed_out}
-use Rattle.async_cell_driver.specs.Asked.{waiting_when, mark_after, polled_of}
-use Rattle.async_cell_driver.specs.Drives.{Drives, FitsTold, is_same}
+use Rattle.async_cell_driver.specs.Asked.{waiting_when, mark_after, polled_of, IsPolledWith}
+use Rattle.async_cell_driver.specs.Drives.{Drives, FitsTold, IsSpared, is_same}
 use Rattle.async_cell_driver.proofs.Reading.{awake, ready_now, started_now, ready_by}
-use Rattle.async_cell_driver.proofs.Waking.{slice_get-change_same, slice_get-change_other, says_same, map-change, named-keep, named-append}
+use Rattle.async_cell_driver.proofs.Waking.{length-change, slice_get-change_same, slice_get-change_other, says_same, map-change, named-keep, named-append}
 
 module _ {T : Type 0} where
   -- a cell that stays open and gets no value ends no waiting
@@ -97,9 +98,24 @@ named_or_asked i j true is l old covered stands =
 named_or_asked i j false is l old covered stands =
     named-keep j (l ++ name_of i ∷ []) ∙ (named-append j l (name_of i ∷ []) ∙ ap (λ p. p || is_named j (name_of i ∷ [])) (covered stands))
 
+-- a name in the list that a poll leaves is the task's own, or stood there before
+started_or_polled : (i j : ℕ) (b : Bool) → nat_eq i j ≡ b → (l : List Named) (n : ℕ) → (is_named j l ≡ true → j < n) → i < n → is_named j (keep is_same (l ++ name_of i ∷ [])) ≡ true → j < n
+started_or_polled i j true is l n started polled kept = rw (← eqb-true i j is) polled
+started_or_polled i j false is l n started polled kept =
+    let either : (is_named j l || (nat_eq i j || false)) ≡ true = sym (named-keep j (l ++ name_of i ∷ []) ∙ named-append j l (name_of i ∷ [])) ∙ kept in
+    let before : (is_named j l || false) ≡ true = rw is at either in
+    started (sym (or-false (is_named j l)) ∙ before)
+
 some_marked : (m : Mark) (old : Option Mark) → is_ready_mark old ≡ true → option_map (λ _. m) old ≡ Some m
 some_marked m None ready = cc
 some_marked m (Some old) ready = refl
+
+pub same_kind : (k l : Kind) → Some k ≡ Some l → k ≡ l
+same_kind k l same = cc
+
+-- no test both fails and passes
+pub not_both : (b : Bool) → b ≡ false → b ≡ true → ⊥
+not_both b fails passes = let no : true ≡ false = sym passes ∙ fails in cc
 
 eqb-same : (i : ℕ) → nat_eq i i ≡ true
 eqb-same i = eq-eqb i i refl
@@ -117,17 +133,23 @@ module _ {T : Type 0} where
   pub mark-marked : (m : Mark) (i j : ℕ) (tasks : List (Task T)) → mark_at (change (with_mark m) i tasks) j ≡ marked_if (nat_eq i j) m (mark_at tasks j)
   mark-marked m i j tasks = mark-marked_one m i j (nat_eq i j) refl tasks
 
+  -- a task that has a kind was started
+  pub started_kind : (i : ℕ) (tasks : List (Task T)) (kind : Kind) → kind_at tasks i ≡ Some kind → i < length tasks
+  started_kind i [] kind is = cc
+  started_kind zero (t ∷ tasks) kind is = omega arith
+  started_kind (suc i) (t ∷ tasks) kind is = let rest = started_kind i tasks kind is in omega arith
+
   -- Where a line leads that is a poll of a ready task.
-  polls : (is_exact : Type 0) (from : State T) (core : Beginning T Named) (i : ℕ) (answer : Told T) (m : Mark) (line : Line T)
+  polls : (is_clone : T → T → Type 0) (from : State T) (core : Beginning T Named) (i : ℕ) (answer : Told T) (m : Mark) (line : Line T)
       → line ≡ record { event = event.Poll i; told = answer; names = [] }
-      → IsBeginning is_same core → IsCovered (record { core = core; tasks = change (with_mark m) i from.tasks })
+      → IsBeginning is_same core → AllNamed (record { core = core; tasks = change (with_mark m) i from.tasks })
       → is_ready from [] i ≡ true
       → FitsTold (length (kinds from [])) (is_ready from []) (event.Poll i) answer []
       → ((j : ℕ) → is_poll_of j (event.Poll i) answer ≡ nat_eq i j)
       → was_ready answer ≡ is_done_mark (Some m) → was_pending answer ≡ waits_mark (Some m) → was_refused answer ≡ is_due_mark (Some m)
-      → (is_exact → Leads is_same true from.core (history from (record { event = event.Poll i; told = answer; names = [] } ∷ [])) (handed_out from (record { event = event.Poll i; told = answer; names = [] } ∷ [])) core)
-      → Drives is_exact from (line ∷ []) (record { core = core; tasks = change (with_mark m) i from.tasks })
-  polls is_exact from core i answer m line is begins covered ready fits is_poll says_done says_waits says_due leads =
+      → (LeadsUpTo is_same true is_clone from.core (history from (record { event = event.Poll i; told = answer; names = [] } ∷ [])) (handed_out from (record { event = event.Poll i; told = answer; names = [] } ∷ [])) core)
+      → Drives is_clone from (line ∷ []) (record { core = core; tasks = change (with_mark m) i from.tasks })
+  polls is_clone from core i answer m line is begins covered ready fits is_poll says_done says_waits says_due leads =
       let this_ready : (j : ℕ) → nat_eq i j ≡ true → is_ready_mark (mark_at from.tasks j) ≡ true =
       λ j same. subst (λ k. is_ready_mark (mark_at from.tasks k) ≡ true) (eqb-true i j same) (sym (ready_now from i) ∙ ready) in
       rw is record {
@@ -143,31 +165,49 @@ module _ {T : Type 0} where
       }
 
   -- each waiting name still stands in the waiting list, and that of the task that was polled, if it waits
-  pub covered_polled : (from : State T) (core : Beginning T Named) (i : ℕ) (asked : Result (Poll (Option T)) Refusal) → IsCovered from
-      → IfErr asked (λ why. (why ≡ Memory) × (core ≡ from.core)) → IfOk asked (λ p. core.waiting ≡ waiting_when p (name_of i) from.core.waiting)
-      → IsCovered (record { core = core; tasks = change (with_mark (mark_after asked)) i from.tasks })
-  covered_polled from core i (Ok (Ready value)) covered refused waits j stands =
+  named_polled : (from : State T) (core : Beginning T Named) (i : ℕ) (asked : Result (Poll (Option T)) Refusal) → AllNamed from
+      → IfErr asked (λ why. (why ≡ Memory) × (core.cell ≡ from.core.cell) × (core.waiting ≡ from.core.waiting)) → IfOk asked (λ p. core.waiting ≡ waiting_when p (name_of i) from.core.waiting)
+      → AllNamed (record { core = core; tasks = change (with_mark (mark_after asked)) i from.tasks })
+  named_polled from core i (Ok (Ready value)) covered refused waits j stands =
       ap (is_named j) waits ∙ covered j (unmarked (nat_eq i j) mark.Done (mark_at from.tasks j) (λ no. cc) (sym (mark-marked mark.Done i j from.tasks) ∙ stands))
-  covered_polled from core i (Ok Pending) covered refused waits j stands =
+  named_polled from core i (Ok Pending) covered refused waits j stands =
       ap (is_named j) waits ∙ named_or_asked i j (nat_eq i j) refl from.core.waiting (mark_at from.tasks j) (covered j) (sym (mark-marked mark.Waiting i j from.tasks) ∙ stands)
-  covered_polled from core i (Err why) covered refused waits j stands =
-      ap (λ (c : Beginning T Named). is_named j c.waiting) refused.1 ∙ covered j (unmarked (nat_eq i j) mark.Ready (mark_at from.tasks j) (λ no. cc) (sym (mark-marked mark.Ready i j from.tasks) ∙ stands))
+  named_polled from core i (Err why) covered refused waits j stands =
+      ap (is_named j) refused.2 ∙ covered j (unmarked (nat_eq i j) mark.Ready (mark_at from.tasks j) (λ no. cc) (sym (mark-marked mark.Ready i j from.tasks) ∙ stands))
+
+  -- and each name there is still the number of a task
+  started_polled : (from : State T) (core : Beginning T Named) (i : ℕ) (asked : Result (Poll (Option T)) Refusal) → AllStarted from → i < length from.tasks
+      → IfErr asked (λ why. (why ≡ Memory) × (core.cell ≡ from.core.cell) × (core.waiting ≡ from.core.waiting)) → IfOk asked (λ p. core.waiting ≡ waiting_when p (name_of i) from.core.waiting)
+      → (j : ℕ) → is_named j core.waiting ≡ true → j < length from.tasks
+  started_polled from core i (Ok (Ready value)) started polled refused waits j named = started j (ap (is_named j) (sym waits) ∙ named)
+  started_polled from core i (Ok Pending) started polled refused waits j named =
+      let kept : is_named j (keep is_same (from.core.waiting ++ name_of i ∷ [])) ≡ true = ap (is_named j) (sym waits) ∙ named in
+      started_or_polled i j (nat_eq i j) refl from.core.waiting (length from.tasks) (started j) polled kept
+  started_polled from core i (Err why) started polled refused waits j named = started j (ap (is_named j) (sym refused.2) ∙ named)
+
+  pub covered_polled : (from : State T) (core : Beginning T Named) (i : ℕ) (asked : Result (Poll (Option T)) Refusal) → IsCovered from → i < length from.tasks
+      → IfErr asked (λ why. (why ≡ Memory) × (core.cell ≡ from.core.cell) × (core.waiting ≡ from.core.waiting)) → IfOk asked (λ p. core.waiting ≡ waiting_when p (name_of i) from.core.waiting)
+      → IsCovered (record { core = core; tasks = change (with_mark (mark_after asked)) i from.tasks })
+  covered_polled from core i asked covered polled refused waits = (
+    named_polled from core i asked covered.0 refused waits,
+    λ j named. rw length-change (started_polled from core i asked covered.1 polled refused waits j named),
+  )
 
   -- where the poll of a ready task leads
-  pub poll_drives : (is_exact : Type 0) (from : State T) (core : Beginning T Named) (i : ℕ) (kind : Kind) (asked : Result (Poll (Option T)) Refusal)
+  pub poll_drives : (is_clone : T → T → Type 0) (from : State T) (core : Beginning T Named) (i : ℕ) (kind : Kind) (asked : Result (Poll (Option T)) Refusal)
       → IsBeginning is_same core → IsCovered from → kind_at from.tasks i ≡ Some kind → is_ready_mark (mark_at from.tasks i) ≡ true
-      → (is_exact → Answers is_same true from.core (poll_of (Some kind) i) (poll_reply asked) [] core)
-      → IfErr asked (λ why. (why ≡ Memory) × (core ≡ from.core)) → IfOk asked (λ p. core.waiting ≡ waiting_when p (name_of i) from.core.waiting)
-      → Drives is_exact from (line_of from (event.Poll i) (told_of (polled_of asked)) ∷ []) (record { core = core; tasks = change (with_mark (mark_after asked)) i from.tasks })
-  poll_drives is_exact from core i kind (Ok (Ready value)) begins covered is_kind ready answers refused waits =
-      polls is_exact from core i (told.Polled (polled.Ready value)) mark.Done _ (λ k. record { event = event.Poll i; told = told.Polled (polled.Ready value); names = poll_hands_none from.core (kind_at from.tasks i) i (reply.Ready value) k })
-      begins (covered_polled from core i (Ok (Ready value)) covered refused waits) (ready_now from i ∙ ready) (ready_now from i ∙ ready, refl) (λ j. refl) refl refl refl (λ e. rw is_kind (answers e))
-  poll_drives is_exact from core i kind (Ok Pending) begins covered is_kind ready answers refused waits =
-      polls is_exact from core i (told.Polled polled.Pending) mark.Waiting _ (λ k. record { event = event.Poll i; told = told.Polled polled.Pending; names = poll_hands_none from.core (kind_at from.tasks i) i reply.Pending k })
-      begins (covered_polled from core i (Ok Pending) covered refused waits) (ready_now from i ∙ ready) (ready_now from i ∙ ready, refl) (λ j. refl) refl refl refl (λ e. rw is_kind (answers e))
-  poll_drives is_exact from core i kind (Err why) begins covered is_kind ready answers refused waits =
-      polls is_exact from core i (told.Refused why) mark.Ready _ (λ k. record { event = event.Poll i; told = told.Refused why; names = poll_hands_none from.core (kind_at from.tasks i) i (reply.Refused why None) k })
-      begins (covered_polled from core i (Err why) covered refused waits) (ready_now from i ∙ ready) (ready_now from i ∙ ready, refused.0, refl) (λ j. refl) refl refl refl (λ e. rw is_kind (answers e))
+      → (AnswersUpTo is_same true is_clone from.core (poll_of (Some kind) i) (poll_reply asked) [] core)
+      → IfErr asked (λ why. (why ≡ Memory) × (core.cell ≡ from.core.cell) × (core.waiting ≡ from.core.waiting)) → IfOk asked (λ p. core.waiting ≡ waiting_when p (name_of i) from.core.waiting)
+      → Drives is_clone from (line_of from (event.Poll i) (told_of (polled_of asked)) ∷ []) (record { core = core; tasks = change (with_mark (mark_after asked)) i from.tasks })
+  poll_drives is_clone from core i kind (Ok (Ready value)) begins covered is_kind ready answers refused waits =
+      polls is_clone from core i (told.Polled (polled.Ready value)) mark.Done _ (λ k. record { event = event.Poll i; told = told.Polled (polled.Ready value); names = poll_hands_none from.core (kind_at from.tasks i) i (reply.Ready value) k })
+      begins (named_polled from core i (Ok (Ready value)) covered.0 refused waits) (ready_now from i ∙ ready) (ready_now from i ∙ ready, refl) (λ j. refl) refl refl refl (rw is_kind answers)
+  poll_drives is_clone from core i kind (Ok Pending) begins covered is_kind ready answers refused waits =
+      polls is_clone from core i (told.Polled polled.Pending) mark.Waiting _ (λ k. record { event = event.Poll i; told = told.Polled polled.Pending; names = poll_hands_none from.core (kind_at from.tasks i) i reply.Pending k })
+      begins (named_polled from core i (Ok Pending) covered.0 refused waits) (ready_now from i ∙ ready) (ready_now from i ∙ ready, refl) (λ j. refl) refl refl refl (rw is_kind answers)
+  poll_drives is_clone from core i kind (Err why) begins covered is_kind ready answers refused waits =
+      polls is_clone from core i (told.Refused why) mark.Ready _ (λ k. record { event = event.Poll i; told = told.Refused why; names = poll_hands_none from.core (kind_at from.tasks i) i (reply.Refused why None) k })
+      begins (named_polled from core i (Err why) covered.0 refused waits) (ready_now from i ∙ ready) (ready_now from i ∙ ready, refused.0, refl) (λ j. refl) refl refl refl (rw is_kind answers)
 
   -- what holds anyway holds for each content
   pub sure_anyway : (o : Option T) (P : Type 0) (Q : T → Type 0) → P → MatchOption o P (λ value. Q value → P)
@@ -177,6 +217,14 @@ module _ {T : Type 0} where
   sure_after : (o : Option T) (P R : Type 0) (Q : T → Type 0) → (P → R) → MatchOption o P (λ value. Q value → P) → MatchOption o R (λ value. Q value → R)
   sure_after None P R Q follows sure = follows sure
   sure_after (Some value) P R Q follows sure = λ q. follows (sure q)
+
+  -- where the core's answer is sure, the task is spared a refusal
+  pub spared_polled : (is_infallible : T → Type 0) (c : Cell T) (i : ℕ) (asked : Result (Poll (Option T)) Refusal)
+      → (is_vacant c ≡ false → MatchOption (content c) (IsOk asked) (λ value. is_infallible value → IsOk asked))
+      → IsSpared is_infallible c (event.Poll i) (told_of (polled_of asked))
+  spared_polled is_infallible c i (Ok (Ready value)) sure = tt
+  spared_polled is_infallible c i (Ok Pending) sure = tt
+  spared_polled is_infallible c i (Err why) sure = λ not_vacant. sure_after (content c) _ ⊥ is_infallible (λ ok. cc) (sure not_vacant)
 
   ok_polled : (asked : Result (Poll (Option T)) Refusal) → IsOk asked → IsOk (polled_of asked)
   ok_polled (Ok (Ready value)) ok = refl
@@ -194,6 +242,17 @@ module _ {T : Type 0} where
   taker_sure core Take i asked is not_vacant spared = ok_polled asked (spared (rw not_vacant refl))
   taker_sure core Get i asked is not_vacant spared = cc
 
+  -- what the core's answer says, the task's poll says
+  pub ok_as_polled : (asked : Result (Poll (Option T)) Refusal) (P : Type 0) → OnOk asked P → OnOk (polled_of asked) P
+  ok_as_polled (Ok (Ready value)) P holds = holds
+  ok_as_polled (Ok Pending) P holds = holds
+  ok_as_polled (Err why) P holds = tt
+
+  pub ready_as_polled : (asked : Result (Poll (Option T)) Refusal) (P : Option T → Type 0) → IfOk asked (IsReadyWith P) → IfOk (polled_of asked) (IsPolledWith P)
+  ready_as_polled (Ok (Ready value)) P holds = holds
+  ready_as_polled (Ok Pending) P holds = absurd holds
+  ready_as_polled (Err why) P holds = tt
+
   marked_result : (m : Mark) (t : Option (Task T)) → result_of (option_map (with_mark m) t) ≡ result_of t
   marked_result m None = refl
   marked_result m (Some t) = refl
@@ -203,15 +262,15 @@ module _ {T : Type 0} where
   results-marked m i j tasks = says_same result_of (with_mark m) (marked_result m) i j tasks
 
   -- the same, where the state before is known by what it equals, and so are the tasks and the answer
-  pub poll_drives_as : (is_exact : Type 0) (from old : State T) → from ≡ old → (core : Beginning T Named) (tasks : List (Task T)) (i : ℕ) (kind : Kind) (asked : Result (Poll (Option T)) Refusal) (answer : Result (Polled T) Refusal)
+  pub poll_drives_as : (is_clone : T → T → Type 0) (from old : State T) → from ≡ old → (core : Beginning T Named) (tasks : List (Task T)) (i : ℕ) (kind : Kind) (asked : Result (Poll (Option T)) Refusal) (answer : Result (Polled T) Refusal)
       → IsBeginning is_same core → IsCovered from → kind_at from.tasks i ≡ Some kind → is_ready_mark (mark_at from.tasks i) ≡ true
-      → (is_exact → Answers is_same true from.core (poll_of (Some kind) i) (poll_reply asked) [] core)
-      → IfErr asked (λ why. (why ≡ Memory) × (core ≡ from.core)) → IfOk asked (λ p. core.waiting ≡ waiting_when p (name_of i) from.core.waiting)
+      → (AnswersUpTo is_same true is_clone from.core (poll_of (Some kind) i) (poll_reply asked) [] core)
+      → IfErr asked (λ why. (why ≡ Memory) × (core.cell ≡ from.core.cell) × (core.waiting ≡ from.core.waiting)) → IfOk asked (λ p. core.waiting ≡ waiting_when p (name_of i) from.core.waiting)
       → tasks ≡ change (with_mark (mark_after asked)) i from.tasks → answer ≡ polled_of asked
-      → Drives is_exact old (line_of old (event.Poll i) (told_of answer) ∷ []) (record { core = core; tasks = tasks })
-  poll_drives_as is_exact from old same core tasks i kind asked answer begins covered is_kind ready answers refused waits tasks_are answer_is =
-      subst (λ (s : State T). Drives is_exact s (line_of s (event.Poll i) (told_of answer) ∷ []) (record { core = core; tasks = tasks })) same
-      (rw (tasks_are, answer_is) (poll_drives is_exact from core i kind asked begins covered is_kind ready answers refused waits))
+      → Drives is_clone old (line_of old (event.Poll i) (told_of answer) ∷ []) (record { core = core; tasks = tasks })
+  poll_drives_as is_clone from old same core tasks i kind asked answer begins covered is_kind ready answers refused waits tasks_are answer_is =
+      subst (λ (s : State T). Drives is_clone s (line_of s (event.Poll i) (told_of answer) ∷ []) (record { core = core; tasks = tasks })) same
+      (rw (tasks_are, answer_is) (poll_drives is_clone from core i kind asked begins covered is_kind ready answers refused waits))
 
   marked_same : (m : Mark) (i : ℕ) (tasks : List (Task T)) → is_ready_mark (mark_at tasks i) ≡ true → mark_at (change (with_mark m) i tasks) i ≡ Some m
   marked_same m i tasks ready = mark-marked_one m i i true (eqb-same i) tasks ∙ some_marked m (mark_at tasks i) ready

@@ -6,7 +6,7 @@ use Rattle.async_cell_driver.specs.declared.task.Mark.{Mark}
 use Rattle.async_cell_driver.specs.declared.task.Mark.TheVariants.{Ready, Waiting, Woken, Done}
 use Rattle.async_cell_driver.specs.declared.task.Task.{Task}
 use Rattle.async_cell_driver.specs.Mark.{is_done_mark, waits_mark, is_due_mark, is_ready_mark}
-use Rattle.async_cell_driver.specs.State.{State, mark_at, IsCovered, is_named}
+use Rattle.async_cell_driver.specs.State.{State, mark_at, AllNamed, is_named}
 use Rattle.async_cell_driver.specs.Log.{is_ready}
 use Rattle.async_cell_driver.specs.Drives.{IsAwake, is_same}
 
@@ -35,11 +35,11 @@ module _ {T : Type 0} where
   pub ready_now : (at : State T) (i : ℕ) → is_ready at [] i ≡ is_ready_mark (mark_at at.tasks i)
   ready_now at i = rw (started_now i at.tasks) (ready_by (mark_at at.tasks i))
 
-  none_named : (at : State T) (i : ℕ) → IsCovered at → at.core.waiting ≡ [] → mark_at at.tasks i ≡ Some Waiting → ⊥
+  none_named : (at : State T) (i : ℕ) → AllNamed at → at.core.waiting ≡ [] → mark_at at.tasks i ≡ Some Waiting → ⊥
   none_named at i covered none stands =
       let named = covered i stands in let unnamed : is_named i [] ≡ true = rw none at named in cc
 
   -- where each waiting name stands in the waiting list, no task is forgotten
-  pub awake : (at : State T) → IsBeginning is_same at.core → IsCovered at → IsAwake at
+  pub awake : (at : State T) → IsBeginning is_same at.core → AllNamed at → IsAwake at
   awake at begins covered not_vacant i stands =
       ready_now at i ∙ woken_by (mark_at at.tasks i) stands (none_named at i covered (begins.waits_vacant not_vacant))

@@ -20,7 +20,7 @@ use Rattle.async_cell_driver.specs.Log.{Line, Log, is_started, is_done, is_due, 
 use Rattle.async_cell_driver.specs.History.{line_of}
 use Rattle.async_cell_driver.specs.Drives.{Drives, KeepsResults, IsAwake}
 use Rattle.async_cell_driver.specs.Settle.{numbers, events_of, has_refused, got, got_by, got_or, Keeps, Settles, SettlesOne}
-use Rattle.async_cell_driver.proofs.Joining.{drives_more, polled_drives}
+use Rattle.async_cell_driver.proofs.Joining.{drives_more}
 use Rattle.async_cell_driver.proofs.Reading.{ready_now}
 use Rattle.async_cell_driver.proofs.Keeping.{keeping, result-keeping_other}
 use Rattle.async_cell_driver.proofs.Waking.{slice_get-change_same}
@@ -49,8 +49,8 @@ begin_numbers (suc d) m (suc n) same =
 
 module _ {T : Type 0} where
   -- what the polls of the tasks below i came to
-  pub record SoFar (is_exact : Type 0) (from : State T) (i polls : ℕ) (log : Log T) (at : State T) : Type 0 where
-    pub drives : Drives is_exact from log at
+  pub record SoFar (is_clone : T → T → Type 0) (from : State T) (i polls : ℕ) (log : Log T) (at : State T) : Type 0 where
+    pub drives : Drives is_clone from log at
     pub events : events_of log ≡ map Poll (filter (is_ready from []) (numbers i))
     pub none_refused : has_refused log ≡ false
     pub counts : polls ≡ length (filter (is_ready from []) (numbers i))
@@ -62,12 +62,12 @@ module _ {T : Type 0} where
   with_ready : (from : State T) (i : ℕ) → is_ready from [] i ≡ true → filter (is_ready from []) (numbers (i + 1)) ≡ filter (is_ready from []) (numbers i) ++ i ∷ []
   with_ready from i ready = numbers_more from i ∙ ap (λ l. filter (is_ready from []) (numbers i) ++ l) (passes (is_ready from []) i ready)
 
-  pub so_far_nil : (is_exact : Type 0) (from : State T) → Drives is_exact from [] from → SoFar is_exact from 0 0 [] from
-  so_far_nil is_exact from drives = record { drives = drives; events = refl; none_refused = refl; counts = refl; keeps = λ i. refl }
+  pub so_far_nil : (is_clone : T → T → Type 0) (from : State T) → Drives is_clone from [] from → SoFar is_clone from 0 0 [] from
+  so_far_nil is_clone from drives = record { drives = drives; events = refl; none_refused = refl; counts = refl; keeps = λ i. refl }
 
   -- a task that is not ready is not polled
-  pub so_far_skip : (is_exact : Type 0) (from at : State T) (i polls : ℕ) (log : Log T) → SoFar is_exact from i polls log at → is_ready from [] i ≡ false → SoFar is_exact from (i + 1) polls log at
-  so_far_skip is_exact from at i polls log here not_ready =
+  pub so_far_skip : (is_clone : T → T → Type 0) (from at : State T) (i polls : ℕ) (log : Log T) → SoFar is_clone from i polls log at → is_ready from [] i ≡ false → SoFar is_clone from (i + 1) polls log at
+  so_far_skip is_clone from at i polls log here not_ready =
       let same : filter (is_ready from []) (numbers (i + 1)) ≡ filter (is_ready from []) (numbers i) =
       numbers_more from i ∙ (ap (λ l. filter (is_ready from []) (numbers i) ++ l) (fails (is_ready from []) i not_ready) ∙ append-nil _) in
       record {
@@ -95,35 +95,27 @@ module _ {T : Type 0} where
       second j ∙ (got_first x (result_at at.tasks j) ∙ (ap (got_or x) (first j) ∙ got_over x (got log j) (result_at from.tasks j)))
 
   -- a ready task is polled
-  pub so_far_more : (is_exact : Type 0) (from at to : State T) (i polls : ℕ) (log : Log T) (answer : Told T) → SoFar is_exact from i polls log at → is_ready from [] i ≡ true
-      → SettlesOne is_exact at i (Ok tt) answer to → SoFar is_exact from (i + 1) (polls + 1) (line_of at (Poll i) answer ∷ log) to
-  so_far_more is_exact from at to i polls log answer here ready one =
+  pub so_far_more : (is_clone : T → T → Type 0) (from at to : State T) (i polls : ℕ) (log : Log T) (answer : Told T) → SoFar is_clone from i polls log at → is_ready from [] i ≡ true
+      → SettlesOne is_clone at i (Ok tt) answer to → SoFar is_clone from (i + 1) (polls + 1) (line_of at (Poll i) answer ∷ log) to
+  so_far_more is_clone from at to i polls log answer here ready one =
       let more = with_ready from i ready in record {
-        drives = drives_more is_exact from at to log _ here.drives one.drives;
+        drives = drives_more is_clone from at to log _ here.drives one.drives;
         events = events-more _ log ∙ (ap (λ l. l ++ Poll i ∷ []) here.events ∙ (sym (map-append Poll (filter (is_ready from []) (numbers i)) (i ∷ [])) ∙ ap (map Poll) (sym more)));
         none_refused = ap (λ b. b || has_refused log) one.told ∙ here.none_refused;
         counts = ap (λ n. n + 1) here.counts ∙ (sym (length-append (filter (is_ready from []) (numbers i)) (i ∷ [])) ∙ ap length (sym more));
         keeps = keeps_more from at to log (line_of at (Poll i) answer) here.keeps one.keeps;
       }
 
-  -- where all were polled
-  pub settles_all : (is_exact : Type 0) (from at : State T) (polls : ℕ) (log : Log T) → SoFar is_exact from (length from.tasks) polls log at → Settles is_exact from (Ok polls) log at
-  settles_all is_exact from at polls log here = record {
-    drives = here.drives;
-    polls_ready = record { polls = here.events; counts = (here.counts, here.none_refused) };
-    keeps = here.keeps;
-  }
-
   -- where a poll was refused
-  pub settles_refused : (is_exact : Type 0) (from at to : State T) (i polls : ℕ) (log : Log T) (answer : Told T) (why : Refusal) → SoFar is_exact from i polls log at → is_ready from [] i ≡ true → i < length from.tasks
-      → SettlesOne is_exact at i (Err why) answer to → Settles is_exact from (Err why) (line_of at (Poll i) answer ∷ log) to
-  settles_refused is_exact from at to i polls log answer why here ready within one =
+  pub settles_refused : (is_clone : T → T → Type 0) (from at to : State T) (i polls : ℕ) (log : Log T) (answer : Told T) (why : Refusal) → SoFar is_clone from i polls log at → is_ready from [] i ≡ true → i < length from.tasks
+      → SettlesOne is_clone at i (Err why) answer to → Settles is_clone from (Err why) (line_of at (Poll i) answer ∷ log) to
+  settles_refused is_clone from at to i polls log answer why here ready within one =
       let more = with_ready from i ready in
       let rest = begin_numbers (length from.tasks - (i + 1)) (i + 1) (length from.tasks) (omega arith) in
       let events : events_of (line_of at (Poll i) answer ∷ log) ≡ map Poll (filter (is_ready from []) (numbers (i + 1))) =
       events-more _ log ∙ (ap (λ l. l ++ Poll i ∷ []) here.events ∙ (sym (map-append Poll (filter (is_ready from []) (numbers i)) (i ∷ [])) ∙ ap (map Poll) (sym more))) in
       record {
-        drives = drives_more is_exact from at to log _ here.drives one.drives;
+        drives = drives_more is_clone from at to log _ here.drives one.drives;
         polls_ready = record {
           polls = (
             filter (is_ready from []) rest.0,
@@ -178,26 +170,26 @@ module _ {T : Type 0} where
   quiet NotReady not_ready = refl
 
   -- a poll that gets nothing
-  settles_quiet : (P is_exact : Type 0) (from at : State T) (i : ℕ) (result : Result (Unit {0}) Refusal) (answer : Told T) → got_by answer ≡ None
+  settles_quiet : (is_clone : T → T → Type 0) (from at : State T) (i : ℕ) (result : Result (Unit {0}) Refusal) (answer : Told T) → got_by answer ≡ None
       → MatchResult result (λ done. was_refused answer ≡ false) (λ why. answer ≡ told.Refused why) → KeepsResults from at
-      → Drives (P → is_exact) from (line_of from (Poll i) answer ∷ []) at → SettlesOne is_exact from i result answer at
-  settles_quiet P is_exact from at i result answer none is stay drives = record {
-    drives = polled_drives P is_exact from at _ drives;
+      → Drives is_clone from (line_of from (Poll i) answer ∷ []) at → SettlesOne is_clone from i result answer at
+  settles_quiet is_clone from at i result answer none is stay drives = record {
+    drives = drives;
     told = is;
     keeps = λ j. stay j ∙ sym (not_got (is_poll_of j (Poll i) answer) (got_by answer) (result_at from.tasks j) none);
   }
 
   -- where the poll is refused
-  pub one_refused : (P is_exact : Type 0) (from at : State T) (i : ℕ) (why : Refusal) → KeepsResults from at
-      → Drives (P → is_exact) from (line_of from (Poll i) (told.Refused why) ∷ []) at → SettlesOne is_exact from i (Err why) (told.Refused why) at
-  one_refused P is_exact from at i why stay drives = settles_quiet P is_exact from at i (Err why) (told.Refused why) refl refl stay drives
+  pub one_refused : (is_clone : T → T → Type 0) (from at : State T) (i : ℕ) (why : Refusal) → KeepsResults from at
+      → Drives is_clone from (line_of from (Poll i) (told.Refused why) ∷ []) at → SettlesOne is_clone from i (Err why) (told.Refused why) at
+  one_refused is_clone from at i why stay drives = settles_quiet is_clone from at i (Err why) (told.Refused why) refl refl stay drives
 
   -- where it is not ready
-  pub one_pending : (P is_exact : Type 0) (from at : State T) (i : ℕ) (answer : Polled T) → ((value : Option T) → answer ≡ Ready value → ⊥) → KeepsResults from at
-      → Drives (P → is_exact) from (line_of from (Poll i) (told.Polled answer) ∷ []) at
-      → SettlesOne is_exact from i (Ok tt) (told.Polled answer) at × (length at.tasks ≡ length from.tasks)
-  one_pending P is_exact from at i answer not_ready stay drives =
-      (settles_quiet P is_exact from at i (Ok tt) (told.Polled answer) (quiet answer not_ready) refl stay drives, size_same from at drives.kinds_are)
+  pub one_pending : (is_clone : T → T → Type 0) (from at : State T) (i : ℕ) (answer : Polled T) → ((value : Option T) → answer ≡ Ready value → ⊥) → KeepsResults from at
+      → Drives is_clone from (line_of from (Poll i) (told.Polled answer) ∷ []) at
+      → SettlesOne is_clone from i (Ok tt) (told.Polled answer) at × (length at.tasks ≡ length from.tasks)
+  one_pending is_clone from at i answer not_ready stay drives =
+      (settles_quiet is_clone from at i (Ok tt) (told.Polled answer) (quiet answer not_ready) refl stay drives, size_same from at drives.kinds_are)
 
   pub size_kept : (from at : State T) (i : ℕ) (result : Option (Option T)) → map (λ task. task.kind) at.tasks ≡ map (λ task. task.kind) from.tasks ++ [] → length (change (with_result result) i at.tasks) ≡ length from.tasks
   size_kept from at i result kinds =

@@ -1,11 +1,11 @@
 -- What waking does to the tasks, and who is named in a waiting list.
-use Rattle.std.proofs.Common.{◌≡◌, ◌≢◌, ℕ, zero, suc, Bool, true, false, ◌||◌, List, [], ◌∷◌, ◌++◌, Option, Some, None, map, refl, ap, sym, ◌∙◌}
-use Rattle.std.specs.Prelude.{slice_get, nat_eq}
+use Rattle.std.proofs.Common.{◌≡◌, ◌≢◌, ℕ, zero, suc, Bool, true, false, ◌||◌, List, [], ◌∷◌, ◌++◌, Option, Some, None, map, length, refl, ap, sym, ◌∙◌}
+use Rattle.std.specs.Prelude.{slice_get, nat_eq, fold, if◌then◌else◌}
 use Rattle.std.specs.Option.{option_map}
 use Rattle.std.proofs.lemmas.Bool.{eqb-true, eqb-false}
 use Rattle.std.proofs.lemmas.List.Folds.{list_any-append}
 use Rattle.async_cell_cons.specs.declared.named.Named.{Named}
-use Rattle.async_cell_model.specs.Waiting.{keep, drop_while}
+use Rattle.async_cell_model.specs.Waiting.{keep, skips, with_one_more}
 use Rattle.async_cell_driver.specs.declared.task.Mark.{Mark}
 use Rattle.async_cell_driver.specs.declared.task.Mark.TheVariants.{Ready, Waiting, Woken, Done}
 use Rattle.async_cell_driver.specs.declared.task.Task.{Task}
@@ -39,6 +39,15 @@ module _ {T : Type 0} where
   map-change says f same n [] = refl
   map-change says f same zero (t ∷ tasks) = ap (λ x. x ∷ map says tasks) (same t)
   map-change says f same (suc n) (t ∷ tasks) = ap (λ xs. says t ∷ xs) (map-change says f same n tasks)
+
+  pub length-change : (f : Task T → Task T) (n : ℕ) (tasks : List (Task T)) → length (change f n tasks) ≡ length tasks
+  length-change f n [] = refl
+  length-change f zero (t ∷ tasks) = refl
+  length-change f (suc n) (t ∷ tasks) = ap suc (length-change f n tasks)
+
+  pub length-wake_each : (names : List Named) (tasks : List (Task T)) → length (wake_each names tasks) ≡ length tasks
+  length-wake_each [] tasks = refl
+  length-wake_each (n ∷ names) tasks = length-wake_each names (change wake n.0 tasks) ∙ length-change wake n.0 tasks
 
   pub kinds-wake_each : (names : List Named) (tasks : List (Task T)) → map (λ task. task.kind) (wake_each names tasks) ≡ map (λ task. task.kind) tasks
   kinds-wake_each [] tasks = refl
@@ -84,25 +93,34 @@ module _ {T : Type 0} where
       ∙ (ap (woken_if (is_named i names)) (mark-wake_one n.0 i (nat_eq n.0 i) refl tasks)
       ∙ woken_twice (nat_eq n.0 i) (is_named i names) (mark_at tasks i))
 
-named_twice : (a b : Bool) → (a || (a || b)) ≡ (a || b)
-named_twice true b = refl
-named_twice false b = refl
+pub named-append : (i : ℕ) (xs ys : List Named) → is_named i (xs ++ ys) ≡ (is_named i xs || is_named i ys)
+named-append i xs ys = list_any-append (λ name. nat_eq name.0 i) xs ys
 
--- a name that is left out stands first
-named_dropped : (i : ℕ) (w v : Named) (b : Bool) → nat_eq w.0 v.0 ≡ b → (rest : List Named) → (nat_eq w.0 i || is_named i (drop_while (is_same w) rest)) ≡ (nat_eq w.0 i || is_named i rest)
-    → (nat_eq w.0 i || is_named i (drop_while (is_same w) (v ∷ rest))) ≡ (nat_eq w.0 i || is_named i (v ∷ rest))
-named_dropped i w v true is rest same =
-    rw is (same ∙ (sym (named_twice (nat_eq w.0 i) (is_named i rest)) ∙ ap (λ n. nat_eq w.0 i || (nat_eq n i || is_named i rest)) (eqb-true w.0 v.0 is)))
-named_dropped i w v false is rest same = rw is refl
+or_known : (a b : Bool) → (b ≡ true → a ≡ true) → a ≡ (a || b)
+or_known true b known = refl
+or_known false true known = known refl
+or_known false false known = refl
 
-named-drop_while : (i : ℕ) (w : Named) (rest : List Named) → (nat_eq w.0 i || is_named i (drop_while (is_same w) rest)) ≡ (nat_eq w.0 i || is_named i rest)
-named-drop_while i w [] = refl
-named-drop_while i w (v ∷ rest) = named_dropped i w v (nat_eq w.0 v.0) refl rest (named-drop_while i w rest)
+or_last : (a b : Bool) → (a || (b || false)) ≡ (a || b)
+or_last true b = refl
+or_last false true = refl
+or_last false false = refl
+
+or_regrouped : (a b c : Bool) → ((a || b) || c) ≡ (a || (b || c))
+or_regrouped true b c = refl
+or_regrouped false b c = refl
+
+-- a name that is skipped stands in the list
+named_if : (i : ℕ) (l : List Named) (w : Named) (b : Bool) → skips is_same l w ≡ b → is_named i (if b then l else l ++ w ∷ []) ≡ (is_named i l || nat_eq w.0 i)
+named_if i l w true is = or_known (is_named i l) (nat_eq w.0 i) (λ same. ap (λ n. is_named n l) (sym (eqb-true w.0 i same)) ∙ is)
+named_if i l w false is = named-append i l (w ∷ []) ∙ or_last (is_named i l) (nat_eq w.0 i)
+
+named_each : (i : ℕ) (l names : List Named) → is_named i (fold (with_one_more is_same) l names) ≡ (is_named i l || is_named i names)
+named_each i l [] = or_known (is_named i l) false (λ no. cc)
+named_each i l (w ∷ rest) =
+    named_each i (with_one_more is_same l w) rest
+    ∙ (ap (λ p. p || is_named i rest) (named_if i l w (skips is_same l w) refl) ∙ or_regrouped (is_named i l) (nat_eq w.0 i) (is_named i rest))
 
 -- those that are kept waiting are those that asked
 pub named-keep : (i : ℕ) (names : List Named) → is_named i (keep is_same names) ≡ is_named i names
-named-keep i [] = refl
-named-keep i (w ∷ rest) = named-drop_while i w rest
-
-pub named-append : (i : ℕ) (xs ys : List Named) → is_named i (xs ++ ys) ≡ (is_named i xs || is_named i ys)
-named-append i xs ys = list_any-append (λ name. nat_eq name.0 i) xs ys
+named-keep i names = named_each i [] names

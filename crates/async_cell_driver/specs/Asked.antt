@@ -28,3 +28,9 @@ module _ {T : Type 0} where
   polled_of (Ok (Ready value)) = Ok (polled.Ready value)
   polled_of (Ok Pending) = Ok polled.Pending
   polled_of (Err why) = Err why
+
+  -- the task's poll is ready, with a content of which P holds
+  abbrev pub IsPolledWith : (Option T → Type 0) → Polled T → Type 0
+  IsPolledWith P (polled.Ready value) = P value
+  IsPolledWith P polled.Pending = ⊥
+  IsPolledWith P polled.NotReady = ⊥

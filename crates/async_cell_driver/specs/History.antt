@@ -30,7 +30,8 @@ module _ {T : Type 0} where
   poll_of (Some Get) i = kept.PollGet (name_of i)
   poll_of _ i = kept.PollTake (name_of i)
 
-  -- an update on this cell as a history keeps it: with what its edit saw and answered, both `None` where it was not called
+  -- an update on this cell as a history keeps it: with what its edit saw and answered, both `None`
+  -- where it was not called
   abbrev pub kept_update : Cell T → (Option T → Option T) → Kept T Named
   kept_update Closed edit = kept.Update None None
   kept_update (Open value owners) edit = kept.Update value (edit value)

@@ -10,7 +10,8 @@ use Rattle.async_cell_driver.specs.declared.event.Polled.TheVariants.{Ready, Pen
 use Rattle.async_cell_driver.specs.Mark.{is_done_mark, waits_mark, is_due_mark}
 use Rattle.async_cell_driver.specs.State.{State, mark_at, is_named}
 
--- an event, in which an update is the function that its edit is; what was told; and the names that were handed out
+-- an event, in which an update is the function that its edit is; what was told; and the names that
+-- were handed out
 pub record Line (T : Type 0) : Type 0 where
   pub event : Event T (Option T → Option T)
   pub told : Told T

@@ -54,20 +54,20 @@ module _ {T : Type 0} where
   IsRefusedLast why [] = ⊥
   IsRefusedLast why (line ∷ earlier) = (line.told ≡ told.Refused why) × (has_refused earlier ≡ false)
 
-  -- The log polls the tasks that were ready, in order of number. Ok says how many there were, and none was refused. Else
-  -- the last poll was refused, and it was the first that was.
+  -- The log polls the tasks that were ready, in order of number. Ok says how many there were, and
+  -- none was refused. Else the last poll was refused, and it was the first that was.
   pub record PollsReady (from : State T) (result : Result ℕ Refusal) (log : Log T) : Type 0 where
     pub polls : MatchResult result (λ count. events_of log ≡ map Poll (ready_tasks from)) (λ why. (rest : List ℕ) × (events_of log ++ map Poll rest ≡ map Poll (ready_tasks from)))
     pub counts : MatchResult result (λ count. (count ≡ length (ready_tasks from)) × (has_refused log ≡ false)) (λ why. IsRefusedLast why log)
 
   -- What `settle` does: its polls lead there, and what they got is kept for `result`.
-  pub record Settles (is_exact : Type 0) (from : State T) (result : Result ℕ Refusal) (log : Log T) (to : State T) : Type 0 where
-    pub drives : Drives is_exact from log to
+  pub record Settles (is_clone : T → T → Type 0) (from : State T) (result : Result ℕ Refusal) (log : Log T) (to : State T) : Type 0 where
+    pub drives : Drives is_clone from log to
     pub polls_ready : PollsReady from result log
     pub keeps : Keeps from log to
 
   -- The poll of a ready task, which was told this.
-  pub record SettlesOne (is_exact : Type 0) (from : State T) (i : ℕ) (result : Result (Unit {0}) Refusal) (answer : Told T) (to : State T) : Type 0 where
-    pub drives : Drives is_exact from (line_of from (Poll i) answer ∷ []) to
+  pub record SettlesOne (is_clone : T → T → Type 0) (from : State T) (i : ℕ) (result : Result (Unit {0}) Refusal) (answer : Told T) (to : State T) : Type 0 where
+    pub drives : Drives is_clone from (line_of from (Poll i) answer ∷ []) to
     pub told : MatchResult result (λ done. was_refused answer ≡ false) (λ why. answer ≡ told.Refused why)
     pub keeps : Keeps from (line_of from (Poll i) answer ∷ []) to

@@ -1,5 +1,5 @@
 -- What contracts see of a driver: its core, and its tasks by number.
-use Rattle.std.specs.Prelude.{◌≡◌, ℕ, zero, suc, Bool, true, List, [], ◌∷◌, Option, Some, None, slice_get, map, nat_eq}
+use Rattle.std.specs.Prelude.{◌≡◌, ◌<◌, ℕ, zero, suc, Bool, true, List, [], ◌∷◌, Option, Some, None, length, slice_get, map, nat_eq}
 use Rattle.std.specs.List.{list_any}
 use Rattle.std.specs.Option.{option_map}
 use Rattle.async_cell_cons.specs.declared.named.Named.{Named}
@@ -60,6 +60,13 @@ module _ {T : Type 0} where
   wake_each [] tasks = tasks
   wake_each (name ∷ names) tasks = wake_each names (change wake name.0 tasks)
 
-  -- the name of each task that waits and was not woken stands in the waiting list
+  -- the name of each task that waits and was not woken stands in the wait list
+  abbrev pub AllNamed : State T → Type 0
+  AllNamed at = (i : ℕ) → mark_at at.tasks i ≡ Some Waiting → is_named i at.core.waiting ≡ true
+
+  -- each name in the wait list is the number of a task
+  abbrev pub AllStarted : State T → Type 0
+  AllStarted at = (i : ℕ) → is_named i at.core.waiting ≡ true → i < length at.tasks
+
   abbrev pub IsCovered : State T → Type 0
-  IsCovered at = (i : ℕ) → mark_at at.tasks i ≡ Some Waiting → is_named i at.core.waiting ≡ true
+  IsCovered at = AllNamed at × AllStarted at

@@ -1,12 +1,12 @@
-ghost use Rattle.std.specs.Prelude.{◌≡◌, ◌≢◌, ℕ, [], ◌∷◌, length, true, false, ⊤, Some, Ok, ◌↔◌, IsTrue, IsOk, IfOk, IfErr, OnOk, OnErr, MatchOption};
-ghost use Rattle.async_cell_model.specs.Cell.{content, is_vacant};
-ghost use Rattle.async_cell_model.specs.Legal.{Answers, may_refuse};
-ghost use Rattle.async_cell_core.specs.Polled.{IsExact, poll_reply};
-ghost use Rattle.async_cell_driver.specs.State.{State, kind_at};
+ghost use Rattle.std.specs.Prelude.{◌≡◌, ◌≢◌, ◌≤◌, ℕ, [], length, true, false, Some, None, Ok, ◌↔◌, IsTrue, IsOk, IfOk, IfErr, OnOk, OnErr, MatchOption};
+ghost use Rattle.async_cell_model.specs.Cell.{content, is_closed, is_vacant};
+ghost use Rattle.async_cell_model.specs.Legal.{AnswersUpTo, may_refuse};
+ghost use Rattle.async_cell_core.specs.Polled.{IsCloneOf, IsReadyWith, poll_reply};
+ghost use Rattle.async_cell_driver.specs.State.{kind_at};
 ghost use Rattle.async_cell_driver.specs.Log.{is_ready, waits};
-ghost use Rattle.async_cell_driver.specs.History.{line_of, poll_of, told_of};
-ghost use Rattle.async_cell_driver.specs.Drives.{Drives, KeepsResults, is_same};
-ghost use Rattle.async_cell_driver.specs.Asked.{waiting_when, mark_after, polled_of};
+ghost use Rattle.async_cell_driver.specs.History.{poll_of, told_of};
+ghost use Rattle.async_cell_driver.specs.Drives.{Happens, IsSpared, KeepsResults, is_same};
+ghost use Rattle.async_cell_driver.specs.Asked.{IsPolledWith, waiting_when, mark_after, polled_of};
 
 mod apply;
 mod settle;
@@ -20,8 +20,8 @@ use async_cell_model::Cell;
 use std::alloc::Global;
 use std::marker::Model;
 
-/// Numbered tasks that wait for the value of one cell. The driver keeps the cell, and knows of each task whether it is
-/// ready to be polled.
+/// Numbered tasks that wait for the value of one cell. The driver keeps the cell, and knows of each
+/// task whether it is ready to be polled.
 #[derive(Drop)]
 pub struct Driver<T> {
     core: Core<T, Named>,
@@ -50,10 +50,13 @@ impl<T: Clone> Driver<T> {
         }
     }
 
-    /// Starts a task, and gives its number: the number of tasks before it. Refused where there is no memory for it.
+    /// Starts a task, and gives its number: the number of tasks before it. Refused where there is
+    /// no memory for it.
     pub fn start(&mut self, kind: Kind) -> Result<usize, Refusal>
-        ensures started { IfOk result (λ number. Drives ⊤ self.old (line_of self.old (Event.Start kind) (Told.Started number) ∷ []) self.new) }
-        ensures refused { IfErr result (λ why. Drives ⊤ self.old (line_of self.old (Event.Start kind) (Told.Refused why) ∷ []) self.new) }
+        ensures started { IfOk result (λ number.
+            Happens T.is_clone self.old (Event.Start kind) (Told.Started number) self.new) }
+        ensures refused { IfErr result (λ why.
+            Happens T.is_clone self.old (Event.Start kind) (Told.Refused why) self.new) }
 
         ensures number { IfOk result (λ number. number ≡ length self.old.tasks) }
         ensures results_stay { KeepsResults self.old self.new }
@@ -63,20 +66,37 @@ impl<T: Clone> Driver<T> {
         self.tasks.start(kind)
     }
 
-    /// Polls a task that is ready. A task that is done, not ready or not there is not polled. Refused where the waker's
-    /// place, or a clone of the value, found no memory: the task is ready still.
+    /// Polls a task that is ready. A task that is done, not ready or not there is not polled.
+    /// Refused where the waker's place, or a clone of the value, found no memory: the task is ready
+    /// still.
     pub fn poll(&mut self, i: usize) -> Result<Polled<T>, Refusal>
-        ensures drives { Drives (kind_at self.old.tasks i ≡ Some Kind.Get → IsExact T.is_clone) self.old (line_of self.old (Event.Poll i) (told_of result) ∷ []) self.new }
+        ensures drives { Happens T.is_clone self.old (Event.Poll i) (told_of result) self.new }
 
         ensures not_ready { (result ≡ Ok Polled.NotReady) ↔ (is_ready self.old [] i ≡ false) }
         ensures untouched { result ≡ Ok Polled.NotReady → self.new ≡ self.old }
+        ensures taker_takes { kind_at self.old.tasks i ≡ Some Kind.Take → is_ready self.old [] i ≡ true
+            → is_vacant self.old.core.cell ≡ false
+            → result ≡ Ok (Polled.Ready (content self.old.core.cell)) }
+        ensures taker_leaves_none { kind_at self.old.tasks i ≡ Some Kind.Take
+            → is_ready self.old [] i ≡ true → OnOk result (content self.new.core.cell ≡ None) }
+        ensures getter_clones { kind_at self.old.tasks i ≡ Some Kind.Get → is_ready self.old [] i ≡ true
+            → is_vacant self.old.core.cell ≡ false
+            → IfOk result (IsPolledWith (IsCloneOf T.is_clone (content self.old.core.cell))) }
+        ensures getter_leaves { kind_at self.old.tasks i ≡ Some Kind.Get
+            → is_vacant self.old.core.cell ≡ false → self.new.core ≡ self.old.core }
         ensures results_stay { KeepsResults self.old self.new }
-        ensures refused { IfErr result (λ why. (why ≡ Refusal.Memory) × (self.new.core ≡ self.old.core)) }
+        ensures refused { IfErr result (λ why. (why ≡ Refusal.Memory)
+            × (self.new.core.cell ≡ self.old.core.cell) × (self.new.core.waiting ≡ self.old.core.waiting)) }
         ensures ready_no_more { OnOk result (is_ready self.new [] i ≡ false) }
         ensures others_stay { (j : ℕ) → j ≢ i → is_ready self.new [] j ≡ is_ready self.old [] j }
-        ensures spared { may_refuse is_same true self.old.core (poll_of (kind_at self.old.tasks i) i) ≡ false → IsOk result }
-        ensures sure { is_vacant self.old.core.cell ≡ false → MatchOption (content self.old.core.cell) (IsOk result) (λ value. T.is_infallible value → IsOk result) }
-        ensures taker_sure { kind_at self.old.tasks i ≡ Some Kind.Take → is_vacant self.old.core.cell ≡ false → IsOk result }
+        ensures spared { may_refuse is_same true self.old.core (poll_of (kind_at self.old.tasks i) i) ≡ false
+            → IsOk result }
+        ensures sure { is_vacant self.old.core.cell ≡ false
+            → MatchOption (content self.old.core.cell) (IsOk result)
+            (λ value. T.is_infallible value → IsOk result) }
+        ensures spared_told { IsSpared T.is_infallible self.old.core.cell (Event.Poll i) (told_of result) }
+        ensures taker_sure { kind_at self.old.tasks i ≡ Some Kind.Take
+            → is_vacant self.old.core.cell ≡ false → IsOk result }
     {
         self.core.begins();
         let Some(kind) = self.tasks.ready(i) else {
@@ -88,8 +108,24 @@ impl<T: Clone> Driver<T> {
         polled(asked)
     }
 
-    /// Whether a task is ready: it was started, isn't done, and was never polled, or its last poll was refused, or its name
-    /// was handed out since.
+    /// Makes room in the core's wait list: the next `additional` wakers that polls add need no memory,
+    /// until a fill or a close gives the room up. Refused where there is no memory for so many. On a
+    /// closed cell it does nothing.
+    pub fn reserve(&mut self, additional: usize) -> Result<(), Refusal>
+        ensures tasks_stay { self.new.tasks ≡ self.old.tasks }
+        ensures cell_stays { self.new.core.cell ≡ self.old.core.cell }
+        ensures waiting_stay { self.new.core.waiting ≡ self.old.core.waiting }
+        ensures makes_room { is_closed self.old.core.cell ≡ false
+            → OnOk result (additional ≤ self.new.core.room) }
+        ensures keeps_room { self.old.core.room ≤ self.new.core.room }
+        ensures refused { IfErr result (λ why. why ≡ Refusal.Memory) }
+        ensures closed { is_closed self.old.core.cell ≡ true → IsOk result × (self.new ≡ self.old) }
+    {
+        self.core.reserve(additional)
+    }
+
+    /// Whether a task is ready: it was started, isn't done, and was never polled, or its last poll
+    /// was refused, or its name was handed out since.
     pub fn is_ready(&self, i: usize) -> bool
         ensures { result ≡ is_ready self.now [] i }
     {
@@ -99,10 +135,12 @@ impl<T: Clone> Driver<T> {
         }
     }
 
-    /// Whether a task waits: its last poll answered `Pending`. Whenever the cell is full or closed, it is also ready.
+    /// Whether a task waits: its last poll answered `Pending`. Whenever the cell is full or closed,
+    /// it is also ready.
     pub fn waits(&self, i: usize) -> bool
         ensures log { result ≡ waits self.now [] i }
-        ensures none_forgotten { IsTrue result → is_vacant self.now.core.cell ≡ false → is_ready self.now [] i ≡ true }
+        ensures none_forgotten { IsTrue result
+            → is_vacant self.now.core.cell ≡ false → is_ready self.now [] i ≡ true }
     {
         self.core.begins();
         match self.tasks.get(i) {
@@ -110,20 +148,41 @@ impl<T: Clone> Driver<T> {
             None => false,
         }
     }
+
+    /// How many wakers wait for a value of the cell: at most as many as tasks were started, however
+    /// often they are polled.
+    pub fn waiting(&self) -> usize
+        ensures list { result ≡ length self.now.core.waiting }
+        ensures at_most { result ≤ length self.now.tasks }
+    {
+        self.core.begins();
+        self.core.waiting()
+    }
 }
 
 /// Polls the core for a task of this kind.
-#[tactic(auto, using(crate::proofs::Polling::sure_anyway))]
+#[tactic(auto, using(crate::proofs::Polling::sure_anyway, async_cell_model::proofs::UpTo::up_to_clones))]
 fn ask<T: Clone>(
     core: &mut Core<T, Named>,
     kind: Kind,
     name: Named,
 ) -> Result<Poll<Option<T>>, Refusal>
-    ensures model { (kind ≡ Kind.Get → IsExact T.is_clone) → Answers is_same true core.old (poll_of (Some kind) name.0) (poll_reply result) [] core.new }
-    ensures refused { IfErr result (λ why. (why ≡ Refusal.Memory) × (core.new ≡ core.old)) }
-    ensures waiting { IfOk result (λ polled. core.new.waiting ≡ waiting_when polled name core.old.waiting) }
+    ensures model { AnswersUpTo is_same true T.is_clone core.old
+        (poll_of (Some kind) name.0) (poll_reply result) [] core.new }
+    ensures refused { IfErr result (λ why. (why ≡ Refusal.Memory)
+        × (core.new.cell ≡ core.old.cell) × (core.new.waiting ≡ core.old.waiting)) }
+    ensures waiting { IfOk result (λ polled.
+        core.new.waiting ≡ waiting_when polled name core.old.waiting) }
+    ensures taker_takes { kind ≡ Kind.Take → is_vacant core.old.cell ≡ false
+        → result ≡ Ok (Poll.Ready (content core.old.cell)) }
+    ensures taker_leaves_none { kind ≡ Kind.Take → OnOk result (content core.new.cell ≡ None) }
+    ensures getter_clones { kind ≡ Kind.Get → is_vacant core.old.cell ≡ false
+        → IfOk result (IsReadyWith (IsCloneOf T.is_clone (content core.old.cell))) }
+    ensures getter_leaves { kind ≡ Kind.Get → is_vacant core.old.cell ≡ false → core.new ≡ core.old }
     ensures spared { may_refuse is_same true core.old (poll_of (Some kind) name.0) ≡ false → IsOk result }
-    ensures sure { is_vacant core.old.cell ≡ false → MatchOption (content core.old.cell) (IsOk result) (λ value. T.is_infallible value → IsOk result) }
+    ensures sure { is_vacant core.old.cell ≡ false
+        → MatchOption (content core.old.cell) (IsOk result)
+        (λ value. T.is_infallible value → IsOk result) }
 {
     match kind {
         Kind::Take => core.poll_take(&name),

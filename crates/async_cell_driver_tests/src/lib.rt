@@ -1,6 +1,10 @@
 //! A small executor on top of the driver, and the tests of the driver.
 #![tactic(auto)]
 
+#[cfg(test)]
+mod clones;
+#[cfg(test)]
+mod edits;
 mod executor;
 #[cfg(test)]
 mod lists;

@@ -128,9 +128,11 @@ fn each_call_on_the_cell_answers(rt: HostRuntime) -> Result<(), Fail> {
     Ok(())
 }
 
-/// The laws are proved for every type; here they are taken at two types of a program.
+/// The laws are proved for every type; here they are taken at types of a program.
 #[test]
 fn the_laws_hold_at_numbers() {
     laws::two_logs_are_one::<u32>();
     laws::two_lists_are_one::<u32, Put>();
+    laws::a_log_names_those_handed_out::<u32>();
+    laws::a_log_is_exact_where_clones_are::<u32>();
 }

@@ -87,6 +87,23 @@ fn a_taker_that_found_no_memory_is_polled_again(rt: HostRuntime) -> Result<(), F
     Ok(())
 }
 
+#[test]
+fn takers_find_the_room_that_was_made(rt: HostRuntime) -> Result<(), Fail> {
+    let mut driver: Driver<u32> = Driver::new(rt.alloc(), None);
+    for number in 0..3usize {
+        assert_eq!(rt; start(&mut driver, Kind::Take)?, number);
+    }
+    if driver.reserve(3).is_err() {
+        assert_eq!(rt; driver.reserve(3), Ok(()));
+    }
+    assert_eq!(rt; driver.settle(), Ok(3));
+    for number in 0..3usize {
+        assert!(rt; driver.waits(number));
+        assert!(rt; !driver.is_ready(number));
+    }
+    Ok(())
+}
+
 /// Three takers that poll, a value, and three polls.
 fn events() -> [Event<u32, Put>; 10] {
     [

@@ -1,25 +1,30 @@
 //! Lists of events, made in order.
-ghost use Rattle.std.specs.Prelude.{◌≡◌, List, [], ◌∷◌, map, length, vec_len, IfOk, IfErr, OnErr};
+ghost use Rattle.std.specs.Prelude.{◌≡◌, List, [], map, length, vec_len, IsOk, IfOk, IfErr, OnErr};
 ghost use Rattle.async_cell_cons.specs.declared.named.Named.{Named as Name};
-ghost use Rattle.async_cell_core.specs.Polled.{IsExact};
 ghost use Rattle.async_cell_driver.specs.Log.{log_of, with_edit};
-ghost use Rattle.async_cell_driver.specs.History.{line_of, done_or};
-ghost use Rattle.async_cell_driver.specs.Drives.{Drives, KeepsResults};
+ghost use Rattle.async_cell_driver.specs.History.{done_or};
+ghost use Rattle.async_cell_driver.specs.Drives.{AllSpared, Drives, Happens, IsSpared, KeepsResults};
 
 use super::Driver;
 use crate::event::{Event, Told};
 use async_cell_core::{Edit, Refusal, Reply};
 
 impl<T: Clone> Driver<T> {
-    /// Makes the events happen in order, and tells one line for each: what is refused is told so, and those after it happen.
-    /// The room for what is told is got first; where there is none, nothing is done and the list comes back.
+    /// Makes the events happen in order, and tells one line for each: what is refused is told so,
+    /// and those after it happen. The room for what is told is got first; where there is none,
+    /// nothing is done and the list is given back. An empty list needs none.
     pub fn apply<E: Edit<T> + Drop>(
         &mut self,
         events: Vec<Event<T, E>>,
     ) -> Result<Vec<Told<T>>, Vec<Event<T, E>>>
+        ensures empty_ok { events.items ≡ [] → IsOk result }
         ensures one_each { IfOk result (λ told. vec_len told ≡ vec_len events) }
-        ensures drives { IfOk result (λ told. (handed : List (List Name)) × (length handed ≡ vec_len events)
-            × Drives (IsExact T.is_clone) self.old (log_of (map (with_edit E.edit) events.items) told.items handed) self.new) }
+        ensures drives { IfOk result (λ told.
+            (names : List (List Name)) × (length names ≡ vec_len events)
+            × Drives T.is_clone self.old
+            (log_of (map (with_edit E.edit) events.items) told.items names) self.new
+            × AllSpared T.is_infallible self.old
+            (log_of (map (with_edit E.edit) events.items) told.items names)) }
         ensures results_stay { KeepsResults self.old self.new }
         ensures comes_back { IfErr result (λ back. back ≡ events) }
         ensures unchanged { OnErr result (self.new ≡ self.old) }
@@ -36,9 +41,9 @@ impl<T: Clone> Driver<T> {
     }
 
     /// Makes one event happen, and gives what it is told.
-    #[tactic(auto, using(crate::proofs::Joining::exact_drives))]
     fn happen<E: Edit<T> + Drop>(&mut self, event: Event<T, E>) -> Told<T>
-        ensures drives { Drives (IsExact T.is_clone) self.old (line_of self.old (with_edit E.edit event) result ∷ []) self.new }
+        ensures drives { Happens T.is_clone self.old (with_edit E.edit event) result self.new }
+        ensures spared { IsSpared T.is_infallible self.old.core.cell (with_edit E.edit event) result }
         ensures results_stay { KeepsResults self.old self.new }
     {
         match event {

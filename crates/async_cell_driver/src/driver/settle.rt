@@ -1,7 +1,6 @@
 //! Polls of all tasks that are ready.
-ghost use Rattle.std.specs.Prelude.{◌≡◌, ◌≢◌, ℕ, [], true, false, ⊤, length, OnOk, None};
-ghost use Rattle.async_cell_model.specs.Cell.{is_vacant};
-ghost use Rattle.async_cell_core.specs.Polled.{IsExact};
+ghost use Rattle.std.specs.Prelude.{◌≡◌, ◌≢◌, ℕ, [], true, false, length, IsOk, OnOk, None, MatchOption};
+ghost use Rattle.async_cell_model.specs.Cell.{content, is_vacant};
 ghost use Rattle.async_cell_driver.specs.State.{result_at};
 ghost use Rattle.async_cell_driver.specs.Log.{Log, is_ready, waits};
 ghost use Rattle.async_cell_driver.specs.Drives.{Drives};
@@ -13,25 +12,30 @@ use crate::event::Polled;
 use async_cell_core::Refusal;
 
 impl<T: Clone> Driver<T> {
-    /// Hands over what `settle` got for a task: `Some(Some(v))`, `Some(None)` from a closed cell, `None` if there is nothing or
-    /// it was handed over already.
+    /// Hands over what `settle` got for a task: `Some(Some(v))`, `Some(None)` from a closed cell,
+    /// `None` if there is nothing or it was handed over already.
     pub fn result(&mut self, i: usize) -> Option<Option<T>>
         ensures gives { result ≡ result_at self.old.tasks i }
         ensures once { result_at self.new.tasks i ≡ None }
         ensures others { (j : ℕ) → j ≢ i → result_at self.new.tasks j ≡ result_at self.old.tasks j }
-        ensures nothing_else { Drives ⊤ self.old [] self.new }
+        ensures nothing_else { Drives T.is_clone self.old [] self.new }
     {
         self.core.begins();
         self.tasks.take_result(i)
     }
 
-    /// Polls each task that is ready now once, in order of number, and gives the number of these polls. What a poll is ready
-    /// with is kept for `result`. A refused poll stops it: that task and those after it are ready still. It looks at every
-    /// task that was ever started; a done task keeps its place.
+    /// Polls each task that is ready now once, in order of number, and gives the number of these
+    /// polls. What a poll is ready with is kept for `result`. A refused poll stops it: that task
+    /// and those after it are ready still. It looks at every task that was ever started; a done
+    /// task keeps its place.
     pub fn settle(&mut self) -> Result<usize, Refusal>
-        ensures settles { (log : Log T) × Settles (IsExact T.is_clone) self.old result log self.new }
+        ensures settles { (log : Log T) × Settles T.is_clone self.old result log self.new }
         ensures none_ready { OnOk result ((i : ℕ) → is_ready self.new [] i ≡ false) }
-        ensures none_waits { OnOk result (is_vacant self.new.core.cell ≡ false → (i : ℕ) → waits self.new [] i ≡ false) }
+        ensures none_waits { OnOk result
+            (is_vacant self.new.core.cell ≡ false → (i : ℕ) → waits self.new [] i ≡ false) }
+        ensures sure { is_vacant self.new.core.cell ≡ false
+            → MatchOption (content self.new.core.cell) (IsOk result)
+            (λ value. T.is_infallible value → IsOk result) }
     {
         self.core.begins();
         let mut polls = 0;
@@ -48,10 +52,14 @@ impl<T: Clone> Driver<T> {
     /// Polls a task that is ready, and keeps what the poll is ready with.
     fn poll_and_keep(&mut self, i: usize) -> Result<(), Refusal>
         requires { is_ready self.old [] i ≡ true }
-        ensures settles { (answer : Answer T) × SettlesOne (IsExact T.is_clone) self.old i result answer self.new }
+        ensures settles { (answer : Answer T)
+            × SettlesOne T.is_clone self.old i result answer self.new }
         ensures ready_no_more { OnOk result (is_ready self.new [] i ≡ false) }
         ensures others_stay { (j : ℕ) → j ≢ i → is_ready self.new [] j ≡ is_ready self.old [] j }
         ensures size { length self.new.tasks ≡ length self.old.tasks }
+        ensures sure { is_vacant self.new.core.cell ≡ false
+            → MatchOption (content self.new.core.cell) (IsOk result)
+            (λ value. T.is_infallible value → IsOk result) }
     {
         if let Polled::Ready(content) = self.poll(i)? {
             self.tasks.keep(i, content);

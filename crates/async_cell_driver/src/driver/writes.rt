@@ -1,19 +1,24 @@
-//! Calls on the cell of a driver. Each makes one call of the core, and wakes the tasks whose names it hands out.
-ghost use Rattle.std.specs.Prelude.{◌≡◌, ◌↔◌, ◌+◌, ◌-◌, [], ◌∷◌, true, false, ⊤, Some, None, Err, IsOk, IfOk, IfErr, OnOk, OnErr};
-ghost use Rattle.async_cell_model.specs.Cell.{is_closed, content, owners_of, owners_limit};
+//! Calls on the cell of a driver. Each makes one call of the core, and wakes the tasks whose names
+//! it hands out.
+ghost use Rattle.std.specs.Prelude.{◌≡◌, ◌↔◌, ◌+◌, ◌-◌, true, false, Some, None, Err, IsOk, IfOk, IfErr, OnOk, OnErr};
+ghost use Rattle.async_cell_model.specs.Cell.{is_closed, is_full, is_vacant, content, owners_of, owners_limit};
 ghost use Rattle.async_cell_model.specs.declared.entry.Kept.TheVariants as kept;
-ghost use Rattle.async_cell_driver.specs.History.{line_of, told_by};
-ghost use Rattle.async_cell_driver.specs.Drives.{Drives, KeepsResults};
+ghost use Rattle.async_cell_driver.specs.History.{told_by};
+ghost use Rattle.async_cell_driver.specs.Drives.{Happens, KeepsResults};
 
 use super::Driver;
 use crate::event::{Event, Told};
 use async_cell_core::{Edit, Refusal, Reply};
 
 impl<T: Clone> Driver<T> {
-    /// Puts the value in. All that wait are ready then. Refused on a closed cell, and the value comes back.
+    /// Puts the value in. All that wait are ready then. Refused on a closed cell, and the value
+    /// comes back.
     pub fn set(&mut self, value: T) -> Result<(), T>
-        ensures done { OnOk result (Drives ⊤ self.old (line_of self.old (Event.Set value) (Told.Reply Reply.Done) ∷ []) self.new) }
-        ensures refused { OnErr result (Drives ⊤ self.old (line_of self.old (Event.Set value) (Told.Reply (Reply.Refused Refusal.Closed (Some value))) ∷ []) self.new) }
+        ensures done { OnOk result
+            (Happens T.is_clone self.old (Event.Set value) (Told.Reply Reply.Done) self.new) }
+        ensures refused { OnErr result
+            (Happens T.is_clone self.old (Event.Set value)
+            (Told.Reply (Reply.Refused Refusal.Closed (Some value))) self.new) }
 
         ensures if_open { IsOk result ↔ (is_closed self.old.core.cell ≡ false) }
         ensures holds { OnOk result (content self.new.core.cell ≡ Some value) }
@@ -26,13 +31,20 @@ impl<T: Clone> Driver<T> {
         Ok(())
     }
 
-    /// Puts the value in where there is none; all that wait are ready then. Else the value is dropped. Refused on a closed
-    /// cell, and the value comes back.
+    /// Puts the value in where there is none; all that wait are ready then. Else the value is
+    /// dropped. Refused on a closed cell, and the value comes back.
     pub fn or_set(&mut self, value: T) -> Result<(), T>
-        ensures done { OnOk result (Drives ⊤ self.old (line_of self.old (Event.OrSet value) (told_by self.old.core (kept.OrSet value)) ∷ []) self.new) }
-        ensures refused { OnErr result (Drives ⊤ self.old (line_of self.old (Event.OrSet value) (Told.Reply (Reply.Refused Refusal.Closed (Some value))) ∷ []) self.new) }
+        ensures done { OnOk result
+            (Happens T.is_clone self.old (Event.OrSet value)
+            (told_by self.old.core (kept.OrSet value)) self.new) }
+        ensures refused { OnErr result
+            (Happens T.is_clone self.old (Event.OrSet value)
+            (Told.Reply (Reply.Refused Refusal.Closed (Some value))) self.new) }
 
         ensures if_open { IsOk result ↔ (is_closed self.old.core.cell ≡ false) }
+        ensures holds { OnOk result
+            (is_vacant self.old.core.cell ≡ true → content self.new.core.cell ≡ Some value) }
+        ensures leaves { is_full self.old.core.cell ≡ true → self.new.core.cell ≡ self.old.core.cell }
         ensures results_stay { KeepsResults self.old self.new }
         ensures unchanged { OnErr result (self.new ≡ self.old) }
         ensures comes_back { IfErr result (λ back. back ≡ value) }
@@ -43,11 +55,19 @@ impl<T: Clone> Driver<T> {
 
     /// `or_set`, which gives the value back that it did not use.
     pub(crate) fn offer(&mut self, value: T) -> Result<Option<T>, T>
-        ensures done { IfOk result (λ unused. Drives ⊤ self.old (line_of self.old (Event.OrSet value) (Told.Reply (Reply.Value unused)) ∷ []) self.new) }
-        ensures refused { OnErr result (Drives ⊤ self.old (line_of self.old (Event.OrSet value) (Told.Reply (Reply.Refused Refusal.Closed (Some value))) ∷ []) self.new) }
-        ensures unused { IfOk result (λ unused. Told.Reply (Reply.Value unused) ≡ told_by self.old.core (kept.OrSet value)) }
+        ensures done { IfOk result (λ unused.
+            Happens T.is_clone self.old (Event.OrSet value)
+            (Told.Reply (Reply.Value unused)) self.new) }
+        ensures refused { OnErr result
+            (Happens T.is_clone self.old (Event.OrSet value)
+            (Told.Reply (Reply.Refused Refusal.Closed (Some value))) self.new) }
+        ensures unused { IfOk result (λ unused.
+            Told.Reply (Reply.Value unused) ≡ told_by self.old.core (kept.OrSet value)) }
 
         ensures if_open { IsOk result ↔ (is_closed self.old.core.cell ≡ false) }
+        ensures holds { OnOk result
+            (is_vacant self.old.core.cell ≡ true → content self.new.core.cell ≡ Some value) }
+        ensures leaves { is_full self.old.core.cell ≡ true → self.new.core.cell ≡ self.old.core.cell }
         ensures results_stay { KeepsResults self.old self.new }
         ensures unchanged { OnErr result (self.new ≡ self.old) }
         ensures comes_back { IfErr result (λ back. back ≡ value) }
@@ -57,11 +77,15 @@ impl<T: Clone> Driver<T> {
         Ok(unused)
     }
 
-    /// Puts the value in, and gives the old one. All that wait are ready then. Refused on a closed cell, and the value comes
-    /// back.
+    /// Puts the value in, and gives the old one. All that wait are ready then. Refused on a closed
+    /// cell, and the value comes back.
     pub fn replace(&mut self, value: T) -> Result<Option<T>, T>
-        ensures done { IfOk result (λ old. Drives ⊤ self.old (line_of self.old (Event.Replace value) (Told.Reply (Reply.Value old)) ∷ []) self.new) }
-        ensures refused { OnErr result (Drives ⊤ self.old (line_of self.old (Event.Replace value) (Told.Reply (Reply.Refused Refusal.Closed (Some value))) ∷ []) self.new) }
+        ensures done { IfOk result (λ old.
+            Happens T.is_clone self.old (Event.Replace value)
+            (Told.Reply (Reply.Value old)) self.new) }
+        ensures refused { OnErr result
+            (Happens T.is_clone self.old (Event.Replace value)
+            (Told.Reply (Reply.Refused Refusal.Closed (Some value))) self.new) }
 
         ensures if_open { IsOk result ↔ (is_closed self.old.core.cell ≡ false) }
         ensures holds { OnOk result (content self.new.core.cell ≡ Some value) }
@@ -75,14 +99,19 @@ impl<T: Clone> Driver<T> {
         Ok(old)
     }
 
-    /// Puts in what the edit makes of the content. A value where there was none makes all that wait ready. Refused on a
-    /// closed cell, and then the edit is not called.
+    /// Puts in what the edit makes of the content. A value where there was none makes all that wait
+    /// ready. Refused on a closed cell, and then the edit is not called.
     pub fn update<E: Edit<T> + Drop>(&mut self, edit: E) -> Result<(), Refusal>
-        ensures done { OnOk result (Drives ⊤ self.old (line_of self.old (Event.Update (E.edit edit)) (Told.Reply Reply.Done) ∷ []) self.new) }
-        ensures refused { IfErr result (λ why. Drives ⊤ self.old (line_of self.old (Event.Update (E.edit edit)) (Told.Reply (Reply.Refused why None)) ∷ []) self.new) }
+        ensures done { OnOk result
+            (Happens T.is_clone self.old (Event.Update (E.edit edit))
+            (Told.Reply Reply.Done) self.new) }
+        ensures refused { IfErr result (λ why.
+            Happens T.is_clone self.old (Event.Update (E.edit edit))
+            (Told.Reply (Reply.Refused why None)) self.new) }
 
         ensures if_open { IsOk result ↔ (is_closed self.old.core.cell ≡ false) }
-        ensures holds { OnOk result (content self.new.core.cell ≡ E.edit edit (content self.old.core.cell)) }
+        ensures holds { OnOk result
+            (content self.new.core.cell ≡ E.edit edit (content self.old.core.cell)) }
         ensures results_stay { KeepsResults self.old self.new }
         ensures unchanged { OnErr result (self.new ≡ self.old) }
     {
@@ -93,7 +122,7 @@ impl<T: Clone> Driver<T> {
 
     /// Takes the value, if there is one. Those that wait stay.
     pub fn try_take(&mut self) -> Option<T>
-        ensures drives { Drives ⊤ self.old (line_of self.old Event.TryTake (Told.Reply (Reply.Value result)) ∷ []) self.new }
+        ensures drives { Happens T.is_clone self.old Event.TryTake (Told.Reply (Reply.Value result)) self.new }
 
         ensures takes { result ≡ content self.old.core.cell }
         ensures leaves_none { content self.new.core.cell ≡ None }
@@ -104,23 +133,31 @@ impl<T: Clone> Driver<T> {
 
     /// One owner more. Refused on a closed cell, and beyond 4,294,967,295 owners.
     pub fn add_owner(&mut self) -> Result<(), Refusal>
-        ensures done { OnOk result (Drives ⊤ self.old (line_of self.old Event.AddOwner (Told.Reply Reply.Done) ∷ []) self.new) }
-        ensures refused { IfErr result (λ why. Drives ⊤ self.old (line_of self.old Event.AddOwner (Told.Reply (Reply.Refused why None)) ∷ []) self.new) }
+        ensures done { OnOk result
+            (Happens T.is_clone self.old Event.AddOwner (Told.Reply Reply.Done) self.new) }
+        ensures refused { IfErr result (λ why.
+            Happens T.is_clone self.old Event.AddOwner
+            (Told.Reply (Reply.Refused why None)) self.new) }
 
         ensures if_closed { (result ≡ Err Refusal.Closed) ↔ (is_closed self.old.core.cell ≡ true) }
         ensures if_full { (result ≡ Err Refusal.OwnersFull) ↔ (owners_of self.old.core.cell ≡ owners_limit) }
-        ensures counted { OnOk result (owners_of self.new.core.cell ≡ owners_of self.old.core.cell + 1) }
+        ensures counted { OnOk result
+            (owners_of self.new.core.cell ≡ owners_of self.old.core.cell + 1) }
         ensures results_stay { KeepsResults self.old self.new }
         ensures unchanged { OnErr result (self.new ≡ self.old) }
     {
         self.core.add_owner()
     }
 
-    /// One owner less. The last one closes the cell: the value is dropped, and all that wait are ready. Refused on a closed
-    /// cell.
+    /// One owner less. The last one closes the cell: the value is dropped, and all that wait are
+    /// ready. Refused on a closed cell.
     pub fn end_owner(&mut self) -> Result<(), Refusal>
-        ensures done { OnOk result (Drives ⊤ self.old (line_of self.old Event.EndOwner (told_by self.old.core kept.EndOwner) ∷ []) self.new) }
-        ensures refused { IfErr result (λ why. Drives ⊤ self.old (line_of self.old Event.EndOwner (Told.Reply (Reply.Refused why None)) ∷ []) self.new) }
+        ensures done { OnOk result
+            (Happens T.is_clone self.old Event.EndOwner
+            (told_by self.old.core kept.EndOwner) self.new) }
+        ensures refused { IfErr result (λ why.
+            Happens T.is_clone self.old Event.EndOwner
+            (Told.Reply (Reply.Refused why None)) self.new) }
 
         ensures if_open { IsOk result ↔ (is_closed self.old.core.cell ≡ false) }
         ensures counted { owners_of self.new.core.cell ≡ owners_of self.old.core.cell - 1 }
@@ -134,9 +171,13 @@ impl<T: Clone> Driver<T> {
 
     /// `end_owner`, which gives the value of a cell that it closes.
     pub(crate) fn end(&mut self) -> Result<Option<T>, Refusal>
-        ensures done { IfOk result (λ last. Drives ⊤ self.old (line_of self.old Event.EndOwner (Told.Reply (Reply.Value last)) ∷ []) self.new) }
-        ensures refused { IfErr result (λ why. Drives ⊤ self.old (line_of self.old Event.EndOwner (Told.Reply (Reply.Refused why None)) ∷ []) self.new) }
-        ensures last { IfOk result (λ last. Told.Reply (Reply.Value last) ≡ told_by self.old.core kept.EndOwner) }
+        ensures done { IfOk result (λ last.
+            Happens T.is_clone self.old Event.EndOwner (Told.Reply (Reply.Value last)) self.new) }
+        ensures refused { IfErr result (λ why.
+            Happens T.is_clone self.old Event.EndOwner
+            (Told.Reply (Reply.Refused why None)) self.new) }
+        ensures last { IfOk result (λ last.
+            Told.Reply (Reply.Value last) ≡ told_by self.old.core kept.EndOwner) }
 
         ensures if_open { IsOk result ↔ (is_closed self.old.core.cell ≡ false) }
         ensures counted { owners_of self.new.core.cell ≡ owners_of self.old.core.cell - 1 }

@@ -11,11 +11,11 @@ pub returns-clause-done : goal.returns-clause-done
 returns-clause-done g c =
     let at : State g.row.T.Denot = record { core = c.self.inside.core; tasks = c.self.inside.tasks } in
     MatchResult-weaker c.add_owner.result c.add_owner.ensures.done
-    (λ u answers. call_drives at c.args.self.now c.self.view_is c.add_owner.new.self c.self.inside.tasks _ event.AddOwner (told.Reply reply.Done) _ _ refl refl (λ i. refl) refl (λ count ready names. tt) c.self.invariant answers refl)
+    (λ u answers. call_drives g.T.Clone.is_clone at c.args.self.now c.self.view_is c.add_owner.new.self c.self.inside.tasks _ event.AddOwner (told.Reply reply.Done) _ _ refl refl (λ i. refl) refl (λ count ready names. tt) c.self.invariant answers refl)
     (λ why p. p)
 
 pub returns-clause-refused : goal.returns-clause-refused
 returns-clause-refused g c =
     let at : State g.row.T.Denot = record { core = c.self.inside.core; tasks = c.self.inside.tasks } in
     MatchResult-weaker c.add_owner.result c.add_owner.ensures.refused (λ u p. p)
-    (λ why answers. call_drives at c.args.self.now c.self.view_is c.add_owner.new.self c.self.inside.tasks _ event.AddOwner (told.Reply (reply.Refused why None)) _ _ refl refl (λ i. refl) refl (λ count ready names. tt) c.self.invariant answers refl)
+    (λ why answers. call_drives g.T.Clone.is_clone at c.args.self.now c.self.view_is c.add_owner.new.self c.self.inside.tasks _ event.AddOwner (told.Reply (reply.Refused why None)) _ _ refl refl (λ i. refl) refl (λ count ready names. tt) c.self.invariant answers refl)

@@ -2,7 +2,6 @@ use Rattle.std.proofs.Common.{◌≡◌, [], rules, arith, refl, sym, ◌∙◌,
 use Rattle.std.proofs.lemmas.List.{nil_from_length}
 use Rattle.std.proofs.lemmas.Grind.{common_steps}
 use Rattle.std.specs.Vec.Iter.{into_iter_items}
-use Rattle.async_cell_core.specs.Polled.{IsExact}
 use Rattle.async_cell_driver.specs.State.{State}
 use Rattle.async_cell_driver.proofs.Joining.{drives_nil, happen_more}
 use Rattle.async_cell_driver.proofs.driver.Driver.apply.Goals as goal
@@ -13,7 +12,7 @@ loop-event-init g c =
       made = search rules;
       left = search rules;
       space = grind (arith, common_steps);
-      drives = ([], refl, rw (← c.self.view_is) (drives_nil (IsExact g.T.Clone.is_clone) at c.begins.ensures c.self.invariant));
+      drives = ([], refl, rw (← c.self.view_is) (drives_nil g.T.Clone.is_clone at c.begins.ensures c.self.invariant), tt);
       results = λ i. refl;
     }
 
@@ -24,8 +23,8 @@ loop-event-preserved g c =
       made = rw length-append (omega (arith, here.made, c.push_reserved.ensures.len));
       left = rw (append_assoc, ← step.0) here.left;
       space = omega (arith, here.space, step.1, c.push_reserved.ensures.len, c.push_reserved.ensures.capacity);
-      drives = rw c.push_reserved.ensures.items (happen_more g.E.Edit.edit (IsExact g.T.Clone.is_clone) c.args.self.now c.loop-event.self c.happen.new.self c.loop-event.yielded c.loop-event.told.items c.in-Some.event c.happen.result
-          (omega (arith, here.made, c.loop-event.told.ok.0)) here.drives c.happen.ensures.drives);
+      drives = rw c.push_reserved.ensures.items (happen_more g.E.Edit.edit g.T.Clone.is_clone g.T.Clone.is_infallible c.args.self.now c.loop-event.self c.happen.new.self c.loop-event.yielded c.loop-event.told.items c.in-Some.event c.happen.result
+          (omega (arith, here.made, c.loop-event.told.ok.0)) here.drives c.happen.ensures.drives c.happen.ensures.spared);
       results = λ i. c.happen.ensures.results_stay i ∙ here.results i;
     }
 
@@ -35,4 +34,4 @@ returns-clause-drives g c =
     let here = c.loop-event.invariant in
     let none : into_iter_items c.loop-event.event-iterator ≡ [] = nil_from_length _ (omega (arith, last.0, c.loop-event.event-iterator.rest.ok.0)) in
     let all : c.loop-event.yielded ≡ c.args.events.items = sym (append-nil c.loop-event.yielded) ∙ (rw none at here.left) in
-    (here.drives.0, here.drives.1 ∙ search rules, rw (← all) here.drives.2)
+    (here.drives.0, here.drives.1 ∙ search rules, rw (← all) here.drives.2, rw (← all) here.drives.3)

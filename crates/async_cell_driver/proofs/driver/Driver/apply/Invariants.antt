@@ -1,9 +1,8 @@
 use Rattle.std.proofs.Common.{◌≡◌, ◌≤◌, ◌+◌, List, map, length, vec_len, vec_capacity, ◌++◌}
 use Rattle.std.specs.Vec.Iter.{into_iter_items, into_iter_len}
 use Rattle.async_cell_cons.specs.declared.named.Named.{Named}
-use Rattle.async_cell_core.specs.Polled.{IsExact}
 use Rattle.async_cell_driver.specs.Log.{log_of, with_edit}
-use Rattle.async_cell_driver.specs.Drives.{Drives, KeepsResults}
+use Rattle.async_cell_driver.specs.Drives.{AllSpared, Drives, KeepsResults}
 use Rattle.async_cell_driver.proofs.driver.Driver.apply.Given as goal
 
 -- the events that happened so far, and what they were told
@@ -13,6 +12,7 @@ invariant-loop-event g l = record {
   left : l.yielded ++ into_iter_items l.event-iterator ≡ l.fn.events.items;
   space : vec_len l.told + into_iter_len l.event-iterator ≤ vec_capacity l.told;
   drives : (handed : List (List Named)) × (length handed ≡ length l.yielded)
-      × Drives (IsExact g.T.Clone.is_clone) l.fn.self (log_of (map (with_edit g.E.Edit.edit) l.yielded) l.told.items handed) l.self;
+      × Drives g.T.Clone.is_clone l.fn.self (log_of (map (with_edit g.E.Edit.edit) l.yielded) l.told.items handed) l.self
+      × AllSpared g.T.Clone.is_infallible l.fn.self (log_of (map (with_edit g.E.Edit.edit) l.yielded) l.told.items handed);
   results : KeepsResults l.fn.self l.self;
 }

@@ -11,18 +11,18 @@ pub returns-in_err-last-clause-refused : goal.returns-in_err-last-clause-refused
 returns-in_err-last-clause-refused g c =
     let at : State g.row.T.Denot = record { core = c.self.inside.core; tasks = c.self.inside.tasks } in
     let p = err_from_is_err_and c.from_residual.result c.from_residual.ensures.1 in
-    rw (p.1, p.2) (call_drives at c.args.self.now c.self.view_is c.end_owner.new.self c.self.inside.tasks _ event.EndOwner (told.Reply (reply.Refused c.in_err-last.field-0.0 None)) _ _
+    rw (p.1, p.2) (call_drives g.T.Clone.is_clone at c.args.self.now c.self.view_is c.end_owner.new.self c.self.inside.tasks _ event.EndOwner (told.Reply (reply.Refused c.in_err-last.field-0.0 None)) _ _
     refl refl (λ i. refl) refl (λ count ready names. tt) c.self.invariant c.in_err-last.ensures.refused refl)
 
 pub invariant_of-self-2 : goal.invariant_of-self-2
 invariant_of-self-2 g c =
     let at : State g.row.T.Denot = record { core = c.self.inside.core; tasks = c.self.inside.tasks } in
-    covered_called at c.end_owner.new.self c.wake.new.self _ _ _ c.self.invariant c.in_ok-last.ensures.done c.wake.ensures
+    covered_called at c.end_owner.new.self c.wake.new.self _ _ _ refl c.self.invariant c.in_ok-last.ensures.done c.wake.ensures
 
 pub returns-clause-done : goal.returns-clause-done
 returns-clause-done g c =
     let at : State g.row.T.Denot = record { core = c.self.inside.core; tasks = c.self.inside.tasks } in
-    call_drives at c.args.self.now c.self.view_is c.end_owner.new.self c.wake.new.self _ event.EndOwner (told.Reply (reply.Value c.in_ok-last.last)) _ _ refl refl (λ i. refl) refl (λ count ready names. tt)
+    call_drives g.T.Clone.is_clone at c.args.self.now c.self.view_is c.end_owner.new.self c.wake.new.self _ event.EndOwner (told.Reply (reply.Value c.in_ok-last.last)) _ _ refl refl (λ i. refl) refl (λ count ready names. tt)
     c.self.invariant c.in_ok-last.ensures.done c.wake.ensures
 
 pub returns-clause-results_stay : goal.returns-clause-results_stay

@@ -1,18 +1,18 @@
-use Rattle.std.proofs.Common.{◌≡◌, false, Some, refl, sym, ap, ◌∙◌}
-use Rattle.async_cell_core.specs.Polled.{IsExact}
-use Rattle.async_cell_driver.specs.declared.task.Kind.TheVariants.{Get}
+use Rattle.std.proofs.Common.{◌≡◌, [], false, refl, sym, ap, ◌∙◌}
 use Rattle.async_cell_driver.specs.Mark.{is_ready_mark}
-use Rattle.async_cell_driver.specs.State.{State, mark_at, kind_at}
+use Rattle.async_cell_driver.specs.State.{State, mark_at}
+use Rattle.async_cell_driver.specs.Log.{is_ready}
+use Rattle.async_cell_driver.specs.Asked.{polled_of}
 use Rattle.async_cell_driver.proofs.Reading.{ready_now}
 use Rattle.async_cell_driver.proofs.Lines.{not_polled}
-use Rattle.async_cell_driver.proofs.Polling.{covered_polled, poll_drives_as, results-marked, ready_no_more, others_stay, sure_anyway, sure_polled, taker_sure}
+use Rattle.async_cell_driver.proofs.Polling.{covered_polled, started_kind, poll_drives_as, results-marked, ready_no_more, others_stay, sure_anyway, sure_polled, taker_sure, same_kind, not_both, ok_as_polled, ready_as_polled, spared_polled}
 use Rattle.async_cell_driver.proofs.driver.Driver.poll.Goals as goal
 
 pub returns-in_default-clause-drives : goal.returns-in_default-clause-drives
 returns-in_default-clause-drives g c =
     let at : State g.row.T.Denot = record { core = c.self.inside.core; tasks = c.self.inside.tasks } in
     let not_ready : is_ready_mark (mark_at at.tasks c.args.i) ≡ false = rw c.in_default.is at c.ready.ensures.not_ready in
-    rw (← c.self.view_is) (not_polled at c.args.i (kind_at at.tasks c.args.i ≡ Some Get → IsExact g.T.Clone.is_clone) c.begins.ensures c.self.invariant (ready_now at c.args.i ∙ not_ready))
+    rw (← c.self.view_is) (not_polled at c.args.i g.T.Clone.is_clone c.begins.ensures c.self.invariant (ready_now at c.args.i ∙ not_ready))
 
 pub returns-in_default-clause-not_ready : goal.returns-in_default-clause-not_ready
 returns-in_default-clause-not_ready g c =
@@ -23,17 +23,18 @@ returns-in_default-clause-not_ready g c =
 pub invariant_of-self : goal.invariant_of-self
 invariant_of-self g c =
     let at : State g.row.T.Denot = record { core = c.self.inside.core; tasks = c.self.inside.tasks } in
-    rw (c.set_mark.ensures, c.mark_of.ensures) (covered_polled at c.ask-asked.new.core c.args.i c.ask-asked.result c.self.invariant c.ask-asked.ensures.refused c.ask-asked.ensures.waiting)
+    let ready = rw c.in-Some.is at c.ready.ensures.kind in
+    rw (c.set_mark.ensures, c.mark_of.ensures) (covered_polled at c.ask-asked.new.core c.args.i c.ask-asked.result c.self.invariant (started_kind c.args.i at.tasks c.in-Some.kind ready.0) c.ask-asked.ensures.refused c.ask-asked.ensures.waiting)
 
 pub returns-clause-drives : goal.returns-clause-drives
 returns-clause-drives g c =
     let at : State g.row.T.Denot = record { core = c.self.inside.core; tasks = c.self.inside.tasks } in
     let asked = c.ask-asked.ensures in
     let ready = rw c.in-Some.is at c.ready.ensures.kind in
-    let E = kind_at c.args.self.now.tasks c.args.i ≡ Some Get → IsExact g.T.Clone.is_clone in
+    let E = g.T.Clone.is_clone in
     poll_drives_as E at c.args.self.now c.self.view_is c.ask-asked.new.core c.set_mark.new.self c.args.i c.in-Some.kind c.ask-asked.result c.polled.result
     c.begins-2.ensures c.self.invariant ready.0 ready.1
-    (λ e. asked.model (λ is_get. e (ap (λ (s : State g.row.T.Denot). kind_at s.tasks c.args.i) (sym c.self.view_is) ∙ (ready.0 ∙ ap Some is_get)))) asked.refused asked.waiting (rw c.mark_of.ensures at c.set_mark.ensures) c.polled.ensures
+    asked.model asked.refused asked.waiting (rw c.mark_of.ensures at c.set_mark.ensures) c.polled.ensures
 
 pub returns-clause-results_stay : goal.returns-clause-results_stay
 returns-clause-results_stay g c j = rw (← c.self.view_is, c.set_mark.ensures) (results-marked c.mark_of.result c.args.i j c.self.inside.tasks)
@@ -57,3 +58,45 @@ pub returns-clause-taker_sure : goal.returns-clause-taker_sure
 returns-clause-taker_sure g c =
     let ready = rw c.in-Some.is at c.ready.ensures.kind in
     rw (← c.self.view_is, c.polled.ensures) (λ is_taker not_vacant. taker_sure c.self.inside.core c.in-Some.kind c.args.i c.ask-asked.result (sym ready.0 ∙ is_taker) not_vacant c.ask-asked.ensures.spared)
+
+pub returns-in_default-clause-taker_takes : goal.returns-in_default-clause-taker_takes
+returns-in_default-clause-taker_takes g c =
+    let at : State g.row.T.Denot = record { core = c.self.inside.core; tasks = c.self.inside.tasks } in
+    let not_ready : is_ready at [] c.args.i ≡ false = ready_now at c.args.i ∙ (rw c.in_default.is at c.ready.ensures.not_ready) in
+    rw (← c.self.view_is) (λ is_kind ready not_vacant. absurd (not_both _ not_ready ready))
+
+pub returns-in_default-clause-taker_leaves_none : goal.returns-in_default-clause-taker_leaves_none
+returns-in_default-clause-taker_leaves_none g c =
+    let at : State g.row.T.Denot = record { core = c.self.inside.core; tasks = c.self.inside.tasks } in
+    let not_ready : is_ready at [] c.args.i ≡ false = ready_now at c.args.i ∙ (rw c.in_default.is at c.ready.ensures.not_ready) in
+    rw (← c.self.view_is) (λ is_kind ready. absurd (not_both _ not_ready ready))
+
+pub returns-in_default-clause-getter_clones : goal.returns-in_default-clause-getter_clones
+returns-in_default-clause-getter_clones g c =
+    let at : State g.row.T.Denot = record { core = c.self.inside.core; tasks = c.self.inside.tasks } in
+    let not_ready : is_ready at [] c.args.i ≡ false = ready_now at c.args.i ∙ (rw c.in_default.is at c.ready.ensures.not_ready) in
+    rw (← c.self.view_is) (λ is_kind ready not_vacant. absurd (not_both _ not_ready ready))
+
+pub returns-clause-taker_takes : goal.returns-clause-taker_takes
+returns-clause-taker_takes g c =
+    let ready = rw c.in-Some.is at c.ready.ensures.kind in
+    rw (← c.self.view_is) (λ is_taker is_ready not_vacant. c.polled.ensures ∙ ap polled_of (c.ask-asked.ensures.taker_takes (same_kind _ _ (sym ready.0 ∙ is_taker)) not_vacant))
+
+pub returns-clause-taker_leaves_none : goal.returns-clause-taker_leaves_none
+returns-clause-taker_leaves_none g c =
+    let ready = rw c.in-Some.is at c.ready.ensures.kind in
+    rw (← c.self.view_is, c.polled.ensures) (λ is_taker is_ready. ok_as_polled c.ask-asked.result _ (c.ask-asked.ensures.taker_leaves_none (same_kind _ _ (sym ready.0 ∙ is_taker))))
+
+pub returns-clause-getter_clones : goal.returns-clause-getter_clones
+returns-clause-getter_clones g c =
+    let ready = rw c.in-Some.is at c.ready.ensures.kind in
+    rw (← c.self.view_is, c.polled.ensures) (λ is_getter is_ready not_vacant. ready_as_polled c.ask-asked.result _ (c.ask-asked.ensures.getter_clones (same_kind _ _ (sym ready.0 ∙ is_getter)) not_vacant))
+
+pub returns-clause-getter_leaves : goal.returns-clause-getter_leaves
+returns-clause-getter_leaves g c =
+    let ready = rw c.in-Some.is at c.ready.ensures.kind in
+    rw (← c.self.view_is) (λ is_getter not_vacant. c.ask-asked.ensures.getter_leaves (same_kind _ _ (sym ready.0 ∙ is_getter)) not_vacant)
+
+pub returns-clause-spared_told : goal.returns-clause-spared_told
+returns-clause-spared_told g c =
+    rw (← c.self.view_is, c.polled.ensures) (spared_polled g.T.Clone.is_infallible c.self.inside.core.cell c.args.i c.ask-asked.result c.ask-asked.ensures.sure)

@@ -1,6 +1,5 @@
 use Rattle.std.proofs.Common.{[], ◌∷◌, Some, map, refl, ap, sym, subst, ◌∙◌}
 use Rattle.std.proofs.lemmas.Result.{err_from_is_err_and}
-use Rattle.async_cell_core.specs.Polled.{IsExact}
 use Rattle.async_cell_driver.specs.State.{State, result_at}
 use Rattle.async_cell_driver.specs.Log.{is_ready}
 use Rattle.async_cell_driver.specs.History.{line_of}
@@ -8,8 +7,8 @@ use Rattle.async_cell_driver.specs.Drives.{Drives}
 use Rattle.async_cell_driver.specs.declared.event.Event.TheVariants.{Poll}
 use Rattle.async_cell_driver.specs.declared.event.Told.TheVariants as told
 use Rattle.async_cell_driver.specs.declared.event.Polled.TheVariants.{Ready}
-use Rattle.async_cell_driver.proofs.Joining.{polled_drives}
 use Rattle.async_cell_driver.proofs.Keeping.{covered_keeping, ready-keeping, drives_keeping}
+use Rattle.async_cell_driver.proofs.Polling.{sure_anyway}
 use Rattle.async_cell_driver.proofs.Settling.{keeps_one, size_kept, one_refused, one_pending}
 use Rattle.async_cell_driver.proofs.driver.Driver.poll_and_keep.Goals as goal
 
@@ -21,11 +20,11 @@ invariant_of-self g c =
 pub returns-in-Ready-clause-settles : goal.returns-in-Ready-clause-settles
 returns-in-Ready-clause-settles g c =
     let at : State g.row.T.Denot = record { core = c.self.inside.core; tasks = c.self.inside.tasks } in
-    let E = IsExact g.T.Clone.is_clone in
+    let E = g.T.Clone.is_clone in
     let answer = told.Polled (Ready c.in-Ready.content) in
     let polled : Drives E c.args.self.now (line_of c.args.self.now (Poll c.args.i) answer ∷ []) at =
     subst (λ (s : State g.row.T.Denot). Drives E c.args.self.now (line_of c.args.self.now (Poll c.args.i) answer ∷ []) s) (sym c.self.view_is)
-    (polled_drives _ E c.args.self.now c.poll.new.self _ (rw c.in-Ready.is at c.in_ok-content.ensures.drives)) in (
+    ((rw c.in-Ready.is at c.in_ok-content.ensures.drives)) in (
       answer,
       record {
         drives = rw c.keep.ensures (drives_keeping E c.args.i (Some c.in-Ready.content) c.args.self.now at _ polled);
@@ -53,10 +52,18 @@ pub returns-in_err-content-clause-settles : goal.returns-in_err-content-clause-s
 returns-in_err-content-clause-settles g c =
     let p = err_from_is_err_and c.from_residual.result c.from_residual.ensures.1 in
     let why = c.in_err-content.field-0.0 in
-    rw (p.1, p.2) (told.Refused why, one_refused _ (IsExact g.T.Clone.is_clone) c.args.self.now c.poll.new.self c.args.i why c.in_err-content.ensures.results_stay c.in_err-content.ensures.drives)
+    rw (p.1, p.2) (told.Refused why, one_refused g.T.Clone.is_clone c.args.self.now c.poll.new.self c.args.i why c.in_err-content.ensures.results_stay c.in_err-content.ensures.drives)
 
 pub returns-in_default : goal.returns-in_default
 returns-in_default g c =
     let asked = c.in_ok-content.ensures in
-    let one = one_pending _ (IsExact g.T.Clone.is_clone) c.args.self.now c.poll.new.self c.args.i c.in_ok-content.field-0 c.in_default.not-Ready asked.results_stay asked.drives in
-    record { settles = (told.Polled c.in_ok-content.field-0, one.0); ready_no_more = asked.ready_no_more; others_stay = asked.others_stay; size = one.1 }
+    let one = one_pending g.T.Clone.is_clone c.args.self.now c.poll.new.self c.args.i c.in_ok-content.field-0 c.in_default.not-Ready asked.results_stay asked.drives in
+    record { settles = (told.Polled c.in_ok-content.field-0, one.0); ready_no_more = asked.ready_no_more; others_stay = asked.others_stay; size = one.1; sure = λ not_vacant. sure_anyway _ _ _ refl }
+
+pub returns-in-Ready-clause-sure : goal.returns-in-Ready-clause-sure
+returns-in-Ready-clause-sure g c not_vacant = sure_anyway _ _ _ refl
+
+pub returns-in_err-content-clause-sure : goal.returns-in_err-content-clause-sure
+returns-in_err-content-clause-sure g c =
+    let p = err_from_is_err_and c.from_residual.result c.from_residual.ensures.1 in
+    rw (p.1, c.in_err-content.ensures.refused.1) c.in_err-content.ensures.sure

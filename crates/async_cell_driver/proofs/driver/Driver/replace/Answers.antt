@@ -12,19 +12,19 @@ pub returns-in_err-old-clause-refused : goal.returns-in_err-old-clause-refused
 returns-in_err-old-clause-refused g c =
     let at : State g.row.T.Denot = record { core = c.self.inside.core; tasks = c.self.inside.tasks } in
     let p = err_from_is_err_and c.from_residual.result c.from_residual.ensures.1 in
-    rw p.1 (call_drives at c.args.self.now c.self.view_is c.replace.new.self c.self.inside.tasks _ (event.Replace c.args.value) (told.Reply (reply.Refused why.Closed (Some c.args.value))) _ _
+    rw p.1 (call_drives g.T.Clone.is_clone at c.args.self.now c.self.view_is c.replace.new.self c.self.inside.tasks _ (event.Replace c.args.value) (told.Reply (reply.Refused why.Closed (Some c.args.value))) _ _
     refl (ap (λ v. Some (reply.Refused why.Closed (Some v))) (sym c.in_err-old.ensures.comes_back)) (λ i. refl) refl (λ count ready names. tt)
     c.self.invariant c.in_err-old.ensures.refused refl)
 
 pub invariant_of-self-2 : goal.invariant_of-self-2
 invariant_of-self-2 g c =
     let at : State g.row.T.Denot = record { core = c.self.inside.core; tasks = c.self.inside.tasks } in
-    covered_called at c.replace.new.self c.wake.new.self _ _ _ c.self.invariant c.in_ok-old.ensures.done c.wake.ensures
+    covered_called at c.replace.new.self c.wake.new.self _ _ _ refl c.self.invariant c.in_ok-old.ensures.done c.wake.ensures
 
 pub returns-clause-done : goal.returns-clause-done
 returns-clause-done g c =
     let at : State g.row.T.Denot = record { core = c.self.inside.core; tasks = c.self.inside.tasks } in
-    call_drives at c.args.self.now c.self.view_is c.replace.new.self c.wake.new.self _ (event.Replace c.args.value) (told.Reply (reply.Value c.in_ok-old.old)) _ _ refl refl (λ i. refl) refl (λ count ready names. tt)
+    call_drives g.T.Clone.is_clone at c.args.self.now c.self.view_is c.replace.new.self c.wake.new.self _ (event.Replace c.args.value) (told.Reply (reply.Value c.in_ok-old.old)) _ _ refl refl (λ i. refl) refl (λ count ready names. tt)
     c.self.invariant c.in_ok-old.ensures.done c.wake.ensures
 
 pub returns-clause-results_stay : goal.returns-clause-results_stay

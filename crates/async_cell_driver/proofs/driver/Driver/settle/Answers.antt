@@ -1,9 +1,9 @@
 use Rattle.std.proofs.Common.{◌≡◌, [], true, false, arith, rules, refl, sym, ◌∙◌, below_more}
 use Rattle.std.proofs.lemmas.Result.{err_from_is_err_and}
-use Rattle.async_cell_core.specs.Polled.{IsExact}
 use Rattle.async_cell_driver.specs.State.{State}
 use Rattle.async_cell_driver.specs.Log.{is_ready}
 use Rattle.async_cell_driver.proofs.Joining.{drives_nil}
+use Rattle.async_cell_driver.proofs.Polling.{sure_anyway}
 use Rattle.async_cell_driver.proofs.Settling.{so_far_nil, so_far_skip, so_far_more, settles_refused, none_ready, none_waits}
 use Rattle.async_cell_driver.proofs.driver.Driver.settle.Goals as goal
 
@@ -13,7 +13,7 @@ loop-i-init g c =
       within = search rules;
       ends = search rules;
       size = refl;
-      settled = ([], rw (← c.self.view_is) (so_far_nil (IsExact g.T.Clone.is_clone) at (drives_nil (IsExact g.T.Clone.is_clone) at c.begins.ensures c.self.invariant)));
+      settled = ([], rw (← c.self.view_is) (so_far_nil g.T.Clone.is_clone at (drives_nil g.T.Clone.is_clone at c.begins.ensures c.self.invariant)));
       passed = λ j below. absurd (omega arith);
       left = λ j above. refl;
     }
@@ -25,7 +25,7 @@ loop-i-preserved-then-not-is_ready g c =
       within = omega (arith, here.within);
       ends = here.ends;
       size = here.size;
-      settled = (here.settled.0, so_far_skip (IsExact g.T.Clone.is_clone) c.args.self.now c.loop-i.self c.loop-i.i c.loop-i.polls here.settled.0 here.settled.1 (sym (here.left c.loop-i.i (omega arith)) ∙ not_ready));
+      settled = (here.settled.0, so_far_skip g.T.Clone.is_clone c.args.self.now c.loop-i.self c.loop-i.i c.loop-i.polls here.settled.0 here.settled.1 (sym (here.left c.loop-i.i (omega arith)) ∙ not_ready));
       passed = below_more _ _ here.passed not_ready;
       left = λ j above. here.left j (omega arith);
     }
@@ -36,7 +36,7 @@ returns-in_err-poll_and_keep-clause-settles g c =
     let p = err_from_is_err_and c.from_residual.result c.from_residual.ensures.1 in
     let ready : is_ready c.args.self.now [] c.loop-i.i ≡ true = sym (here.left c.loop-i.i (omega arith)) ∙ sym c.if-not-is_ready.ensures in
     let one = c.in_err-poll_and_keep.ensures.settles in
-    rw (p.1, p.2) (_, settles_refused (IsExact g.T.Clone.is_clone) c.args.self.now c.loop-i.self c.poll_and_keep.new.self c.loop-i.i c.loop-i.polls here.settled.0 one.0 _ here.settled.1 ready (omega (arith, here.ends)) one.1)
+    rw (p.1, p.2) (_, settles_refused g.T.Clone.is_clone c.args.self.now c.loop-i.self c.poll_and_keep.new.self c.loop-i.i c.loop-i.polls here.settled.0 one.0 _ here.settled.1 ready (omega (arith, here.ends)) one.1)
 
 pub loop-i-preserved : goal.loop-i-preserved
 loop-i-preserved g c =
@@ -46,7 +46,7 @@ loop-i-preserved g c =
       within = omega (arith, here.within);
       ends = here.ends;
       size = one.size ∙ here.size;
-      settled = (_, so_far_more (IsExact g.T.Clone.is_clone) c.args.self.now c.loop-i.self c.poll_and_keep.new.self c.loop-i.i c.loop-i.polls here.settled.0 one.settles.0 here.settled.1 ready one.settles.1);
+      settled = (_, so_far_more g.T.Clone.is_clone c.args.self.now c.loop-i.self c.poll_and_keep.new.self c.loop-i.i c.loop-i.polls here.settled.0 one.settles.0 here.settled.1 ready one.settles.1);
       passed = below_more _ _ (λ j below. one.others_stay j (omega arith) ∙ here.passed j below) one.ready_no_more;
       left = λ j above. one.others_stay j (omega arith) ∙ here.left j (omega arith);
     }
@@ -60,3 +60,11 @@ pub returns-clause-none_waits : goal.returns-clause-none_waits
 returns-clause-none_waits g c =
     let here = c.loop-i.invariant in
     none_waits c.loop-i.self here.settled.1.drives.none_forgotten (none_ready c.loop-i.self c.loop-i.i (omega (arith, here.size, here.ends)) here.passed)
+
+pub returns-in_err-poll_and_keep-clause-sure : goal.returns-in_err-poll_and_keep-clause-sure
+returns-in_err-poll_and_keep-clause-sure g c =
+    let p = err_from_is_err_and c.from_residual.result c.from_residual.ensures.1 in
+    rw p.1 c.in_err-poll_and_keep.ensures.sure
+
+pub returns-clause-sure : goal.returns-clause-sure
+returns-clause-sure g c not_vacant = sure_anyway _ _ _ refl

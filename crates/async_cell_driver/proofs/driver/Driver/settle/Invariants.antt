@@ -1,5 +1,4 @@
 use Rattle.std.proofs.Common.{◌≡◌, ◌≤◌, ◌<◌, ℕ, [], false, length}
-use Rattle.async_cell_core.specs.Polled.{IsExact}
 use Rattle.async_cell_driver.specs.Log.{Log, is_ready}
 use Rattle.async_cell_driver.proofs.Settling.{SoFar}
 use Rattle.async_cell_driver.proofs.driver.Driver.settle.Given as goal
@@ -10,7 +9,7 @@ invariant-loop-i g l = record {
   within : l.polls ≤ l.i;
   ends : l.i-end ≡ length l.fn.self.tasks;
   size : length l.self.tasks ≡ length l.fn.self.tasks;
-  settled : (log : Log g.row.T.Denot) × SoFar (IsExact g.T.Clone.is_clone) l.fn.self l.i l.polls log l.self;
+  settled : (log : Log g.row.T.Denot) × SoFar g.T.Clone.is_clone l.fn.self l.i l.polls log l.self;
   passed : (j : ℕ) → j < l.i → is_ready l.self [] j ≡ false;
   left : (j : ℕ) → l.i ≤ j → is_ready l.self [] j ≡ is_ready l.fn.self [] j;
 }

@@ -9,5 +9,5 @@ use Rattle.async_cell_driver.proofs.driver.Driver.try_take.Goals as goal
 pub returns-clause-drives : goal.returns-clause-drives
 returns-clause-drives g c =
     let at : State g.row.T.Denot = record { core = c.self.inside.core; tasks = c.self.inside.tasks } in
-    call_drives at c.args.self.now c.self.view_is c.try_take.new.self c.self.inside.tasks _ event.TryTake (told.Reply (reply.Value c.try_take.result)) _ _ refl refl (λ i. refl) refl (λ count ready names. tt)
+    call_drives g.T.Clone.is_clone at c.args.self.now c.self.view_is c.try_take.new.self c.self.inside.tasks _ event.TryTake (told.Reply (reply.Value c.try_take.result)) _ _ refl refl (λ i. refl) refl (λ count ready names. tt)
     c.self.invariant c.try_take.ensures.model refl

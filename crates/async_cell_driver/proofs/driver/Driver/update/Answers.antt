@@ -13,19 +13,19 @@ pub returns-in_err-woken-clause-refused : goal.returns-in_err-woken-clause-refus
 returns-in_err-woken-clause-refused g c =
     let at : State g.row.T.Denot = record { core = c.self.inside.core; tasks = c.self.inside.tasks } in
     let p = err_from_is_err_and c.from_residual.result c.from_residual.ensures.1 in
-    rw (p.1, p.2) (call_drives at c.args.self.now c.self.view_is c.update.new.self c.self.inside.tasks _ (event.Update (g.E.Edit.edit c.args.edit)) (told.Reply (reply.Refused c.in_err-woken.field-0.0 None)) _ _
+    rw (p.1, p.2) (call_drives g.T.Clone.is_clone at c.args.self.now c.self.view_is c.update.new.self c.self.inside.tasks _ (event.Update (g.E.Edit.edit c.args.edit)) (told.Reply (reply.Refused c.in_err-woken.field-0.0 None)) _ _
     (ap Some (update_refused_is at.core.cell (g.E.Edit.edit c.args.edit) (λ open_. let ok = c.in_err-woken.ensures.if_open.1 open_ in cc))) refl (λ i. refl) refl (λ count ready names. tt)
     c.self.invariant c.in_err-woken.ensures.refused refl)
 
 pub invariant_of-self-2 : goal.invariant_of-self-2
 invariant_of-self-2 g c =
     let at : State g.row.T.Denot = record { core = c.self.inside.core; tasks = c.self.inside.tasks } in
-    covered_called at c.update.new.self c.wake.new.self c.in_ok-woken.woken (kept.Update (content at.core.cell) (content c.update.new.self.cell)) reply.Done c.self.invariant c.in_ok-woken.ensures.done c.wake.ensures
+    covered_called at c.update.new.self c.wake.new.self c.in_ok-woken.woken (kept.Update (content at.core.cell) (content c.update.new.self.cell)) reply.Done refl c.self.invariant c.in_ok-woken.ensures.done c.wake.ensures
 
 pub returns-clause-done : goal.returns-clause-done
 returns-clause-done g c =
     let at : State g.row.T.Denot = record { core = c.self.inside.core; tasks = c.self.inside.tasks } in
-    call_drives at c.args.self.now c.self.view_is c.update.new.self c.wake.new.self c.in_ok-woken.woken (event.Update (g.E.Edit.edit c.args.edit)) (told.Reply reply.Done)
+    call_drives g.T.Clone.is_clone at c.args.self.now c.self.view_is c.update.new.self c.wake.new.self c.in_ok-woken.woken (event.Update (g.E.Edit.edit c.args.edit)) (told.Reply reply.Done)
     (kept.Update (content at.core.cell) (content c.update.new.self.cell)) reply.Done
     (ap Some (update_is at.core.cell (g.E.Edit.edit c.args.edit) _ (c.in_ok-woken.ensures.if_open.0 refl) (search rules))) refl (λ i. refl) refl (λ count ready names. tt)
     c.self.invariant c.in_ok-woken.ensures.done c.wake.ensures

@@ -1,0 +1,38 @@
+-- How many names stand in a driver's wait list.
+use Rattle.std.proofs.Common.{◌≡◌, ◌≢◌, ℕ, ◌<◌, ◌≤◌, Bool, true, false, ◌||◌, List, [], ◌∷◌, length, get_or, map, refl, sym, subst, ◌∙◌, arith}
+use Rattle.std.specs.Prelude.{nat_eq, AllPairs}
+use Rattle.std.specs.List.{list_any, IsDistinct}
+use Rattle.std.proofs.lemmas.Bool.{eqb-true, eqb-false, eq-eqb, ne_eqb}
+use Rattle.std.proofs.lemmas.List.{get_or-map, length-map}
+use Rattle.std.proofs.lemmas.Map.Keys.{IsDistinct-from_apart}
+use Rattle.std.proofs.lemmas.Map.Steps.{length-le_from_distinct_below}
+use Rattle.async_cell_cons.specs.declared.named.Named.{Named}
+use Rattle.async_cell_model.specs.History.{IsBeginning}
+use Rattle.async_cell_model.proofs.Adding.{keep-distinct}
+use Rattle.async_cell_driver.specs.State.{State, name_of, IsCovered, is_named}
+use Rattle.async_cell_driver.specs.Drives.{is_same}
+
+numbers_apart : (a b : Named) → a ≢ b → nat_eq a.0 b.0 ≡ false
+numbers_apart a b other = ne_eqb a.0 b.0 (λ same. other (λ k. record { 0 = same k }))
+
+numbers_distinct : (names : List Named) → AllPairs (λ u v. u ≢ v) names → IsDistinct nat_eq (map (λ (name : Named). name.0) names)
+numbers_distinct names distinct = IsDistinct-from_apart nat_eq (map (λ (name : Named). name.0) names) (λ i j d before within.
+    let high : j < length names = rw length-map at within in
+    let low : i < length names = omega arith in
+    rw (get_or-map (λ (name : Named). name.0) names i (name_of d) d low, get_or-map (λ (name : Named). name.0) names j (name_of d) d high)
+    (numbers_apart (get_or names i (name_of d)) (get_or names j (name_of d)) (distinct i j (name_of d) before high)))
+
+same_if : (a b : ℕ) (same : Bool) → nat_eq a b ≡ same → nat_eq a b ≡ nat_eq b a
+same_if a b true is = is ∙ sym (eq-eqb b a (sym (eqb-true a b is)))
+same_if a b false is = is ∙ sym (ne_eqb b a (λ e. eqb-false a b is (sym e)))
+
+named_number : (q : ℕ) (names : List Named) → list_any (nat_eq q) (map (λ (name : Named). name.0) names) ≡ is_named q names
+named_number q [] = refl
+named_number q (n ∷ names) = rw (same_if q n.0 (nat_eq q n.0) refl, named_number q names) refl
+
+-- no more wakers wait than there are tasks
+pub waiting_few : {T : Type 0} (at : State T) → IsBeginning is_same at.core → IsCovered at → length at.core.waiting ≤ length at.tasks
+waiting_few at begins covered =
+    let distinct : AllPairs (λ (u v : Named). u ≢ v) at.core.waiting = subst (λ (l : List Named). AllPairs (λ (u v : Named). u ≢ v) l) begins.kept (keep-distinct is_same at.core.waiting (λ w. eq-eqb w.0 w.0 refl)) in
+    let few = length-le_from_distinct_below (map (λ (name : Named). name.0) at.core.waiting) (length at.tasks) (numbers_distinct at.core.waiting distinct) (λ q has. covered.1 q (sym (named_number q at.core.waiting) ∙ has)) in
+    rw length-map at few
