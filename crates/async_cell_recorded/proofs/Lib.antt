@@ -1,3 +1,4 @@
 mod Counted
+mod Fitting
 mod Making
 mod Stepping

@@ -4,13 +4,14 @@ use Rattle.std.specs.Prelude.{if◌then◌else◌}
 use Rattle.std.proofs.lemmas.List.{map-append}
 use Rattle.std.proofs.lemmas.List.Elements.{All-push}
 use Rattle.async_cell_cons.specs.declared.named.Named.{Named}
+use Rattle.async_cell_model.specs.declared.cell.Cell.{Cell}
 use Rattle.async_cell_model.specs.declared.cell.Cell.TheVariants.{Open}
 use Rattle.async_cell_model.specs.declared.entry.Entry as model
 use Rattle.async_cell_model.specs.Step.{is_memory, reply}
 use Rattle.async_cell_model.specs.History.{Beginning, History, IsBeginning, has_fill_or_close, room, after}
-use Rattle.async_cell_model.specs.Legal.{MayFollow, IsLegal, hands, hands_after, Leads, Answers}
+use Rattle.async_cell_model.specs.Legal.{IsLegal, hands, hands_after, Leads, Answers}
 use Rattle.async_cell_model.proofs.Leading.{Leads-join}
-use Rattle.async_cell_model.proofs.Whole.{IsLegalAfter-second, after-nil}
+use Rattle.async_cell_model.proofs.Whole.{after-nil}
 use Rattle.async_cell_recorded.specs.declared.entry.Entry.{Entry}
 use Rattle.async_cell_recorded.specs.Recording.{Recording, IsRecorded, names_wake, told, history, start, state}
 use Rattle.async_cell_recorded.specs.Counting.{Totals, Test, IsJournal, one_if, picked_after, picked}
@@ -51,7 +52,6 @@ module _ {T : Type 0} where
     cell_is : core'.cell ≡ (state (longer r e)).cell
     waiting_is : core'.waiting ≡ (state (longer r e)).waiting
     handed : woken ≡ hands (state r) (told e)
-    follows : MayFollow names_wake true (state r) (told e)
 
   more : (r : Recording T) (core core' : Beginning T Named) (e : Entry T) (woken : List Named) → IsRecorded r → core.cell ≡ (state r).cell → core.waiting ≡ (state r).waiting
       → is_memory e.reply ≡ false → Answers names_wake true core e.call e.reply woken core' → More r core' e woken
@@ -59,6 +59,7 @@ module _ {T : Type 0} where
       let both = Leads-join names_wake true (start r.begin) core core' (history r.entries) (told e ∷ []) _ (woken ∷ []) (leads r core recorded cell_is waiting_is) one in
       let grown : history r.entries ++ told e ∷ [] ≡ history (r.entries ++ e ∷ []) = sym (history-snoc r.entries e) in
       let first : woken ≡ hands (after names_wake core []) (told e) = let handed = one.handed_is in cc in
+      let same : after names_wake core [] ≡ core = after-nil (λ (a b : T). a ≡ b) names_wake true core one.begins.kept in
       record {
         recorded = record {
           owned = recorded.owned;
@@ -67,8 +68,7 @@ module _ {T : Type 0} where
         };
         cell_is = both.cell_is ∙ ap (λ (h : History T Named). (after names_wake (start r.begin) h).cell) grown;
         waiting_is = both.waiting_is ∙ ap (λ (h : History T Named). (after names_wake (start r.begin) h).waiting) grown;
-        handed = first ∙ (ap (λ (at : Beginning T Named). hands at (told e)) (after-nil names_wake true core one.begins.kept) ∙ hands_same core (state r) (told e) cell_is waiting_is);
-        follows = (IsLegalAfter-second names_wake true (start r.begin) [] (history r.entries) (told e ∷ []) both.legal).0;
+        handed = first ∙ (ap (λ (at : Beginning T Named). hands at (told e)) same ∙ hands_same core (state r) (told e) cell_is waiting_is);
       }
 
 module _ {T : Type 0} (test : Test T) where
@@ -107,8 +107,8 @@ module _ {T : Type 0} (test : Test T) where
 -- the reply is the model's
 pub step_replies : {T : Type 0} (test : Test T) (r : Recording T) (core core' : Beginning T Named) (counted : Totals) (e : Entry T) (woken : List Named) → IsJournal test r core counted → is_memory e.reply ≡ false
     → Answers names_wake true core e.call e.reply woken core' → e.reply ≡ reply (state r).cell e.call
-step_replies test r core core' counted e woken journal found one = elim (more r core core' e woken journal.recorded journal.cell_is journal.waiting_is found one).follows.replied [
-  | inl same ↦ same
+step_replies {T} test r core core' counted e woken journal found one = elim one.legal.0.replied [
+  | inl same ↦ same ∙ ap (λ (c : Cell T). reply c e.call) journal.cell_is
   | inr refused ↦ let memory : is_memory e.reply ≡ true = rw refused.0 refl in cc
 ]
 

@@ -1,13 +1,9 @@
 -- How the entry of a call comes about: what an update saw is known before the call, and what it answered after it.
-use Rattle.std.specs.Prelude.{◌≡◌, ◌⊎◌, Option, None}
-use Rattle.async_cell_model.specs.declared.cell.Cell.{Cell}
+use Rattle.std.specs.Prelude.{Option, None}
 use Rattle.async_cell_model.specs.declared.entry.Kept.{Kept}
 use Rattle.async_cell_model.specs.declared.entry.Kept.TheVariants as kept
-use Rattle.async_cell_model.specs.declared.refusal.Refusal.{Refusal}
-use Rattle.async_cell_model.specs.declared.refusal.Refusal.TheVariants.{Memory, OutOfTurn}
 use Rattle.async_cell_core.specs.declared.call.Call.{Call}
 use Rattle.async_cell_core.specs.declared.call.Call.TheVariants.{Set, OrSet, Replace, Update, UpdateSome, TryTake, TryGet, IsSet, PollTake, PollGet, AddOwner, EndOwner, TakeInner}
-use Rattle.async_cell_core.specs.Kept.{kept_call}
 
 module _ {T W : Type 0} where
   -- a call on a cell with this content, before it is made
@@ -31,12 +27,3 @@ module _ {T W : Type 0} where
   kept_after (kept.Update saw _) put = kept.Update saw put
   kept_after (kept.UpdateSome saw _) put = kept.UpdateSome saw put
   kept_after call put = call
-
-  -- The call, as a history keeps it on some cell. An update holds what its edit makes of what it saw, or `None` twice where
-  -- the edit was not called.
-  abbrev pub IsKept : {E : Type 0} → (E → Option T → Option T) → (E → T → T) → Call T W E → Kept T W → Type 0
-  IsKept edit edit_some call kept = (c : Cell T) × (kept ≡ kept_call edit edit_some c call)
-
--- the refusals of a recorded call itself, which are no replies: out of turn, or for want of memory
-abbrev pub IsStepRefusal : Refusal → Type 0
-IsStepRefusal why = (why ≡ OutOfTurn) ⊎ (why ≡ Memory)

@@ -1,4 +1,6 @@
+pub mod Answering
 pub mod Counting
+pub mod Fitting
 pub mod Giving
 pub mod Keeping
 pub mod Recording

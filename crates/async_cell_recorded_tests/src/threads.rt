@@ -210,6 +210,7 @@ fn the_last_of_four_owners_hands_out_all_that_wait(rt: HostRuntime) -> Result<()
         assert!(rt; !ended.has_woken);
         if !ended.names.is_empty() {
             handing_out = handing_out.saturating_add(1);
+            assert_eq!(rt; ended.names.len(), 4, "each name once");
             for name in 1..5u64 {
                 assert!(rt; ended.names.as_slice().contains(&name), "{name}");
             }

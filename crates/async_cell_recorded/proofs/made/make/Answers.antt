@@ -1,7 +1,7 @@
 use Rattle.std.proofs.Common.{◌≡◌, true, false, rules}
 use Rattle.async_cell_model.specs.Step.{is_memory}
 use Rattle.async_cell_recorded.specs.Recording.{names_wake}
-use Rattle.async_cell_recorded.proofs.Making.{kept_made}
+use Rattle.async_cell_recorded.proofs.Making.{kept_made, refused_unchanged}
 use Rattle.async_cell_recorded.proofs.made.make.Goals as goal
 
 pub returns-clause-kept : goal.returns-clause-kept
@@ -12,3 +12,8 @@ returns-clause-kept g c =
 
 pub returns-clause-model : goal.returns-clause-model
 returns-clause-model g c = rw (returns-clause-kept g c) c.step_copied-reply.ensures.model
+
+pub returns-in-Refused-Memory-default-clause-unchanged : goal.returns-in-Refused-Memory-default-clause-unchanged
+returns-in-Refused-Memory-default-clause-unchanged g c =
+    let no_memory : is_memory c.step_copied-reply.result.reply ≡ true = search rules in
+    refused_unchanged _ _ _ _ _ _ _ no_memory c.step_copied-reply.ensures.model
