@@ -63,6 +63,27 @@ ends() {
 closed_output() { timeout 20 "$program" >&-; }
 full_output() { timeout 20 "$program" >/dev/full; }
 closed_input() { timeout 20 "$program" <&-; }
+closed_error() { timeout 20 "$program" 2>&-; }
+folder_input() { timeout 20 "$program" </; }
+
+usage='usage: cellrun < SCRIPT
+Steps one cell by the calls on standard input, one a line, and prints what each call answers.
+It takes no arguments. CALLING.md lists the calls.'
+
+# Runs the program with arguments: NAME ARGUMENT.. It is to print the usage on standard error and nothing else, and to leave
+# its input unread.
+refuses_arguments() {
+    local name=$1 status=0 left
+    shift
+    printf 'own\nsett\n' >"$work/in"
+    left=$({
+        timeout 20 "$program" "$@" >"$work/out" 2>"$work/err" || status=$?
+        echo "$status" >"$work/status"
+        cat
+    } <"$work/in")
+    compare "$name" "$(cat "$work/out" "$work/err")|$(wc -l <"$work/err")|$(cat "$work/status")|$left" \
+        "$usage|3|2|own"$'\n'sett
+}
 
 # So many times the character.
 repeated() { printf "%${2}s" '' | tr ' ' "$1"; }
@@ -80,6 +101,39 @@ line_by_line() {
     exec {to}>&-
     wait "$talker" || status=$?
     printf '%sstatus %s' "$told" "$status"
+}
+
+# Sends so many lines and reads their answers, closes the other end of the program's standard output, and sends one line more.
+closes_after() {
+    local status=0 answers='' answer
+    coproc talk { exec "$program" 2>"$work/err"; }
+    local talker=$talk_PID from=${talk[0]} to=${talk[1]} turn
+    for ((turn = 0; turn < $1; turn++)); do
+        printf 'is_set\n' >&"$to"
+        IFS= read -r -t 10 answer <&"$from" || answer='(no answer)'
+        answers+="$answer "
+    done
+    exec {from}<&-
+    printf 'own\n' >&"$to"
+    exec {to}>&-
+    wait "$talker" || status=$?
+    printf '%sstatus %s%s' "$answers" "$status" "$(cat "$work/err")"
+}
+
+# Sends a line, stops and continues the program while it waits for the next, and sends that.
+stopped_and_continued() {
+    local status=0 first second
+    coproc talk { exec "$program"; }
+    local talker=$talk_PID from=${talk[0]} to=${talk[1]}
+    printf 'own\n' >&"$to"
+    IFS= read -r -t 10 first <&"$from" || first='(no answer)'
+    kill -STOP "$talker"
+    kill -CONT "$talker"
+    printf 'end' >&"$to"
+    exec {to}>&-
+    IFS= read -r -t 10 second <&"$from" || second='(no answer)'
+    wait "$talker" || status=$?
+    printf '%s, %s, status %s' "$first" "$second" "$status"
 }
 
 gives 'an empty input' '' '' '' 0
@@ -112,7 +166,24 @@ ends 'a closed standard output' 'own\n' 1 closed_output
 ends 'a full standard output' 'own\n' 1 full_output
 ends 'a full standard output before a bad line' 'own\nsett\n' 1 full_output
 ends 'a full standard output that is not written to' '\n' 0 full_output
+ends 'a last line that lacks its line feed, on a full standard output' 'own' 1 full_output
+ends 'a last line that lacks its line feed, on a closed standard output' 'own' 1 closed_output
+ends 'a bad line, on a closed standard error' 'sett\n' 2 closed_error
 ends 'a closed standard input' '' 1 closed_input
+ends 'a standard input that is a folder' '' 1 folder_input
+
+for answers in 0 1 2 3; do
+    wanted="$(for ((turn = 0; turn < answers; turn++)); do printf 'false '; done)status 1"
+    compare "a standard output that is closed after $answers answers" "$(closes_after "$answers")" "$wanted"
+done
+compare 'a program that is stopped and continued while it reads' "$(stopped_and_continued)" \
+    'owners 2, owners 1, status 0'
+
+refuses_arguments '--help' --help
+refuses_arguments 'an argument' scripts/first.txt
+refuses_arguments 'an argument that is empty' ''
+refuses_arguments 'an argument that is not UTF-8' $'\xff'
+refuses_arguments 'two arguments' - -
 
 talked=$(line_by_line 'own' 'get 1' 'get 2' 'set 7' 'take 1' 'end' 'end' 'debug')
 compare 'each answer comes before more is sent' "$talked" 'own: owners 2

@@ -9,9 +9,19 @@ mod script;
 mod session;
 
 use script::Ended;
+use std::env::{Env, FillError};
 use std::process::ExitCode;
 
+/// What is printed where there are arguments: it takes none.
+const USAGE: &str = "usage: cellrun < SCRIPT\n\
+    Steps one cell by the calls on standard input, one a line, and prints what each call answers.\n\
+    It takes no arguments. CALLING.md lists the calls.\n";
+
 fn main(rt: HostRuntime) -> ExitCode {
+    if has_arguments(&rt) {
+        let _ = eprint!(rt; "{USAGE}");
+        return ExitCode::from(2);
+    }
     match script::script(rt.alloc(), rt.stdin(), rt.stdout()) {
         Ended::Done => ExitCode::SUCCESS,
         Ended::BadLine(number) => {
@@ -20,4 +30,9 @@ fn main(rt: HostRuntime) -> ExitCode {
         }
         Ended::Failed => ExitCode::FAILURE,
     }
+}
+
+/// Whether the program was given an argument, of whatever bytes.
+fn has_arguments<R: Env>(rt: &R) -> bool {
+    !matches!(rt.arg(1, &mut []), Err(FillError::NotPresent))
 }

@@ -28,6 +28,11 @@ pub enum Ended {
 /// Makes the calls that the lines of `input` are on a new cell, and writes their answers to
 /// `output`. What is written is what it would be if each answer were written before the next line is
 /// read: answers are gathered only while the lines that follow are here already.
+///
+/// The clause speaks of a reader whose bytes contracts know, as a slice: that it ends `Done` only
+/// where each line is a call or empty, and `BadLine` only at the first line that is neither. It says
+/// nothing of a reader whose bytes are not known, as standard input, nothing of a script that ends
+/// `Failed`, and nothing of what is written.
 pub fn script<R: Read + Drop, W: Write + Drop>(alloc: Global, input: R, output: W) -> Ended
     ensures { IfSome (R.remaining input) (λ bytes. EndsAs bytes result) }
 {

@@ -195,9 +195,11 @@ fn answers_come_before_the_next_read(rt: HostRuntime) {
 
 #[test]
 fn failed_write(rt: HostRuntime) {
-    let cases: [(&[u8], usize, Ended); 6] = [
+    let cases: [(&[u8], usize, Ended); 8] = [
         (b"own\n", 0, Ended::Failed),
         (b"own\n", 1, Ended::Failed),
+        (b"own", 0, Ended::Failed),
+        (b"own", 8, Ended::Failed),
         (b"own\nsett\n", 2, Ended::Failed),
         (b"sett\n", 0, Ended::BadLine(1)),
         (b"\n\n", 0, Ended::Done),
@@ -211,5 +213,103 @@ fn failed_write(rt: HostRuntime) {
         };
         let at = input;
         assert_eq!(rt; script(rt.alloc(), input, writer), ended, "at {at:?}");
+    }
+}
+
+/// Fails each second read as interrupted, and gives one byte at the others.
+#[derive(Drop)]
+struct Interrupted<'a> {
+    rest: &'a [u8],
+    is_next: bool,
+}
+
+impl Read for Interrupted<'_> {
+    fn read(&mut self, buf: &mut [u8]) -> io::Result<usize> {
+        self.is_next = !self.is_next;
+        if self.is_next {
+            return Err(io::Error::from(ErrorKind::Interrupted));
+        }
+        let count = 1.min(self.rest.len()).min(buf.len());
+        let (front, rest) = self.rest.split_at(count);
+        buf[..count].copy_from_slice(front);
+        self.rest = rest;
+        Ok(count)
+    }
+}
+
+#[test]
+fn an_interrupted_read_is_tried_again(rt: HostRuntime) {
+    let cases: [(&[u8], Ended, usize); 4] = [
+        (b"", Ended::Done, 0),
+        (b"own\nend\n", Ended::Done, 2),
+        (b"own\n\nend", Ended::Done, 2),
+        (b"own\nsett\nend\n", Ended::BadLine(2), 1),
+    ];
+    for (input, ended, count) in cases {
+        let lines = Cell::new(0);
+        let reader = Interrupted {
+            rest: input,
+            is_next: false,
+        };
+        let writer = Narrow {
+            room: usize::MAX,
+            lines: &lines,
+        };
+        assert_eq!(rt; script(rt.alloc(), reader, writer), ended, "at {input:?}");
+        assert_eq!(rt; lines.get(), count, "at {input:?}");
+    }
+}
+
+/// Counts the calls that are made on it, and fails the one of this number, counted from 1, with
+/// this error.
+#[derive(Drop)]
+struct Faulty<'a> {
+    fails_at: usize,
+    kind: ErrorKind,
+    calls: &'a Cell<usize>,
+}
+
+impl Faulty<'_> {
+    fn call(&mut self) -> io::Result<()> {
+        let calls = self.calls.get().saturating_add(1);
+        self.calls.set(calls);
+        if calls == self.fails_at {
+            return Err(io::Error::from(self.kind));
+        }
+        Ok(())
+    }
+}
+
+impl Write for Faulty<'_> {
+    fn write(&mut self, buf: &[u8]) -> io::Result<usize> {
+        self.call()?;
+        Ok(buf.len())
+    }
+
+    fn flush(&mut self) -> io::Result<()> {
+        self.call()
+    }
+}
+
+/// Each answer is written and flushed before the next line is read: two calls on the writer a line.
+/// Where one of them fails, it is the last.
+#[test]
+fn nothing_is_written_after_a_failed_write(rt: HostRuntime) {
+    for kind in [ErrorKind::Other] {
+        for fails_at in [2, 3, 4, 5, 6] {
+            let calls = Cell::new(0);
+            let reader = Trickle {
+                rest: b"own\nown\nown\nown\n",
+                most: 4,
+                is_broken: false,
+            };
+            let writer = Faulty {
+                fails_at,
+                kind,
+                calls: &calls,
+            };
+            assert_eq!(rt; script(rt.alloc(), reader, writer), Ended::Failed);
+            assert_eq!(rt; calls.get(), fails_at);
+        }
     }
 }

@@ -41,7 +41,7 @@ fn printed(rt: &HostRuntime, input: &str, text: &str) -> (Ended, usize) {
 }
 
 /// What is read, what is printed, and how it ends.
-const SCRIPTS: [(&str, &str, Ended); 9] = [
+const SCRIPTS: [(&str, &str, Ended); 17] = [
     ("", "", Ended::Done),
     (
         "own\n\
@@ -140,7 +140,7 @@ const SCRIPTS: [(&str, &str, Ended); 9] = [
          pending\n\
          pending\n\
          pending\n\
-         done woke 1 2 1\n\
+         done woke 1 2\n\
          ready 7\n\
          some 7\n\
          none\n",
@@ -187,6 +187,142 @@ const SCRIPTS: [(&str, &str, Ended); 9] = [
          closed\n",
         Ended::Done,
     ),
+    (
+        "set -5\n\
+         try_get\n\
+         replace -7\n\
+         update_some add -3\n\
+         get 1\n\
+         debug\n\
+         inner\n",
+        "done\n\
+         some -5\n\
+         old -5\n\
+         done\n\
+         ready -10\n\
+         AsyncCell::Full(-10)\n\
+         some -10\n",
+        Ended::Done,
+    ),
+    (
+        "take 4294967296\n\
+         get 18446744073709551615\n\
+         set 1\n",
+        "pending\n\
+         pending\n\
+         done woke 4294967296 18446744073709551615\n",
+        Ended::Done,
+    ),
+    (
+        "take 1\n\
+         get 2\n\
+         or_set 5\n\
+         or_set 6\n\
+         try_take\n",
+        "pending\n\
+         pending\n\
+         done woke 1 2\n\
+         done\n\
+         some 5\n",
+        Ended::Done,
+    ),
+    (
+        "get 3\n\
+         replace 8\n\
+         replace 9\n\
+         try_take\n\
+         replace 1\n",
+        "pending\n\
+         old none woke 3\n\
+         old 8\n\
+         some 9\n\
+         old none\n",
+        Ended::Done,
+    ),
+    (
+        "set 4\n\
+         end\n\
+         update none\n\
+         update keep\n\
+         update put 1\n\
+         update_some add 1\n\
+         set 1\n\
+         try_get\n\
+         debug\n",
+        "done\n\
+         owners 0\n\
+         refused closed\n\
+         refused closed\n\
+         refused closed\n\
+         refused closed\n\
+         refused closed\n\
+         none\n\
+         AsyncCell::Closed\n",
+        Ended::Done,
+    ),
+    (
+        "set 4\n\
+         try_get\n\
+         try_get\n\
+         get 1\n\
+         get 1\n\
+         try_take\n\
+         try_get\n",
+        "done\n\
+         some 4\n\
+         some 4\n\
+         ready 4\n\
+         ready 4\n\
+         some 4\n\
+         none\n",
+        Ended::Done,
+    ),
+    (
+        "set 1\n\
+         update put 2\n\
+         try_get\n\
+         update keep\n\
+         try_get\n\
+         update none\n\
+         try_get\n\
+         take 5\n\
+         update put 3\n\
+         update put 4\n\
+         try_take\n",
+        "done\n\
+         done\n\
+         some 2\n\
+         done\n\
+         some 2\n\
+         done\n\
+         none\n\
+         pending\n\
+         done woke 5\n\
+         done\n\
+         some 4\n",
+        Ended::Done,
+    ),
+    (
+        "set -9223372036854775807\n\
+         update_some add -2\n\
+         try_take\n\
+         take 1\n\
+         own\n\
+         end\n\
+         take 2\n\
+         end\n\
+         is_set\n",
+        "done\n\
+         done\n\
+         some -9223372036854775808\n\
+         pending\n\
+         owners 2\n\
+         owners 1\n\
+         pending\n\
+         owners 0 woke 1 2\n\
+         false\n",
+        Ended::Done,
+    ),
 ];
 
 #[test]
@@ -196,21 +332,19 @@ fn worked_scripts_print_their_texts(rt: HostRuntime) {
     }
 }
 
-/// Twenty thousand takers wait, and one write wakes them all, in order.
+/// Two thousand takers of different names wait, and one write wakes them all, in order.
 #[test]
 fn many_takers_are_woken_by_one_write(rt: HostRuntime) -> Result<(), Fail> {
     let alloc = rt.alloc();
     let mut input = String::new(alloc);
     let mut text = String::new(alloc);
-    for turn in 0..20_000u32 {
-        let name = turn % 2;
+    for name in 0..2_000u32 {
         input.push_str(format!(in alloc; "take {name}\n")?.as_str())?;
         text.push_str("pending\n")?;
     }
     input.push_str("set 1\n")?;
     text.push_str("done woke")?;
-    for turn in 0..20_000u32 {
-        let name = turn % 2;
+    for name in 0..2_000u32 {
         text.push_str(format!(in alloc; " {name}")?.as_str())?;
     }
     text.push_str("\n")?;
