@@ -14,7 +14,14 @@ tests='
 async_cell_core_tests      ::a_       a_run_without_memory_gives_the_list_back                   4
 async_cell_core_tests      ::a_       a_list_of_bytes_is_cloned_or_stays                         3
 async_cell_core_tests      ::a_       a_poll_whose_clone_is_refused_changes_nothing              1
+async_cell_core_tests      reserve    polls_find_the_room_that_was_made                          3
+async_cell_core_tests      reserve    a_skipped_waker_takes_no_room                              3
+async_cell_core_tests      reserve    a_full_cell_is_given_room                                  3
+async_cell_core_tests      reserve    writes_on_a_full_cell_leave_the_room                       3
+async_cell_core_tests      reserve    more_room_than_there_can_be_is_refused                     3
+async_cell_core_tests      reserve    a_closed_cell_is_given_no_room                             3
 async_cell_driver_tests    refusals   a_taker_that_found_no_memory_is_polled_again               6
+async_cell_driver_tests    refusals   takers_find_the_room_that_was_made                         6
 async_cell_driver_tests    refusals   a_list_that_finds_no_memory_comes_back_or_forgets_nobody  10
 async_cell_driver_tests    refusals   a_list_that_ends_in_a_fill_forgets_nobody                 10
 async_cell_driver_tests    refusals   a_list_that_ends_in_a_close_forgets_nobody                10
@@ -26,6 +33,7 @@ async_cell_unsync_tests    ::         a_refused_poll_leaves_those_that_wait     
 async_cell_sync_tests      memory     a_value_whose_clone_is_refused_stays                       7
 async_cell_sync_tests      memory     each_refused_request_leaves_the_owners_as_they_were       16
 async_cell_sync_tests      memory     a_refused_new_owner_is_none                                1
+async_cell_sync_tests      locked     polls_find_the_room_that_was_made                          3
 async_cell_recorded_tests  memory     a_recorded_call_without_memory_leaves_no_entry             3
 async_cell_recorded_tests  memory     a_step_without_memory_does_not_count                       3
 cellrun                    want_of    want_of_memory_is_told_or_ends_the_script                  4
@@ -52,7 +60,7 @@ runs() {
 
 # Tries the crate's tests with one allocation refused, and keeps what is told.
 try() {
-    (cd "$top/crates/$1" && rt try --test --fail-alloc "$3" -- "$2") >"$work/$1.$3" 2>&1 </dev/null || true
+    (cd "$top/crates/$1" && rt try --test --fail-alloc "$3" -- "$2") >"$work/$1.$2.$3" 2>&1 </dev/null || true
 }
 export top work
 export -f try
@@ -76,12 +84,12 @@ failed=0
 while read -r crate word name last; do
     held=0 own='' wrong=''
     for number in $(seq "$last"); do
-        case $(outcome "$work/$crate.$number" "$name") in
+        case $(outcome "$work/$crate.$word.$number" "$name") in
             ok) held=$((held + 1)) ;;
             own) own+=" $number" ;;
             wrong)
                 wrong+=" $number"
-                grep -A 4 "^test .*::$name " "$work/$crate.$number" || tail -n 5 "$work/$crate.$number"
+                grep -A 4 "^test .*::$name " "$work/$crate.$word.$number" || tail -n 5 "$work/$crate.$word.$number"
                 ;;
         esac
     done
