@@ -1,105 +1,139 @@
 #!/usr/bin/env bash
-# Runs the tests of want of memory with each allocation refused in turn: one `rt try --test --fail-alloc N` for each
-# crate and each N, which proves nothing and needs no proof. Prints a line a test, and at the end how many passed and failed;
-# the status is 0 if none failed. JOBS says how many runs go side by side, and words say which crates (none: all).
+# Runs the tests of want of memory with each request for memory refused in turn: with the first,
+# then with the second, and on until a run asks for no more. Prints a line a test, and at the end
+# how many passed and failed; the status is 0 if none failed. Words say which crates (none: all).
+# It proves nothing: the gate, or `rt test` in a crate, builds the tests.
+#
+# A request that is refused is one of the test's own, as for a list that it makes, and then the test
+# is to end with that error; or it is one of the calls that the test is of, and then the test is to
+# hold. A test whose own requests alone were refused never reached those calls, and fails.
 set -euo pipefail
 top=$(cd "$(dirname "$0")/.." && pwd)
 work=$(mktemp -d)
 trap 'rm -rf "$work"' EXIT
 
-# A line a test: its crate, a word that picks the crate's tests, its name, and up to which allocation it is tried, which is at
-# least the number of its allocations. One of the test's own, as for the list that it makes, ends it with that error; it
-# is told apart and is no failure.
 tests='
-async_cell_core_tests      ::a_       a_run_without_memory_gives_the_list_back                   4
-async_cell_core_tests      ::a_       a_list_of_bytes_is_cloned_or_stays                         3
-async_cell_core_tests      ::a_       a_poll_whose_clone_is_refused_changes_nothing              1
-async_cell_core_tests      reserve    polls_find_the_room_that_was_made                          3
-async_cell_core_tests      reserve    a_skipped_waker_takes_no_room                              3
-async_cell_core_tests      reserve    a_full_cell_is_given_room                                  3
-async_cell_core_tests      reserve    writes_on_a_full_cell_leave_the_room                       3
-async_cell_core_tests      reserve    more_room_than_there_can_be_is_refused                     3
-async_cell_core_tests      reserve    a_closed_cell_is_given_no_room                             3
-async_cell_driver_tests    refusals   a_taker_that_found_no_memory_is_polled_again               6
-async_cell_driver_tests    refusals   takers_find_the_room_that_was_made                         6
-async_cell_driver_tests    refusals   a_list_that_finds_no_memory_comes_back_or_forgets_nobody  10
-async_cell_driver_tests    refusals   a_list_that_ends_in_a_fill_forgets_nobody                 10
-async_cell_driver_tests    refusals   a_list_that_ends_in_a_close_forgets_nobody                10
-async_cell_unsync_tests    ::         a_refused_owner_leaves_the_cell                            7
-async_cell_unsync_tests    ::         more_owners_take_no_memory                                 7
-async_cell_unsync_tests    ::         a_refused_clone_leaves_the_value                           7
-async_cell_unsync_tests    ::         a_value_that_cannot_be_cloned_stays                        7
-async_cell_unsync_tests    ::         a_refused_poll_leaves_those_that_wait                      7
-async_cell_sync_tests      memory     a_value_whose_clone_is_refused_stays                       7
-async_cell_sync_tests      memory     each_refused_request_leaves_the_owners_as_they_were       16
-async_cell_sync_tests      memory     a_refused_new_owner_is_none                                1
-async_cell_sync_tests      locked     polls_find_the_room_that_was_made                          3
-async_cell_recorded_tests  memory     a_recorded_call_without_memory_leaves_no_entry             3
-async_cell_recorded_tests  memory     a_step_without_memory_does_not_count                       3
-cellrun                    want_of    want_of_memory_is_told_or_ends_the_script                  4
+async_cell_core_tests      runs::a_run_without_memory_gives_the_list_back
+async_cell_core_tests      refusals::a_list_of_bytes_is_cloned_or_stays
+async_cell_core_tests      bytes::a_get_in_a_list_that_finds_no_memory_leaves_the_bytes
+async_cell_core_tests      reserve::polls_find_the_room_that_was_made
+async_cell_core_tests      reserve::a_skipped_waker_takes_no_room
+async_cell_core_tests      reserve::a_full_cell_is_given_room
+async_cell_core_tests      reserve::writes_on_a_full_cell_leave_the_room
+async_cell_core_tests      reserve::room_keeps_the_value
+async_cell_core_tests      wait_list::a_refused_waker_comes_back_and_the_list_stays
+async_cell_driver_tests    refusals::a_refused_start_adds_no_task
+async_cell_driver_tests    refusals::a_taker_that_found_no_memory_is_polled_again
+async_cell_driver_tests    refusals::takers_find_the_room_that_was_made
+async_cell_driver_tests    refusals::a_list_that_finds_no_memory_comes_back_or_forgets_nobody
+async_cell_driver_tests    refusals::a_list_that_ends_in_a_fill_forgets_nobody
+async_cell_driver_tests    refusals::a_list_that_ends_in_a_close_forgets_nobody
+async_cell_unsync_tests    memory::a_refused_owner_leaves_the_cell
+async_cell_unsync_tests    memory::a_refused_clone_leaves_the_value
+async_cell_unsync_tests    memory::a_refused_clone_for_a_weak_one_leaves_the_value
+async_cell_unsync_tests    memory::a_refused_poll_leaves_those_that_wait
+async_cell_unsync_tests    memory::a_refused_poll_may_be_made_again
+async_cell_unsync_tests    memory::a_text_without_memory_leaves_the_value
+async_cell_sync_tests      memory::each_refused_request_leaves_the_owners_as_they_were
+async_cell_sync_tests      memory::a_refused_poll_may_be_made_again
+async_cell_sync_tests      memory::a_refused_new_owner_is_none
+async_cell_sync_tests      locked_core::polls_find_the_room_that_was_made
+async_cell_recorded_tests  memory::a_recorded_call_without_memory_leaves_no_entry
+async_cell_recorded_tests  memory::a_recorded_wait_without_memory_is_not_handed_out
+async_cell_recorded_tests  memory::a_step_without_memory_does_not_count
+cellrun                    script::texts::want_of_memory_is_told_or_ends_the_script
 '
 
-# The lines of the crates that are asked for.
-picked() {
-    local crate word name last asked
-    while read -r crate word name last; do
-        [ -n "$crate" ] || continue
-        for asked in "${@:-$crate}"; do
-            [ "$asked" != "$crate" ] || echo "$crate $word $name $last"
-        done
-    done <<<"$tests"
+# The tests of calls that take no memory: each request is to be one of the test's own.
+spared='
+async_cell_unsync_tests    memory::more_owners_take_no_memory
+'
+
+# What refuses the requests, for the programs that it is preloaded into.
+kit=$(dirname "$(dirname "$(readlink -f "$(command -v rt)")")")
+"$kit/toolchain/bin/clang" --target=x86_64-unknown-linux-gnu -O1 -Wall -Werror \
+    -fPIC -shared -nostdlib -fuse-ld=lld -o "$work/refuse.so" "$top/scripts/refuse.c"
+ulimit -c 0
+
+# Stops where the crate's tests are not built, or are older than what they were built of.
+built() {
+    local program=$top/crates/$1/out/$1_tests
+    local newer=(-path '*/out' -prune -o -name '*.rt' -newer "$program" -print -quit)
+    if [ ! -x "$program" ] || [ -n "$(find "$top/crates" "${newer[@]}")" ]; then
+        echo "memory: build the tests first, by rt ci, or by rt test in crates/$1" >&2
+        exit 1
+    fi
 }
 
-# The runs, each once: a crate, its word and the number of the allocation.
-runs() {
-    local crate word name last
-    while read -r crate word name last; do
-        seq -f "$crate $word %.0f" "$last"
-    done | sort -u
-}
+# How a test ends where std found no memory for a request of its own. A call of the cell answers
+# Refusal::Memory.
+own_errors='error: AllocError
+error: AllocFailed { .. }
+error: Kind(OutOfMemory)'
 
-# Tries the crate's tests with one allocation refused, and keeps what is told.
-try() {
-    (cd "$top/crates/$1" && rt try --test --fail-alloc "$3" -- "$2") >"$work/$1.$2.$3" 2>&1 </dev/null || true
-}
-export top work
-export -f try
-
-picked "$@" >"$work/picked"
-runs <"$work/picked" | xargs -r -P "${JOBS:-$(nproc)}" -L 1 bash -c 'try "$@"' try
-
-# What became of a test in a run: ok, its own allocation, or wrong. RUN NAME.
+# What became of a run of a test in which one request was refused. Its arguments are the crate, the
+# test, and which request, counted from 1.
+# all: there was no such request, and it held; held: it held nonetheless; own: it ended with the
+# error of a request of its own; wrong: it did not hold, or had not ended after 20 seconds.
 outcome() {
-    local line
-    line=$(grep -A 1 "^test .*::$2 \.\.\. " "$1" || true)
-    case $line in
-        *'... ok'*) echo ok ;;
-        *'... FAILED'*'error: Alloc'*) echo own ;;
-        *) echo wrong ;;
-    esac
+    local status=0
+    timeout 20 env REFUSE="$3" LD_PRELOAD="$work/refuse.so" \
+        "$top/crates/$1/out/$1_tests" "$2" \
+        </dev/null >"$work/out" 2>&1 3>"$work/refused" || status=$?
+    if [ "$status" -eq 0 ]; then
+        [ -s "$work/refused" ] && echo held || echo all
+    elif [ -s "$work/refused" ] && grep -qxF "$own_errors" "$work/out"; then
+        echo own
+    else
+        echo wrong
+    fi
 }
 
 passed=0
 failed=0
-while read -r crate word name last; do
-    held=0 own='' wrong=''
-    for number in $(seq "$last"); do
-        case $(outcome "$work/$crate.$word.$number" "$name") in
-            ok) held=$((held + 1)) ;;
-            own) own+=" $number" ;;
-            wrong)
-                wrong+=" $number"
-                grep -A 4 "^test .*::$name " "$work/$crate.$word.$number" || tail -n 5 "$work/$crate.$word.$number"
-                ;;
+# Runs a test until it asks for no more, and tells of it: CRATE TEST, and whether its calls are to
+# be `refused` or `spared`.
+count_up() {
+    local number=0 own=0 held='' last='' is=spared
+    while [ "$last" != all ] && [ "$last" != wrong ]; do
+        number=$((number + 1))
+        last=$(outcome "$1" "$2" "$number")
+        case $last in
+            own) own=$((own + 1)) ;;
+            held) held+=" $number" is=refused ;;
         esac
     done
-    if [ -z "$wrong" ] && [ "$held" -gt 0 ]; then
-        passed=$((passed + 1))
-        echo "passed $crate $name: allocations 1 to $last${own:+, its own$own}"
-    else
+    local told="$1 $2: requests: $((number - 1)); its own: $own; held without:${held:- none}"
+    if [ "$last" = wrong ]; then
         failed=$((failed + 1))
-        echo "failed $crate $name: at${wrong:- none, but all are its own} of 1 to $last"
+        echo "failed $1 $2, with request $number refused:"
+        cat "$work/out"
+    elif [ "$is" != "$3" ]; then
+        failed=$((failed + 1))
+        echo "failed $told"
+    else
+        passed=$((passed + 1))
+        echo "passed $told"
     fi
-done <"$work/picked"
+}
+
+# Runs the tests of a list that are of the crates that are asked for: `refused` or `spared`, and
+# those crates.
+count_all() {
+    local kind=$1 crate name asked
+    shift
+    while read -r crate name; do
+        [ -n "$crate" ] || continue
+        for asked in "${@:-$crate}"; do
+            if [ "$asked" = "$crate" ]; then
+                built "$crate"
+                count_up "$crate" "$name" "$kind"
+            fi
+        done
+    done
+}
+
+count_all refused "$@" <<<"$tests"
+count_all spared "$@" <<<"$spared"
 echo "memory: $passed passed, $failed failed"
 [ "$failed" -eq 0 ] && [ "$passed" -gt 0 ]

@@ -1,8 +1,9 @@
--- Wait lists: the wakers that wait, and for how many more there is room.
+-- Wait lists, as contracts see them.
 use Rattle.std.specs.Prelude.{ℕ, List, ◌∷◌, Option, Some, None}
 
--- the wakers, in order of registration, and for how many more there is room without memory
-pub record WaitList (W : Type 0) : Type 0 where
+-- The wakers in order of registration, and the room: the number of wakers that can still be added
+-- without memory beyond their clones.
+pub record ListState (W : Type 0) : Type 0 where
   pub wakers : List W
   pub room : ℕ
 

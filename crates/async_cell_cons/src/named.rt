@@ -1,6 +1,7 @@
 use crate::wakes::Wakes;
 
-/// A waker that is only a name: it would wake the wakers of its own name, and to wake it does nothing.
+/// A waker that is only a number, for tests, models and numbered tasks. It would wake the wakers of
+/// its own number. Its `wake` does nothing.
 #[derive(Clone, Copy, Debug, PartialEq, Eq)]
 pub struct Named(pub u64);
 

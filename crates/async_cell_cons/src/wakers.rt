@@ -2,12 +2,11 @@ ghost use Rattle.std.specs.Prelude.{◌≡◌, List, [], ◌∷◌, length, IsTr
 ghost use Rattle.async_cell_cons.specs.WaitList.{first_then};
 
 use crate::wakes::Wakes;
-use std::alloc::Global;
 use std::marker::Model;
 use std::{fmt, vec};
 
-/// Wakers that were handed out, in order of registration. Whoever was handed them has the duty to wake them:
-/// those that are left are dropped unwoken with the list.
+/// Waiting wakers that a call returned, in order of registration. The caller must wake them:
+/// dropping the list drops the wakers that are left without waking them.
 #[derive(Drop)]
 pub struct Wakers<W> {
     first: Option<W>,
@@ -26,7 +25,7 @@ impl<W> Model for Wakers<W> {
 }
 
 impl<W> Wakers<W> {
-    /// The number of wakers that are left, in constant time.
+    /// Returns the number of wakers that are left, in constant time.
     pub fn len(&self) -> usize
         ensures { result ≡ length self.now }
     {
@@ -36,7 +35,7 @@ impl<W> Wakers<W> {
         }
     }
 
-    /// Whether no waker is left.
+    /// Returns whether no waker is left.
     pub fn is_empty(&self) -> bool
         ensures { IsTrue result ↔ (self.now ≡ []) }
     {
@@ -45,15 +44,8 @@ impl<W> Wakers<W> {
 }
 
 impl<W: Drop> Wakers<W> {
-    /// No wakers, without memory.
-    pub fn none(alloc: Global) -> Self
-        ensures { result ≡ [] }
-    {
-        Wakers::of(None, Vec::new(alloc))
-    }
-
-    /// Takes the next waker, without memory: `None` once none is left. To take all of them one by one takes
-    /// time in proportion to their number.
+    /// Removes and returns the next waker: `None` once none is left. Allocates nothing. Taking all
+    /// of them one by one takes time in proportion to their number.
     #[inline(always)]
     pub fn next(&mut self) -> Option<W>
         ensures first { IfSome result (λ waker. self.old ≡ waker ∷ self.new) }
@@ -66,7 +58,7 @@ impl<W: Drop> Wakers<W> {
         }
     }
 
-    /// The first waker, and then those of the vector.
+    /// Creates a list of the first waker, if there is one, and then those of the vector.
     pub(crate) fn of(first: Option<W>, rest: Vec<W>) -> Self
         ensures { result ≡ first_then first rest.items }
     {
@@ -77,7 +69,7 @@ impl<W: Drop> Wakers<W> {
     }
 }
 
-/// Goes over the wakers that are left, as `next` gives them.
+/// Iterates over the wakers that are left, as `next` returns them.
 impl<W: Drop> Iterator for Wakers<W> {
     ghost use Rattle.std.specs.Prelude.{◌≡◌, [], ◌∷◌, length, MatchOption};
     ghost use Rattle.std.specs.Iterator.{at_most};
@@ -94,7 +86,7 @@ impl<W: Drop> Iterator for Wakers<W> {
 }
 
 impl<W: Wakes> Wakers<W> {
-    /// Wakes the wakers that are left, the next one first.
+    /// Wakes all wakers that are left, the next one first.
     pub fn wake_all(self) {
         let Wakers { first, rest } = self;
         if let Some(waker) = first {
@@ -106,7 +98,7 @@ impl<W: Wakes> Wakers<W> {
     }
 }
 
-/// Shows how many wakers are left.
+/// Prints how many wakers are left.
 impl<W> fmt::Debug for Wakers<W> {
     fn fmt<F: fmt::Write>(&self, f: &mut fmt::Formatter<F>) -> fmt::Result {
         write!(f, "Wakers({})", self.len())

@@ -1,25 +1,29 @@
--- Calls of a list as a history keeps them.
-use Rattle.std.specs.Prelude.{List, [], ◌∷◌, Option, Some, None, Bool, true, false}
+-- Calls of a list, as a history holds them.
+use Rattle.std.specs.Prelude.{◌≡◌, List, [], ◌∷◌, Option, Some, None, IfSome, Bool, true, false, ⊤}
 use Rattle.async_cell_model.specs.declared.cell.Cell.{Cell}
 use Rattle.async_cell_model.specs.declared.cell.Cell.TheVariants.{Closed, Open}
 use Rattle.async_cell_model.specs.declared.entry.Entry.{Entry}
 use Rattle.async_cell_model.specs.declared.entry.Kept.{Kept}
 use Rattle.async_cell_model.specs.declared.entry.Kept.TheVariants as kept
 use Rattle.async_cell_model.specs.declared.reply.Reply.{Reply}
+use Rattle.async_cell_model.specs.Cell.{content}
+use Rattle.async_cell_model.specs.Clones.{copies}
 use Rattle.async_cell_model.specs.Step.{next}
 use Rattle.async_cell_model.specs.History.{History}
+use Rattle.async_cell_core.specs.Polled.{IsCopied}
 use Rattle.async_cell_core.specs.declared.call.Call.{Call}
 use Rattle.async_cell_core.specs.declared.call.Call.TheVariants.{Set, OrSet, Replace, Update, UpdateSome, TryTake, TryGet, IsSet, PollTake, PollGet, AddOwner, EndOwner, TakeInner}
 
--- whether the call copies the value
+-- whether the call is a get: it copies the value
 abbrev pub is_get : {T W E : Type 0} → Call T W E → Bool
 is_get TryGet = true
 is_get (PollGet w) = true
 is_get _ = false
 
--- `edit` and `edit_some` say what an edit makes of a content and of a value
+-- `edit` and `edit_some` give what an edit makes of a content and of a value
 module _ {T W E : Type 0} (edit : E → Option T → Option T) (edit_some : E → T → T) where
-  -- a call on this cell as a history keeps it: an update with what its edit saw and answered, both `None` where it was not called
+  -- A call on this cell, as a history holds it. An update has what its edit was called with and
+  -- what it returned: both are `None` if it was not called.
   abbrev pub kept_call : Cell T → Call T W E → Kept T W
   kept_call c (Set x) = kept.Set x
   kept_call c (OrSet x) = kept.OrSet x
@@ -38,8 +42,17 @@ module _ {T W E : Type 0} (edit : E → Option T → Option T) (edit_some : E �
   kept_call c EndOwner = kept.EndOwner
   kept_call c TakeInner = kept.TakeInner
 
-  -- the history of a list of calls from this cell on, given their replies
+  -- the history of these calls from this cell on, with these replies
   abbrev pub history_of : Cell T → List (Call T W E) → List (Reply T) → History T W
   history_of c (call ∷ calls) (reply ∷ replies) =
       let e : Entry T W = record { call = kept_call c call; reply = reply } in e ∷ history_of (next c e) calls replies
   history_of c _ _ = []
+
+-- Each get of a full cell returns a clone of its value, or fails with `Memory`. It fails only if
+-- the clone can fail.
+module _ {T W : Type 0} (is_clone : T → T → Type 0) (is_infallible : T → Type 0) where
+  abbrev pub GetsAreCopied : Cell T → History T W → Type 0
+  GetsAreCopied c [] = ⊤
+  GetsAreCopied c (e ∷ h) =
+      (copies e ≡ true → IfSome (content c) (λ v. IsCopied is_clone is_infallible v e.reply))
+      × GetsAreCopied (next c e) h

@@ -1,3 +1,4 @@
+pub mod IsStep
 pub mod Kept
 pub mod Polled
 pub mod Stored

@@ -2,48 +2,49 @@ ghost use Rattle.std.specs.Prelude.{◌≡◌};
 
 use crate::{Reply, Wakers};
 
-/// A call on a cell, as a list of calls holds it. `W` is the type of wakers, `E` that of the edits.
+/// A call on a cell, as a list of calls holds it. `W` is the type of the wakers, `E` that of the
+/// edits. The replies below are those of calls that are not refused.
 #[derive(Clone, Copy, Debug, Drop, PartialEq, Eq)]
 pub enum Call<T, W, E> {
-    /// `Core::set`. It is replied `Done`.
+    /// `Core::set`. The reply is `Done`.
     Set(T),
-    /// `Core::or_set`. It is replied the value that was not used.
+    /// `Core::or_set`. The reply is the value if it was not used.
     OrSet(T),
-    /// `Core::replace`. It is replied the old value.
+    /// `Core::replace`. The reply is the old value.
     Replace(T),
-    /// `Core::update`, by what the edit makes of the content. It is replied `Done`.
+    /// `Core::update` with `Edit::edit` as the closure. The reply is `Done`.
     Update(E),
-    /// `Core::update_some`, by what the edit makes of the value. It is replied `Done`.
+    /// `Core::update_some` with `Edit::edit_some` as the closure. The reply is `Done`.
     UpdateSome(E),
-    /// `Core::try_take`. It is replied the value.
+    /// `Core::try_take`. The reply is the value.
     TryTake,
-    /// `Core::try_get`. It is replied a clone of the value.
+    /// `Core::try_get`. The reply is a clone of the value.
     TryGet,
-    /// `Core::is_set`. It is replied `Is`.
+    /// `Core::is_set`. The reply is `Is`.
     IsSet,
-    /// `Core::poll_take` by this waker. It is replied `Ready` or `Pending`.
+    /// `Core::poll_take` with this waker. The reply is `Ready` or `Pending`.
     PollTake(W),
-    /// `Core::poll_get` by this waker. It is replied `Ready` or `Pending`.
+    /// `Core::poll_get` with this waker. The reply is `Ready` or `Pending`.
     PollGet(W),
-    /// `Core::add_owner`. It is replied `Done`.
+    /// `Core::add_owner`. The reply is `Done`.
     AddOwner,
-    /// `Core::end_owner`. It is replied the value that the last owner leaves.
+    /// `Core::end_owner`. The reply is the value if this was the last owner.
     EndOwner,
-    /// `Core::take_inner`. It is replied the content.
+    /// `Core::take_inner`. The reply is the content.
     TakeInner,
 }
 
-/// What a call is answered, and the wakers that it hands out: whoever has them has the duty to wake them.
+/// The reply to a call, and the wakers that the call returns. The caller must wake them.
 #[derive(Drop)]
 pub struct Answer<T, W> {
     /// The reply, or the refusal.
     pub reply: Reply<T>,
-    /// Whom the call hands out, in order of registration.
+    /// The wakers to be woken, in order of registration.
     pub woken: Wakers<W>,
 }
 
 impl<T, W> Answer<T, W> {
-    /// This reply, with these wakers.
+    /// An answer with this reply and these wakers.
     pub(crate) fn new(reply: Reply<T>, woken: Wakers<W>) -> Self
         ensures { result ≡ record { reply = reply; woken = woken } }
     {

@@ -1,9 +1,10 @@
-//! The cell as a pure state machine: calls go in, replies and the wakers to be woken come out.
+//! The cell as a pure state machine: each call returns its reply and the wakers to be woken.
 #![tactic(auto)]
 
 mod call;
 mod cell_core;
 mod edit;
+mod guard;
 pub mod laws;
 mod runs;
 
@@ -13,4 +14,5 @@ pub use call::{Answer, Call};
 pub use cell_core::Core;
 pub use edit::Edit;
 pub use futures::task::Poll;
+pub use guard::end_guard;
 pub use runs::{run, step, step_copied};

@@ -1,34 +1,35 @@
 //! Lists of calls, made in order.
-ghost use Rattle.std.specs.Prelude.{◌≡◌, ◌≤◌, map, length, vec_len, true, false, [], MatchResult, IfOk, IfErr, OnErr, IsOk};
+ghost use Rattle.std.specs.Prelude.{◌≡◌, map, vec_len, true, false, [], IfOk, IfErr, IfSome, OnErr, IsOk};
 ghost use Rattle.std.specs.List.{list_any};
 ghost use Rattle.async_cell_model.specs.Cell.{content, is_vacant};
 ghost use Rattle.async_cell_model.specs.Step.{is_memory};
-ghost use Rattle.async_cell_model.specs.Legal.{Answers, AnswersUpTo, Leads, LeadsUpTo};
-ghost use Rattle.async_cell_core.specs.Kept.{is_get, kept_call, history_of};
-ghost use Rattle.async_cell_core.specs.Polled.{IsExact, poll_reply};
+ghost use Rattle.async_cell_model.specs.Legal.{Runs, RunsUpTo};
+ghost use Rattle.async_cell_core.specs.IsStep.{IsStep, IsStepUpTo};
+ghost use Rattle.async_cell_core.specs.Kept.{is_get, kept_call, history_of, GetsAreCopied};
+ghost use Rattle.async_cell_core.specs.Polled.{IsCopied, IsExact, poll_reply};
 
 use crate::call::{Answer, Call};
 use crate::cell_core::Core;
 use crate::edit::Edit;
-use crate::{Poll, Refusal, Reply, Wakers, Wakes};
+use crate::{Poll, Refusal, Reply, Wakes};
 use std::alloc::Global;
 
 impl<T: Drop, W: Wakes> Core<T, W> {
-    /// A reply with which no waker is handed out.
+    /// Returns an answer with this reply and no wakers.
     fn replied(&self, reply: Reply<T>) -> Answer<T, W>
         ensures { result ≡ record { reply = reply; woken = [] } }
     {
         Answer::new(reply, self.no_wakers())
     }
 
-    /// A refusal, with the value that comes back.
+    /// Returns an answer with this refusal, the value that comes back, and no wakers.
     fn refused(&self, why: Refusal, back: Option<T>) -> Answer<T, W>
         ensures { result ≡ record { reply = Reply.Refused why back; woken = [] } }
     {
         self.replied(Reply::Refused(why, back))
     }
 
-    /// The reply that a poll's answer stands for.
+    /// Returns the result of a poll as an answer, with no wakers.
     fn polled(&self, polled: Result<Poll<Option<T>>, Refusal>) -> Answer<T, W>
         ensures { result ≡ record { reply = poll_reply polled; woken = [] } }
     {
@@ -40,13 +41,14 @@ impl<T: Drop, W: Wakes> Core<T, W> {
     }
 }
 
-/// Makes a call that does not copy the value.
+/// Makes one call that is no get, so it does not copy the value.
 fn step_moved<T: Drop, W: Wakes, E: Edit<T> + Drop>(
     core: &mut Core<T, W>,
     call: Call<T, W, E>,
 ) -> Answer<T, W>
     requires { is_get call ≡ false }
-    ensures { Answers W.will_wake W.SURE_CLONE core.old (kept_call E.edit E.edit_some core.old.cell call) result.reply result.woken core.new }
+    ensures { IsStep W.Wakes
+        core.old (kept_call E.edit E.edit_some core.old.cell call) result core.new }
 {
     match call {
         Call::Set(value) => match core.set(value) {
@@ -94,24 +96,25 @@ fn step_moved<T: Drop, W: Wakes, E: Edit<T> + Drop>(
     }
 }
 
-/// Makes one call. The answer is the model's up to clones: a get of a full cell may give a clone of
-/// the value. It is exactly the model's where the call is no get, or the type's clones are exact.
+/// Makes one call. Returns its reply or its refusal, and the wakers, to be woken by the caller.
+///
+/// The reply is the model's up to clones: a get of a full cell may return a clone of the value. It
+/// is exactly the model's if the call is no get or the type's clones are exact.
 #[tactic(auto, using(async_cell_model::proofs::UpTo::up_to_clones))]
 pub fn step<T: Clone, W: Wakes, E: Edit<T> + Drop>(
     core: &mut Core<T, W>,
     call: Call<T, W, E>,
 ) -> Answer<T, W>
-    ensures up_to_clones { AnswersUpTo W.will_wake W.SURE_CLONE T.is_clone
-        core.old (kept_call E.edit E.edit_some core.old.cell call)
-        result.reply result.woken core.new }
+    ensures up_to_clones { IsStepUpTo T.is_clone W.Wakes
+        core.old (kept_call E.edit E.edit_some core.old.cell call) result core.new }
     ensures if_no_get { is_get call ≡ false
-        → Answers W.will_wake W.SURE_CLONE
-        core.old (kept_call E.edit E.edit_some core.old.cell call)
-        result.reply result.woken core.new }
+        → IsStep W.Wakes
+        core.old (kept_call E.edit E.edit_some core.old.cell call) result core.new }
     ensures if_exact { IsExact T.is_clone
-        → Answers W.will_wake W.SURE_CLONE
-        core.old (kept_call E.edit E.edit_some core.old.cell call)
-        result.reply result.woken core.new }
+        → IsStep W.Wakes
+        core.old (kept_call E.edit E.edit_some core.old.cell call) result core.new }
+    ensures copies { is_get call ≡ true → IfSome (content core.old.cell) (λ value.
+        IsCopied T.is_clone T.is_infallible value result.reply) }
 {
     match call {
         Call::TryGet => match core.try_get() {
@@ -126,14 +129,18 @@ pub fn step<T: Clone, W: Wakes, E: Edit<T> + Drop>(
     }
 }
 
-/// Makes one call on a cell of `Copy` values, which are copied and not cloned: the answer is the
-/// model's. It is no part of the surface.
+/// Internal: may change without notice.
+///
+/// Makes one call on a cell of `Copy` values, which are copied and not cloned. The reply is exactly
+/// the model's.
 pub fn step_copied<T: Copy, W: Wakes, E: Edit<T> + Drop>(
     core: &mut Core<T, W>,
     call: Call<T, W, E>,
 ) -> Answer<T, W>
-    ensures model { Answers W.will_wake W.SURE_CLONE core.old (kept_call E.edit E.edit_some core.old.cell call) result.reply result.woken core.new }
-    ensures sure { is_get call ≡ true → is_vacant core.old.cell ≡ false → is_memory result.reply ≡ false }
+    ensures model { IsStep W.Wakes
+        core.old (kept_call E.edit E.edit_some core.old.cell call) result core.new }
+    ensures sure { is_get call ≡ true → is_vacant core.old.cell ≡ false
+        → is_memory result.reply ≡ false }
 {
     match call {
         Call::TryGet => core.replied(Reply::Value(core.try_get_copied())),
@@ -145,13 +152,14 @@ pub fn step_copied<T: Copy, W: Wakes, E: Edit<T> + Drop>(
     }
 }
 
-/// Makes the calls in order, and gives one answer for each: a call that is refused has its refusal
-/// as its reply, and those after it are made. The room for the answers is got first; where there is
-/// none, nothing is called and the list comes back. An empty list is never refused.
+/// Makes the calls in order, and returns one answer for each. The reply of a refused call is its
+/// refusal, and the calls after it are made. The memory for the answers is allocated first: if
+/// there is none, no call is made and the list is returned in the error. An empty list is never
+/// refused.
 ///
-/// The answers are the model's up to clones, for every type: a get of a full cell may give a clone
-/// of the value. Without a get in the list they are exactly the model's. With a get they are, too,
-/// where the type's clones are exact: by `up_to_clones` and the law
+/// The replies are the model's up to clones, for every type: a get of a full cell may return a
+/// clone of the value. They are exactly the model's if the list has no get. With a get they are,
+/// too, if the type's clones are exact: by `up_to_clones` and the law
 /// `with_exact_clones_a_history_is_exact` of `async_cell_model`.
 pub fn run<T: Clone, W: Wakes, E: Edit<T> + Drop>(
     core: &mut Core<T, W>,
@@ -159,18 +167,22 @@ pub fn run<T: Clone, W: Wakes, E: Edit<T> + Drop>(
 ) -> Result<Vec<Answer<T, W>>, Vec<Call<T, W, E>>>
     ensures one_each { IfOk result (λ answers. vec_len answers ≡ vec_len calls) }
     ensures up_to_clones { IfOk result (λ answers.
-        LeadsUpTo W.will_wake W.SURE_CLONE T.is_clone core.old
+        RunsUpTo W.will_wake W.SURE_CLONE T.is_clone core.old
         (history_of E.edit E.edit_some core.old.cell calls.items (map (λ a. a.reply) answers.items))
         (map (λ a. a.woken) answers.items) core.new) }
     ensures if_no_get { list_any is_get calls.items ≡ false → IfOk result (λ answers.
-        Leads W.will_wake W.SURE_CLONE core.old
+        Runs W.will_wake W.SURE_CLONE core.old
         (history_of E.edit E.edit_some core.old.cell calls.items (map (λ a. a.reply) answers.items))
         (map (λ a. a.woken) answers.items) core.new) }
+    ensures copies { IfOk result (λ answers. GetsAreCopied T.is_clone T.is_infallible core.old.cell
+        (history_of E.edit E.edit_some core.old.cell
+        calls.items (map (λ a. a.reply) answers.items))) }
     ensures empty_is_ok { calls.items ≡ [] → IsOk result }
     ensures comes_back { IfErr result (λ back. back ≡ calls) }
     ensures unchanged { OnErr result (core.new ≡ core.old) }
 {
-    core.begins();
+    // For the proof: the calls start from a sound state.
+    core.soundness();
     let mut answers = Vec::new(*calls.allocator());
     if answers.reserve_exact(calls.len()).is_err() {
         return Err(calls);

@@ -1,5 +1,5 @@
 //! Lists of calls on a cell of bytes, whose clones are no sources.
-use async_cell_core::{Call, Core, Edit, Named, Reply, run};
+use async_cell_core::{Call, Core, Edit, Named, Refusal, Reply, run};
 use std::test::Fail;
 
 /// An edit that leaves the bytes as they are.
@@ -63,5 +63,36 @@ fn gets_in_a_list_leave_the_bytes_and_those_that_wait(rt: HostRuntime) -> Result
         assert_eq!(rt; given(&answer.reply), bytes, "call {place}");
         assert_eq!(rt; answer.woken.len(), woken, "call {place}");
     }
+    Ok(())
+}
+
+/// Whether a get gives `abc`, or there was no memory for the copy.
+fn gives_abc_or_is_refused(reply: &Reply<Vec<u8>>) -> bool {
+    let abc: &[u8] = b"abc";
+    match reply {
+        Reply::Refused(why, _) => *why == Refusal::Memory,
+        _ => given(reply) == Some(abc),
+    }
+}
+
+/// It is run with each request for memory refused in turn: of the list's, or of a copy.
+#[test]
+fn a_get_in_a_list_that_finds_no_memory_leaves_the_bytes(rt: HostRuntime) -> Result<(), Fail> {
+    let mut core: Core<Vec<u8>, Named> = Core::new_with(rt.alloc(), b"abc".to_vec(rt.alloc())?);
+    let mut calls: Vec<Call<Vec<u8>, Named, Keep>> = Vec::new(rt.alloc());
+    calls.push(Call::TryGet)?;
+    calls.push(Call::PollGet(Named(1)))?;
+    if let Ok(answers) = run(&mut core, calls) {
+        assert_eq!(rt; answers.len(), 2);
+        assert!(rt;
+            answers
+                .iter()
+                .all(|answer| gives_abc_or_is_refused(&answer.reply))
+        );
+    }
+    assert_eq!(rt; core.waiting(), 0);
+    let left = core.try_take();
+    let abc: &[u8] = b"abc";
+    assert_eq!(rt; left.as_ref().map(|bytes| bytes.as_slice()), Some(abc));
     Ok(())
 }

@@ -1,4 +1,5 @@
-//! Tests of `Core` and of runs, in a crate of their own so that the library is not proved twice.
+//! Tests of `Core`, lists of calls, the guard's end, the wait list, the laws and the callers of
+//! `Core`, in a crate of their own so that no library is proved twice.
 #![tactic(auto)]
 
 #[cfg(test)]
@@ -9,7 +10,13 @@ pub mod change;
 #[cfg(test)]
 mod clones;
 #[cfg(test)]
-mod names;
+mod compared;
+#[cfg(test)]
+mod count;
+#[cfg(test)]
+mod guard;
+#[cfg(test)]
+mod laws;
 #[cfg(test)]
 mod oracle;
 #[cfg(test)]
@@ -24,9 +31,15 @@ pub mod room;
 #[cfg(test)]
 mod runs;
 #[cfg(test)]
+mod shared;
+#[cfg(test)]
 mod steps;
 #[cfg(test)]
 mod tables;
+#[cfg(test)]
+mod uses;
+#[cfg(test)]
+mod wait_list;
 #[cfg(test)]
 mod wakers;
 #[cfg(test)]

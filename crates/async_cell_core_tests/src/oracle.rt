@@ -1,6 +1,6 @@
-//! A plain replay of the calls on a cell, to compare `Core` with. It has no contract, on purpose: it
-//! is written from docs/DEFINITIONS.md alone, and keeps no wait list but reads it off all calls so
-//! far.
+//! A plain replay of the calls on a cell, to compare `Core` with. It has no contract, on purpose:
+//! it is written from docs/DEFINITIONS.md alone, and keeps no wait list but reads it off all calls
+//! so far.
 use crate::change::Change;
 use async_cell_core::{Call, Edit, Refusal, Reply, Wakes};
 use async_cell_model::Cell;

@@ -1,7 +1,8 @@
 //! Random lists of calls, as `Core` answers them and as the oracle does.
 use crate::change::Change;
 use crate::oracle::Oracle;
-use crate::steps::{CLOSED, MOST, assert_core, assert_wakers, core_of};
+use crate::shared::{assert_wakers, same};
+use crate::steps::{CLOSED, MOST, assert_core, core_of};
 use crate::wakers::WakesIfEven;
 use async_cell_core::{Call, Core, Named, Wakes, step};
 use async_cell_model::Cell;
@@ -92,10 +93,10 @@ fn assert_alike<W: FromNumber>(
         Cell::Open(content, owners) => (content, owners),
         Cell::Closed => (None, 0),
     };
-    assert_eq!(rt; core.try_get()?, content, "{name}");
-    assert_eq!(rt; core.owners(), owners, "{name}");
-    assert_eq!(rt; core.is_closed(), oracle.cell() == CLOSED, "{name}");
-    assert_eq!(rt; core.waiting(), oracle.waiting()?.len(), "{name}");
+    same(rt, name, core.try_get()?, content);
+    same(rt, name, core.owners(), owners);
+    same(rt, name, core.is_closed(), oracle.cell() == CLOSED);
+    same(rt, name, core.waiting(), oracle.waiting()?.len());
     Ok(())
 }
 
@@ -110,7 +111,7 @@ fn a_list_goes<W: FromNumber>(rt: &impl Abort, alloc: Global, seed: u64) -> Resu
         let (reply, woken) = oracle.step(call)?;
         let answer = step(&mut core, call);
         let name = format!(in alloc; "list {seed}: {call:?}")?;
-        assert_eq!(rt; answer.reply, reply, "{name}");
+        same(rt, name.as_str(), answer.reply, reply);
         assert_wakers(rt, name.as_str(), answer.woken, &woken);
         assert_alike(rt, name.as_str(), &core, &oracle)?;
     }

@@ -2,10 +2,13 @@
 ghost use Rattle.std.specs.Prelude.{◌≡◌, false, nat_eq};
 ghost use Rattle.std.proofs.Common.{rules};
 
-use crate::names::polled_by;
+use crate::compared::{Compared, polled_by};
+use crate::shared::{ONE, same};
 use async_cell_core::{Core, Named, Poll, Refusal, Wakes};
 use std::alloc::AllocError;
 use std::cell::Cell;
+use std::fmt::{self, Write};
+use std::process::Abort;
 use std::test::Fail;
 
 /// A waker whose clone is refused where its name is odd.
@@ -42,17 +45,15 @@ impl Wakes for Even {
 }
 
 #[test]
-fn a_poll_whose_clone_is_refused_changes_nothing(rt: HostRuntime) -> Result<(), Fail> {
-    let mut core: Core<u64, Even> = Core::new(rt.alloc());
-    assert_eq!(rt; core.poll_take(&Even(1)), Err(Refusal::Memory));
-    assert_eq!(rt; core.waiting(), 0);
-    assert_eq!(rt; core.poll_take(&Even(2)), Ok(Poll::Pending));
-    assert_eq!(rt; core.poll_take(&Even(3)), Err(Refusal::Memory));
-    assert_eq!(rt; core.waiting(), 1);
-    let mut woken = core.set(6).ok().ok_or("refused")?;
-    assert_eq!(rt; woken.next(), Some(Even(2)));
-    assert_eq!(rt; woken.next(), None);
-    Ok(())
+fn a_poll_whose_clone_is_refused_changes_nothing(rt: HostRuntime) {
+    let core: Core<u64, Even> = Core::new(rt.alloc());
+    let mut core = Compared::new(&rt, core);
+    core.poll_take(&Even(1), Err(Refusal::Memory));
+    core.waiting(0);
+    core.poll_take(&Even(2), Ok(Poll::Pending));
+    core.poll_take(&Even(3), Err(Refusal::Memory));
+    core.waiting(1);
+    core.set(6, &[Even(2)]);
 }
 
 /// A value whose clone is refused.
@@ -66,73 +67,123 @@ impl Clone for Single {
 }
 
 #[test]
-fn a_poll_whose_value_cannot_be_cloned_leaves_it(rt: HostRuntime) -> Result<(), Fail> {
-    let mut core: Core<Single, Named> = Core::new_with(rt.alloc(), Single(8));
-    assert_eq!(rt; core.poll_get(&Named(1)), Err(Refusal::Memory));
-    assert_eq!(rt; core.try_get().err(), Some(Refusal::Memory));
+fn a_poll_whose_value_cannot_be_cloned_leaves_it(rt: HostRuntime) {
+    let core: Core<Single, Named> = Core::new_with(rt.alloc(), Single(8));
+    let mut core = Compared::new(&rt, core);
+    core.poll_get(&ONE, Err(Refusal::Memory));
+    core.try_get(Err(Refusal::Memory));
+    core.waiting(0);
+    core.try_take(Some(Single(8)));
+}
+
+/// Asserts that this is a list with the one byte 8.
+fn is_eight(rt: &impl Abort, name: &str, bytes: Option<Vec<u8>>) {
+    match bytes {
+        Some(bytes) => assert_eq!(rt; bytes.as_slice(), [8].as_slice(), "{name}"),
+        None => panic!(rt; "{name} gives no value"),
+    }
+}
+
+/// A get by a poll gives the byte 8, or there is no memory for its clone.
+fn poll_get_gives_eight(rt: &impl Abort, core: &mut Core<Vec<u8>, Named>) {
+    match core.poll_get(&ONE) {
+        Ok(Poll::Ready(copy)) => is_eight(rt, "poll_get", copy),
+        Ok(Poll::Pending) => panic!(rt; "a full cell is ready"),
+        Err(why) => same(rt, "poll_get", why, Refusal::Memory),
+    }
+}
+
+/// A get gives the byte 8, or there is no memory for its clone.
+fn try_get_gives_eight(rt: &impl Abort, core: &Core<Vec<u8>, Named>) {
+    match core.try_get() {
+        Ok(copy) => is_eight(rt, "try_get", copy),
+        Err(why) => same(rt, "try_get", why, Refusal::Memory),
+    }
+}
+
+/// It holds with ample memory, and where a clone is refused its own: the value stays. Where the
+/// list itself is refused, the test ends with that error.
+#[test]
+fn a_list_of_bytes_is_cloned_or_stays(rt: HostRuntime) -> Result<(), Fail> {
+    let bytes: Vec<u8> = [8u8].to_vec(rt.alloc())?;
+    let mut core: Core<Vec<u8>, Named> = Core::new_with(rt.alloc(), bytes);
+    poll_get_gives_eight(&rt, &mut core);
+    try_get_gives_eight(&rt, &core);
     assert_eq!(rt; core.waiting(), 0);
-    assert_eq!(rt; core.try_take(), Some(Single(8)));
+    is_eight(&rt, "try_take", core.try_take());
     Ok(())
 }
 
-/// It holds with ample memory, and where a clone is refused its own: the value stays.
-#[test]
-fn a_list_of_bytes_is_cloned_or_stays(rt: HostRuntime) {
-    let made: Result<Vec<u8>, AllocError> = [8u8].to_vec(rt.alloc());
-    let Ok(bytes) = made else { return };
-    let mut core: Core<Vec<u8>, Named> = Core::new_with(rt.alloc(), bytes);
-    match core.poll_get(&Named(1)) {
-        Ok(Poll::Ready(Some(copy))) => assert_eq!(rt; copy.as_slice(), [8].as_slice()),
-        Ok(_) => panic!(rt; "a full cell is ready"),
-        Err(why) => assert_eq!(rt; why, Refusal::Memory),
-    }
-    match core.try_get() {
-        Ok(Some(copy)) => assert_eq!(rt; copy.as_slice(), [8].as_slice()),
-        Ok(None) => panic!(rt; "the cell is full"),
-        Err(why) => assert_eq!(rt; why, Refusal::Memory),
-    }
-    assert_eq!(rt; core.waiting(), 0);
-    match core.try_take() {
-        Some(bytes) => assert_eq!(rt; bytes.as_slice(), [8].as_slice()),
-        None => panic!(rt; "the value stays"),
-    }
-}
-
-#[test]
-fn a_refused_update_does_not_call_its_closure(rt: HostRuntime) -> Result<(), Fail> {
-    let called = Cell::new(false);
-    let mut core = polled_by(rt.alloc(), &[]);
-    core.update_some(|value| {
-        called.set(true);
-        value
-    })?;
-    assert!(rt; !called.get(), "there is no value");
-    assert_eq!(rt; core.end_owner()?.0, None);
-    let refused = core.update(|content| {
+/// An update whose closure notes that it was called.
+fn update<R: Abort>(
+    core: &mut Compared<'_, R, u64, Named>,
+    called: &Cell<bool>,
+) -> Result<(), Refusal> {
+    core.core.update(|content| {
         called.set(true);
         content
-    });
-    assert_eq!(rt; refused.err(), Some(Refusal::Closed));
-    let refused = core.update_some(|value| {
-        called.set(true);
-        value
-    });
-    assert_eq!(rt; refused, Err(Refusal::Closed));
-    assert!(rt; !called.get());
+    })?;
     Ok(())
 }
 
+/// An update of the value, whose closure notes that it was called.
+fn update_some<R: Abort>(
+    core: &mut Compared<'_, R, u64, Named>,
+    called: &Cell<bool>,
+) -> Result<(), Refusal> {
+    core.core.update_some(|value| {
+        called.set(true);
+        value
+    })
+}
+
 #[test]
-fn writes_on_a_closed_cell_give_the_value_back(rt: HostRuntime) -> Result<(), Fail> {
-    let mut core = polled_by(rt.alloc(), &[1]);
-    let (_, mut woken) = core.end_owner()?;
-    assert_eq!(rt; woken.next(), Some(Named(1)));
-    assert_eq!(rt; woken.next(), None);
-    assert_eq!(rt; core.set(9).err(), Some(9));
-    assert_eq!(rt; core.or_set(9).err(), Some(9));
-    assert_eq!(rt; core.replace(9).err(), Some(9));
-    assert_eq!(rt; core.try_take(), None);
-    assert_eq!(rt; core.try_get()?, None);
-    assert!(rt; !core.is_set());
-    Ok(())
+fn a_refused_update_does_not_call_its_closure(rt: HostRuntime) {
+    let called = Cell::new(false);
+    let mut core = polled_by(&rt, rt.alloc(), &[]);
+    same(&rt, "vacant", update_some(&mut core, &called), Ok(()));
+    assert!(rt; !called.get(), "there is no value");
+    core.end_owner(None, &[]);
+    same(
+        &rt,
+        "closed",
+        update(&mut core, &called),
+        Err(Refusal::Closed),
+    );
+    same(
+        &rt,
+        "closed",
+        update_some(&mut core, &called),
+        Err(Refusal::Closed),
+    );
+    assert!(rt; !called.get());
+}
+
+#[test]
+fn writes_on_a_closed_cell_give_the_value_back(rt: HostRuntime) {
+    let mut core = polled_by(&rt, rt.alloc(), &[ONE]);
+    core.end_owner(None, &[ONE]);
+    core.refuses_writes(9);
+    core.try_take(None);
+    core.try_get(Ok(None));
+    core.is_set(false);
+}
+
+/// A writer that refuses.
+#[derive(Drop)]
+struct Refuses;
+
+impl Write for Refuses {
+    fn write_str(&mut self, _: &str) -> fmt::Result {
+        Err(fmt::Error)
+    }
+}
+
+#[test]
+fn a_refused_print_is_told(rt: HostRuntime) {
+    let mut core = polled_by(&rt, rt.alloc(), &[ONE]);
+    assert!(rt; write!(Refuses, "{:?}", core.core).is_err());
+    core.set(5, &[ONE]);
+    assert!(rt; write!(Refuses, "{:?}", core.core).is_err());
+    core.try_take(Some(5));
 }

@@ -1,113 +1,107 @@
-//! Room made ahead. The tests are also run with each request for memory refused in turn. Where that is the one of `reserve`,
-//! it is called once more; no poll after it may be refused.
-use crate::names::{assert_names, polled_by};
+//! Room made ahead. The tests are also run with each request for memory refused in turn. Where that
+//! is the one of `reserve`, it is called once more; no poll after it may be refused.
+use crate::compared::{Compared, polled_by};
+use crate::shared::{FOUR, ONE, THREE, TWO};
 use async_cell_core::{Core, Named, Poll, Refusal};
 use std::process::Abort;
-use std::test::Fail;
 
 /// Makes room, on a second try where the first found no memory.
-fn reserve(core: &mut Core<u64, Named>, additional: usize, rt: &impl Abort) {
-    if core.reserve(additional).is_err() {
-        assert_eq!(rt; core.reserve(additional), Ok(()));
-    }
-}
-
-/// Polls by these in turn, all of which have to wait.
-fn wait_for(core: &mut Core<u64, Named>, names: &[u64], rt: &impl Abort) {
-    for name in names {
-        assert_eq!(rt; core.poll_take(&Named(*name)), Ok(Poll::Pending), "{name}");
+fn reserve<R: Abort>(core: &mut Compared<'_, R, u64, Named>, additional: usize) {
+    if core.core.reserve(additional).is_err() {
+        core.reserve(additional, Ok(()));
     }
 }
 
 #[test]
-fn polls_find_the_room_that_was_made(rt: HostRuntime) -> Result<(), Fail> {
-    let mut core = polled_by(rt.alloc(), &[]);
-    reserve(&mut core, 3, &rt);
-    wait_for(&mut core, &[1, 2, 3], &rt);
-    let woken = core.set(5).ok().ok_or("refused")?;
-    assert_names(&rt, woken, &[1, 2, 3], 0);
-    Ok(())
+fn polls_find_the_room_that_was_made(rt: HostRuntime) {
+    let mut core = polled_by(&rt, rt.alloc(), &[]);
+    reserve(&mut core, 3);
+    core.wait(&[ONE, TWO, THREE]);
+    core.set(5, &[ONE, TWO, THREE]);
 }
 
 #[test]
-fn a_skipped_waker_takes_no_room(rt: HostRuntime) -> Result<(), Fail> {
-    let mut core = polled_by(rt.alloc(), &[]);
-    reserve(&mut core, 2, &rt);
-    wait_for(&mut core, &[1, 1, 2], &rt);
-    let woken = core.set(5).ok().ok_or("refused")?;
-    assert_names(&rt, woken, &[1, 2], 0);
-    Ok(())
+fn a_skipped_waker_takes_no_room(rt: HostRuntime) {
+    let mut core = polled_by(&rt, rt.alloc(), &[]);
+    reserve(&mut core, 2);
+    core.wait(&[ONE, ONE, TWO]);
+    core.set(5, &[ONE, TWO]);
 }
 
 #[test]
-fn a_full_cell_is_given_room(rt: HostRuntime) -> Result<(), Fail> {
-    let mut core = polled_by(rt.alloc(), &[]);
-    let woken = core.set(4).ok().ok_or("refused")?;
-    assert_names(&rt, woken, &[], 0);
-    reserve(&mut core, 2, &rt);
-    assert_eq!(rt; core.poll_take(&Named(1)), Ok(Poll::Ready(Some(4))));
-    wait_for(&mut core, &[2, 3], &rt);
-    let woken = core.set(5).ok().ok_or("refused")?;
-    assert_names(&rt, woken, &[2, 3], 1);
-    Ok(())
+fn a_full_cell_is_given_room(rt: HostRuntime) {
+    let mut core = polled_by(&rt, rt.alloc(), &[]);
+    core.set(4, &[]);
+    reserve(&mut core, 2);
+    core.poll_take(&ONE, Ok(Poll::Ready(Some(4))));
+    core.wait(&[TWO, THREE]);
+    core.set(5, &[TWO, THREE]);
+}
+
+/// Updates a value that is there to its third and four more.
+fn update<R: Abort>(rt: &R, core: &mut Compared<'_, R, u64, Named>) {
+    let updated = core
+        .core
+        .update(|content| content.map(|value| value / 3 + 4))
+        .is_ok();
+    assert!(rt; updated);
+}
+
+/// An update that leaves the content as it is.
+fn update_nothing<R: Abort>(rt: &R, core: &mut Compared<'_, R, u64, Named>) {
+    let updated = core.core.update(|content| content).is_ok();
+    assert!(rt; updated);
 }
 
 #[test]
-fn writes_on_a_full_cell_leave_the_room(rt: HostRuntime) -> Result<(), Fail> {
-    let mut core = Core::new_with(rt.alloc(), 1);
-    reserve(&mut core, 4, &rt);
-    assert!(rt; core.set(2).is_ok());
-    assert_eq!(rt; core.replace(3).ok().ok_or("refused")?.0, Some(2));
-    assert_eq!(rt; core.or_set(9).ok().ok_or("refused")?.0, Some(9));
-    assert!(rt;
-        core.update(|content| content.map(|value| value / 3 + 4))
-            .is_ok()
-    );
-    assert_eq!(rt; core.try_take(), Some(5));
-    assert!(rt; core.update(|content| content).is_ok());
-    wait_for(&mut core, &[1, 2, 3, 4], &rt);
-    let woken = core.set(5).ok().ok_or("refused")?;
-    assert_names(&rt, woken, &[1, 2, 3, 4], 0);
-    Ok(())
+fn writes_on_a_full_cell_leave_the_room(rt: HostRuntime) {
+    let mut core = Compared::new(&rt, Core::new_with(rt.alloc(), 1));
+    reserve(&mut core, 4);
+    core.set(2, &[]);
+    core.replace(3, Some(2), &[]);
+    core.or_set(9, Some(9), &[]);
+    update(&rt, &mut core);
+    core.try_take(Some(5));
+    update_nothing(&rt, &mut core);
+    core.wait(&[ONE, TWO, THREE, FOUR]);
+    core.set(5, &[ONE, TWO, THREE, FOUR]);
 }
 
 #[test]
-fn more_room_than_there_can_be_is_refused(rt: HostRuntime) -> Result<(), Fail> {
-    let mut core = polled_by(rt.alloc(), &[1]);
-    assert_eq!(rt; core.reserve(usize::MAX), Err(Refusal::Memory));
-    assert_eq!(rt; core.waiting(), 1);
-    let woken = core.set(6).ok().ok_or("refused")?;
-    assert_names(&rt, woken, &[1], 0);
-    Ok(())
+fn more_room_than_there_can_be_is_refused(rt: HostRuntime) {
+    let mut core = polled_by(&rt, rt.alloc(), &[ONE]);
+    core.reserve(usize::MAX, Err(Refusal::Memory));
+    core.waiting(1);
+    core.set(6, &[ONE]);
 }
 
 #[test]
-fn a_closed_cell_is_given_no_room(rt: HostRuntime) -> Result<(), Fail> {
-    let mut core = polled_by(rt.alloc(), &[]);
-    assert_eq!(rt; core.end_owner()?.0, None);
-    assert_eq!(rt; core.reserve(usize::MAX), Ok(()));
-    assert!(rt; core.is_closed());
-    Ok(())
+fn a_closed_cell_is_given_no_room(rt: HostRuntime) {
+    let mut core = polled_by(&rt, rt.alloc(), &[]);
+    core.end_owner(None, &[]);
+    core.reserve(usize::MAX, Ok(()));
+    core.owners(0);
 }
 
 #[test]
 fn room_keeps_the_value(rt: HostRuntime) {
-    let mut core = Core::new_with(rt.alloc(), 7);
-    reserve(&mut core, 1, &rt);
-    assert_eq!(rt; core.try_take(), Some(7));
+    let mut core = Compared::new(&rt, Core::new_with(rt.alloc(), 7));
+    reserve(&mut core, 1);
+    core.try_take(Some(7));
 }
 
 #[test]
-fn two_thousand_names_come_out_in_order(rt: HostRuntime) -> Result<(), Fail> {
-    let mut core: Core<u64, Named> = Core::new(rt.alloc());
+fn two_thousand_names_come_out_in_order(rt: HostRuntime) {
+    let mut core = polled_by(&rt, rt.alloc(), &[]);
     for name in 0..2_000u64 {
-        assert_eq!(rt; core.poll_take(&Named(name)), Ok(Poll::Pending));
+        core.poll_take(&Named(name), Ok(Poll::Pending));
     }
-    assert_eq!(rt; core.waiting(), 2_000);
-    let mut woken = core.set(0).ok().ok_or("refused")?;
+    core.waiting(2_000);
+    let Ok(mut woken) = core.core.set(0) else {
+        panic!(rt; "refused");
+    };
     for name in 0..2_000u64 {
         assert_eq!(rt; woken.next(), Some(Named(name)));
     }
     assert_eq!(rt; woken.next(), None);
-    Ok(())
 }

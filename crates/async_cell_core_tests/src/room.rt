@@ -24,8 +24,8 @@ pub fn a_fill_ends_the_room()
     ensures { room nat_eq (vacant_with 2) (fill ∷ []) ≡ 0 }
 {}
 
-/// A poll that finds room needs no memory, where wakers are cloned without fail. One that finds none
-/// may lack it, but for the first to wait.
+/// A poll that finds room needs no memory, where wakers are cloned without fail. One that finds
+/// none may lack it, but for the first to wait.
 pub fn room_spares_a_poll_from_want_of_memory()
     ensures first { may_lack_memory true (vacant_with 0) 1 ≡ false }
     ensures room { may_lack_memory true (after nat_eq (vacant_with 2) (poll 1 ∷ [])) 2 ≡ false }

@@ -1,48 +1,43 @@
 //! Lists of calls.
 use crate::change::Change;
-use crate::names::{assert_names, names, polled_by};
+use crate::compared::polled_by;
+use crate::shared::{FOUR, ONE, TWO, assert_wakers};
 use async_cell_core::{Answer, Call, Core, Named, Refusal, Reply, laws, run};
-use std::alloc::{AllocError, Global};
+use std::alloc::Global;
 use std::process::Abort;
 use std::test::Fail;
 
 type TestCall = Call<u64, Named, Change>;
 
-type Told = (Reply<u64>, Vec<u64>);
-
-/// The replies and the names handed out, in order.
-fn told(alloc: Global, answers: Vec<Answer<u64, Named>>) -> Result<Vec<Told>, AllocError> {
-    let mut all = Vec::new(alloc);
-    for Answer { reply, woken } in answers {
-        all.push((reply, names(alloc, woken)?))?;
+/// Asserts that these are the replies, with the wakers that each returns. It takes no memory.
+fn answers_are(rt: &impl Abort, answers: Vec<Answer<u64, Named>>, want: &[(Reply<u64>, &[Named])]) {
+    assert_eq!(rt; answers.len(), want.len());
+    for (place, (Answer { reply, woken }, want)) in answers.into_iter().zip(want).enumerate() {
+        assert_eq!(rt; reply, want.0, "call {place}");
+        assert_eq!(rt; woken.len(), want.1.len(), "call {place}");
+        assert_wakers(rt, "the wakers of a call", woken, want.1);
     }
-    Ok(all)
 }
 
-/// Makes the calls on a new core as one list, and compares replies and names with what is wanted.
+/// Makes the calls on a new core as one list, and compares the answers with what is wanted.
 fn runs_to(
     rt: &impl Abort,
     alloc: Global,
     calls: &[TestCall],
-    want: &[(Reply<u64>, &[u64])],
+    want: &[(Reply<u64>, &[Named])],
 ) -> Result<(), Fail> {
     let mut core = Core::new(alloc);
     let answers = run(&mut core, calls.to_vec(alloc)?)
         .ok()
         .ok_or("no memory")?;
-    let told = told(alloc, answers)?;
-    assert_eq!(rt; told.len(), want.len());
-    for (place, (is, (reply, names))) in told.iter().zip(want).enumerate() {
-        assert_eq!(rt; is.0, *reply, "call {place}");
-        assert_eq!(rt; is.1.as_slice(), *names, "call {place}");
-    }
+    answers_are(rt, answers, want);
     Ok(())
 }
 
 #[test]
 fn a_list_of_polls_and_a_set(rt: HostRuntime) -> Result<(), Fail> {
     let poll = |name: u64| Call::PollTake(Named(name));
-    let none: &[u64] = &[];
+    let none: &[Named] = &[];
     runs_to(
         &rt,
         rt.alloc(),
@@ -52,14 +47,14 @@ fn a_list_of_polls_and_a_set(rt: HostRuntime) -> Result<(), Fail> {
             (Reply::Pending, none),
             (Reply::Pending, none),
             (Reply::Pending, none),
-            (Reply::Done, &[1, 2]),
+            (Reply::Done, &[ONE, TWO]),
         ],
     )
 }
 
 #[test]
 fn takes_and_gets_and_a_set(rt: HostRuntime) -> Result<(), Fail> {
-    let none: &[u64] = &[];
+    let none: &[Named] = &[];
     runs_to(
         &rt,
         rt.alloc(),
@@ -78,7 +73,7 @@ fn takes_and_gets_and_a_set(rt: HostRuntime) -> Result<(), Fail> {
             (Reply::Pending, none),
             (Reply::Pending, none),
             (Reply::Pending, none),
-            (Reply::Done, &[1, 2]),
+            (Reply::Done, &[ONE, TWO]),
             (Reply::Ready(Some(7)), none),
             (Reply::Value(Some(7)), none),
             (Reply::Value(None), none),
@@ -88,7 +83,7 @@ fn takes_and_gets_and_a_set(rt: HostRuntime) -> Result<(), Fail> {
 
 #[test]
 fn a_refused_call_is_answered_and_the_run_goes_on(rt: HostRuntime) -> Result<(), Fail> {
-    let none: &[u64] = &[];
+    let none: &[Named] = &[];
     runs_to(
         &rt,
         rt.alloc(),
@@ -117,7 +112,7 @@ fn a_refused_call_is_answered_and_the_run_goes_on(rt: HostRuntime) -> Result<(),
             (Reply::Refused(Refusal::StillShared, None), none),
             (Reply::Pending, none),
             (Reply::Value(None), none),
-            (Reply::Value(None), &[4]),
+            (Reply::Value(None), &[FOUR]),
             (Reply::Refused(Refusal::Closed, Some(9)), none),
             (Reply::Refused(Refusal::Closed, Some(9)), none),
             (Reply::Refused(Refusal::Closed, Some(9)), none),
@@ -137,7 +132,7 @@ fn a_refused_call_is_answered_and_the_run_goes_on(rt: HostRuntime) -> Result<(),
 
 #[test]
 fn updates_store_what_their_edits_answer(rt: HostRuntime) -> Result<(), Fail> {
-    let none: &[u64] = &[];
+    let none: &[Named] = &[];
     runs_to(
         &rt,
         rt.alloc(),
@@ -156,7 +151,7 @@ fn updates_store_what_their_edits_answer(rt: HostRuntime) -> Result<(), Fail> {
             (Reply::Pending, none),
             (Reply::Done, none),
             (Reply::Done, none),
-            (Reply::Done, &[1]),
+            (Reply::Done, &[ONE]),
             (Reply::Done, none),
             (Reply::Done, none),
             (Reply::Value(Some(8)), none),
@@ -166,15 +161,15 @@ fn updates_store_what_their_edits_answer(rt: HostRuntime) -> Result<(), Fail> {
     )
 }
 
-/// What the eight calls below are answered, where this one finds no memory for its waker. A poll whose waker is skipped, and
-/// every other call, needs none.
-fn answered_without_memory_at(refused: Option<usize>) -> [(Reply<u64>, &'static [u64]); 8] {
+/// What the eight calls below are answered, where this one finds no memory for its waker. A poll
+/// whose waker is skipped, and every other call, needs none.
+fn answered_without_memory_at(refused: Option<usize>) -> [(Reply<u64>, &'static [Named]); 8] {
     let no_memory = Reply::Refused(Refusal::Memory, None);
-    let (get, woken): (Reply<u64>, &'static [u64]) = match refused {
-        Some(2) => (no_memory, &[1]),
-        _ => (Reply::Pending, &[1, 2]),
+    let (get, woken): (Reply<u64>, &'static [Named]) = match refused {
+        Some(2) => (no_memory, &[ONE]),
+        _ => (Reply::Pending, &[ONE, TWO]),
     };
-    let nobody: &'static [u64] = &[];
+    let nobody: &'static [Named] = &[];
     [
         (Reply::Pending, nobody),
         (Reply::Pending, nobody),
@@ -187,8 +182,9 @@ fn answered_without_memory_at(refused: Option<usize>) -> [(Reply<u64>, &'static 
     ]
 }
 
-/// Where the answers find no room, the list comes back and the core is as it was; else each call is answered as the model
-/// has it, of which one poll may have found no memory. It is run with each request for memory refused in turn.
+/// Where the answers find no room, the list comes back and the core is as it was; else each call is
+/// answered as the model has it, of which one poll may have found no memory. It is run with each
+/// request for memory refused in turn. Where that is the list's own, it ends with that error.
 #[test]
 fn a_run_without_memory_gives_the_list_back(rt: HostRuntime) -> Result<(), Fail> {
     let mut core: Core<u64, Named> = Core::new(rt.alloc());
@@ -202,20 +198,13 @@ fn a_run_without_memory_gives_the_list_back(rt: HostRuntime) -> Result<(), Fail>
         Call::TryTake,
         Call::TryTake,
     ];
-    let Ok(list) = calls.to_vec(rt.alloc()) else {
-        return Ok(());
-    };
-    match run(&mut core, list) {
+    match run(&mut core, calls.to_vec(rt.alloc())?) {
         Ok(answers) => {
             let refused = answers
                 .iter()
                 .position(|answer| matches!(&answer.reply, Reply::Refused(..)));
             let wanted = answered_without_memory_at(refused);
-            assert_eq!(rt; answers.len(), wanted.len());
-            for (place, (answer, (reply, names))) in answers.into_iter().zip(wanted).enumerate() {
-                assert_eq!(rt; answer.reply, reply, "call {place}");
-                assert_names(&rt, answer.woken, names, place);
-            }
+            answers_are(&rt, answers, &wanted);
         }
         Err(back) => {
             assert_eq!(rt; back.as_slice(), calls);
@@ -229,11 +218,11 @@ fn a_run_without_memory_gives_the_list_back(rt: HostRuntime) -> Result<(), Fail>
 /// An empty list needs no memory.
 #[test]
 fn an_empty_list_is_never_refused(rt: HostRuntime) {
-    let mut core = polled_by(rt.alloc(), &[1]);
+    let mut core = polled_by(&rt, rt.alloc(), &[ONE]);
     let calls: Vec<TestCall> = Vec::new(rt.alloc());
-    let answers = run(&mut core, calls);
+    let answers = run(&mut core.core, calls);
     assert_eq!(rt; answers.map(|answers| answers.len()).ok(), Some(0));
-    assert_eq!(rt; core.waiting(), 1);
+    core.waiting(1);
 }
 
 /// The laws are proved for every type; here they are taken at types of a program.

@@ -1,7 +1,8 @@
 //! What the tests of worked histories and tables share: steps, each a call with all that it does.
 use crate::change::Change;
 use crate::oracle::Oracle;
-use async_cell_core::{Answer, Call, Core, Named, Reply, Wakers, Wakes, run};
+use crate::shared::{assert_wakers, same};
+use async_cell_core::{Answer, Call, Core, Named, Reply, Wakes, run};
 use async_cell_model::Cell;
 use std::alloc::{AllocError, Global};
 use std::fmt::Debug;
@@ -55,24 +56,6 @@ pub fn core_of<W: Wakes>(alloc: Global, cell: Cell<u64>, polls: &[W]) -> Core<u6
     core
 }
 
-/// Asserts that these are the wakers, in order.
-pub fn assert_wakers<W: Wakes + Copy + Debug + PartialEq>(
-    rt: &impl Abort,
-    name: &str,
-    wakers: Wakers<W>,
-    want: &[W],
-) {
-    let mut left = want;
-    for waker in wakers {
-        let [first, rest @ ..] = left else {
-            panic!(rt; "{name}: one more, {waker:?}");
-        };
-        assert_eq!(rt; waker, *first, "{name}");
-        left = rest;
-    }
-    assert_eq!(rt; left, [].as_slice(), "{name}");
-}
-
 /// Asserts that the core has this cell and that these wait.
 pub fn assert_core<W: Wakes + Copy + Debug + PartialEq>(
     rt: &impl Abort,
@@ -85,11 +68,11 @@ pub fn assert_core<W: Wakes + Copy + Debug + PartialEq>(
         Cell::Open(content, owners) => (content, owners),
         Cell::Closed => (None, 0),
     };
-    assert_eq!(rt; core.owners(), owners, "{name}");
-    assert_eq!(rt; core.is_closed(), cell == Cell::Closed, "{name}");
-    assert_eq!(rt; core.waiting(), waiting.len(), "{name}");
+    same(rt, name, core.owners(), owners);
+    same(rt, name, core.is_closed(), cell == Cell::Closed);
+    same(rt, name, core.waiting(), waiting.len());
     let (inner, woken) = core.into_inner();
-    assert_eq!(rt; inner, content, "{name}");
+    same(rt, name, inner, content);
     assert_wakers(rt, name, woken, waiting);
 }
 
@@ -185,12 +168,6 @@ pub fn each_call_goes(
     }
     Ok(())
 }
-
-pub const ONE: Named = Named(1);
-
-pub const TWO: Named = Named(2);
-
-pub const THREE: Named = Named(3);
 
 pub const MOST: u32 = 4_294_967_295;
 

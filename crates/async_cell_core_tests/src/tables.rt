@@ -1,6 +1,7 @@
 //! Each call on each kind of cell, by `Core` and by the oracle. What is expected was worked out by
 //! hand.
-use crate::steps::{CLOSED, MOST, ONE, THREE, TWO, each_call_goes, then, update, update_some};
+use crate::shared::{ONE, THREE, TWO};
+use crate::steps::{CLOSED, MOST, each_call_goes, then, update, update_some};
 use async_cell_core::{Call, Named, Refusal, Reply};
 use async_cell_model::Cell;
 use std::test::Fail;

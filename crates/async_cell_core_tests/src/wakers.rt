@@ -2,28 +2,10 @@
 ghost use Rattle.std.specs.Prelude.{◌≡◌, ◌%◌, ◌==◌, true, false, nat_eq};
 ghost use Rattle.std.proofs.Common.{rules};
 
+use crate::compared::Compared;
+use crate::count::Count;
 use async_cell_core::{Core, Poll, Wakes};
 use std::cell::Cell;
-use std::test::Fail;
-
-/// Where a waker notes that it was woken.
-trait Count: Clone {
-    fn add_one(&self);
-
-    ghost clone_is_source: { (a b : Self) → Self.is_clone a b → b ≡ a };
-
-    ghost clone_is_sure: { (a : Self) → Self.is_infallible a };
-}
-
-impl<'a> Count for &'a Cell<u64> {
-    fn add_one(&self) {
-        self.set(self.get().wrapping_add(1));
-    }
-
-    ghost clone_is_source = { Prim.search rules };
-
-    ghost clone_is_sure = { Prim.search rules };
-}
 
 /// A waker with a name that counts its wakes.
 #[derive(Clone, Copy)]
@@ -44,7 +26,7 @@ impl<C: Count> Wakes for Counted<C> {
     }
 
     fn wake(self) {
-        self.woken.add_one();
+        self.woken.set_count(self.woken.count().wrapping_add(1));
     }
 
     ghost clone_is_source = { Prim.search rules };
@@ -91,25 +73,22 @@ impl Wakes for WakesIfEven {
 }
 
 #[test]
-fn any_waiting_waker_that_would_wake_it_keeps_one_out(rt: HostRuntime) -> Result<(), Fail> {
-    let rows: [(&[u64], &[u64]); 3] = [
-        (&[2, 3, 5], &[2]),
-        (&[3, 2, 2], &[3, 2]),
-        (&[3, 3, 2, 5], &[3, 3, 2]),
+fn any_waiting_waker_that_would_wake_it_keeps_one_out(rt: HostRuntime) {
+    const TWO: WakesIfEven = WakesIfEven(2);
+    const THREE: WakesIfEven = WakesIfEven(3);
+    const FIVE: WakesIfEven = WakesIfEven(5);
+    let rows: [(&[WakesIfEven], &[WakesIfEven]); 3] = [
+        (&[TWO, THREE, FIVE], &[TWO]),
+        (&[THREE, TWO, TWO], &[THREE, TWO]),
+        (&[THREE, THREE, TWO, FIVE], &[THREE, THREE, TWO]),
     ];
     for (polls, want) in rows {
-        let mut core: Core<u64, WakesIfEven> = Core::new(rt.alloc());
-        for number in polls {
-            assert_eq!(rt; core.poll_take(&WakesIfEven(*number)), Ok(Poll::Pending));
-        }
-        assert_eq!(rt; core.waiting(), want.len());
-        let mut woken = core.set(0).ok().ok_or("refused")?;
-        for number in want {
-            assert_eq!(rt; woken.next(), Some(WakesIfEven(*number)));
-        }
-        assert_eq!(rt; woken.next(), None);
+        let core: Core<u64, WakesIfEven> = Core::new(rt.alloc());
+        let mut core = Compared::new(&rt, core);
+        core.wait(polls);
+        core.waiting(want.len());
+        core.set(0, want);
     }
-    Ok(())
 }
 
 /// A waker that would wake every other.
@@ -157,29 +136,19 @@ impl Wakes for Nobody {
 }
 
 #[test]
-fn a_waker_that_wakes_nobody_else_is_added_again(rt: HostRuntime) -> Result<(), Fail> {
-    let mut core: Core<u64, Nobody> = Core::new(rt.alloc());
-    for _turn in 0..3u8 {
-        assert_eq!(rt; core.poll_take(&Nobody(1)), Ok(Poll::Pending));
-    }
-    assert_eq!(rt; core.waiting(), 3);
-    let mut woken = core.set(0).ok().ok_or("refused")?;
-    for _turn in 0..3u8 {
-        assert_eq!(rt; woken.next(), Some(Nobody(1)));
-    }
-    assert_eq!(rt; woken.next(), None);
-    Ok(())
+fn a_waker_that_wakes_nobody_else_is_added_again(rt: HostRuntime) {
+    let core: Core<u64, Nobody> = Core::new(rt.alloc());
+    let mut core = Compared::new(&rt, core);
+    core.wait(&[Nobody(1), Nobody(1), Nobody(1)]);
+    core.waiting(3);
+    core.set(0, &[Nobody(1), Nobody(1), Nobody(1)]);
 }
 
 #[test]
-fn a_waker_that_wakes_all_keeps_the_others_out(rt: HostRuntime) -> Result<(), Fail> {
-    let mut core: Core<u64, All> = Core::new(rt.alloc());
-    for name in [1, 2, 3] {
-        assert_eq!(rt; core.poll_take(&All(name)), Ok(Poll::Pending));
-    }
-    assert_eq!(rt; core.waiting(), 1);
-    let mut woken = core.set(0).ok().ok_or("refused")?;
-    assert_eq!(rt; woken.next(), Some(All(1)));
-    assert_eq!(rt; woken.next(), None);
-    Ok(())
+fn a_waker_that_wakes_all_keeps_the_others_out(rt: HostRuntime) {
+    let core: Core<u64, All> = Core::new(rt.alloc());
+    let mut core = Compared::new(&rt, core);
+    core.wait(&[All(1), All(2), All(3)]);
+    core.waiting(1);
+    core.set(0, &[All(1)]);
 }

@@ -1,8 +1,8 @@
 //! Histories worked by hand, from the rules of the cell in words: each as a list of calls on `Core`
 //! and on the oracle. Those of docs/DEFINITIONS.md stand at the end.
+use crate::shared::{FIVE, ONE, THREE, TWO};
 use crate::steps::{
-    CLOSED, ONE, THREE, TWO, VACANT, a_cell_goes, a_new_cell_goes, full, poll, then, update,
-    update_some,
+    CLOSED, VACANT, a_cell_goes, a_new_cell_goes, full, poll, then, update, update_some,
 };
 use async_cell_core::{Call, Named, Refusal, Reply};
 use async_cell_model::Cell;
@@ -222,8 +222,6 @@ fn owners_come_and_go(rt: HostRuntime) -> Result<(), Fail> {
     )?;
     Ok(())
 }
-
-const FIVE: Named = Named(5);
 
 #[test]
 fn the_histories_of_the_definitions(rt: HostRuntime) -> Result<(), Fail> {

@@ -1,5 +1,5 @@
-//! What another project sees of `Core`: a reply slot, something that is watched, a shutdown signal,
-//! a notice with a text and an edit of its own, with facts that follow from the contracts of `Core`
+//! Callers of `Core`, as another project would write them: a reply slot, a watched state, a
+//! shutdown signal, a notice with a text, and an edit. Their contracts follow from those of `Core`
 //! alone.
 #![tactic(auto)]
 
@@ -7,6 +7,4 @@ pub mod notice;
 pub mod put;
 pub mod reply_slot;
 pub mod shutdown;
-#[cfg(test)]
-mod tests;
 pub mod watched;

@@ -1,5 +1,5 @@
-//! A notice whose text readers get a clone of. The clone of a `String` is another piece of memory,
-//! so it is not its source: what is promised of a look holds all the same.
+//! A notice whose readers get a clone of its text. The clone of a `String` has memory of its own,
+//! so it does not equal its source. What `look` promises holds all the same.
 ghost use Rattle.std.specs.Prelude.{◌≡◌, [], Some};
 ghost use Rattle.async_cell_model.specs.Cell.{content};
 
@@ -37,7 +37,7 @@ pub struct Notice {
 }
 
 impl Notice {
-    /// A notice with this text.
+    /// Creates a notice with this text.
     pub fn new(alloc: Global, text: String) -> Self
         ensures { content result.core.cell ≡ Some text }
     {
@@ -46,8 +46,8 @@ impl Notice {
         }
     }
 
-    /// Makes a `TryGet`, as a list of calls does: whatever it is answered, the cell and those that
-    /// wait stay as they were, and nobody is to be woken.
+    /// Makes a `TryGet`, as a list of calls does. Whatever the reply is, the cell and the wait list
+    /// stay as they were, and nobody is to be woken.
     pub fn look(&mut self) -> Answer<String, Named>
         ensures cell_stays { self.new.core.cell ≡ self.old.core.cell }
         ensures waiting_stays { self.new.core.waiting ≡ self.old.core.waiting }

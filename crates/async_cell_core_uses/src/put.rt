@@ -1,12 +1,12 @@
-//! An edit, as lists of calls hold it.
+//! An edit of a caller's own, for lists of calls.
 ghost use Rattle.std.specs.Prelude.{◌≡◌, IfSome, Some, map, nat_eq, true, vec_len};
 ghost use Rattle.async_cell_core.specs.Kept.{history_of};
-ghost use Rattle.async_cell_model.specs.Legal.{Leads};
+ghost use Rattle.async_cell_model.specs.Legal.{Runs};
 
 use async_cell_core::{Answer, Call, Core, Edit, Named, run};
 use async_cell_model::laws::with_exact_clones_a_history_is_exact;
 
-/// Puts this number in, whatever there was.
+/// Sets the content to this number, whatever it was.
 #[derive(Clone, Copy, Drop)]
 pub struct Put(pub u64);
 
@@ -30,20 +30,21 @@ impl Edit<u64> for Put {
     }
 }
 
-/// Makes the calls, and gives one answer for each: exactly those of an optional number with counted
-/// owners, since the clone of a number is the number. None where there was no memory, and then
-/// nothing was called.
+/// Makes the calls and returns one answer for each. The answers are exactly those of an optional
+/// number with counted owners, since the clone of a number is the number. Returns `None` if there
+/// is no memory for the answers; no call is made then.
 pub fn made(
     core: &mut Core<u64, Named>,
     calls: Vec<Call<u64, Named, Put>>,
 ) -> Option<Vec<Answer<u64, Named>>>
     ensures one_each { IfSome result (λ answers. vec_len answers ≡ vec_len calls) }
     ensures model { IfSome result (λ answers.
-        Leads (λ a b. nat_eq a.0 b.0) true core.old
+        Runs (λ a b. nat_eq a.0 b.0) true core.old
         (history_of (λ put content. Some put.0) (λ put value. put.0) core.old.cell
         calls.items (map (λ a. a.reply) answers.items))
         (map (λ a. a.woken) answers.items) core.new) }
 {
+    // For the proof: what `run` promises up to clones holds exactly.
     with_exact_clones_a_history_is_exact::<u64, Named>();
     run(core, calls).ok()
 }

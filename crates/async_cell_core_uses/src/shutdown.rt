@@ -7,13 +7,13 @@ use std::alloc::Global;
 /// What a task saw that waited for the end.
 #[derive(Drop)]
 pub struct SeenEnd {
-    /// Whom the end woke.
+    /// The wakers to be woken by the end.
     pub woken: Wakers<Named>,
-    /// What the task's next look answered.
+    /// What the task's next poll returned.
     pub look: Result<Poll<Option<u32>>, Refusal>,
 }
 
-/// Whoever waits is to be woken by the end of the last owner, and sees the end at the next look.
+/// A waiting task is to be woken when the last owner ends, and its next poll sees the end.
 pub fn end_is_seen(alloc: Global) -> SeenEnd
     ensures woken { result.woken ≡ record { 0 = 1 } ∷ [] }
     ensures ended { result.look ≡ Ok (Poll.Ready None) }

@@ -13,11 +13,11 @@ use Rattle.async_cell_model.specs.declared.reply.Reply.{Reply}
 use Rattle.async_cell_model.specs.declared.reply.Reply.TheVariants as reply
 use Rattle.async_cell_model.specs.Cell.{ends_waiting, is_vacant, is_full, is_closed, content, owners_of}
 use Rattle.async_cell_model.specs.Step.{next, reply as model_reply}
-use Rattle.async_cell_model.specs.Waiting.{keep}
-use Rattle.async_cell_model.specs.History.{Beginning, IsBeginning, is_pending, pending_waker, waiting}
-use Rattle.async_cell_model.specs.Legal.{hands, Answers}
+use Rattle.async_cell_model.specs.WaitList.{wait_list}
+use Rattle.async_cell_model.specs.History.{State, IsSound, is_pending, pending_waker, waiting}
+use Rattle.async_cell_model.specs.Legal.{wakes, Steps}
 use Rattle.async_cell_model.proofs.Whole.{after-nil}
-use Rattle.async_cell_model.proofs.Refusing.{Leads-begins}
+use Rattle.async_cell_model.proofs.Refusing.{Runs-sound}
 use Rattle.async_cell_model.proofs.UpTo.{up_to_clones}
 use Rattle.async_cell_driver.specs.declared.task.Mark.{Mark}
 use Rattle.async_cell_driver.specs.declared.task.Mark.TheVariants as mark
@@ -25,12 +25,12 @@ use Rattle.async_cell_driver.specs.declared.task.Task.{Task}
 use Rattle.async_cell_driver.specs.declared.event.Event.{Event}
 use Rattle.async_cell_driver.specs.declared.event.Told.{Told}
 use Rattle.async_cell_driver.specs.Mark.{is_done_mark, waits_mark, is_due_mark, is_ready_mark}
-use Rattle.async_cell_driver.specs.State.{State, mark_at, result_at, IsCovered, is_named, wake_each, AllNamed, AllStarted}
+use Rattle.async_cell_driver.specs.DriverState.{DriverState, mark_at, result_at, IsCovered, is_named, wake_each, AllNamed, AllStarted}
 use Rattle.async_cell_driver.specs.Log.{Line, kinds, is_ready, is_poll_of, started}
 use Rattle.async_cell_driver.specs.History.{history, handed_out, line_of, call_of, reply_of, entry_of, names_by, kept_update}
 use Rattle.async_cell_driver.specs.Drives.{Drives, FitsTold, is_same}
 use Rattle.async_cell_driver.proofs.Reading.{awake, ready_now, started_now}
-use Rattle.async_cell_driver.proofs.Waking.{mark-wake_each, woken_if, kinds-wake_each, length-wake_each, results-wake_each, named-keep, named-append}
+use Rattle.async_cell_driver.proofs.Waking.{mark-wake_each, woken_if, kinds-wake_each, length-wake_each, results-wake_each, named-wait_list, named-append}
 
 head_is : {A : Type 0} (x y : A) (xs ys : List A) → x ∷ xs ≡ y ∷ ys → x ≡ y
 head_is x y xs ys same = cc
@@ -72,15 +72,15 @@ not_woken true (Some mark.Woken) stands = cc
 not_woken true (Some mark.Done) stands = cc
 
 -- who waits stays, but where all that wait are handed out
-kept_named : (ends : Bool) (l cut : List Named) (i : ℕ) → ends ≡ false → is_named i l ≡ true → is_named i (keep is_same ((if ends || false then [] else l) ++ cut)) ≡ true
+kept_named : (ends : Bool) (l cut : List Named) (i : ℕ) → ends ≡ false → is_named i l ≡ true → is_named i (wait_list is_same ((if ends || false then [] else l) ++ cut)) ≡ true
 kept_named true l cut i not named = cc
-kept_named false l cut i not named = named-keep i (l ++ cut) ∙ (named-append i l cut ∙ ap (λ p. p || is_named i cut) named)
+kept_named false l cut i not named = named-wait_list i (l ++ cut) ∙ (named-append i l cut ∙ ap (λ p. p || is_named i cut) named)
 
 -- who waits after an entry that adds nobody waited before it
 named_before : {T : Type 0} (ends : Bool) (l : List Named) (e : Entry T Named) (i : ℕ) → pending_waker e ≡ None
-    → is_named i (keep is_same ((if ends || false then [] else l) ++ filter_map pending_waker (if ends || false then [] else e ∷ []))) ≡ true → is_named i l ≡ true
+    → is_named i (wait_list is_same ((if ends || false then [] else l) ++ filter_map pending_waker (if ends || false then [] else e ∷ []))) ≡ true → is_named i l ≡ true
 named_before true l e i none named = cc
-named_before false l e i none named = let same = rw (none, append-nil l) at named in sym (named-keep i l) ∙ same
+named_before false l e i none named = let same = rw (none, append-nil l) at named in sym (named-wait_list i l) ∙ same
 
 silent_entry : {T : Type 0} (call : Kept T Named) (r : Reply T) → is_pending r ≡ false → pending_waker (record { call = call; reply = r }) ≡ None
 silent_entry call r silent = rw silent refl
@@ -90,22 +90,22 @@ named_handed true l names i same unnamed named = let all : is_named i names ≡ 
 named_handed false l names i same unnamed named = refl
 
 module _ {T : Type 0} where
-  -- what was handed out is what the entry hands out
-  pub names_are : (from to : Beginning T Named) (call : Kept T Named) (r : Reply T) (names : List Named) → Answers is_same true from call r names to
-      → names ≡ hands from (record { call = call; reply = r })
+  -- the names are those that the entry wakes
+  pub names_are : (from to : State T Named) (call : Kept T Named) (r : Reply T) (names : List Named) → Steps is_same true from call r names to
+      → names ≡ wakes from (record { call = call; reply = r })
   names_are from to call r names answers =
       let e : Entry T Named = record { call = call; reply = r } in
-      head_is names _ [] [] answers.handed_is ∙ ap (λ (at : Beginning T Named). hands at e) (after-nil (λ (x y : T). y ≡ x) is_same true from answers.begins.kept)
+      head_is names _ [] [] answers.wakes_are ∙ ap (λ (at : State T Named). wakes at e) (after-nil (λ (x y : T). y ≡ x) is_same true from answers.sound.kept)
 
   -- where a history leads another begins
-  pub begins_there : (from to : Beginning T Named) (call : Kept T Named) (r : Reply T) (names : List Named) → Answers is_same true from call r names to → IsBeginning is_same to
+  pub begins_there : (from to : State T Named) (call : Kept T Named) (r : Reply T) (names : List Named) → Steps is_same true from call r names to → IsSound is_same to
   begins_there from to call r names answers =
       let h : List (Entry T Named) = record { call = call; reply = r } ∷ [] in
-      Leads-begins (λ (x y : T). y ≡ x) is_same true from to h (names ∷ [])
+      Runs-sound (λ (x y : T). y ≡ x) is_same true from to h (names ∷ [])
       (up_to_clones (λ (x y : T). y ≡ x) is_same true from to h (names ∷ []) answers)
 
   -- each waiting name still stands in the waiting list, or was woken
-  named_after : (from to : Beginning T Named) (call : Kept T Named) (r : Reply T) (names : List Named) (tasks : List (Task T)) → Answers is_same true from call r names to
+  named_after : (from to : State T Named) (call : Kept T Named) (r : Reply T) (names : List Named) (tasks : List (Task T)) → Steps is_same true from call r names to
       → AllNamed (record { core = from; tasks = tasks }) → AllNamed (record { core = to; tasks = wake_each names tasks })
   named_after from to call r names tasks answers covered i stands =
       let e : Entry T Named = record { call = call; reply = r } in
@@ -115,11 +115,11 @@ module _ {T : Type 0} where
       ap (is_named i) answers.waiting_is ∙ kept_named (ends_waiting from.cell (next from.cell e)) from.waiting _ i ends named
 
   -- Where a line leads that is one call of the core, and neither a start nor a poll.
-  pub called : (is_clone : T → T → Type 0) (from : State T) (core : Beginning T Named) (line : Line T) (call : Kept T Named) (r : Reply T)
+  pub called : (is_clone : T → T → Type 0) (from : DriverState T) (core : State T Named) (line : Line T) (call : Kept T Named) (r : Reply T)
       → history from (line ∷ []) ≡ record { call = call; reply = r } ∷ [] → handed_out from (line ∷ []) ≡ line.names ∷ []
       → FitsTold (length (kinds from [])) (is_ready from []) line.event line.told line.names
       → ((i : ℕ) → is_poll_of i line.event line.told ≡ false) → started line.event line.told ≡ []
-      → IsCovered from → Answers is_same true from.core call r line.names core
+      → IsCovered from → Steps is_same true from.core call r line.names core
       → Drives is_clone from (line ∷ []) (record { core = core; tasks = wake_each line.names from.tasks })
   called is_clone from core line call r is_history is_handed fits no_poll no_start covered answers =
       let kinds_stay = kinds-wake_each line.names from.tasks in
@@ -138,12 +138,13 @@ module _ {T : Type 0} where
   entry_is : (c d : Option (Kept T Named)) (r s : Option (Reply T)) → c ≡ d → r ≡ s → entry_of c r ≡ entry_of d s
   entry_is c d r s same_call same_reply = λ k. entry_of (same_call k) (same_reply k)
 
-  -- Where a call of the core leads, and the waking of those whose names it hands out: neither a start nor a poll.
-  pub call_drives : (is_clone : T → T → Type 0) (from old : State T) → from ≡ old → (core : Beginning T Named) (tasks : List (Task T)) (names : List Named)
+  -- Where a call of the core leads, with the tasks woken whose names it wakes: neither a start nor
+  -- a poll.
+  pub call_drives : (is_clone : T → T → Type 0) (from old : DriverState T) → from ≡ old → (core : State T Named) (tasks : List (Task T)) (names : List Named)
       (event : Event T (Option T → Option T)) (told : Told T) (call : Kept T Named) (r : Reply T)
       → call_of (map (λ task. task.kind) from.tasks) from.core.cell event ≡ Some call → reply_of told ≡ Some r
       → ((i : ℕ) → is_poll_of i event told ≡ false) → started event told ≡ [] → ((count : ℕ) (ready : ℕ → Bool) (names : List Named) → FitsTold count ready event told names)
-      → IsCovered from → Answers is_same true from.core call r names core → tasks ≡ wake_each names from.tasks
+      → IsCovered from → Steps is_same true from.core call r names core → tasks ≡ wake_each names from.tasks
       → Drives is_clone old (line_of old event told ∷ []) (record { core = core; tasks = tasks })
   call_drives is_clone from old same core tasks names event told call r is_call is_reply no_poll no_start fits covered answers tasks_are =
       let e : Entry T Named = record { call = call; reply = r } in
@@ -151,31 +152,31 @@ module _ {T : Type 0} where
       let line : Line T = record { event = event; told = told; names = names } in
       let line_is : line_of from event told ≡ line =
       λ k. record { event = event; told = told; names = (ap (names_by from.core) entry ∙ sym (names_are from.core core call r names answers)) k } in
-      subst (λ (s : State T). Drives is_clone s (line_of s event told ∷ []) (record { core = core; tasks = tasks })) same
+      subst (λ (s : DriverState T). Drives is_clone s (line_of s event told ∷ []) (record { core = core; tasks = tasks })) same
       (subst (λ (l : Line T). Drives is_clone from (l ∷ []) (record { core = core; tasks = tasks })) (sym line_is)
       (subst (λ (ts : List (Task T)). Drives is_clone from (line ∷ []) (record { core = core; tasks = ts })) (sym tasks_are)
       (called is_clone from core line call r (ap option_to_list entry) (ap (λ (o : Option (Entry T Named)). option_to_list (option_map (λ x. names) o)) entry)
       (fits (length (kinds from [])) (is_ready from []) names) no_poll no_start covered answers)))
 
-  pub results_woken : (names : List Named) (from old : State T) (tasks : List (Task T)) → from ≡ old → tasks ≡ wake_each names from.tasks → (i : ℕ) → result_at tasks i ≡ result_at old.tasks i
-  results_woken names from old tasks same tasks_are i = ap (λ ts. result_at ts i) tasks_are ∙ (results-wake_each names from.tasks i ∙ ap (λ (s : State T). result_at s.tasks i) same)
+  pub results_woken : (names : List Named) (from old : DriverState T) (tasks : List (Task T)) → from ≡ old → tasks ≡ wake_each names from.tasks → (i : ℕ) → result_at tasks i ≡ result_at old.tasks i
+  results_woken names from old tasks same tasks_are i = ap (λ ts. result_at ts i) tasks_are ∙ (results-wake_each names from.tasks i ∙ ap (λ (s : DriverState T). result_at s.tasks i) same)
 
   -- a call that does not wait adds no name
-  started_after : (from to : Beginning T Named) (call : Kept T Named) (r : Reply T) (names : List Named) (tasks : List (Task T)) → is_pending r ≡ false → Answers is_same true from call r names to
+  started_after : (from to : State T Named) (call : Kept T Named) (r : Reply T) (names : List Named) (tasks : List (Task T)) → is_pending r ≡ false → Steps is_same true from call r names to
       → AllStarted (record { core = from; tasks = tasks }) → AllStarted (record { core = to; tasks = wake_each names tasks })
   started_after from to call r names tasks silent answers started i named =
       let e : Entry T Named = record { call = call; reply = r } in
       let there : is_named i (waiting is_same from (e ∷ [])) ≡ true = ap (is_named i) (sym answers.waiting_is) ∙ named in
       rw length-wake_each (started i (named_before (ends_waiting from.cell (next from.cell e)) from.waiting e i (silent_entry call r silent) there))
 
-  pub covered_called : (from : State T) (core : Beginning T Named) (tasks : List (Task T)) (names : List Named) (call : Kept T Named) (r : Reply T) → is_pending r ≡ false → IsCovered from
-      → Answers is_same true from.core call r names core → tasks ≡ wake_each names from.tasks → IsCovered (record { core = core; tasks = tasks })
+  pub covered_called : (from : DriverState T) (core : State T Named) (tasks : List (Task T)) (names : List Named) (call : Kept T Named) (r : Reply T) → is_pending r ≡ false → IsCovered from
+      → Steps is_same true from.core call r names core → tasks ≡ wake_each names from.tasks → IsCovered (record { core = core; tasks = tasks })
   covered_called from core tasks names call r silent covered answers tasks_are =
       subst (λ (ts : List (Task T)). IsCovered (record { core = core; tasks = ts })) (sym tasks_are)
       (named_after from.core core call r names from.tasks answers covered.0, started_after from.core core call r names from.tasks silent answers covered.1)
 
   -- a reply that gives a value is the model's
-  pub value_is : (from to : Beginning T Named) (call : Kept T Named) (value : Option T) (names : List Named) → Answers is_same true from call (reply.Value value) names to → reply.Value value ≡ model_reply from.cell call
+  pub value_is : (from to : State T Named) (call : Kept T Named) (value : Option T) (names : List Named) → Steps is_same true from call (reply.Value value) names to → reply.Value value ≡ model_reply from.cell call
   value_is from to call value names answers =
       elim answers.legal.0.replied [ inl is ↦ is | inr refused ↦ let no = refused.0 in cc ]
 
@@ -186,8 +187,8 @@ module _ {T : Type 0} where
   held_vacant (Open (Some v) owners) value unused vacant = cc
 
   -- a value that is offered to a vacant cell is held
-  pub offer_holds : (from to : Beginning T Named) (value : T) (unused : Option T) (names : List Named)
-      → Answers is_same true from (kept.OrSet value) (reply.Value unused) names to → is_vacant from.cell ≡ true → content to.cell ≡ Some value
+  pub offer_holds : (from to : State T Named) (value : T) (unused : Option T) (names : List Named)
+      → Steps is_same true from (kept.OrSet value) (reply.Value unused) names to → is_vacant from.cell ≡ true → content to.cell ≡ Some value
   offer_holds from to value unused names answers vacant = ap content answers.cell_is ∙ held_vacant from.cell value unused vacant
 
   left_full : (c : Cell T) (value : T) (unused : Option T) → is_full c ≡ true
@@ -197,8 +198,8 @@ module _ {T : Type 0} where
   left_full (Open (Some v) owners) value unused full = refl
 
   -- a value that is offered to a full cell leaves it as it was
-  pub offer_leaves : (from to : Beginning T Named) (value : T) (unused : Option T) (names : List Named)
-      → Answers is_same true from (kept.OrSet value) (reply.Value unused) names to → is_full from.cell ≡ true → to.cell ≡ from.cell
+  pub offer_leaves : (from to : State T Named) (value : T) (unused : Option T) (names : List Named)
+      → Steps is_same true from (kept.OrSet value) (reply.Value unused) names to → is_full from.cell ≡ true → to.cell ≡ from.cell
   offer_leaves from to value unused names answers full = answers.cell_is ∙ left_full from.cell value unused full
 
   sole_closes : (c : Cell T) (value : Option T) → owners_of c ≡ 1 → is_closed (next {W = Named} c (record { call = kept.EndOwner; reply = reply.Value value })) ≡ true
@@ -210,10 +211,10 @@ module _ {T : Type 0} where
   update_is Closed edit put open_ is = cc
   update_is (Open value owners) edit put open_ is = ap (kept.Update value) (sym is)
 
-  pub update_refused_is : (c : Cell T) (edit : Option T → Option T) → (is_closed c ≡ false → ⊥) → kept_update c edit ≡ kept.Update None None
-  update_refused_is Closed edit not_open = refl
-  update_refused_is (Open value owners) edit not_open = absurd (not_open refl)
+  pub update_refused_is : (c d : Cell T) (edit : Option T → Option T) → (is_closed c ≡ false → ⊥) → d ≡ c → kept_update c edit ≡ kept.Update (content c) (content d)
+  update_refused_is Closed d edit not_open same = rw same refl
+  update_refused_is (Open value owners) d edit not_open same = absurd (not_open refl)
 
   -- the last end closes the cell
-  pub last_closes : (from to : Beginning T Named) (value : Option T) (names : List Named) → Answers is_same true from kept.EndOwner (reply.Value value) names to → owners_of from.cell ≡ 1 → is_closed to.cell ≡ true
+  pub last_closes : (from to : State T Named) (value : Option T) (names : List Named) → Steps is_same true from kept.EndOwner (reply.Value value) names to → owners_of from.cell ≡ 1 → is_closed to.cell ≡ true
   last_closes from to value names answers sole = ap is_closed answers.cell_is ∙ sole_closes from.cell value sole

@@ -7,9 +7,9 @@ use Rattle.std.proofs.lemmas.List.{get_or-map, length-map}
 use Rattle.std.proofs.lemmas.Map.Keys.{IsDistinct-from_apart}
 use Rattle.std.proofs.lemmas.Map.Steps.{length-le_from_distinct_below}
 use Rattle.async_cell_cons.specs.declared.named.Named.{Named}
-use Rattle.async_cell_model.specs.History.{IsBeginning}
-use Rattle.async_cell_model.proofs.Adding.{keep-distinct}
-use Rattle.async_cell_driver.specs.State.{State, name_of, IsCovered, is_named}
+use Rattle.async_cell_model.specs.History.{IsSound}
+use Rattle.async_cell_model.proofs.Adding.{wait_list-distinct}
+use Rattle.async_cell_driver.specs.DriverState.{DriverState, name_of, IsCovered, is_named}
 use Rattle.async_cell_driver.specs.Drives.{is_same}
 
 numbers_apart : (a b : Named) → a ≢ b → nat_eq a.0 b.0 ≡ false
@@ -31,8 +31,8 @@ named_number q [] = refl
 named_number q (n ∷ names) = rw (same_if q n.0 (nat_eq q n.0) refl, named_number q names) refl
 
 -- no more wakers wait than there are tasks
-pub waiting_few : {T : Type 0} (at : State T) → IsBeginning is_same at.core → IsCovered at → length at.core.waiting ≤ length at.tasks
-waiting_few at begins covered =
-    let distinct : AllPairs (λ (u v : Named). u ≢ v) at.core.waiting = subst (λ (l : List Named). AllPairs (λ (u v : Named). u ≢ v) l) begins.kept (keep-distinct is_same at.core.waiting (λ w. eq-eqb w.0 w.0 refl)) in
+pub waiting_few : {T : Type 0} (at : DriverState T) → IsSound is_same at.core → IsCovered at → length at.core.waiting ≤ length at.tasks
+waiting_few at sound covered =
+    let distinct : AllPairs (λ (u v : Named). u ≢ v) at.core.waiting = subst (λ (l : List Named). AllPairs (λ (u v : Named). u ≢ v) l) sound.kept (wait_list-distinct is_same at.core.waiting (λ w. eq-eqb w.0 w.0 refl)) in
     let few = length-le_from_distinct_below (map (λ (name : Named). name.0) at.core.waiting) (length at.tasks) (numbers_distinct at.core.waiting distinct) (λ q has. covered.1 q (sym (named_number q at.core.waiting) ∙ has)) in
     rw length-map at few

@@ -7,12 +7,12 @@ use Rattle.std.proofs.Math.Bool.{or-true}
 use Rattle.std.proofs.lemmas.List.{map-append, length-map, reverse-append}
 use Rattle.async_cell_cons.specs.declared.named.Named.{Named}
 use Rattle.async_cell_model.specs.declared.cell.Cell.{Cell}
-use Rattle.async_cell_model.specs.History.{History, IsBeginning, cell_after}
+use Rattle.async_cell_model.specs.History.{History, IsSound, cell_after}
 use Rattle.async_cell_model.proofs.Joining.{cell_after-append}
-use Rattle.async_cell_model.proofs.Leading.{Leads-nil}
-use Rattle.async_cell_model.specs.Legal.{LeadsUpTo}
+use Rattle.async_cell_model.proofs.Leading.{Runs-nil}
+use Rattle.async_cell_model.specs.Legal.{RunsUpTo}
 use Rattle.async_cell_model.specs.Legal.{UpToClones}
-use Rattle.async_cell_model.proofs.Leading.{Leads-join-by}
+use Rattle.async_cell_model.proofs.Leading.{Runs-join-by}
 use Rattle.async_cell_model.proofs.UpTo.{up_to_clones}
 use Rattle.async_cell_driver.specs.declared.task.Kind.{Kind}
 use Rattle.async_cell_driver.specs.declared.task.Mark.{Mark}
@@ -22,7 +22,7 @@ use Rattle.async_cell_driver.specs.declared.event.Told.{Told}
 use Rattle.async_cell_driver.specs.declared.event.Told.TheVariants as told
 use Rattle.async_cell_driver.specs.declared.event.Polled.TheVariants.{Ready, Pending, NotReady}
 use Rattle.async_cell_driver.specs.Mark.{is_due_mark}
-use Rattle.async_cell_driver.specs.State.{State, mark_at, is_named, IsCovered}
+use Rattle.async_cell_driver.specs.DriverState.{DriverState, mark_at, is_named, IsCovered}
 use Rattle.async_cell_driver.specs.Log.{Line, Log, lines, log_of, with_edit, kinds, is_started, is_done, waits, is_due, is_ready, is_poll_of, was_ready, was_pending, was_refused, started}
 use Rattle.async_cell_driver.specs.History.{line_of, history, handed_out, call_of, reply_of, entry_of}
 use Rattle.async_cell_driver.specs.Drives.{Drives, FitsTold, IsLegal, is_same, IsSpared, AllSpared}
@@ -48,15 +48,15 @@ due_step false s d f false u ready gone is = is
 
 module _ {T : Type 0} where
   -- no line leads nowhere
-  pub drives_nil : (is_clone : T → T → Type 0) (from : State T) → IsBeginning is_same from.core → IsCovered from → Drives is_clone from [] from
-  drives_nil is_clone from begins covered = record {
+  pub drives_nil : (is_clone : T → T → Type 0) (from : DriverState T) → IsSound is_same from.core → IsCovered from → Drives is_clone from [] from
+  drives_nil is_clone from sound covered = record {
     legal = tt;
-    core_leads = up_to_clones is_clone is_same true from.core from.core [] [] (Leads-nil is_same true from.core begins);
+    core_leads = up_to_clones is_clone is_same true from.core from.core [] [] (Runs-nil is_same true from.core sound);
     kinds_are = refl;
     done_is = λ i. refl;
     waits_is = λ i. refl;
     ready_is = λ i. refl;
-    none_forgotten = awake from begins covered.0;
+    none_forgotten = awake from sound covered.0;
   }
 
   -- only a ready task is polled
@@ -77,7 +77,7 @@ module _ {T : Type 0} where
   polled_ready count ready EndOwner answer names i fits polled = cc
 
   -- a task that is not there was never polled
-  unstarted_due : (from : State T) (log : Log T) (i : ℕ) → IsLegal from log → is_started from log i ≡ false → is_due from log i ≡ true
+  unstarted_due : (from : DriverState T) (log : Log T) (i : ℕ) → IsLegal from log → is_started from log i ≡ false → is_due from log i ≡ true
   unstarted_due from [] i legal gone = not_started_mark (mark_at from.tasks i) (sym (started_now i from.tasks) ∙ gone)
   unstarted_due from (line ∷ earlier) i legal gone =
       let before : is_started from earlier i ≡ false = some_before (kinds from earlier) (started line.event line.told) i gone in
@@ -92,7 +92,7 @@ ready_over true t false p r f n u u' same none none' = ap (λ v. t && (not ((p &
 
 module _ {T : Type 0} where
   -- what one line says of a task, where two logs agree on it
-  ready_line : (from at : State T) (earlier later : Log T) (line : Line T) (i : ℕ) → IsLegal from earlier → IsLegal at later
+  ready_line : (from at : DriverState T) (earlier later : Log T) (line : Line T) (i : ℕ) → IsLegal from earlier → IsLegal at later
       → kinds at later ≡ kinds from earlier → is_done at later i ≡ is_done from earlier i → is_ready at later i ≡ is_ready from earlier i
       → is_ready at (line ∷ later) i ≡ is_ready from (line ∷ earlier) i
   ready_line from at earlier later line i legal legal' same_kinds same_done same =
@@ -109,20 +109,20 @@ module _ {T : Type 0} where
       ∙ ready_over (is_started from earlier i) (is_started from (line ∷ earlier) i) (is_done from earlier i) p r f n (is_due at later i) (is_due from earlier i) due
       (λ gone. unstarted_due at later i legal' (begun ∙ gone)) (unstarted_due from earlier i legal)
 
-  kinds_join : (from at : State T) (earlier later : Log T) → map (λ task. task.kind) at.tasks ≡ kinds from earlier → kinds at later ≡ kinds from (later ++ earlier)
+  kinds_join : (from at : DriverState T) (earlier later : Log T) → map (λ task. task.kind) at.tasks ≡ kinds from earlier → kinds at later ≡ kinds from (later ++ earlier)
   kinds_join from at earlier [] same = same
   kinds_join from at earlier (line ∷ later) same = ap (λ all. all ++ started line.event line.told) (kinds_join from at earlier later same)
 
-  done_join : (from at : State T) (earlier later : Log T) (i : ℕ) → is_done at [] i ≡ is_done from earlier i → is_done at later i ≡ is_done from (later ++ earlier) i
+  done_join : (from at : DriverState T) (earlier later : Log T) (i : ℕ) → is_done at [] i ≡ is_done from earlier i → is_done at later i ≡ is_done from (later ++ earlier) i
   done_join from at earlier [] i same = same
   done_join from at earlier (line ∷ later) i same = ap (λ done. (is_poll_of i line.event line.told && was_ready line.told) || done) (done_join from at earlier later i same)
 
-  waits_join : (from at : State T) (earlier later : Log T) (i : ℕ) → waits at [] i ≡ waits from earlier i → waits at later i ≡ waits from (later ++ earlier) i
+  waits_join : (from at : DriverState T) (earlier later : Log T) (i : ℕ) → waits at [] i ≡ waits from earlier i → waits at later i ≡ waits from (later ++ earlier) i
   waits_join from at earlier [] i same = same
   waits_join from at earlier (line ∷ later) i same = ap (λ w. if is_poll_of i line.event line.told then was_pending line.told else w) (waits_join from at earlier later i same)
 
   -- the later lines fit the earlier ones too, and leave the same tasks ready
-  ready_join : (is_clone : T → T → Type 0) (from at : State T) (earlier later : Log T) → Drives is_clone from earlier at → IsLegal at later
+  ready_join : (is_clone : T → T → Type 0) (from at : DriverState T) (earlier later : Log T) → Drives is_clone from earlier at → IsLegal at later
       → IsLegal from (later ++ earlier) × ((i : ℕ) → is_ready at later i ≡ is_ready from (later ++ earlier) i)
   ready_join is_clone from at earlier [] first legal = (first.legal, first.ready_is)
   ready_join is_clone from at earlier (line ∷ later) first legal =
@@ -136,21 +136,21 @@ module _ {T : Type 0} where
         λ i. ready_line from at (later ++ earlier) later line i rest.0 legal.1 same (done_join from at earlier later i (first.done_is i)) (rest.1 i),
       )
 
-  cell_join : (from at : State T) (earlier later : Log T) → at.core.cell ≡ cell_after from.core.cell (history from earlier) → history from (later ++ earlier) ≡ history from earlier ++ history at later
+  cell_join : (from at : DriverState T) (earlier later : Log T) → at.core.cell ≡ cell_after from.core.cell (history from earlier) → history from (later ++ earlier) ≡ history from earlier ++ history at later
       → cell_after at.core.cell (history at later) ≡ cell_after from.core.cell (history from (later ++ earlier))
   cell_join from at earlier later cell_is joined =
       ap (λ (c : Cell T). cell_after c (history at later)) cell_is
       ∙ (sym (cell_after-append from.core.cell (history from earlier) (history at later)) ∙ ap (λ (h : History T Named). cell_after from.core.cell h) (sym joined))
 
   -- the core's call that a later line is
-  entry_join : (from at : State T) (earlier later : Log T) (line : Line T) → kinds at later ≡ kinds from (later ++ earlier)
+  entry_join : (from at : DriverState T) (earlier later : Log T) (line : Line T) → kinds at later ≡ kinds from (later ++ earlier)
       → cell_after at.core.cell (history at later) ≡ cell_after from.core.cell (history from (later ++ earlier))
       → entry_of (call_of (kinds from (later ++ earlier)) (cell_after from.core.cell (history from (later ++ earlier))) line.event) (reply_of line.told)
       ≡ entry_of (call_of (kinds at later) (cell_after at.core.cell (history at later)) line.event) (reply_of line.told)
   entry_join from at earlier later line same_kinds same_cell = λ k. entry_of (call_of (sym same_kinds k) (sym same_cell k) line.event) (reply_of line.told)
 
   -- the core's calls, and what they handed out
-  core_join : (from at : State T) (earlier later : Log T) → map (λ task. task.kind) at.tasks ≡ kinds from earlier → at.core.cell ≡ cell_after from.core.cell (history from earlier)
+  core_join : (from at : DriverState T) (earlier later : Log T) → map (λ task. task.kind) at.tasks ≡ kinds from earlier → at.core.cell ≡ cell_after from.core.cell (history from earlier)
       → (history from (later ++ earlier) ≡ history from earlier ++ history at later) × (handed_out from (later ++ earlier) ≡ handed_out from earlier ++ handed_out at later)
   core_join from at earlier [] same_kinds cell_is = (sym (append-nil (history from earlier)), sym (append-nil (handed_out from earlier)))
   core_join from at earlier (line ∷ later) same_kinds cell_is =
@@ -161,15 +161,15 @@ module _ {T : Type 0} where
       )
 
   -- a log, and another from where it leads
-  pub drives_join : (is_clone : T → T → Type 0) (from at to : State T) (earlier later : Log T) → Drives is_clone from earlier at → Drives is_clone at later to → Drives is_clone from (later ++ earlier) to
+  pub drives_join : (is_clone : T → T → Type 0) (from at to : DriverState T) (earlier later : Log T) → Drives is_clone from earlier at → Drives is_clone at later to → Drives is_clone from (later ++ earlier) to
   drives_join is_clone from at to earlier later first second =
       let fits = ready_join is_clone from at earlier later first second.legal in record {
         legal = fits.0;
         core_leads =
             let joined = core_join from at earlier later first.kinds_are first.core_leads.cell_is in
-            subst (λ (h : History T Named). LeadsUpTo is_same true is_clone from.core h (handed_out from (later ++ earlier)) to.core) (sym joined.0)
-            (subst (λ (names : List (List Named)). LeadsUpTo is_same true is_clone from.core (history from earlier ++ history at later) names to.core) (sym joined.1)
-            (Leads-join-by (UpToClones is_clone) is_same true from.core at.core to.core _ _ _ _ first.core_leads second.core_leads));
+            subst (λ (h : History T Named). RunsUpTo is_same true is_clone from.core h (handed_out from (later ++ earlier)) to.core) (sym joined.0)
+            (subst (λ (names : List (List Named)). RunsUpTo is_same true is_clone from.core (history from earlier ++ history at later) names to.core) (sym joined.1)
+            (Runs-join-by (UpToClones is_clone) is_same true from.core at.core to.core _ _ _ _ first.core_leads second.core_leads));
         kinds_are = second.kinds_are ∙ kinds_join from at earlier later first.kinds_are;
         done_is = λ i. second.done_is i ∙ done_join from at earlier later i (first.done_is i);
         waits_is = λ i. second.waits_is i ∙ waits_join from at earlier later i (first.waits_is i);
@@ -178,7 +178,7 @@ module _ {T : Type 0} where
       }
 
   -- a log, and one line from where it leads
-  pub drives_more : (is_clone : T → T → Type 0) (from at to : State T) (log : Log T) (line : Line T) → Drives is_clone from log at → Drives is_clone at (line ∷ []) to → Drives is_clone from (line ∷ log) to
+  pub drives_more : (is_clone : T → T → Type 0) (from at to : DriverState T) (log : Log T) (line : Line T) → Drives is_clone from log at → Drives is_clone at (line ∷ []) to → Drives is_clone from (line ∷ log) to
   drives_more is_clone from at to log line first second = drives_join is_clone from at to log (line ∷ []) first second
 
   lines-append : (events more : List (Event T (Option T → Option T))) (answers others : List (Told T)) (handed later : List (List Named)) → length answers ≡ length events → length handed ≡ length events
@@ -211,7 +211,7 @@ module _ {T : Type 0} where
   log_of-push events answers handed line same same' = log_of-append events (line.event ∷ []) answers (line.told ∷ []) handed (line.names ∷ []) same same'
 
   -- events that happened, and one more
-  pub happen_more : {E : Type 0} (edit : E → Option T → Option T) (is_clone : T → T → Type 0) (is_infallible : T → Type 0) (from at to : State T)
+  pub happen_more : {E : Type 0} (edit : E → Option T → Option T) (is_clone : T → T → Type 0) (is_infallible : T → Type 0) (from at to : DriverState T)
       (events : List (Event T E)) (answers : List (Told T)) (event : Event T E) (answer : Told T)
       → length answers ≡ length events
       → (handed : List (List Named)) × (length handed ≡ length events) × Drives is_clone from (log_of (map (with_edit edit) events) answers handed) at

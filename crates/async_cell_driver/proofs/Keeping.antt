@@ -4,7 +4,7 @@ use Rattle.std.specs.Prelude.{slice_get}
 use Rattle.std.specs.Option.{option_map}
 use Rattle.async_cell_driver.specs.declared.task.Task.{Task}
 use Rattle.async_cell_driver.specs.Mark.{is_done_mark, waits_mark, is_ready_mark}
-use Rattle.async_cell_driver.specs.State.{State, mark_at, result_at, result_of, change, with_result, IsCovered}
+use Rattle.async_cell_driver.specs.DriverState.{DriverState, mark_at, result_at, result_of, change, with_result, IsCovered}
 use Rattle.async_cell_driver.specs.Log.{Log, is_ready}
 use Rattle.async_cell_driver.specs.Drives.{Drives}
 use Rattle.async_cell_driver.proofs.Reading.{ready_now}
@@ -12,7 +12,7 @@ use Rattle.async_cell_driver.proofs.Waking.{says_same, length-change, map-change
 
 module _ {T : Type 0} where
   -- the state with what is kept for task i
-  abbrev pub keeping : ℕ → Option (Option T) → State T → State T
+  abbrev pub keeping : ℕ → Option (Option T) → DriverState T → DriverState T
   keeping i result at = record { core = at.core; tasks = change (with_result result) i at.tasks }
 
   mark_kept : (result : Option (Option T)) (t : Option (Task T)) → option_map (λ task. task.mark) (option_map (with_result result) t) ≡ option_map (λ task. task.mark) t
@@ -22,17 +22,17 @@ module _ {T : Type 0} where
   pub mark-keeping : (i j : ℕ) (result : Option (Option T)) (tasks : List (Task T)) → mark_at (change (with_result result) i tasks) j ≡ mark_at tasks j
   mark-keeping i j result tasks = says_same (option_map (λ task. task.mark)) (with_result result) (mark_kept result) i j tasks
 
-  pub covered_keeping : (i : ℕ) (result : Option (Option T)) (at : State T) → IsCovered at → IsCovered (keeping i result at)
+  pub covered_keeping : (i : ℕ) (result : Option (Option T)) (at : DriverState T) → IsCovered at → IsCovered (keeping i result at)
   covered_keeping i result at covered = (
     λ j stands. covered.0 j (sym (mark-keeping i j result at.tasks) ∙ stands),
     λ j named. rw length-change (covered.1 j named),
   )
 
-  pub ready-keeping : (i j : ℕ) (result : Option (Option T)) (at : State T) → is_ready (keeping i result at) [] j ≡ is_ready at [] j
+  pub ready-keeping : (i j : ℕ) (result : Option (Option T)) (at : DriverState T) → is_ready (keeping i result at) [] j ≡ is_ready at [] j
   ready-keeping i j result at = ready_now (keeping i result at) j ∙ (ap is_ready_mark (mark-keeping i j result at.tasks) ∙ sym (ready_now at j))
 
   -- where a log leads, something may be kept
-  pub drives_keeping : (is_clone : T → T → Type 0) (i : ℕ) (result : Option (Option T)) (from at : State T) (log : Log T) → Drives is_clone from log at → Drives is_clone from log (keeping i result at)
+  pub drives_keeping : (is_clone : T → T → Type 0) (i : ℕ) (result : Option (Option T)) (from at : DriverState T) (log : Log T) → Drives is_clone from log at → Drives is_clone from log (keeping i result at)
   drives_keeping is_clone i result from at log drives = record {
     legal = drives.legal;
     core_leads = drives.core_leads;

@@ -4,8 +4,8 @@ use Rattle.std.specs.Prelude.{Result, Ok, Err, IfOk, IfErr}
 use Rattle.std.proofs.lemmas.List.{map-append, length-map}
 use Rattle.async_cell_model.specs.declared.refusal.Refusal.{Refusal}
 use Rattle.async_cell_model.specs.declared.refusal.Refusal.TheVariants.{Memory}
-use Rattle.async_cell_model.specs.History.{IsBeginning}
-use Rattle.async_cell_model.proofs.Leading.{Leads-nil}
+use Rattle.async_cell_model.specs.History.{IsSound}
+use Rattle.async_cell_model.proofs.Leading.{Runs-nil}
 use Rattle.async_cell_model.proofs.UpTo.{up_to_clones}
 use Rattle.async_cell_driver.specs.declared.task.Kind.{Kind}
 use Rattle.async_cell_driver.specs.declared.task.Mark.{Mark}
@@ -15,7 +15,7 @@ use Rattle.async_cell_driver.specs.declared.event.Event.TheVariants.{Start, Poll
 use Rattle.async_cell_driver.specs.declared.event.Polled.TheVariants.{NotReady}
 use Rattle.async_cell_driver.specs.declared.event.Told.TheVariants.{Started, Refused, Polled}
 use Rattle.async_cell_driver.specs.Mark.{is_done_mark, waits_mark, is_due_mark}
-use Rattle.async_cell_driver.specs.State.{State, mark_at, IsCovered, result_at}
+use Rattle.async_cell_driver.specs.DriverState.{DriverState, mark_at, IsCovered, result_at}
 use Rattle.async_cell_driver.specs.Log.{is_ready}
 use Rattle.async_cell_driver.specs.History.{line_of}
 use Rattle.async_cell_driver.specs.Drives.{Drives, is_same}
@@ -46,7 +46,7 @@ module _ {T : Type 0} where
   waiting_with_fresh (t ∷ tasks) kind (suc i) stands = waiting_with_fresh tasks kind i stands
 
   -- a new task waits for nothing
-  pub covered_with_fresh : (from : State T) (kind : Kind) → IsCovered from → IsCovered (record from { tasks = from.tasks ++ fresh kind ∷ [] })
+  pub covered_with_fresh : (from : DriverState T) (kind : Kind) → IsCovered from → IsCovered (record from { tasks = from.tasks ++ fresh kind ∷ [] })
   covered_with_fresh from kind covered = (
     λ i stands. covered.0 i (waiting_with_fresh from.tasks kind i stands),
     λ i named. let before = covered.1 i named in rw length-append (omega arith),
@@ -56,53 +56,53 @@ module _ {T : Type 0} where
   kinds_with_fresh tasks kind = map-append (λ task. task.kind) tasks (fresh kind ∷ [])
 
   -- where a task is started
-  pub starts : (is_clone : T → T → Type 0) (from : State T) (kind : Kind) → IsBeginning is_same from.core → IsCovered from
+  pub starts : (is_clone : T → T → Type 0) (from : DriverState T) (kind : Kind) → IsSound is_same from.core → IsCovered from
       → Drives is_clone from (line_of from (Start kind) (Started (length from.tasks)) ∷ []) (record from { tasks = from.tasks ++ fresh kind ∷ [] })
-  starts is_clone from kind begins covered = record {
+  starts is_clone from kind sound covered = record {
     legal = ((sym (length-map from.tasks (λ task. task.kind)), refl), tt);
-    core_leads = up_to_clones is_clone is_same true from.core from.core [] [] (Leads-nil is_same true from.core begins);
+    core_leads = up_to_clones is_clone is_same true from.core from.core [] [] (Runs-nil is_same true from.core sound);
     kinds_are = kinds_with_fresh from.tasks kind;
     done_is = λ i. says_with_fresh is_done_mark refl from.tasks kind i;
     waits_is = λ i. says_with_fresh waits_mark refl from.tasks kind i;
     ready_is = λ i. rw (kinds_with_fresh from.tasks kind, says_with_fresh is_done_mark refl from.tasks kind i, says_with_fresh is_due_mark refl from.tasks kind i) refl;
-    none_forgotten = awake _ begins (covered_with_fresh from kind covered).0;
+    none_forgotten = awake _ sound (covered_with_fresh from kind covered).0;
   }
 
   -- where a start is refused
-  pub start_refused : (is_clone : T → T → Type 0) (from : State T) (kind : Kind) → IsBeginning is_same from.core → IsCovered from
+  pub start_refused : (is_clone : T → T → Type 0) (from : DriverState T) (kind : Kind) → IsSound is_same from.core → IsCovered from
       → Drives is_clone from (line_of from (Start kind) (Refused Memory) ∷ []) from
-  start_refused is_clone from kind begins covered = record {
+  start_refused is_clone from kind sound covered = record {
     legal = ((refl, refl), tt);
-    core_leads = up_to_clones is_clone is_same true from.core from.core [] [] (Leads-nil is_same true from.core begins);
+    core_leads = up_to_clones is_clone is_same true from.core from.core [] [] (Runs-nil is_same true from.core sound);
     kinds_are = sym (append-nil (map (λ task. task.kind) from.tasks));
     done_is = λ i. refl;
     waits_is = λ i. refl;
     ready_is = λ i. rw (append-nil (map (λ task. task.kind) from.tasks)) refl;
-    none_forgotten = awake from begins covered.0;
+    none_forgotten = awake from sound covered.0;
   }
 
   -- where a task is not polled
-  pub not_polled : (from : State T) (i : ℕ) (is_clone : T → T → Type 0) → IsBeginning is_same from.core → IsCovered from → is_ready from [] i ≡ false
+  pub not_polled : (from : DriverState T) (i : ℕ) (is_clone : T → T → Type 0) → IsSound is_same from.core → IsCovered from → is_ready from [] i ≡ false
       → Drives is_clone from (line_of from (Poll i) (Polled NotReady) ∷ []) from
-  not_polled from i is_clone begins covered not_ready = record {
+  not_polled from i is_clone sound covered not_ready = record {
     legal = ((not_ready, refl), tt);
-    core_leads = up_to_clones is_clone is_same true from.core from.core [] [] (Leads-nil is_same true from.core begins);
+    core_leads = up_to_clones is_clone is_same true from.core from.core [] [] (Runs-nil is_same true from.core sound);
     kinds_are = sym (append-nil (map (λ task. task.kind) from.tasks));
     done_is = λ j. refl;
     waits_is = λ j. refl;
     ready_is = λ j. rw (append-nil (map (λ task. task.kind) from.tasks)) refl;
-    none_forgotten = awake from begins covered.0;
+    none_forgotten = awake from sound covered.0;
   }
 
   -- the same, where the new task and its number are known by what they equal
-  pub starts_as : (is_clone : T → T → Type 0) (from : State T) (kind : Kind) (tasks : List (Task T)) (number : ℕ) → IsBeginning is_same from.core → IsCovered from
+  pub starts_as : (is_clone : T → T → Type 0) (from : DriverState T) (kind : Kind) (tasks : List (Task T)) (number : ℕ) → IsSound is_same from.core → IsCovered from
       → number ≡ length from.tasks → tasks ≡ from.tasks ++ fresh kind ∷ []
       → Drives is_clone from (line_of from (Start kind) (Started number) ∷ []) (record { core = from.core; tasks = tasks })
-  starts_as is_clone from kind tasks number begins covered counts made = rw (counts, made) (starts is_clone from kind begins covered)
+  starts_as is_clone from kind tasks number sound covered counts made = rw (counts, made) (starts is_clone from kind sound covered)
 
-  pub start_refused_as : (is_clone : T → T → Type 0) (from : State T) (kind : Kind) (tasks : List (Task T)) (why : Refusal) → IsBeginning is_same from.core → IsCovered from
+  pub start_refused_as : (is_clone : T → T → Type 0) (from : DriverState T) (kind : Kind) (tasks : List (Task T)) (why : Refusal) → IsSound is_same from.core → IsCovered from
       → why ≡ Memory → tasks ≡ from.tasks → Drives is_clone from (line_of from (Start kind) (Refused why) ∷ []) (record { core = from.core; tasks = tasks })
-  start_refused_as is_clone from kind tasks why begins covered for_memory same = rw (for_memory, same) (start_refused is_clone from kind begins covered)
+  start_refused_as is_clone from kind tasks why sound covered for_memory same = rw (for_memory, same) (start_refused is_clone from kind sound covered)
 
   -- a start, refused or not, leaves the results
   pub results_stay : (before now : List (Task T)) (kind : Kind) (i : ℕ) (result : Result ℕ Refusal)

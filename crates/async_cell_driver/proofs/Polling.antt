@@ -15,11 +15,11 @@ use Rattle.async_cell_model.specs.declared.refusal.Refusal.{Refusal}
 use Rattle.async_cell_model.specs.declared.refusal.Refusal.TheVariants.{Memory}
 use Rattle.async_cell_model.specs.Cell.{content, ends_waiting, is_vacant}
 use Rattle.async_cell_model.specs.Step.{next, is_memory}
-use Rattle.async_cell_model.specs.History.{Beginning, IsBeginning}
-use Rattle.async_cell_model.specs.Legal.{hands, may_refuse}
-use Rattle.async_cell_model.specs.Waiting.{keep}
+use Rattle.async_cell_model.specs.History.{State, IsSound}
+use Rattle.async_cell_model.specs.Legal.{wakes, may_refuse}
+use Rattle.async_cell_model.specs.WaitList.{wait_list}
 use Rattle.async_cell_core.specs.Polled.{poll_reply, IsReadyWith}
-use Rattle.async_cell_model.specs.Legal.{LeadsUpTo, AnswersUpTo}
+use Rattle.async_cell_model.specs.Legal.{RunsUpTo, StepsUpTo}
 use Rattle.async_cell_driver.specs.declared.task.Kind.{Kind}
 use Rattle.async_cell_driver.specs.declared.task.Kind.TheVariants.{Take, Get}
 use Rattle.async_cell_driver.specs.declared.task.Mark.{Mark}
@@ -31,13 +31,13 @@ use Rattle.async_cell_driver.specs.declared.event.Told.TheVariants as told
 use Rattle.async_cell_driver.specs.declared.event.Polled.{Polled}
 use Rattle.async_cell_driver.specs.declared.event.Polled.TheVariants as polled
 use Rattle.async_cell_driver.specs.Mark.{is_done_mark, waits_mark, is_due_mark, is_ready_mark}
-use Rattle.async_cell_driver.specs.State.{State, name_of, mark_at, result_of, result_at, kind_at, IsCovered, AllNamed, AllStarted, is_named, change, with_mark}
+use Rattle.async_cell_driver.specs.DriverState.{DriverState, name_of, mark_at, result_of, result_at, kind_at, IsCovered, AllNamed, AllStarted, is_named, change, with_mark}
 use Rattle.async_cell_driver.specs.Log.{Line, kinds, is_ready, is_poll_of, was_ready, was_pending, was_refused}
 use Rattle.async_cell_driver.specs.History.{poll_of, told_of, line_of, history, handed_out}
 use Rattle.async_cell_driver.specs.Asked.{waiting_when, mark_after, polled_of, IsPolledWith}
 use Rattle.async_cell_driver.specs.Drives.{Drives, FitsTold, IsSpared, is_same}
 use Rattle.async_cell_driver.proofs.Reading.{awake, ready_now, started_now, ready_by}
-use Rattle.async_cell_driver.proofs.Waking.{length-change, slice_get-change_same, slice_get-change_other, says_same, map-change, named-keep, named-append}
+use Rattle.async_cell_driver.proofs.Waking.{length-change, slice_get-change_same, slice_get-change_other, says_same, map-change, named-wait_list, named-append}
 
 module _ {T : Type 0} where
   -- a cell that stays open and gets no value ends no waiting
@@ -53,8 +53,8 @@ module _ {T : Type 0} where
   poll_ends_none (Open value owners) (Some Take) i r = ends_none value None owners (is_memory r) (λ none. refl)
   poll_ends_none (Open value owners) (Some Get) i r = ends_none value value owners (is_memory r) (λ none. none)
 
-  -- a poll hands out none
-  pub poll_hands_none : (core : Beginning T Named) (kind : Option Kind) (i : ℕ) (r : Reply T) → hands core (record { call = poll_of kind i; reply = r }) ≡ []
+  -- a poll wakes none
+  pub poll_hands_none : (core : State T Named) (kind : Option Kind) (i : ℕ) (r : Reply T) → wakes core (record { call = poll_of kind i; reply = r }) ≡ []
   poll_hands_none core kind i r = ap (λ (ends : Bool). if ends then core.waiting else []) (poll_ends_none core.cell kind i r)
 
 -- the mark of a task that is marked if it is polled
@@ -92,17 +92,17 @@ unmarked true m None otherwise stands = cc
 unmarked true m (Some old) otherwise stands = let same : m ≡ mark.Waiting = cc in absurd (otherwise same)
 
 named_or_asked : (i j : ℕ) (b : Bool) → nat_eq i j ≡ b → (l : List Named) (old : Option Mark) → (old ≡ Some mark.Waiting → is_named j l ≡ true) → marked_if b mark.Waiting old ≡ Some mark.Waiting
-    → is_named j (keep is_same (l ++ name_of i ∷ [])) ≡ true
+    → is_named j (wait_list is_same (l ++ name_of i ∷ [])) ≡ true
 named_or_asked i j true is l old covered stands =
-    named-keep j (l ++ name_of i ∷ []) ∙ (named-append j l (name_of i ∷ []) ∙ rw is (or-true (is_named j l)))
+    named-wait_list j (l ++ name_of i ∷ []) ∙ (named-append j l (name_of i ∷ []) ∙ rw is (or-true (is_named j l)))
 named_or_asked i j false is l old covered stands =
-    named-keep j (l ++ name_of i ∷ []) ∙ (named-append j l (name_of i ∷ []) ∙ ap (λ p. p || is_named j (name_of i ∷ [])) (covered stands))
+    named-wait_list j (l ++ name_of i ∷ []) ∙ (named-append j l (name_of i ∷ []) ∙ ap (λ p. p || is_named j (name_of i ∷ [])) (covered stands))
 
 -- a name in the list that a poll leaves is the task's own, or stood there before
-started_or_polled : (i j : ℕ) (b : Bool) → nat_eq i j ≡ b → (l : List Named) (n : ℕ) → (is_named j l ≡ true → j < n) → i < n → is_named j (keep is_same (l ++ name_of i ∷ [])) ≡ true → j < n
+started_or_polled : (i j : ℕ) (b : Bool) → nat_eq i j ≡ b → (l : List Named) (n : ℕ) → (is_named j l ≡ true → j < n) → i < n → is_named j (wait_list is_same (l ++ name_of i ∷ [])) ≡ true → j < n
 started_or_polled i j true is l n started polled kept = rw (← eqb-true i j is) polled
 started_or_polled i j false is l n started polled kept =
-    let either : (is_named j l || (nat_eq i j || false)) ≡ true = sym (named-keep j (l ++ name_of i ∷ []) ∙ named-append j l (name_of i ∷ [])) ∙ kept in
+    let either : (is_named j l || (nat_eq i j || false)) ≡ true = sym (named-wait_list j (l ++ name_of i ∷ []) ∙ named-append j l (name_of i ∷ [])) ∙ kept in
     let before : (is_named j l || false) ≡ true = rw is at either in
     started (sym (or-false (is_named j l)) ∙ before)
 
@@ -140,16 +140,16 @@ module _ {T : Type 0} where
   started_kind (suc i) (t ∷ tasks) kind is = let rest = started_kind i tasks kind is in omega arith
 
   -- Where a line leads that is a poll of a ready task.
-  polls : (is_clone : T → T → Type 0) (from : State T) (core : Beginning T Named) (i : ℕ) (answer : Told T) (m : Mark) (line : Line T)
+  polls : (is_clone : T → T → Type 0) (from : DriverState T) (core : State T Named) (i : ℕ) (answer : Told T) (m : Mark) (line : Line T)
       → line ≡ record { event = event.Poll i; told = answer; names = [] }
-      → IsBeginning is_same core → AllNamed (record { core = core; tasks = change (with_mark m) i from.tasks })
+      → IsSound is_same core → AllNamed (record { core = core; tasks = change (with_mark m) i from.tasks })
       → is_ready from [] i ≡ true
       → FitsTold (length (kinds from [])) (is_ready from []) (event.Poll i) answer []
       → ((j : ℕ) → is_poll_of j (event.Poll i) answer ≡ nat_eq i j)
       → was_ready answer ≡ is_done_mark (Some m) → was_pending answer ≡ waits_mark (Some m) → was_refused answer ≡ is_due_mark (Some m)
-      → (LeadsUpTo is_same true is_clone from.core (history from (record { event = event.Poll i; told = answer; names = [] } ∷ [])) (handed_out from (record { event = event.Poll i; told = answer; names = [] } ∷ [])) core)
+      → (RunsUpTo is_same true is_clone from.core (history from (record { event = event.Poll i; told = answer; names = [] } ∷ [])) (handed_out from (record { event = event.Poll i; told = answer; names = [] } ∷ [])) core)
       → Drives is_clone from (line ∷ []) (record { core = core; tasks = change (with_mark m) i from.tasks })
-  polls is_clone from core i answer m line is begins covered ready fits is_poll says_done says_waits says_due leads =
+  polls is_clone from core i answer m line is sound covered ready fits is_poll says_done says_waits says_due leads =
       let this_ready : (j : ℕ) → nat_eq i j ≡ true → is_ready_mark (mark_at from.tasks j) ≡ true =
       λ j same. subst (λ k. is_ready_mark (mark_at from.tasks k) ≡ true) (eqb-true i j same) (sym (ready_now from i) ∙ ready) in
       rw is record {
@@ -161,11 +161,11 @@ module _ {T : Type 0} where
         ready_is = λ j.
             let here = ready_now (record { core = core; tasks = change (with_mark m) i from.tasks }) j ∙ (ap is_ready_mark (mark-marked m i j from.tasks) ∙ ready_polled (nat_eq i j) m (mark_at from.tasks j) (was_ready answer) (was_refused answer) (this_ready j) says_done says_due) in
             rw (is_poll j, append-nil (map (λ task. task.kind) from.tasks), started_now j from.tasks) here;
-        none_forgotten = awake _ begins covered;
+        none_forgotten = awake _ sound covered;
       }
 
-  -- each waiting name still stands in the waiting list, and that of the task that was polled, if it waits
-  named_polled : (from : State T) (core : Beginning T Named) (i : ℕ) (asked : Result (Poll (Option T)) Refusal) → AllNamed from
+  -- each waiting name is still in the wait list, and so is that of the polled task, if it waits
+  named_polled : (from : DriverState T) (core : State T Named) (i : ℕ) (asked : Result (Poll (Option T)) Refusal) → AllNamed from
       → IfErr asked (λ why. (why ≡ Memory) × (core.cell ≡ from.core.cell) × (core.waiting ≡ from.core.waiting)) → IfOk asked (λ p. core.waiting ≡ waiting_when p (name_of i) from.core.waiting)
       → AllNamed (record { core = core; tasks = change (with_mark (mark_after asked)) i from.tasks })
   named_polled from core i (Ok (Ready value)) covered refused waits j stands =
@@ -176,16 +176,16 @@ module _ {T : Type 0} where
       ap (is_named j) refused.2 ∙ covered j (unmarked (nat_eq i j) mark.Ready (mark_at from.tasks j) (λ no. cc) (sym (mark-marked mark.Ready i j from.tasks) ∙ stands))
 
   -- and each name there is still the number of a task
-  started_polled : (from : State T) (core : Beginning T Named) (i : ℕ) (asked : Result (Poll (Option T)) Refusal) → AllStarted from → i < length from.tasks
+  started_polled : (from : DriverState T) (core : State T Named) (i : ℕ) (asked : Result (Poll (Option T)) Refusal) → AllStarted from → i < length from.tasks
       → IfErr asked (λ why. (why ≡ Memory) × (core.cell ≡ from.core.cell) × (core.waiting ≡ from.core.waiting)) → IfOk asked (λ p. core.waiting ≡ waiting_when p (name_of i) from.core.waiting)
       → (j : ℕ) → is_named j core.waiting ≡ true → j < length from.tasks
   started_polled from core i (Ok (Ready value)) started polled refused waits j named = started j (ap (is_named j) (sym waits) ∙ named)
   started_polled from core i (Ok Pending) started polled refused waits j named =
-      let kept : is_named j (keep is_same (from.core.waiting ++ name_of i ∷ [])) ≡ true = ap (is_named j) (sym waits) ∙ named in
+      let kept : is_named j (wait_list is_same (from.core.waiting ++ name_of i ∷ [])) ≡ true = ap (is_named j) (sym waits) ∙ named in
       started_or_polled i j (nat_eq i j) refl from.core.waiting (length from.tasks) (started j) polled kept
   started_polled from core i (Err why) started polled refused waits j named = started j (ap (is_named j) (sym refused.2) ∙ named)
 
-  pub covered_polled : (from : State T) (core : Beginning T Named) (i : ℕ) (asked : Result (Poll (Option T)) Refusal) → IsCovered from → i < length from.tasks
+  pub covered_polled : (from : DriverState T) (core : State T Named) (i : ℕ) (asked : Result (Poll (Option T)) Refusal) → IsCovered from → i < length from.tasks
       → IfErr asked (λ why. (why ≡ Memory) × (core.cell ≡ from.core.cell) × (core.waiting ≡ from.core.waiting)) → IfOk asked (λ p. core.waiting ≡ waiting_when p (name_of i) from.core.waiting)
       → IsCovered (record { core = core; tasks = change (with_mark (mark_after asked)) i from.tasks })
   covered_polled from core i asked covered polled refused waits = (
@@ -194,20 +194,20 @@ module _ {T : Type 0} where
   )
 
   -- where the poll of a ready task leads
-  pub poll_drives : (is_clone : T → T → Type 0) (from : State T) (core : Beginning T Named) (i : ℕ) (kind : Kind) (asked : Result (Poll (Option T)) Refusal)
-      → IsBeginning is_same core → IsCovered from → kind_at from.tasks i ≡ Some kind → is_ready_mark (mark_at from.tasks i) ≡ true
-      → (AnswersUpTo is_same true is_clone from.core (poll_of (Some kind) i) (poll_reply asked) [] core)
+  pub poll_drives : (is_clone : T → T → Type 0) (from : DriverState T) (core : State T Named) (i : ℕ) (kind : Kind) (asked : Result (Poll (Option T)) Refusal)
+      → IsSound is_same core → IsCovered from → kind_at from.tasks i ≡ Some kind → is_ready_mark (mark_at from.tasks i) ≡ true
+      → (StepsUpTo is_same true is_clone from.core (poll_of (Some kind) i) (poll_reply asked) [] core)
       → IfErr asked (λ why. (why ≡ Memory) × (core.cell ≡ from.core.cell) × (core.waiting ≡ from.core.waiting)) → IfOk asked (λ p. core.waiting ≡ waiting_when p (name_of i) from.core.waiting)
       → Drives is_clone from (line_of from (event.Poll i) (told_of (polled_of asked)) ∷ []) (record { core = core; tasks = change (with_mark (mark_after asked)) i from.tasks })
-  poll_drives is_clone from core i kind (Ok (Ready value)) begins covered is_kind ready answers refused waits =
+  poll_drives is_clone from core i kind (Ok (Ready value)) sound covered is_kind ready answers refused waits =
       polls is_clone from core i (told.Polled (polled.Ready value)) mark.Done _ (λ k. record { event = event.Poll i; told = told.Polled (polled.Ready value); names = poll_hands_none from.core (kind_at from.tasks i) i (reply.Ready value) k })
-      begins (named_polled from core i (Ok (Ready value)) covered.0 refused waits) (ready_now from i ∙ ready) (ready_now from i ∙ ready, refl) (λ j. refl) refl refl refl (rw is_kind answers)
-  poll_drives is_clone from core i kind (Ok Pending) begins covered is_kind ready answers refused waits =
+      sound (named_polled from core i (Ok (Ready value)) covered.0 refused waits) (ready_now from i ∙ ready) (ready_now from i ∙ ready, refl) (λ j. refl) refl refl refl (rw is_kind answers)
+  poll_drives is_clone from core i kind (Ok Pending) sound covered is_kind ready answers refused waits =
       polls is_clone from core i (told.Polled polled.Pending) mark.Waiting _ (λ k. record { event = event.Poll i; told = told.Polled polled.Pending; names = poll_hands_none from.core (kind_at from.tasks i) i reply.Pending k })
-      begins (named_polled from core i (Ok Pending) covered.0 refused waits) (ready_now from i ∙ ready) (ready_now from i ∙ ready, refl) (λ j. refl) refl refl refl (rw is_kind answers)
-  poll_drives is_clone from core i kind (Err why) begins covered is_kind ready answers refused waits =
+      sound (named_polled from core i (Ok Pending) covered.0 refused waits) (ready_now from i ∙ ready) (ready_now from i ∙ ready, refl) (λ j. refl) refl refl refl (rw is_kind answers)
+  poll_drives is_clone from core i kind (Err why) sound covered is_kind ready answers refused waits =
       polls is_clone from core i (told.Refused why) mark.Ready _ (λ k. record { event = event.Poll i; told = told.Refused why; names = poll_hands_none from.core (kind_at from.tasks i) i (reply.Refused why None) k })
-      begins (named_polled from core i (Err why) covered.0 refused waits) (ready_now from i ∙ ready) (ready_now from i ∙ ready, refused.0, refl) (λ j. refl) refl refl refl (rw is_kind answers)
+      sound (named_polled from core i (Err why) covered.0 refused waits) (ready_now from i ∙ ready) (ready_now from i ∙ ready, refused.0, refl) (λ j. refl) refl refl refl (rw is_kind answers)
 
   -- what holds anyway holds for each content
   pub sure_anyway : (o : Option T) (P : Type 0) (Q : T → Type 0) → P → MatchOption o P (λ value. Q value → P)
@@ -237,7 +237,7 @@ module _ {T : Type 0} where
   sure_polled o Q asked sure = sure_after o (IsOk asked) (IsOk (polled_of asked)) Q (ok_polled asked) sure
 
   -- a taker that need not wait needs no memory
-  pub taker_sure : (core : Beginning T Named) (kind : Kind) (i : ℕ) (asked : Result (Poll (Option T)) Refusal) → Some kind ≡ Some Take → is_vacant core.cell ≡ false
+  pub taker_sure : (core : State T Named) (kind : Kind) (i : ℕ) (asked : Result (Poll (Option T)) Refusal) → Some kind ≡ Some Take → is_vacant core.cell ≡ false
       → (may_refuse is_same true core (poll_of (Some kind) i) ≡ false → IsOk asked) → IsOk (polled_of asked)
   taker_sure core Take i asked is not_vacant spared = ok_polled asked (spared (rw not_vacant refl))
   taker_sure core Get i asked is not_vacant spared = cc
@@ -261,29 +261,29 @@ module _ {T : Type 0} where
   pub results-marked : (m : Mark) (i j : ℕ) (tasks : List (Task T)) → result_at (change (with_mark m) i tasks) j ≡ result_at tasks j
   results-marked m i j tasks = says_same result_of (with_mark m) (marked_result m) i j tasks
 
-  -- the same, where the state before is known by what it equals, and so are the tasks and the answer
-  pub poll_drives_as : (is_clone : T → T → Type 0) (from old : State T) → from ≡ old → (core : Beginning T Named) (tasks : List (Task T)) (i : ℕ) (kind : Kind) (asked : Result (Poll (Option T)) Refusal) (answer : Result (Polled T) Refusal)
-      → IsBeginning is_same core → IsCovered from → kind_at from.tasks i ≡ Some kind → is_ready_mark (mark_at from.tasks i) ≡ true
-      → (AnswersUpTo is_same true is_clone from.core (poll_of (Some kind) i) (poll_reply asked) [] core)
+  -- the same, for an old state, tasks and an answer that are known by what they equal
+  pub poll_drives_as : (is_clone : T → T → Type 0) (from old : DriverState T) → from ≡ old → (core : State T Named) (tasks : List (Task T)) (i : ℕ) (kind : Kind) (asked : Result (Poll (Option T)) Refusal) (answer : Result (Polled T) Refusal)
+      → IsSound is_same core → IsCovered from → kind_at from.tasks i ≡ Some kind → is_ready_mark (mark_at from.tasks i) ≡ true
+      → (StepsUpTo is_same true is_clone from.core (poll_of (Some kind) i) (poll_reply asked) [] core)
       → IfErr asked (λ why. (why ≡ Memory) × (core.cell ≡ from.core.cell) × (core.waiting ≡ from.core.waiting)) → IfOk asked (λ p. core.waiting ≡ waiting_when p (name_of i) from.core.waiting)
       → tasks ≡ change (with_mark (mark_after asked)) i from.tasks → answer ≡ polled_of asked
       → Drives is_clone old (line_of old (event.Poll i) (told_of answer) ∷ []) (record { core = core; tasks = tasks })
-  poll_drives_as is_clone from old same core tasks i kind asked answer begins covered is_kind ready answers refused waits tasks_are answer_is =
-      subst (λ (s : State T). Drives is_clone s (line_of s (event.Poll i) (told_of answer) ∷ []) (record { core = core; tasks = tasks })) same
-      (rw (tasks_are, answer_is) (poll_drives is_clone from core i kind asked begins covered is_kind ready answers refused waits))
+  poll_drives_as is_clone from old same core tasks i kind asked answer sound covered is_kind ready answers refused waits tasks_are answer_is =
+      subst (λ (s : DriverState T). Drives is_clone s (line_of s (event.Poll i) (told_of answer) ∷ []) (record { core = core; tasks = tasks })) same
+      (rw (tasks_are, answer_is) (poll_drives is_clone from core i kind asked sound covered is_kind ready answers refused waits))
 
   marked_same : (m : Mark) (i : ℕ) (tasks : List (Task T)) → is_ready_mark (mark_at tasks i) ≡ true → mark_at (change (with_mark m) i tasks) i ≡ Some m
   marked_same m i tasks ready = mark-marked_one m i i true (eqb-same i) tasks ∙ some_marked m (mark_at tasks i) ready
 
   -- a task whose poll was not refused is not ready
-  pub ready_no_more : (core : Beginning T Named) (i : ℕ) (asked : Result (Poll (Option T)) Refusal) (tasks : List (Task T)) → is_ready_mark (mark_at tasks i) ≡ true
+  pub ready_no_more : (core : State T Named) (i : ℕ) (asked : Result (Poll (Option T)) Refusal) (tasks : List (Task T)) → is_ready_mark (mark_at tasks i) ≡ true
       → OnOk (polled_of asked) (is_ready (record { core = core; tasks = change (with_mark (mark_after asked)) i tasks }) [] i ≡ false)
   ready_no_more core i (Ok (Ready value)) tasks ready = ready_now (record { core = core; tasks = change (with_mark mark.Done) i tasks }) i ∙ ap is_ready_mark (marked_same mark.Done i tasks ready)
   ready_no_more core i (Ok Pending) tasks ready = ready_now (record { core = core; tasks = change (with_mark mark.Waiting) i tasks }) i ∙ ap is_ready_mark (marked_same mark.Waiting i tasks ready)
   ready_no_more core i (Err why) tasks ready = tt
 
   -- the others are as ready as before
-  pub others_stay : (core : Beginning T Named) (from : State T) (m : Mark) (i j : ℕ) → i ≢ j → is_ready (record { core = core; tasks = change (with_mark m) i from.tasks }) [] j ≡ is_ready from [] j
+  pub others_stay : (core : State T Named) (from : DriverState T) (m : Mark) (i j : ℕ) → i ≢ j → is_ready (record { core = core; tasks = change (with_mark m) i from.tasks }) [] j ≡ is_ready from [] j
   others_stay core from m i j other =
       ready_now (record { core = core; tasks = change (with_mark m) i from.tasks }) j
       ∙ (ap (λ t. is_ready_mark (option_map (λ task. task.mark) t)) (slice_get-change_other (with_mark m) i j from.tasks other) ∙ sym (ready_now from j))

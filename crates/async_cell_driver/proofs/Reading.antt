@@ -1,12 +1,12 @@
 -- What the marks of a driver's tasks say of it now.
 use Rattle.std.proofs.Common.{◌≡◌, ℕ, zero, suc, true, not, ◌&&◌, List, [], ◌∷◌, Option, Some, None, map, refl, ◌∙◌}
 use Rattle.std.specs.Prelude.{slice_get, is_some}
-use Rattle.async_cell_model.specs.History.{IsBeginning}
+use Rattle.async_cell_model.specs.History.{IsSound}
 use Rattle.async_cell_driver.specs.declared.task.Mark.{Mark}
 use Rattle.async_cell_driver.specs.declared.task.Mark.TheVariants.{Ready, Waiting, Woken, Done}
 use Rattle.async_cell_driver.specs.declared.task.Task.{Task}
 use Rattle.async_cell_driver.specs.Mark.{is_done_mark, waits_mark, is_due_mark, is_ready_mark}
-use Rattle.async_cell_driver.specs.State.{State, mark_at, AllNamed, is_named}
+use Rattle.async_cell_driver.specs.DriverState.{DriverState, mark_at, AllNamed, is_named}
 use Rattle.async_cell_driver.specs.Log.{is_ready}
 use Rattle.async_cell_driver.specs.Drives.{IsAwake, is_same}
 
@@ -32,14 +32,14 @@ module _ {T : Type 0} where
   started_now (suc i) (t ∷ tasks) = started_now i tasks
 
   -- a task is ready exactly if its mark says so
-  pub ready_now : (at : State T) (i : ℕ) → is_ready at [] i ≡ is_ready_mark (mark_at at.tasks i)
+  pub ready_now : (at : DriverState T) (i : ℕ) → is_ready at [] i ≡ is_ready_mark (mark_at at.tasks i)
   ready_now at i = rw (started_now i at.tasks) (ready_by (mark_at at.tasks i))
 
-  none_named : (at : State T) (i : ℕ) → AllNamed at → at.core.waiting ≡ [] → mark_at at.tasks i ≡ Some Waiting → ⊥
+  none_named : (at : DriverState T) (i : ℕ) → AllNamed at → at.core.waiting ≡ [] → mark_at at.tasks i ≡ Some Waiting → ⊥
   none_named at i covered none stands =
       let named = covered i stands in let unnamed : is_named i [] ≡ true = rw none at named in cc
 
   -- where each waiting name stands in the waiting list, no task is forgotten
-  pub awake : (at : State T) → IsBeginning is_same at.core → AllNamed at → IsAwake at
-  awake at begins covered not_vacant i stands =
-      ready_now at i ∙ woken_by (mark_at at.tasks i) stands (none_named at i covered (begins.waits_vacant not_vacant))
+  pub awake : (at : DriverState T) → IsSound is_same at.core → AllNamed at → IsAwake at
+  awake at sound covered not_vacant i stands =
+      ready_now at i ∙ woken_by (mark_at at.tasks i) stands (none_named at i covered (sound.waits_vacant not_vacant))

@@ -5,12 +5,12 @@ use Rattle.std.specs.Option.{option_map}
 use Rattle.std.proofs.lemmas.Bool.{eqb-true, eqb-false}
 use Rattle.std.proofs.lemmas.List.Folds.{list_any-append}
 use Rattle.async_cell_cons.specs.declared.named.Named.{Named}
-use Rattle.async_cell_model.specs.Waiting.{keep, skips, with_one_more}
+use Rattle.async_cell_model.specs.WaitList.{wait_list, skips, with_one_more}
 use Rattle.async_cell_driver.specs.declared.task.Mark.{Mark}
 use Rattle.async_cell_driver.specs.declared.task.Mark.TheVariants.{Ready, Waiting, Woken, Done}
 use Rattle.async_cell_driver.specs.declared.task.Task.{Task}
 use Rattle.async_cell_driver.specs.Mark.{woken}
-use Rattle.async_cell_driver.specs.State.{mark_at, result_of, result_at, is_named, change, wake, wake_each}
+use Rattle.async_cell_driver.specs.DriverState.{mark_at, result_of, result_at, is_named, change, wake, wake_each}
 use Rattle.async_cell_driver.specs.Drives.{is_same}
 
 module _ {T : Type 0} where
@@ -121,6 +121,6 @@ named_each i l (w ∷ rest) =
     named_each i (with_one_more is_same l w) rest
     ∙ (ap (λ p. p || is_named i rest) (named_if i l w (skips is_same l w) refl) ∙ or_regrouped (is_named i l) (nat_eq w.0 i) (is_named i rest))
 
--- those that are kept waiting are those that asked
-pub named-keep : (i : ℕ) (names : List Named) → is_named i (keep is_same names) ≡ is_named i names
-named-keep i names = named_each i [] names
+-- the names in the wait list are those that registered
+pub named-wait_list : (i : ℕ) (names : List Named) → is_named i (wait_list is_same names) ≡ is_named i names
+named-wait_list i names = named_each i [] names

@@ -1,10 +1,10 @@
--- What follows from the core's answer to a poll.
+-- What follows from the core's reply to a poll.
 use Rattle.std.specs.Prelude.{List, [], ◌∷◌, ◌++◌, Option, Result, Ok, Err}
 use Rattle.futures.specs.declared.task.Poll.{Poll}
 use Rattle.futures.specs.declared.task.Poll.TheVariants.{Ready, Pending}
 use Rattle.async_cell_cons.specs.declared.named.Named.{Named}
 use Rattle.async_cell_model.specs.declared.refusal.Refusal.{Refusal}
-use Rattle.async_cell_model.specs.Waiting.{keep}
+use Rattle.async_cell_model.specs.WaitList.{wait_list}
 use Rattle.async_cell_driver.specs.declared.task.Mark.{Mark}
 use Rattle.async_cell_driver.specs.declared.task.Mark.TheVariants as mark
 use Rattle.async_cell_driver.specs.declared.event.Polled.{Polled}
@@ -12,24 +12,24 @@ use Rattle.async_cell_driver.specs.declared.event.Polled.TheVariants as polled
 use Rattle.async_cell_driver.specs.Drives.{is_same}
 
 module _ {T : Type 0} where
-  -- who waits
+  -- the wait list after the poll
   abbrev pub waiting_when : Poll (Option T) → Named → List Named → List Named
   waiting_when (Ready value) name waiting = waiting
-  waiting_when Pending name waiting = keep is_same (waiting ++ name ∷ [])
+  waiting_when Pending name waiting = wait_list is_same (waiting ++ name ∷ [])
 
-  -- the mark of the task
+  -- the mark of the task after the poll
   abbrev pub mark_after : Result (Poll (Option T)) Refusal → Mark
   mark_after (Ok (Ready value)) = mark.Done
   mark_after (Ok Pending) = mark.Waiting
   mark_after (Err why) = mark.Ready
 
-  -- what the task's poll answers
+  -- what the task's poll returns
   abbrev pub polled_of : Result (Poll (Option T)) Refusal → Result (Polled T) Refusal
   polled_of (Ok (Ready value)) = Ok (polled.Ready value)
   polled_of (Ok Pending) = Ok polled.Pending
   polled_of (Err why) = Err why
 
-  -- the task's poll is ready, with a content of which P holds
+  -- the task's poll is ready, with a content that satisfies P
   abbrev pub IsPolledWith : (Option T → Type 0) → Polled T → Type 0
   IsPolledWith P (polled.Ready value) = P value
   IsPolledWith P polled.Pending = ⊥

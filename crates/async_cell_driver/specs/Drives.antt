@@ -1,77 +1,88 @@
--- What a driver promises: where a log leads.
+-- What a driver promises: which log runs from one state of it to another.
 use Rattle.std.specs.Prelude.{◌≡◌, ℕ, Bool, true, false, List, [], ◌∷◌, Option, ⊤, map, length, nat_eq, MatchOption}
 use Rattle.async_cell_cons.specs.declared.named.Named.{Named}
 use Rattle.async_cell_model.specs.declared.refusal.Refusal.TheVariants.{Memory}
 use Rattle.async_cell_model.specs.Cell.{content, is_vacant}
 use Rattle.async_cell_model.specs.declared.cell.Cell.{Cell}
 use Rattle.async_cell_model.specs.History.{cell_after}
-use Rattle.async_cell_model.specs.Legal.{LeadsUpTo}
+use Rattle.async_cell_model.specs.Legal.{RunsUpTo}
 use Rattle.async_cell_driver.specs.declared.event.Event.{Event}
 use Rattle.async_cell_driver.specs.declared.event.Event.TheVariants.{Start, Poll}
 use Rattle.async_cell_driver.specs.declared.event.Told.{Told}
 use Rattle.async_cell_driver.specs.declared.event.Told.TheVariants as told
 use Rattle.async_cell_driver.specs.declared.event.Polled.TheVariants.{NotReady}
-use Rattle.async_cell_driver.specs.State.{State, result_at}
+use Rattle.async_cell_driver.specs.DriverState.{DriverState, result_at}
 use Rattle.async_cell_driver.specs.Log.{Log, kinds, is_done, waits, is_ready}
 use Rattle.async_cell_driver.specs.History.{history, handed_out, line_of}
 
--- whether two names are the same: that one wakes the other
+-- whether two names are the same, which is when one wakes the other
 abbrev pub is_same : Named → Named → Bool
 is_same a b = nat_eq a.0 b.0
 
--- Where this many tasks were started and these are ready, the event may be told this, and the names
--- handed out. A task that is started is told the number of tasks before it. A poll is told
--- `NotReady` exactly where the task is not ready. What a call on the cell is told is the core's to
--- say, and so are the names that it hands out. A start hands out none, and neither does a poll: it
--- neither fills nor closes the cell.
-abbrev pub FitsTold : {T : Type 0} → ℕ → (ℕ → Bool) → Event T (Option T → Option T) → Told T → List Named → Type 0
+-- The outcome and the woken names that an event may have, if this many tasks were started and these
+-- are ready. The outcome of a start is the number of tasks before it. A poll returns `NotReady`
+-- exactly if the task is not ready. The core decides the outcome of a call on the cell, and the
+-- names that it wakes. A start wakes none, and neither does a poll: it neither fills nor closes the
+-- cell.
+abbrev pub FitsTold : {T : Type 0} → ℕ → (ℕ → Bool)
+    → Event T (Option T → Option T) → Told T → List Named → Type 0
 FitsTold count ready (Start kind) (told.Started number) names = (number ≡ count) × (names ≡ [])
 FitsTold count ready (Start kind) (told.Refused why) names = (why ≡ Memory) × (names ≡ [])
 FitsTold count ready (Start kind) _ names = ⊥
 FitsTold count ready (Poll i) (told.Polled NotReady) names = (ready i ≡ false) × (names ≡ [])
 FitsTold count ready (Poll i) (told.Polled answer) names = (ready i ≡ true) × (names ≡ [])
-FitsTold count ready (Poll i) (told.Refused why) names = (ready i ≡ true) × (why ≡ Memory) × (names ≡ [])
+FitsTold count ready (Poll i) (told.Refused why) names =
+    (ready i ≡ true) × (why ≡ Memory) × (names ≡ [])
 FitsTold count ready (Poll i) _ names = ⊥
 FitsTold count ready event (told.Reply reply) names = ⊤
 FitsTold count ready event _ names = ⊥
 
 -- each line fits those before it
-abbrev pub IsLegal : {T : Type 0} → State T → Log T → Type 0
+abbrev pub IsLegal : {T : Type 0} → DriverState T → Log T → Type 0
 IsLegal from [] = ⊤
-IsLegal from (line ∷ earlier) = FitsTold (length (kinds from earlier)) (is_ready from earlier) line.event line.told line.names × IsLegal from earlier
+IsLegal from (line ∷ earlier) =
+    FitsTold (length (kinds from earlier)) (is_ready from earlier) line.event line.told line.names
+    × IsLegal from earlier
 
 -- whenever the cell is full or closed, every task that waits is ready
-abbrev pub IsAwake : {T : Type 0} → State T → Type 0
-IsAwake at = is_vacant at.core.cell ≡ false → (i : ℕ) → waits at [] i ≡ true → is_ready at [] i ≡ true
+abbrev pub IsAwake : {T : Type 0} → DriverState T → Type 0
+IsAwake at = is_vacant at.core.cell ≡ false
+    → (i : ℕ) → waits at [] i ≡ true → is_ready at [] i ≡ true
 
--- The promise: the log leads from one state of a driver to another. Each line fits those before it.
--- The core's calls are a legal history, in which a getter is told a clone of the value by the
--- type's own relation; and the tasks stand as the log says.
-pub record Drives {T : Type 0} (is_clone : T → T → Type 0) (from : State T) (log : Log T) (to : State T) : Type 0 where
+-- The promise: the log runs from one state of a driver to another. Each line fits those before it.
+-- The core's calls are a legal history, in which a getter gets a clone of the value by the type's
+-- own relation. The tasks are as the log says.
+pub record Drives {T : Type 0} (is_clone : T → T → Type 0)
+    (from : DriverState T) (log : Log T) (to : DriverState T) : Type 0 where
   pub legal : IsLegal from log
-  pub core_leads : LeadsUpTo is_same true is_clone from.core (history from log) (handed_out from log) to.core
+  pub core_leads : RunsUpTo is_same true is_clone
+      from.core (history from log) (handed_out from log) to.core
   pub kinds_are : map (λ task. task.kind) to.tasks ≡ kinds from log
   pub done_is : (i : ℕ) → is_done to [] i ≡ is_done from log i
   pub waits_is : (i : ℕ) → waits to [] i ≡ waits from log i
   pub ready_is : (i : ℕ) → is_ready to [] i ≡ is_ready from log i
   pub none_forgotten : IsAwake to
 
--- the event happens, and is told this
-abbrev pub Happens : {T : Type 0} → (T → T → Type 0) → State T → Event T (Option T → Option T) → Told T → State T → Type 0
+-- the event happens, with this outcome
+abbrev pub Happens : {T : Type 0} → (T → T → Type 0) → DriverState T
+    → Event T (Option T → Option T) → Told T → DriverState T → Type 0
 Happens is_clone from event answer to = Drives is_clone from (line_of from event answer ∷ []) to
 
--- Where the event polls a task of a full cell, and is refused, the clone of the value can fail. A
--- poll of a closed cell is not refused.
-abbrev pub IsSpared : {T : Type 0} → (T → Type 0) → Cell T → Event T (Option T → Option T) → Told T → Type 0
-IsSpared is_infallible c (Poll i) (told.Refused why) = is_vacant c ≡ false → MatchOption (content c) ⊥ (λ value. is_infallible value → ⊥)
+-- If the event polls a task of a full cell and is refused, the clone of the value can fail. A poll
+-- of a closed cell is not refused.
+abbrev pub IsSpared : {T : Type 0} → (T → Type 0) → Cell T
+    → Event T (Option T → Option T) → Told T → Type 0
+IsSpared is_infallible c (Poll i) (told.Refused why) = is_vacant c ≡ false
+    → MatchOption (content c) ⊥ (λ value. is_infallible value → ⊥)
 IsSpared is_infallible c event answer = ⊤
 
--- it is so of each line
-abbrev pub AllSpared : {T : Type 0} → (T → Type 0) → State T → Log T → Type 0
+-- this holds of each line
+abbrev pub AllSpared : {T : Type 0} → (T → Type 0) → DriverState T → Log T → Type 0
 AllSpared is_infallible from [] = ⊤
 AllSpared is_infallible from (line ∷ earlier) =
-    IsSpared is_infallible (cell_after from.core.cell (history from earlier)) line.event line.told × AllSpared is_infallible from earlier
+    IsSpared is_infallible (cell_after from.core.cell (history from earlier)) line.event line.told
+    × AllSpared is_infallible from earlier
 
 -- what `settle` got for the tasks stays
-abbrev pub KeepsResults : {T : Type 0} → State T → State T → Type 0
+abbrev pub KeepsResults : {T : Type 0} → DriverState T → DriverState T → Type 0
 KeepsResults from to = (i : ℕ) → result_at to.tasks i ≡ result_at from.tasks i

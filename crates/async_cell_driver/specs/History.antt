@@ -1,4 +1,4 @@
--- What a log says to the core.
+-- The calls that a log makes on the core.
 use Rattle.std.specs.Prelude.{map, ℕ, ◌++◌, List, [], ◌∷◌, Option, Some, None, Result, Ok, Err, slice_get, option_to_list}
 use Rattle.std.specs.Option.{option_map}
 use Rattle.async_cell_cons.specs.declared.named.Named.{Named}
@@ -10,8 +10,8 @@ use Rattle.async_cell_model.specs.declared.entry.Kept.TheVariants as kept
 use Rattle.async_cell_model.specs.declared.refusal.Refusal.{Refusal}
 use Rattle.async_cell_model.specs.declared.reply.Reply.{Reply}
 use Rattle.async_cell_model.specs.declared.reply.Reply.TheVariants as reply
-use Rattle.async_cell_model.specs.History.{Beginning, History, cell_after}
-use Rattle.async_cell_model.specs.Legal.{hands}
+use Rattle.async_cell_model.specs.History.{State, History, cell_after}
+use Rattle.async_cell_model.specs.Legal.{wakes}
 use Rattle.async_cell_model.specs.Step.{reply as model_reply}
 use Rattle.async_cell_driver.specs.declared.task.Kind.{Kind}
 use Rattle.async_cell_driver.specs.declared.task.Kind.TheVariants.{Get}
@@ -21,7 +21,7 @@ use Rattle.async_cell_driver.specs.declared.event.Told.{Told}
 use Rattle.async_cell_driver.specs.declared.event.Told.TheVariants as told
 use Rattle.async_cell_driver.specs.declared.event.Polled.{Polled}
 use Rattle.async_cell_driver.specs.declared.event.Polled.TheVariants.{Ready, Pending, NotReady}
-use Rattle.async_cell_driver.specs.State.{State, name_of}
+use Rattle.async_cell_driver.specs.DriverState.{DriverState, name_of}
 use Rattle.async_cell_driver.specs.Log.{Line, Log, kinds}
 
 module _ {T : Type 0} where
@@ -30,13 +30,13 @@ module _ {T : Type 0} where
   poll_of (Some Get) i = kept.PollGet (name_of i)
   poll_of _ i = kept.PollTake (name_of i)
 
-  -- an update on this cell as a history keeps it: with what its edit saw and answered, both `None`
-  -- where it was not called
+  -- an update on this cell as a history stores it: with what its edit saw and what it returned,
+  -- both `None` if it was not called
   abbrev pub kept_update : Cell T → (Option T → Option T) → Kept T Named
   kept_update Closed edit = kept.Update None None
   kept_update (Open value owners) edit = kept.Update value (edit value)
 
-  -- the call that an event makes on a core with this cell, where the tasks are of these kinds
+  -- the call that an event makes on a core with this cell, if the tasks are of these kinds
   abbrev pub call_of : List Kind → Cell T → Event T (Option T → Option T) → Option (Kept T Named)
   call_of all c (Start kind) = None
   call_of all c (Poll i) = Some (poll_of (slice_get all i) i)
@@ -48,7 +48,7 @@ module _ {T : Type 0} where
   call_of all c AddOwner = Some kept.AddOwner
   call_of all c EndOwner = Some kept.EndOwner
 
-  -- the core's reply that was told: none where the core was not called
+  -- the core's reply in an outcome: `None` if the core was not called
   abbrev pub reply_of : Told T → Option (Reply T)
   reply_of (told.Started number) = None
   reply_of (told.Polled (Ready value)) = Some (reply.Ready value)
@@ -62,44 +62,50 @@ module _ {T : Type 0} where
   entry_of (Some call) (Some r) = Some (record { call = call; reply = r })
   entry_of _ _ = None
 
-module _ {T : Type 0} (from : State T) where
+module _ {T : Type 0} (from : DriverState T) where
   -- the history of the core's calls
   abbrev pub history : Log T → History T Named
   history [] = []
   history (line ∷ earlier) =
-      history earlier ++ option_to_list (entry_of (call_of (kinds from earlier) (cell_after from.core.cell (history earlier)) line.event) (reply_of line.told))
+      history earlier
+      ++ option_to_list (entry_of
+      (call_of (kinds from earlier) (cell_after from.core.cell (history earlier)) line.event)
+      (reply_of line.told))
 
-  -- what each of the core's calls handed out
+  -- the names that each of the core's calls wakes
   abbrev pub handed_out : Log T → List (List Named)
   handed_out [] = []
   handed_out (line ∷ earlier) =
       handed_out earlier
-      ++ option_to_list (option_map (λ e. line.names) (entry_of (call_of (kinds from earlier) (cell_after from.core.cell (history earlier)) line.event) (reply_of line.told)))
+      ++ option_to_list (option_map (λ e. line.names) (entry_of
+      (call_of (kinds from earlier) (cell_after from.core.cell (history earlier)) line.event)
+      (reply_of line.told)))
 
 module _ {T : Type 0} where
-  -- the names that an entry hands out, if there is one
-  abbrev pub names_by : Beginning T Named → Option (Entry T Named) → List Named
+  -- the names that an entry wakes, if there is one
+  abbrev pub names_by : State T Named → Option (Entry T Named) → List Named
   names_by core None = []
-  names_by core (Some e) = hands core e
+  names_by core (Some e) = wakes core e
 
-  -- the line of an event that was told this
-  abbrev pub line_of : State T → Event T (Option T → Option T) → Told T → Line T
+  -- the line of an event with this outcome
+  abbrev pub line_of : DriverState T → Event T (Option T → Option T) → Told T → Line T
   line_of at event answer = record {
     event = event;
     told = answer;
-    names = names_by at.core (entry_of (call_of (map (λ task. task.kind) at.tasks) at.core.cell event) (reply_of answer));
+    names = names_by at.core (entry_of
+        (call_of (map (λ task. task.kind) at.tasks) at.core.cell event) (reply_of answer));
   }
 
--- what the answer to a poll of a task is told as
+-- the outcome for the result of a task's poll
 abbrev pub told_of : {T : Type 0} → Result (Polled T) Refusal → Told T
 told_of (Ok polled) = told.Polled polled
 told_of (Err why) = told.Refused why
 
--- what the core answers to a call that finds memory
-abbrev pub told_by : {T : Type 0} → Beginning T Named → Kept T Named → Told T
+-- the outcome of a call for which the core finds memory
+abbrev pub told_by : {T : Type 0} → State T Named → Kept T Named → Told T
 told_by core call = told.Reply (model_reply core.cell call)
 
--- the reply that a call without a value stands for
+-- the reply for the result of a call that returns no value
 abbrev pub done_or : {T : Type 0} → Result (Unit {0}) Refusal → Reply T
 done_or (Ok done) = reply.Done
 done_or (Err why) = reply.Refused why None

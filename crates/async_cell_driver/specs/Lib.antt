@@ -1,7 +1,7 @@
 pub mod Asked
+pub mod DriverState
 pub mod Drives
 pub mod History
 pub mod Log
 pub mod Mark
-pub mod State
 pub mod Settle

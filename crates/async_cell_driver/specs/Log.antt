@@ -1,4 +1,4 @@
--- What happened to a driver, line by line, and what a reader of the lines says of a task.
+-- What happened to a driver, line by line, and what the lines say of a task.
 use Rattle.std.specs.Prelude.{ℕ, ◌++◌, Bool, true, false, not, ◌&&◌, ◌||◌, List, [], ◌∷◌, Option, map, reverse, nat_eq, is_some, slice_get, if◌then◌else◌}
 use Rattle.async_cell_cons.specs.declared.named.Named.{Named}
 use Rattle.async_cell_driver.specs.declared.task.Kind.{Kind}
@@ -8,10 +8,9 @@ use Rattle.async_cell_driver.specs.declared.event.Told.{Told}
 use Rattle.async_cell_driver.specs.declared.event.Told.TheVariants as told
 use Rattle.async_cell_driver.specs.declared.event.Polled.TheVariants.{Ready, Pending, NotReady}
 use Rattle.async_cell_driver.specs.Mark.{is_done_mark, waits_mark, is_due_mark}
-use Rattle.async_cell_driver.specs.State.{State, mark_at, is_named}
+use Rattle.async_cell_driver.specs.DriverState.{DriverState, mark_at, is_named}
 
--- an event, in which an update is the function that its edit is; what was told; and the names that
--- were handed out
+-- an event, in which an update is the function of its edit; its outcome; and the names that it woke
 pub record Line (T : Type 0) : Type 0 where
   pub event : Event T (Option T → Option T)
   pub told : Told T
@@ -21,7 +20,7 @@ pub record Line (T : Type 0) : Type 0 where
 abbrev pub Log : Type 0 → Type 0
 Log T = List (Line T)
 
--- whether task i is polled. A poll that was told `NotReady` counts for nothing
+-- whether task i is polled: a poll that returned `NotReady` does not count
 abbrev pub is_poll_of : {T : Type 0} → ℕ → Event T (Option T → Option T) → Told T → Bool
 is_poll_of i (Poll j) (told.Polled NotReady) = false
 is_poll_of i (Poll j) answer = nat_eq j i
@@ -44,8 +43,9 @@ abbrev pub started : {T : Type 0} → Event T (Option T → Option T) → Told T
 started (Start kind) (told.Started number) = kind ∷ []
 started _ _ = []
 
--- The tasks after a log that begins at `from`: each carries the mark that it had there.
-module _ {T : Type 0} (from : State T) where
+-- The tasks after a log that starts from `from`. A task that is in `from` starts with the mark that
+-- it has there.
+module _ {T : Type 0} (from : DriverState T) where
   -- the kinds of the tasks that were started, by number
   abbrev pub kinds : Log T → List Kind
   kinds [] = map (λ task. task.kind) from.tasks
@@ -58,17 +58,21 @@ module _ {T : Type 0} (from : State T) where
   -- a poll of task i was ready
   abbrev pub is_done : Log T → ℕ → Bool
   is_done [] i = is_done_mark (mark_at from.tasks i)
-  is_done (line ∷ earlier) i = (is_poll_of i line.event line.told && was_ready line.told) || is_done earlier i
+  is_done (line ∷ earlier) i =
+      (is_poll_of i line.event line.told && was_ready line.told) || is_done earlier i
 
-  -- the last poll of task i answered `Pending`
+  -- the last poll of task i returned `Pending`
   abbrev pub waits : Log T → ℕ → Bool
   waits [] i = waits_mark (mark_at from.tasks i)
-  waits (line ∷ earlier) i = if is_poll_of i line.event line.told then was_pending line.told else waits earlier i
+  waits (line ∷ earlier) i =
+      if is_poll_of i line.event line.told then was_pending line.told else waits earlier i
 
-  -- task i was never polled, its last poll was refused, or a line after that hands out its name
+  -- task i was never polled, its last poll was refused, or a line after that wakes its name
   abbrev pub is_due : Log T → ℕ → Bool
   is_due [] i = is_due_mark (mark_at from.tasks i)
-  is_due (line ∷ earlier) i = if is_poll_of i line.event line.told then was_refused line.told else (is_named i line.names || is_due earlier i)
+  is_due (line ∷ earlier) i =
+      if is_poll_of i line.event line.told then was_refused line.told
+      else (is_named i line.names || is_due earlier i)
 
   -- task i was started, is not done, and is due
   abbrev pub is_ready : Log T → ℕ → Bool
@@ -76,16 +80,20 @@ module _ {T : Type 0} (from : State T) where
 
 module _ {T : Type 0} where
   -- the lines of these events, in order
-  abbrev pub lines : List (Event T (Option T → Option T)) → List (Told T) → List (List Named) → List (Line T)
-  lines (event ∷ events) (answer ∷ answers) (names ∷ handed) = record { event = event; told = answer; names = names } ∷ lines events answers handed
+  abbrev pub lines : List (Event T (Option T → Option T))
+      → List (Told T) → List (List Named) → List (Line T)
+  lines (event ∷ events) (answer ∷ answers) (names ∷ handed) =
+      record { event = event; told = answer; names = names } ∷ lines events answers handed
   lines _ _ _ = []
 
-  -- the log of these events, of what they were told and of the names that were handed out
-  abbrev pub log_of : List (Event T (Option T → Option T)) → List (Told T) → List (List Named) → Log T
+  -- the log of these events, of their outcomes and of the woken names
+  abbrev pub log_of : List (Event T (Option T → Option T))
+      → List (Told T) → List (List Named) → Log T
   log_of events answers handed = reverse (lines events answers handed)
 
-  -- an event with the function that its edit is
-  abbrev pub with_edit : {E : Type 0} → (E → Option T → Option T) → Event T E → Event T (Option T → Option T)
+  -- an event with its edit replaced by the function of the edit
+  abbrev pub with_edit : {E : Type 0} → (E → Option T → Option T)
+      → Event T E → Event T (Option T → Option T)
   with_edit edit (Start kind) = Start kind
   with_edit edit (Poll i) = Poll i
   with_edit edit (Set value) = Set value

@@ -8,13 +8,13 @@ abbrev pub is_done_mark : Option Mark → Bool
 is_done_mark (Some Done) = true
 is_done_mark _ = false
 
--- the task's last poll answered `Pending`
+-- the task's last poll returned `Pending`
 abbrev pub waits_mark : Option Mark → Bool
 waits_mark (Some Waiting) = true
 waits_mark (Some Woken) = true
 waits_mark _ = false
 
--- the task was never polled, its last poll was refused, or its name was handed out since
+-- the task was never polled, its last poll was refused, or its name was woken since
 abbrev pub is_due_mark : Option Mark → Bool
 is_due_mark None = true
 is_due_mark (Some Ready) = true
@@ -27,7 +27,7 @@ is_ready_mark (Some Ready) = true
 is_ready_mark (Some Woken) = true
 is_ready_mark _ = false
 
--- a mark whose name was handed out
+-- a mark after the task's name is woken
 abbrev pub woken : Mark → Mark
 woken Waiting = Woken
 woken mark = mark

@@ -7,7 +7,7 @@ use Rattle.async_cell_driver.specs.declared.event.Event.TheVariants.{Poll}
 use Rattle.async_cell_driver.specs.declared.event.Told.{Told}
 use Rattle.async_cell_driver.specs.declared.event.Told.TheVariants as told
 use Rattle.async_cell_driver.specs.declared.event.Polled.TheVariants.{Ready}
-use Rattle.async_cell_driver.specs.State.{State, result_at}
+use Rattle.async_cell_driver.specs.DriverState.{DriverState, result_at}
 use Rattle.async_cell_driver.specs.Log.{Log, is_ready, is_poll_of, was_refused}
 use Rattle.async_cell_driver.specs.History.{line_of}
 use Rattle.async_cell_driver.specs.Drives.{Drives}
@@ -19,7 +19,7 @@ numbers (suc n) = numbers n ++ n ∷ []
 
 module _ {T : Type 0} where
   -- the tasks that are ready, in order of number
-  abbrev pub ready_tasks : State T → List ℕ
+  abbrev pub ready_tasks : DriverState T → List ℕ
   ready_tasks at = filter (is_ready at []) (numbers (length at.tasks))
 
   -- the events of a log, in order
@@ -35,7 +35,7 @@ module _ {T : Type 0} where
   got_by (told.Polled (Ready value)) = Some value
   got_by _ = None
 
-  -- what was got is kept, and else what was there
+  -- what was got, if anything; otherwise what was there before
   abbrev pub got_or : Option (Option T) → Option (Option T) → Option (Option T)
   got_or None old = old
   got_or (Some value) old = Some value
@@ -43,31 +43,42 @@ module _ {T : Type 0} where
   -- what a log got for task i: what a poll of it was ready with
   abbrev pub got : Log T → ℕ → Option (Option T)
   got [] i = None
-  got (line ∷ earlier) i = got_or (if is_poll_of i line.event line.told then got_by line.told else None) (got earlier i)
+  got (line ∷ earlier) i = got_or
+      (if is_poll_of i line.event line.told then got_by line.told else None) (got earlier i)
 
-  -- what the log got for the tasks is kept for `result`
-  abbrev pub Keeps : State T → Log T → State T → Type 0
+  -- what the log got for the tasks is stored for `result`
+  abbrev pub Keeps : DriverState T → Log T → DriverState T → Type 0
   Keeps from log to = (i : ℕ) → result_at to.tasks i ≡ got_or (got log i) (result_at from.tasks i)
 
   -- only the last line was refused
   abbrev pub IsRefusedLast : Refusal → Log T → Type 0
   IsRefusedLast why [] = ⊥
-  IsRefusedLast why (line ∷ earlier) = (line.told ≡ told.Refused why) × (has_refused earlier ≡ false)
+  IsRefusedLast why (line ∷ earlier) =
+      (line.told ≡ told.Refused why) × (has_refused earlier ≡ false)
 
-  -- The log polls the tasks that were ready, in order of number. Ok says how many there were, and
-  -- none was refused. Else the last poll was refused, and it was the first that was.
-  pub record PollsReady (from : State T) (result : Result ℕ Refusal) (log : Log T) : Type 0 where
-    pub polls : MatchResult result (λ count. events_of log ≡ map Poll (ready_tasks from)) (λ why. (rest : List ℕ) × (events_of log ++ map Poll rest ≡ map Poll (ready_tasks from)))
-    pub counts : MatchResult result (λ count. (count ≡ length (ready_tasks from)) × (has_refused log ≡ false)) (λ why. IsRefusedLast why log)
+  -- The log polls the tasks that were ready, in order of number. `Ok` has the number of these
+  -- tasks, and none was refused. Otherwise the last poll was refused, and it was the first that
+  -- was.
+  pub record PollsReady
+      (from : DriverState T) (result : Result ℕ Refusal) (log : Log T) : Type 0 where
+    pub polls : MatchResult result
+        (λ count. events_of log ≡ map Poll (ready_tasks from))
+        (λ why. (rest : List ℕ) × (events_of log ++ map Poll rest ≡ map Poll (ready_tasks from)))
+    pub counts : MatchResult result
+        (λ count. (count ≡ length (ready_tasks from)) × (has_refused log ≡ false))
+        (λ why. IsRefusedLast why log)
 
-  -- What `settle` does: its polls lead there, and what they got is kept for `result`.
-  pub record Settles (is_clone : T → T → Type 0) (from : State T) (result : Result ℕ Refusal) (log : Log T) (to : State T) : Type 0 where
+  -- What `settle` does: its polls run to this state, and what they got is stored for `result`.
+  pub record Settles (is_clone : T → T → Type 0) (from : DriverState T)
+      (result : Result ℕ Refusal) (log : Log T) (to : DriverState T) : Type 0 where
     pub drives : Drives is_clone from log to
     pub polls_ready : PollsReady from result log
     pub keeps : Keeps from log to
 
-  -- The poll of a ready task, which was told this.
-  pub record SettlesOne (is_clone : T → T → Type 0) (from : State T) (i : ℕ) (result : Result (Unit {0}) Refusal) (answer : Told T) (to : State T) : Type 0 where
+  -- The poll of a ready task, with this outcome.
+  pub record SettlesOne (is_clone : T → T → Type 0) (from : DriverState T) (i : ℕ)
+      (result : Result (Unit {0}) Refusal) (answer : Told T) (to : DriverState T) : Type 0 where
     pub drives : Drives is_clone from (line_of from (Poll i) answer ∷ []) to
-    pub told : MatchResult result (λ done. was_refused answer ≡ false) (λ why. answer ≡ told.Refused why)
+    pub told : MatchResult result
+        (λ done. was_refused answer ≡ false) (λ why. answer ≡ told.Refused why)
     pub keeps : Keeps from (line_of from (Poll i) answer ∷ []) to

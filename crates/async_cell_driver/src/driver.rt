@@ -1,8 +1,8 @@
 ghost use Rattle.std.specs.Prelude.{◌≡◌, ◌≢◌, ◌≤◌, ℕ, [], length, true, false, Some, None, Ok, ◌↔◌, IsTrue, IsOk, IfOk, IfErr, OnOk, OnErr, MatchOption};
 ghost use Rattle.async_cell_model.specs.Cell.{content, is_closed, is_vacant};
-ghost use Rattle.async_cell_model.specs.Legal.{AnswersUpTo, may_refuse};
+ghost use Rattle.async_cell_model.specs.Legal.{StepsUpTo, may_refuse};
 ghost use Rattle.async_cell_core.specs.Polled.{IsCloneOf, IsReadyWith, poll_reply};
-ghost use Rattle.async_cell_driver.specs.State.{kind_at};
+ghost use Rattle.async_cell_driver.specs.DriverState.{kind_at};
 ghost use Rattle.async_cell_driver.specs.Log.{is_ready, waits};
 ghost use Rattle.async_cell_driver.specs.History.{poll_of, told_of};
 ghost use Rattle.async_cell_driver.specs.Drives.{Happens, IsSpared, KeepsResults, is_same};
@@ -20,7 +20,7 @@ use async_cell_model::Cell;
 use std::alloc::Global;
 use std::marker::Model;
 
-/// Numbered tasks that wait for the value of one cell. The driver keeps the cell, and knows of each
+/// Numbered tasks that wait for the value of one cell. The driver owns the cell, and knows of each
 /// task whether it is ready to be polled.
 #[derive(Drop)]
 pub struct Driver<T> {
@@ -30,9 +30,9 @@ pub struct Driver<T> {
 
 /// Contracts see the core, and the tasks by number.
 impl<T> Model for Driver<T> {
-    ghost use Rattle.async_cell_driver.specs.State.{State, IsCovered};
+    ghost use Rattle.async_cell_driver.specs.DriverState.{DriverState, IsCovered};
 
-    ghost Value = { State T };
+    ghost Value = { DriverState T };
 
     ghost view = { λ s. record { core = s.core; tasks = s.tasks } };
 
@@ -40,9 +40,10 @@ impl<T> Model for Driver<T> {
 }
 
 impl<T: Clone> Driver<T> {
-    /// A driver of a cell with this content and one owner, and without tasks.
+    /// Makes a driver of a cell with this content and one owner, without tasks.
     pub fn new(alloc: Global, value: Option<T>) -> Self
-        ensures { result ≡ record { core = record { cell = Cell.Open value 1; waiting = []; room = 0 }; tasks = [] } }
+        ensures { result ≡ record
+            { core = record { cell = Cell.Open value 1; waiting = []; room = 0 }; tasks = [] } }
     {
         Driver {
             core: Core::owned_by(alloc, value, 1),
@@ -50,8 +51,8 @@ impl<T: Clone> Driver<T> {
         }
     }
 
-    /// Starts a task, and gives its number: the number of tasks before it. Refused where there is
-    /// no memory for it.
+    /// Starts a task and returns its number, which is the number of tasks before it. Fails with
+    /// `Memory` if there is no memory for it.
     pub fn start(&mut self, kind: Kind) -> Result<usize, Refusal>
         ensures started { IfOk result (λ number.
             Happens T.is_clone self.old (Event.Start kind) (Told.Started number) self.new) }
@@ -62,55 +63,57 @@ impl<T: Clone> Driver<T> {
         ensures results_stay { KeepsResults self.old self.new }
         ensures unchanged { OnErr result (self.new ≡ self.old) }
     {
-        self.core.begins();
+        self.core.soundness();
         self.tasks.start(kind)
     }
 
-    /// Polls a task that is ready. A task that is done, not ready or not there is not polled.
-    /// Refused where the waker's place, or a clone of the value, found no memory: the task is ready
-    /// still.
+    /// Polls a task that is ready. Returns `NotReady`, without a poll, for a task that is done, not
+    /// ready or not there. Fails with `Memory` if there is no memory for the waker's place or for a
+    /// clone of the value. The task is then still ready.
     pub fn poll(&mut self, i: usize) -> Result<Polled<T>, Refusal>
         ensures drives { Happens T.is_clone self.old (Event.Poll i) (told_of result) self.new }
 
         ensures not_ready { (result ≡ Ok Polled.NotReady) ↔ (is_ready self.old [] i ≡ false) }
         ensures untouched { result ≡ Ok Polled.NotReady → self.new ≡ self.old }
-        ensures taker_takes { kind_at self.old.tasks i ≡ Some Kind.Take → is_ready self.old [] i ≡ true
-            → is_vacant self.old.core.cell ≡ false
+        ensures taker_takes { kind_at self.old.tasks i ≡ Some Kind.Take
+            → is_ready self.old [] i ≡ true → is_vacant self.old.core.cell ≡ false
             → result ≡ Ok (Polled.Ready (content self.old.core.cell)) }
         ensures taker_leaves_none { kind_at self.old.tasks i ≡ Some Kind.Take
             → is_ready self.old [] i ≡ true → OnOk result (content self.new.core.cell ≡ None) }
-        ensures getter_clones { kind_at self.old.tasks i ≡ Some Kind.Get → is_ready self.old [] i ≡ true
-            → is_vacant self.old.core.cell ≡ false
+        ensures getter_clones { kind_at self.old.tasks i ≡ Some Kind.Get
+            → is_ready self.old [] i ≡ true → is_vacant self.old.core.cell ≡ false
             → IfOk result (IsPolledWith (IsCloneOf T.is_clone (content self.old.core.cell))) }
         ensures getter_leaves { kind_at self.old.tasks i ≡ Some Kind.Get
             → is_vacant self.old.core.cell ≡ false → self.new.core ≡ self.old.core }
         ensures results_stay { KeepsResults self.old self.new }
         ensures refused { IfErr result (λ why. (why ≡ Refusal.Memory)
-            × (self.new.core.cell ≡ self.old.core.cell) × (self.new.core.waiting ≡ self.old.core.waiting)) }
+            × (self.new.core.cell ≡ self.old.core.cell)
+            × (self.new.core.waiting ≡ self.old.core.waiting)) }
         ensures ready_no_more { OnOk result (is_ready self.new [] i ≡ false) }
         ensures others_stay { (j : ℕ) → j ≢ i → is_ready self.new [] j ≡ is_ready self.old [] j }
-        ensures spared { may_refuse is_same true self.old.core (poll_of (kind_at self.old.tasks i) i) ≡ false
-            → IsOk result }
+        ensures spared { may_refuse is_same true self.old.core
+            (poll_of (kind_at self.old.tasks i) i) ≡ false → IsOk result }
         ensures sure { is_vacant self.old.core.cell ≡ false
             → MatchOption (content self.old.core.cell) (IsOk result)
             (λ value. T.is_infallible value → IsOk result) }
-        ensures spared_told { IsSpared T.is_infallible self.old.core.cell (Event.Poll i) (told_of result) }
+        ensures spared_told { IsSpared T.is_infallible self.old.core.cell
+            (Event.Poll i) (told_of result) }
         ensures taker_sure { kind_at self.old.tasks i ≡ Some Kind.Take
             → is_vacant self.old.core.cell ≡ false → IsOk result }
     {
-        self.core.begins();
+        self.core.soundness();
         let Some(kind) = self.tasks.ready(i) else {
             return Ok(Polled::NotReady);
         };
         let asked = ask(&mut self.core, kind, Named(i as u64));
-        self.core.begins();
+        self.core.soundness();
         self.tasks.set_mark(i, mark_of(&asked));
         polled(asked)
     }
 
-    /// Makes room in the core's wait list: the next `additional` wakers that polls add need no memory,
-    /// until a fill or a close gives the room up. Refused where there is no memory for so many. On a
-    /// closed cell it does nothing.
+    /// Makes room in the core's wait list: the next `additional` wakers that polls add need no
+    /// memory, until a fill or a close gives the room up. Fails with `Memory` if there is no memory
+    /// for so many. Does nothing on a closed cell.
     pub fn reserve(&mut self, additional: usize) -> Result<(), Refusal>
         ensures tasks_stay { self.new.tasks ≡ self.old.tasks }
         ensures cell_stays { self.new.core.cell ≡ self.old.core.cell }
@@ -124,8 +127,8 @@ impl<T: Clone> Driver<T> {
         self.core.reserve(additional)
     }
 
-    /// Whether a task is ready: it was started, isn't done, and was never polled, or its last poll
-    /// was refused, or its name was handed out since.
+    /// Returns whether a task is ready: it was started, is not done, and was never polled, or its
+    /// last poll was refused, or its name was woken since.
     pub fn is_ready(&self, i: usize) -> bool
         ensures { result ≡ is_ready self.now [] i }
     {
@@ -135,27 +138,27 @@ impl<T: Clone> Driver<T> {
         }
     }
 
-    /// Whether a task waits: its last poll answered `Pending`. Whenever the cell is full or closed,
-    /// it is also ready.
+    /// Returns whether a task waits: its last poll returned `Pending`. Whenever the cell is full or
+    /// closed, it is also ready.
     pub fn waits(&self, i: usize) -> bool
         ensures log { result ≡ waits self.now [] i }
         ensures none_forgotten { IsTrue result
             → is_vacant self.now.core.cell ≡ false → is_ready self.now [] i ≡ true }
     {
-        self.core.begins();
+        self.core.soundness();
         match self.tasks.get(i) {
             Some((_, mark)) => mark.waits(),
             None => false,
         }
     }
 
-    /// How many wakers wait for a value of the cell: at most as many as tasks were started, however
-    /// often they are polled.
+    /// Returns how many wakers wait for a value of the cell: at most as many as tasks were started,
+    /// however often they are polled.
     pub fn waiting(&self) -> usize
         ensures list { result ≡ length self.now.core.waiting }
         ensures at_most { result ≤ length self.now.tasks }
     {
-        self.core.begins();
+        self.core.soundness();
         self.core.waiting()
     }
 }
@@ -167,7 +170,7 @@ fn ask<T: Clone>(
     kind: Kind,
     name: Named,
 ) -> Result<Poll<Option<T>>, Refusal>
-    ensures model { AnswersUpTo is_same true T.is_clone core.old
+    ensures model { StepsUpTo is_same true T.is_clone core.old
         (poll_of (Some kind) name.0) (poll_reply result) [] core.new }
     ensures refused { IfErr result (λ why. (why ≡ Refusal.Memory)
         × (core.new.cell ≡ core.old.cell) × (core.new.waiting ≡ core.old.waiting)) }
@@ -178,8 +181,10 @@ fn ask<T: Clone>(
     ensures taker_leaves_none { kind ≡ Kind.Take → OnOk result (content core.new.cell ≡ None) }
     ensures getter_clones { kind ≡ Kind.Get → is_vacant core.old.cell ≡ false
         → IfOk result (IsReadyWith (IsCloneOf T.is_clone (content core.old.cell))) }
-    ensures getter_leaves { kind ≡ Kind.Get → is_vacant core.old.cell ≡ false → core.new ≡ core.old }
-    ensures spared { may_refuse is_same true core.old (poll_of (Some kind) name.0) ≡ false → IsOk result }
+    ensures getter_leaves { kind ≡ Kind.Get
+        → is_vacant core.old.cell ≡ false → core.new ≡ core.old }
+    ensures spared { may_refuse is_same true core.old (poll_of (Some kind) name.0) ≡ false
+        → IsOk result }
     ensures sure { is_vacant core.old.cell ≡ false
         → MatchOption (content core.old.cell) (IsOk result)
         (λ value. T.is_infallible value → IsOk result) }
@@ -190,7 +195,7 @@ fn ask<T: Clone>(
     }
 }
 
-/// The mark of a task that was polled.
+/// Returns the mark of a task that was polled.
 fn mark_of<T: Drop>(asked: &Result<Poll<Option<T>>, Refusal>) -> Mark
     ensures { result ≡ mark_after asked.now }
 {
@@ -201,7 +206,7 @@ fn mark_of<T: Drop>(asked: &Result<Poll<Option<T>>, Refusal>) -> Mark
     }
 }
 
-/// What the poll of the task answers.
+/// Returns what the poll of the task returns.
 fn polled<T: Drop>(asked: Result<Poll<Option<T>>, Refusal>) -> Result<Polled<T>, Refusal>
     ensures { result ≡ polled_of asked }
 {

@@ -1,33 +1,33 @@
 use crate::task::Kind;
 use async_cell_core::{Refusal, Reply};
 
-/// What can happen to a driver, as a list of events holds it. `E` is the type of the edits.
+/// What can happen to a driver, as an item of a list of events. `E` is the type of the edits.
 #[derive(Clone, Copy, Debug, Drop, PartialEq, Eq)]
 pub enum Event<T, E> {
-    /// `Driver::start`, of a task of this kind. It is told `Started`, with the task's number.
+    /// `Driver::start`, of a task of this kind. The outcome is `Started`, with the task's number.
     Start(Kind),
-    /// `Driver::poll`, of the task of this number. It is told `Polled`.
+    /// `Driver::poll`, of the task of this number. The outcome is `Polled`.
     Poll(usize),
-    /// `Driver::set`. It is told the reply `Done`.
+    /// `Driver::set`. The outcome is the reply `Done`.
     Set(T),
-    /// `Driver::or_set`. It is told the value that was not used.
+    /// `Driver::or_set`. The outcome has the value that was not used.
     OrSet(T),
-    /// `Driver::replace`. It is told the old value.
+    /// `Driver::replace`. The outcome has the old value.
     Replace(T),
-    /// `Driver::update`, by what the edit makes of the content. It is told the reply `Done`.
+    /// `Driver::update`, by what the edit makes of the content. The outcome is the reply `Done`.
     Update(E),
-    /// `Driver::try_take`. It is told the value.
+    /// `Driver::try_take`. The outcome has the value.
     TryTake,
-    /// `Driver::add_owner`. It is told the reply `Done`.
+    /// `Driver::add_owner`. The outcome is the reply `Done`.
     AddOwner,
-    /// `Driver::end_owner`. It is told the value that the last owner leaves.
+    /// `Driver::end_owner`. The outcome has the value that the last owner leaves.
     EndOwner,
 }
 
-/// What the poll of a task answers.
+/// What the poll of a task returns.
 #[derive(Clone, Copy, Debug, Drop, PartialEq, Eq)]
 pub enum Polled<T> {
-    /// The task is done. It has the value, or none from a closed cell.
+    /// The task is done. It has the value, or `None` from a closed cell.
     Ready(Option<T>),
     /// The task waits.
     Pending,
@@ -35,14 +35,14 @@ pub enum Polled<T> {
     NotReady,
 }
 
-/// What an event is told.
+/// The outcome of an event.
 #[derive(Clone, Copy, Debug, Drop, PartialEq, Eq)]
 pub enum Told<T> {
     /// The number of the task that was started.
     Started(usize),
-    /// What the poll of a task answered.
+    /// What the poll of a task returned.
     Polled(Polled<T>),
-    /// What a call on the cell answered.
+    /// What a call on the cell returned.
     Reply(Reply<T>),
     /// Why a `Start` or a `Poll` was refused.
     Refused(Refusal),

@@ -1,29 +1,29 @@
-//! Laws of a driver's logs, each the contract of a function that does nothing.
+//! Laws of a driver's logs. Each is the contract of a function that does nothing.
 ghost use Rattle.std.specs.Prelude.{◌≡◌, [], true, ◌++◌, List, Option, map, length};
 ghost use Rattle.std.specs.List.{list_any};
 ghost use Rattle.async_cell_cons.specs.declared.named.Named.{Named as Name};
-ghost use Rattle.async_cell_model.specs.Legal.{Leads, copies, hands_after};
+ghost use Rattle.async_cell_model.specs.Legal.{Runs, copies, wakes_after};
 ghost use Rattle.async_cell_core.specs.Polled.{IsExact};
 ghost use Rattle.async_cell_driver.specs.declared.event.Event.{Event};
 ghost use Rattle.async_cell_driver.specs.declared.event.Told.{Told};
-ghost use Rattle.async_cell_driver.specs.State.{State};
+ghost use Rattle.async_cell_driver.specs.DriverState.{DriverState};
 ghost use Rattle.async_cell_driver.specs.Log.{Log, log_of, with_edit};
 ghost use Rattle.async_cell_driver.specs.History.{history, handed_out};
 ghost use Rattle.async_cell_driver.specs.Drives.{Drives, is_same};
 
-/// Two logs, the second from where the first leads, are one. So what each call promises holds of
-/// any number of calls, one after the other. The last line of a log stands first, so the later log
-/// does.
+/// Two logs are one, if the second starts from the state in which the first ends. So what each call
+/// promises holds of any number of calls, one after the other. The last line of a log comes first,
+/// so the later log does.
 pub fn two_logs_are_one<T: Clone>()
-    ensures { (from at to : State T) (earlier later : Log T)
+    ensures { (from at to : DriverState T) (earlier later : Log T)
         → Drives T.is_clone from earlier at → Drives T.is_clone at later to
         → Drives T.is_clone from (later ++ earlier) to }
 {}
 
-/// Two lists of events, the second after the first, are one list: what is told and handed out is
-/// joined as they are, and the log of the joined list is that of the second in front of that of the
-/// first. So two calls of `apply`, one after the other, promise what one call with the joined list
-/// does.
+/// Two lists of events, the second after the first, are one list. The outcomes and the woken names
+/// are joined in the same way. The log of the joined list is that of the second in front of that of
+/// the first. So two calls of `apply`, one after the other, promise what one call with the joined
+/// list does.
 pub fn two_lists_are_one<T, E>()
     ensures joined { (events more : List (Event T (Option T → Option T)))
         (told others : List (Told T)) (handed later : List (List Name))
@@ -34,23 +34,23 @@ pub fn two_lists_are_one<T, E>()
         (told others : List (Told T)) (handed later : List (List Name))
         → length told ≡ length events → length handed ≡ length events
         → log_of (map (with_edit edit) (events ++ more)) (told ++ others) (handed ++ later)
-        ≡ log_of (map (with_edit edit) more) others later ++ log_of (map (with_edit edit) events) told handed }
+        ≡ log_of (map (with_edit edit) more) others later
+        ++ log_of (map (with_edit edit) events) told handed }
 {}
 
-/// The names in a log are those of the wakers that the core's calls hand out, call by call: a fill
-/// or a close names every task whose waker is registered then, in order, and no other call names
-/// any.
+/// The names in a log are those of the wakers that the core's calls wake, call by call. A fill or a
+/// close names every task whose waker is registered then, in order, and no other call names any.
 pub fn a_log_names_those_handed_out<T: Clone>()
-    ensures { (from to : State T) (log : Log T)
+    ensures { (from to : DriverState T) (log : Log T)
         → Drives T.is_clone from log to
-        → handed_out from log ≡ hands_after is_same from.core [] (history from log) }
+        → handed_out from log ≡ wakes_after is_same from.core [] (history from log) }
 {}
 
-/// Where a clone of a value equals its source, what a log tells is exactly what the model of the
-/// cell replies. Where the log polls no getter it is so for every type.
+/// If a clone of a value equals its source, the outcomes in a log are exactly what the model of the
+/// cell replies. If the log polls no getter, this holds for every type.
 pub fn a_log_is_exact_where_clones_are<T: Clone>()
-    ensures { (from to : State T) (log : Log T)
+    ensures { (from to : DriverState T) (log : Log T)
         → (list_any copies (history from log) ≡ true → IsExact T.is_clone)
         → Drives T.is_clone from log to
-        → Leads is_same true from.core (history from log) (handed_out from log) to.core }
+        → Runs is_same true from.core (history from log) (handed_out from log) to.core }
 {}

@@ -1,4 +1,4 @@
-//! Numbered tasks over one cell: only tasks that are ready are polled, and none is forgotten.
+//! Numbered tasks over one cell: only tasks that are ready are polled, and no task is forgotten.
 #![tactic(auto)]
 
 mod driver;

@@ -1,20 +1,20 @@
 /// How a task polls the cell.
 #[derive(Clone, Copy, Debug, PartialEq, Eq)]
 pub enum Kind {
-    /// It takes the value.
+    /// Takes the value.
     Take,
-    /// It gets a clone of the value, and leaves it.
+    /// Clones the value and leaves it.
     Get,
 }
 
-/// Where a task stands.
+/// The progress of a task.
 #[derive(Clone, Copy, Debug, PartialEq, Eq)]
 pub(crate) enum Mark {
     /// It was never polled, or its last poll was refused.
     Ready,
-    /// Its last poll answered `Pending`, and its name waits in the cell.
+    /// Its last poll returned `Pending`, and its name waits in the cell.
     Waiting,
-    /// Its last poll answered `Pending`, and its name was handed out since.
+    /// Its last poll returned `Pending`, and its name was woken since.
     Woken,
     /// A poll of it was ready.
     Done,
@@ -24,7 +24,7 @@ impl Mark {
     ghost use Rattle.std.specs.Prelude.{◌≡◌, Some};
     ghost use Rattle.async_cell_driver.specs.Mark.{woken, is_ready_mark, waits_mark};
 
-    /// The mark of a task whose name is handed out.
+    /// Returns the mark of a task after its name is woken.
     pub fn woken(self) -> Mark
         ensures { result ≡ woken self }
     {
@@ -34,14 +34,14 @@ impl Mark {
         }
     }
 
-    /// Whether the task is to be polled.
+    /// Returns whether the task is to be polled.
     pub fn is_ready(self) -> bool
         ensures { result ≡ is_ready_mark (Some self) }
     {
         matches!(self, Mark::Ready | Mark::Woken)
     }
 
-    /// Whether the task's last poll answered `Pending`.
+    /// Returns whether the task's last poll returned `Pending`.
     pub fn waits(self) -> bool
         ensures { result ≡ waits_mark (Some self) }
     {
@@ -54,6 +54,6 @@ impl Mark {
 pub(crate) struct Task<T> {
     pub kind: Kind,
     pub mark: Mark,
-    /// What `settle` got for it and `result` has not given yet.
+    /// What `settle` got for it, until `result` returns it.
     pub result: Option<Option<T>>,
 }

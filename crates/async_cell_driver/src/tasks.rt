@@ -1,7 +1,7 @@
 ghost use Rattle.std.specs.Prelude.{◌≡◌, ◌<◌, [], ◌∷◌, ◌++◌, length, slice_get, IfOk, IfErr, IfSome, IfNone, true, false};
 ghost use Rattle.std.specs.Option.{option_map};
 ghost use Rattle.async_cell_driver.specs.Mark.{is_ready_mark};
-ghost use Rattle.async_cell_driver.specs.State.{mark_at, kind_at, result_at, change, with_mark, with_result, wake, wake_each};
+ghost use Rattle.async_cell_driver.specs.DriverState.{mark_at, kind_at, result_at, change, with_mark, with_result, wake, wake_each};
 
 use crate::task::{Kind, Mark, Task};
 use async_cell_core::{Named, Refusal, Wakers};
@@ -14,7 +14,7 @@ pub(crate) struct Tasks<T> {
     tasks: Vec<Task<T>>,
 }
 
-/// Contracts see their list.
+/// Contracts see the list of the tasks.
 impl<T> Model for Tasks<T> {
     ghost use Rattle.std.specs.Prelude.{List};
     ghost use Rattle.async_cell_driver.specs.declared.task.Task.{Task};
@@ -25,7 +25,7 @@ impl<T> Model for Tasks<T> {
 }
 
 impl<T: Drop> Tasks<T> {
-    /// No tasks, without memory.
+    /// Makes an empty list of tasks, without memory.
     pub fn new(alloc: Global) -> Self
         ensures { result ≡ [] }
     {
@@ -34,16 +34,18 @@ impl<T: Drop> Tasks<T> {
         }
     }
 
-    /// How many tasks were started.
+    /// Returns how many tasks were started.
     pub fn len(&self) -> usize
         ensures { result ≡ length self.now }
     {
         self.tasks.len()
     }
 
-    /// Starts a task, and gives its number.
+    /// Starts a task, and returns its number.
     pub fn start(&mut self, kind: Kind) -> Result<usize, Refusal>
-        ensures started { IfOk result (λ number. (number ≡ length self.old) × (self.new ≡ self.old ++ record { kind = kind; mark = Mark.Ready; result = None } ∷ [])) }
+        ensures started { IfOk result (λ number. (number ≡ length self.old)
+            × (self.new ≡ self.old
+            ++ record { kind = kind; mark = Mark.Ready; result = None } ∷ [])) }
         ensures refused { IfErr result (λ why. (why ≡ Refusal.Memory) × (self.new ≡ self.old)) }
     {
         let number = self.tasks.len();
@@ -58,7 +60,7 @@ impl<T: Drop> Tasks<T> {
         }
     }
 
-    /// The kind and the mark of a task, if it was started.
+    /// Returns the kind and the mark of a task, if it was started.
     pub fn get(&self, i: usize) -> Option<(Kind, Mark)>
         ensures { result ≡ option_map (λ task. (task.kind, task.mark)) (slice_get self.now i) }
     {
@@ -66,10 +68,11 @@ impl<T: Drop> Tasks<T> {
         Some((task.kind, task.mark))
     }
 
-    /// The kind of a task that is ready.
+    /// Returns the kind of a task, if it is ready.
     pub fn ready(&self, i: usize) -> Option<Kind>
         ensures not_ready { IfNone result (is_ready_mark (mark_at self.now i) ≡ false) }
-        ensures kind { IfSome result (λ kind. (kind_at self.now i ≡ Some kind) × (is_ready_mark (mark_at self.now i) ≡ true)) }
+        ensures kind { IfSome result (λ kind. (kind_at self.now i ≡ Some kind)
+            × (is_ready_mark (mark_at self.now i) ≡ true)) }
     {
         let (kind, mark) = self.get(i)?;
         mark.is_ready().then_some(kind)
@@ -86,7 +89,7 @@ impl<T: Drop> Tasks<T> {
         }
     }
 
-    /// Keeps what was got for a task, if it was started.
+    /// Stores what was got for a task, if it was started.
     #[tactic(auto, using(crate::proofs::Changing::change_past))]
     pub fn keep(&mut self, i: usize, content: Option<T>)
         ensures { self.new ≡ change (with_result (Some content)) i self.old }
@@ -98,7 +101,7 @@ impl<T: Drop> Tasks<T> {
         }
     }
 
-    /// Gives what was kept for a task, and keeps it no more.
+    /// Takes out what was stored for a task.
     #[tactic(auto, using(crate::proofs::Changing::change_past))]
     pub fn take_result(&mut self, i: usize) -> Option<Option<T>>
         ensures gives { result ≡ result_at self.old i }
@@ -111,7 +114,7 @@ impl<T: Drop> Tasks<T> {
         task.result.take()
     }
 
-    /// Wakes the tasks of these names: those that wait are ready.
+    /// Wakes the tasks of these names: those that wait are then ready.
     pub fn wake(&mut self, mut names: Wakers<Named>)
         ensures { self.new ≡ wake_each names self.old }
     {

@@ -4,7 +4,8 @@ ghost use Rattle.async_cell_driver.specs.Log.{is_ready};
 use async_cell_driver::{Driver, Kind, Refusal};
 use std::alloc::Global;
 
-/// An executor of tasks that wait for one cell. A turn polls what is ready, and what the tasks got is collected.
+/// An executor of tasks that wait for one cell. A turn polls what is ready, and what the tasks got
+/// is collected.
 #[derive(Drop)]
 pub struct Executor<T> {
     driver: Driver<T>,
@@ -32,7 +33,7 @@ impl<T: Clone> Executor<T> {
         self.driver.set(value)
     }
 
-    /// Polls all tasks that are ready, and adds to `finished` what they got. Afterwards no task is ready.
+    /// Polls all ready tasks, and adds to `finished` what they got. Afterwards no task is ready.
     pub fn turn(&mut self, finished: &mut Vec<(usize, Option<T>)>) -> Result<usize, Refusal>
         ensures { OnOk result ((i : ℕ) → is_ready self.new.driver [] i ≡ false) }
     {

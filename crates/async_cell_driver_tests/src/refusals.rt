@@ -1,5 +1,6 @@
-//! Calls that find no memory. The tests are meant to be run with each request for memory refused in turn: where the driver
-//! answers the refusal they call again and go on, since only one is refused.
+//! Calls that find no memory. scripts/memory.sh runs the tests with each request for memory refused
+//! in turn: where the driver answers the refusal they call again and go on, since only one is
+//! refused. Where that is one of what is made first, the test ends with that error.
 use crate::lists::Put;
 use async_cell_driver::{Driver, Event, Kind, Polled, Refusal, Reply, Told};
 use std::alloc::{AllocError, Global};
@@ -34,6 +35,22 @@ fn start<T: Clone>(driver: &mut Driver<T>, kind: Kind) -> Result<usize, Refusal>
     }
 }
 
+/// Starts a task before the calls that the test is of.
+fn started<T: Clone>(driver: &mut Driver<T>, kind: Kind) -> Result<usize, AllocError> {
+    driver.start(kind).map_err(|_| AllocError)
+}
+
+#[test]
+fn a_refused_start_adds_no_task(rt: HostRuntime) -> Result<(), Fail> {
+    let mut driver: Driver<u32> = Driver::new(rt.alloc(), Some(6));
+    assert_eq!(rt; start(&mut driver, Kind::Get)?, 0);
+    assert_eq!(rt; start(&mut driver, Kind::Take)?, 1);
+    assert!(rt; driver.is_ready(1));
+    assert!(rt; !driver.is_ready(2));
+    assert_eq!(rt; driver.poll(1)?, Polled::Ready(Some(6)));
+    Ok(())
+}
+
 #[test]
 fn a_task_whose_poll_is_refused_stays_ready(rt: HostRuntime) -> Result<(), Fail> {
     let refuses = Cell::new(true);
@@ -63,8 +80,8 @@ fn a_task_whose_poll_is_refused_stays_ready(rt: HostRuntime) -> Result<(), Fail>
 #[test]
 fn a_taker_that_found_no_memory_is_polled_again(rt: HostRuntime) -> Result<(), Fail> {
     let mut driver: Driver<u32> = Driver::new(rt.alloc(), None);
-    assert_eq!(rt; start(&mut driver, Kind::Take)?, 0);
-    assert_eq!(rt; start(&mut driver, Kind::Take)?, 1);
+    assert_eq!(rt; started(&mut driver, Kind::Take)?, 0);
+    assert_eq!(rt; started(&mut driver, Kind::Take)?, 1);
     assert_eq!(rt;
         driver.poll(0)?,
         Polled::Pending,
@@ -91,7 +108,7 @@ fn a_taker_that_found_no_memory_is_polled_again(rt: HostRuntime) -> Result<(), F
 fn takers_find_the_room_that_was_made(rt: HostRuntime) -> Result<(), Fail> {
     let mut driver: Driver<u32> = Driver::new(rt.alloc(), None);
     for number in 0..3usize {
-        assert_eq!(rt; start(&mut driver, Kind::Take)?, number);
+        assert_eq!(rt; started(&mut driver, Kind::Take)?, number);
     }
     if driver.reserve(3).is_err() {
         assert_eq!(rt; driver.reserve(3), Ok(()));
@@ -130,7 +147,7 @@ const DONE: Told<u32> = Told::Reply(Reply::Done);
 
 const NO_MEMORY: Told<u32> = Told::Refused(Refusal::Memory);
 
-/// What the events are told where this one finds no memory. Without one of the starts there is no task 2.
+/// The outcomes if this event finds no memory. Without one of the starts there is no task 2.
 fn told_without_memory_at(refused: Option<usize>) -> [Told<u32>; 10] {
     let [first, second, third] = [Told::Started(0), Told::Started(1), Told::Started(2)];
     let starts = match refused {
@@ -162,7 +179,8 @@ fn told_without_memory_at(refused: Option<usize>) -> [Told<u32>; 10] {
     ]
 }
 
-/// Applies the list. Where that finds no memory the list comes back as it was and nothing was done, and it is applied again.
+/// Applies the list. Where that finds no memory the list comes back as it was and nothing was done,
+/// and it is applied again.
 fn apply_or_again(
     rt: &impl Abort,
     alloc: Global,

@@ -1,4 +1,4 @@
--- What one more waker makes of those that wait, and what is kept of longer lists.
+-- What one more waker makes of a wait list, and the wait lists of longer lists.
 use Rattle.std.proofs.Common.{◌≡◌, ◌≤◌, ◌<◌, ◌⊎◌, inl, inr, ℕ, Bool, true, false, not, ◌||◌, List, [], ◌∷◌, ◌++◌, length, get_or, refl, ap, sym, subst, ◌∙◌, arith, le_refl, le_trans, append-nil, length-append}
 use Rattle.std.specs.Prelude.{◌≢◌, if◌then◌else◌, filter, fold, Contains, AllPairs}
 use Rattle.std.specs.List.{list_any}
@@ -6,40 +6,40 @@ use Rattle.std.proofs.lemmas.List.Sums.{fold-append}
 use Rattle.std.proofs.lemmas.List.Folds.{list_any-append, list_any_at}
 use Rattle.std.proofs.lemmas.List.Elements.{Contains-append_left, Contains-push}
 use Rattle.std.proofs.lemmas.List.Quantifiers.{all_pairs_push}
-use Rattle.async_cell_model.specs.Waiting.{keep, skips, with_one_more, IsCovered}
+use Rattle.async_cell_model.specs.WaitList.{wait_list, skips, with_one_more, IsCovered}
 
 module _ {W : Type 0} (will_wake : W → W → Bool) where
-  -- a longer list is kept from where the shorter one ends
-  keep_more : (xs ys : List W) → keep will_wake (xs ++ ys) ≡ fold (with_one_more will_wake) (keep will_wake xs) ys
+  -- the wait list of a longer list goes on from that of the shorter one
+  keep_more : (xs ys : List W) → wait_list will_wake (xs ++ ys) ≡ fold (with_one_more will_wake) (wait_list will_wake xs) ys
   keep_more xs ys = fold-append (with_one_more will_wake) [] xs ys
 
   -- one more waker is added last, or skipped
-  pub keep-one : (l : List W) (w : W) → keep will_wake l ≡ l → keep will_wake (l ++ w ∷ []) ≡ (if skips will_wake l w then l else l ++ w ∷ [])
-  keep-one l w kept = keep_more l (w ∷ []) ∙ ap (λ m. with_one_more will_wake m w) kept
+  pub wait_list-one : (l : List W) (w : W) → wait_list will_wake l ≡ l → wait_list will_wake (l ++ w ∷ []) ≡ (if skips will_wake l w then l else l ++ w ∷ [])
+  wait_list-one l w kept = keep_more l (w ∷ []) ∙ ap (λ m. with_one_more will_wake m w) kept
 
   -- added, where it is not skipped
-  pub keep_added : (l : List W) (w : W) → keep will_wake l ≡ l → skips will_wake l w ≡ false → keep will_wake (l ++ w ∷ []) ≡ l ++ w ∷ []
-  keep_added l w kept not = keep-one l w kept ∙ (rw not refl)
+  pub keep_added : (l : List W) (w : W) → wait_list will_wake l ≡ l → skips will_wake l w ≡ false → wait_list will_wake (l ++ w ∷ []) ≡ l ++ w ∷ []
+  keep_added l w kept not = wait_list-one l w kept ∙ (rw not refl)
 
   -- and not added, where it is
-  pub keep_skipped : (l : List W) (w : W) → keep will_wake l ≡ l → skips will_wake l w ≡ true → keep will_wake (l ++ w ∷ []) ≡ l
-  keep_skipped l w kept skipped = keep-one l w kept ∙ (rw skipped refl)
+  pub keep_skipped : (l : List W) (w : W) → wait_list will_wake l ≡ l → skips will_wake l w ≡ true → wait_list will_wake (l ++ w ∷ []) ≡ l
+  keep_skipped l w kept skipped = wait_list-one l w kept ∙ (rw skipped refl)
 
-  kept_if : (m : List W) (x : W) (b : Bool) → skips will_wake m x ≡ b → keep will_wake m ≡ m → keep will_wake (if b then m else m ++ x ∷ []) ≡ (if b then m else m ++ x ∷ [])
+  kept_if : (m : List W) (x : W) (b : Bool) → skips will_wake m x ≡ b → wait_list will_wake m ≡ m → wait_list will_wake (if b then m else m ++ x ∷ []) ≡ (if b then m else m ++ x ∷ [])
   kept_if m x true is kept = kept
   kept_if m x false is kept = keep_added m x kept is
 
-  kept_each : (m xs : List W) → keep will_wake m ≡ m → keep will_wake (fold (with_one_more will_wake) m xs) ≡ fold (with_one_more will_wake) m xs
+  kept_each : (m xs : List W) → wait_list will_wake m ≡ m → wait_list will_wake (fold (with_one_more will_wake) m xs) ≡ fold (with_one_more will_wake) m xs
   kept_each m [] kept = kept
   kept_each m (x ∷ xs) kept = kept_each (with_one_more will_wake m x) xs (kept_if m x (skips will_wake m x) refl kept)
 
-  -- what is kept stays when it is kept again
-  pub keep-keep : (l : List W) → keep will_wake (keep will_wake l) ≡ keep will_wake l
-  keep-keep l = kept_each [] l refl
+  -- the wait list of a wait list is the same
+  pub wait_list-wait_list : (l : List W) → wait_list will_wake (wait_list will_wake l) ≡ wait_list will_wake l
+  wait_list-wait_list l = kept_each [] l refl
 
-  -- who waits may be kept first, and again with those who come later
-  pub keep-append : (xs ys : List W) → keep will_wake (keep will_wake xs ++ ys) ≡ keep will_wake (xs ++ ys)
-  keep-append xs ys = keep_more (keep will_wake xs) ys ∙ (ap (λ m. fold (with_one_more will_wake) m ys) (keep-keep xs) ∙ sym (keep_more xs ys))
+  -- the wait list may be made first, and again with the wakers that come later
+  pub wait_list-append : (xs ys : List W) → wait_list will_wake (wait_list will_wake xs ++ ys) ≡ wait_list will_wake (xs ++ ys)
+  wait_list-append xs ys = keep_more (wait_list will_wake xs) ys ∙ (ap (λ m. fold (with_one_more will_wake) m ys) (wait_list-wait_list xs) ∙ sym (keep_more xs ys))
 
   longer_if : (m : List W) (x : W) (b : Bool) → length m ≤ length (if b then m else m ++ x ∷ [])
   longer_if m x true = le_refl _
@@ -49,9 +49,9 @@ module _ {W : Type 0} (will_wake : W → W → Bool) where
   longer_each m [] = le_refl _
   longer_each m (x ∷ xs) = le_trans (longer_if m x (skips will_wake m x)) (longer_each (with_one_more will_wake m x) xs)
 
-  -- what is kept of a longer list is no shorter
-  pub keep-longer : (xs ys : List W) → length (keep will_wake xs) ≤ length (keep will_wake (xs ++ ys))
-  keep-longer xs ys = subst (λ (l : List W). length (keep will_wake xs) ≤ length l) (sym (keep_more xs ys)) (longer_each (keep will_wake xs) ys)
+  -- the wait list of a longer list is no shorter
+  pub wait_list-longer : (xs ys : List W) → length (wait_list will_wake xs) ≤ length (wait_list will_wake (xs ++ ys))
+  wait_list-longer xs ys = subst (λ (l : List W). length (wait_list will_wake xs) ≤ length l) (sym (keep_more xs ys)) (longer_each (wait_list will_wake xs) ys)
 
   or_left : (a b : Bool) → a ≡ true → (a || b) ≡ true
   or_left a b is = rw is refl
@@ -73,13 +73,13 @@ module _ {W : Type 0} (will_wake : W → W → Bool) where
   covers_one m w true is = inr is
   covers_one m w false is = inl (Contains-push m w)
 
-  -- whoever asked is covered by those that are kept
-  pub keep-covers : (w : W) (xs ys : List W) → IsCovered will_wake (keep will_wake (xs ++ w ∷ ys)) w
-  keep-covers w xs ys =
-      let m = keep will_wake xs in
+  -- each registered waker is covered by the wait list
+  pub wait_list-covers : (w : W) (xs ys : List W) → IsCovered will_wake (wait_list will_wake (xs ++ w ∷ ys)) w
+  wait_list-covers w xs ys =
+      let m = wait_list will_wake xs in
       subst (λ (l : List W). IsCovered will_wake l w) (sym (keep_more xs (w ∷ ys))) (covered_each (with_one_more will_wake m w) ys w (covers_one m w (skips will_wake m w) refl))
 
-  -- a waker that comes first is kept, and skips all others that it would wake
+  -- a waker that comes first waits, and skips all others that it would wake
   first_both : (w x : W) (m rest : List W) (b : Bool) → skips will_wake m x ≡ b
       → ((l : List W) → fold (with_one_more will_wake) (w ∷ l) rest ≡ w ∷ fold (with_one_more will_wake) l (filter (λ v. not (will_wake w v)) rest))
       → fold (with_one_more will_wake) (if b then w ∷ m else w ∷ (m ++ x ∷ [])) rest ≡ w ∷ fold (with_one_more will_wake) (if b then m else m ++ x ∷ []) (filter (λ v. not (will_wake w v)) rest)
@@ -96,7 +96,7 @@ module _ {W : Type 0} (will_wake : W → W → Bool) where
   first_each w m [] = refl
   first_each w m (x ∷ rest) = first_step w x m rest (will_wake w x) refl (λ l. first_each w l rest)
 
-  pub keep_first : (w : W) (rest : List W) → keep will_wake (w ∷ rest) ≡ w ∷ keep will_wake (filter (λ v. not (will_wake w v)) rest)
+  pub keep_first : (w : W) (rest : List W) → wait_list will_wake (w ∷ rest) ≡ w ∷ wait_list will_wake (filter (λ v. not (will_wake w v)) rest)
   keep_first w rest = first_each w [] rest
 
   -- a waker that is not skipped is none of those that wait, where each would wake itself
@@ -114,6 +114,6 @@ module _ {W : Type 0} (will_wake : W → W → Bool) where
   distinct_each m [] itself distinct = distinct
   distinct_each m (x ∷ xs) itself distinct = distinct_each (with_one_more will_wake m x) xs itself (distinct_if m x (skips will_wake m x) itself refl distinct)
 
-  -- where each waker would wake itself, none is kept twice
-  pub keep-distinct : (l : List W) → ((w : W) → will_wake w w ≡ true) → AllPairs (λ u v. u ≢ v) (keep will_wake l)
-  keep-distinct l itself = distinct_each [] l itself (λ i j d less within. absurd (omega arith))
+  -- where each waker would wake itself, none waits twice
+  pub wait_list-distinct : (l : List W) → ((w : W) → will_wake w w ≡ true) → AllPairs (λ u v. u ≢ v) (wait_list will_wake l)
+  wait_list-distinct l itself = distinct_each [] l itself (λ i j d less within. absurd (omega arith))

@@ -1,4 +1,4 @@
--- What a joined history makes of the cell and of those that wait.
+-- What a joined history makes of the cell and of the wait list.
 use Rattle.std.proofs.Common.{◌≡◌, ◌≤◌, ◌-◌, ℕ, Bool, true, false, ◌||◌, List, [], ◌∷◌, ◌++◌, length, Option, refl, ap, sym, subst, ◌∙◌, arith, append_assoc, append-nil, suc, zero-le, suc-le-suc, length-append}
 use Rattle.std.specs.List.{filter_map}
 use Rattle.std.proofs.lemmas.List.Elements.{filter_map-append}
@@ -6,9 +6,9 @@ use Rattle.std.specs.Prelude.{if◌then◌else◌}
 use Rattle.async_cell_model.specs.declared.cell.Cell.{Cell}
 use Rattle.async_cell_model.specs.Cell.{ends_waiting}
 use Rattle.async_cell_model.specs.Step.{next}
-use Rattle.async_cell_model.specs.Waiting.{keep}
-use Rattle.async_cell_model.specs.History.{Beginning, History, cell_after, has_fill_or_close, since, asked, pending_waker, waiting, room, after}
-use Rattle.async_cell_model.proofs.Adding.{keep-append, keep-keep, keep-longer}
+use Rattle.async_cell_model.specs.WaitList.{wait_list}
+use Rattle.async_cell_model.specs.History.{State, History, cell_after, has_fill_or_close, since, registrations, pending_waker, waiting, room, after}
+use Rattle.async_cell_model.proofs.Adding.{wait_list-append, wait_list-wait_list, wait_list-longer}
 
 or_over : (p q r s : Bool) → s ≡ (q || r) → (p || s) ≡ ((p || q) || r)
 or_over true q r s e = refl
@@ -59,17 +59,17 @@ module _ {T W : Type 0} where
   since-append c [] h = since_whole c h (has_fill_or_close c h) refl
   since-append c (e ∷ g) h = cut_over (ends_waiting c (next c e)) (has_fill_or_close (next c e) g) (has_fill_or_close (cell_after (next c e) g) h) (has_fill_or_close (next c e) (g ++ h)) e g h _ _ _ (has_fill_or_close-append (next c e) g h) (since-append (next c e) g h)
 
-  pub asked-append : (b : Beginning T W) (g h : History T W)
-      → asked b (g ++ h) ≡ (if has_fill_or_close (cell_after b.cell g) h then filter_map pending_waker (since (cell_after b.cell g) h) else (asked b g ++ filter_map pending_waker h))
-  asked-append b g h =
+  pub registrations-append : (b : State T W) (g h : History T W)
+      → registrations b (g ++ h) ≡ (if has_fill_or_close (cell_after b.cell g) h then filter_map pending_waker (since (cell_after b.cell g) h) else (registrations b g ++ filter_map pending_waker h))
+  registrations-append b g h =
       rw (has_fill_or_close-append b.cell g h, since-append b.cell g h, split_map pending_waker (has_fill_or_close (cell_after b.cell g) h) (since (cell_after b.cell g) h) (since b.cell g) h)
       (front_over (has_fill_or_close b.cell g) (has_fill_or_close (cell_after b.cell g) h) b.waiting _ _ _)
 
--- those that wait, kept up to the joint and behind it
+-- the wait list, up to the joint and behind it
 kept_over : {W : Type 0} (will_wake : W → W → Bool) (q : Bool) (first later cut : List W) → (q ≡ false → cut ≡ later)
-    → keep will_wake (if q then cut else (first ++ later)) ≡ keep will_wake ((if q then [] else keep will_wake first) ++ cut)
+    → wait_list will_wake (if q then cut else (first ++ later)) ≡ wait_list will_wake ((if q then [] else wait_list will_wake first) ++ cut)
 kept_over will_wake true first later cut whole = refl
-kept_over will_wake false first later cut whole = rw (whole refl) (sym (keep-append will_wake first later))
+kept_over will_wake false first later cut whole = rw (whole refl) (sym (wait_list-append will_wake first later))
 
 room_over : (p q : Bool) (room first second third : ℕ) → (p ≡ false → first ≤ second) → (q ≡ false → second ≤ third)
     → (if p || q then 0 else room - (third - first)) ≡ (if q then 0 else (if p then 0 else room - (second - first)) - (third - second))
@@ -80,28 +80,28 @@ room_over false false room first second third low high =
     let low' : first ≤ second = low refl in let high' : second ≤ third = high refl in omega arith
 
 module _ {T W : Type 0} (will_wake : W → W → Bool) where
-  pub waiting-append : (b : Beginning T W) (g h : History T W) → waiting will_wake b (g ++ h) ≡ waiting will_wake (after will_wake b g) h
+  pub waiting-append : (b : State T W) (g h : History T W) → waiting will_wake b (g ++ h) ≡ waiting will_wake (after will_wake b g) h
   waiting-append b g h =
-      let parts = asked-append b g h in
-      ap (keep will_wake) parts
-      ∙ kept_over will_wake (has_fill_or_close (cell_after b.cell g) h) (asked b g) (filter_map pending_waker h) (filter_map pending_waker (since (cell_after b.cell g) h))
+      let parts = registrations-append b g h in
+      ap (wait_list will_wake) parts
+      ∙ kept_over will_wake (has_fill_or_close (cell_after b.cell g) h) (registrations b g) (filter_map pending_waker h) (filter_map pending_waker (since (cell_after b.cell g) h))
       (λ none. ap (filter_map pending_waker) (since-none (cell_after b.cell g) h none))
 
   -- with no fill or close, the list only grows
-  grows : (b : Beginning T W) (h : History T W) → keep will_wake b.waiting ≡ b.waiting → has_fill_or_close b.cell h ≡ false → length b.waiting ≤ length (waiting will_wake b h)
+  grows : (b : State T W) (h : History T W) → wait_list will_wake b.waiting ≡ b.waiting → has_fill_or_close b.cell h ≡ false → length b.waiting ≤ length (waiting will_wake b h)
   grows b h kept none =
       rw none
-      (let more = keep-longer will_wake b.waiting (filter_map pending_waker (since b.cell h)) in
-      subst (λ (l : List W). length l ≤ length (keep will_wake (b.waiting ++ filter_map pending_waker (since b.cell h)))) kept more)
+      (let more = wait_list-longer will_wake b.waiting (filter_map pending_waker (since b.cell h)) in
+      subst (λ (l : List W). length l ≤ length (wait_list will_wake (b.waiting ++ filter_map pending_waker (since b.cell h)))) kept more)
 
-  pub room-append : (b : Beginning T W) (g h : History T W) → keep will_wake b.waiting ≡ b.waiting → room will_wake b (g ++ h) ≡ room will_wake (after will_wake b g) h
+  pub room-append : (b : State T W) (g h : History T W) → wait_list will_wake b.waiting ≡ b.waiting → room will_wake b (g ++ h) ≡ room will_wake (after will_wake b g) h
   room-append b g h kept =
       let same = waiting-append b g h in
       let ends = has_fill_or_close-append b.cell g h in
       rw (same, ends)
       (room_over (has_fill_or_close b.cell g) (has_fill_or_close (cell_after b.cell g) h) b.room (length b.waiting) (length (waiting will_wake b g)) (length (waiting will_wake (after will_wake b g) h))
-      (grows b g kept) (grows (after will_wake b g) h (keep-keep will_wake (asked b g))))
+      (grows b g kept) (grows (after will_wake b g) h (wait_list-wait_list will_wake (registrations b g))))
 
-  -- a joined history leads where its second part does, begun where the first ends
-  pub after-append : (b : Beginning T W) (g h : History T W) → keep will_wake b.waiting ≡ b.waiting → after will_wake b (g ++ h) ≡ after will_wake (after will_wake b g) h
+  -- a joined history ends where its second part does, started from the state after the first
+  pub after-append : (b : State T W) (g h : History T W) → wait_list will_wake b.waiting ≡ b.waiting → after will_wake b (g ++ h) ≡ after will_wake (after will_wake b g) h
   after-append b g h kept = λ i. record { cell = cell_after-append b.cell g h i; waiting = waiting-append b g h i; room = room-append b g h kept i }

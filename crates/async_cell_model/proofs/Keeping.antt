@@ -1,4 +1,4 @@
--- A legal history leads to a beginning.
+-- A legal history from a sound state ends in a sound state.
 use Rattle.std.proofs.Common.{◌≡◌, ◌≤◌, inl, inr, ℕ, Bool, true, false, not, ◌||◌, [], ◌∷◌, ◌++◌, Option, Some, None, refl, arith, ◌+◌, ◌-◌}
 use Rattle.std.proofs.lemmas.Bool.Decides.{nat_tests}
 use Rattle.std.specs.Prelude.{if◌then◌else◌, nat_eq}
@@ -12,10 +12,10 @@ use Rattle.async_cell_model.specs.declared.reply.Reply.TheVariants.{Value, Ready
 use Rattle.async_cell_model.specs.declared.reply.Reply.{Reply}
 use Rattle.async_cell_model.specs.Cell.{is_vacant, ends_waiting, IsCounted, owners_limit}
 use Rattle.async_cell_model.specs.Step.{next, next_open, reply, reply_open, reply_closed, is_memory}
-use Rattle.async_cell_model.specs.Waiting.{keep}
-use Rattle.async_cell_model.specs.History.{Beginning, IsBeginning, asked, is_pending, pending_waker, after}
+use Rattle.async_cell_model.specs.WaitList.{wait_list}
+use Rattle.async_cell_model.specs.History.{State, IsSound, registrations, is_pending, pending_waker, after}
 use Rattle.async_cell_model.specs.Legal.{IsCloned, MayFollowBy, UpToClones}
-use Rattle.async_cell_model.proofs.Adding.{keep-keep}
+use Rattle.async_cell_model.proofs.Adding.{wait_list-wait_list}
 
 module _ {T : Type 0} where
   added : (value : Option T) (owners : ℕ) (full : Bool) → nat_eq owners owners_limit ≡ full → 1 ≤ owners → owners ≤ owners_limit → IsCounted (Open value (if full then owners else owners + 1))
@@ -109,23 +109,23 @@ cloned_silent is_clone (PollGet w) (Ready (Some a)) (Ready (Some b)) cloned = re
 cloned_silent is_clone call r s cloned = absurd cloned
 
 module _ {T W : Type 0} (is_clone : T → T → Type 0) (will_wake : W → W → Bool) (sure : Bool) where
-  -- where no poll waits, none is answered `Pending`
-  pub no_waker : (at : Beginning T W) (e : Entry T W) → is_vacant at.cell ≡ false → MayFollowBy (UpToClones is_clone) will_wake sure at e → pending_waker e ≡ None
+  -- where no poll waits, none returns `Pending`
+  pub no_waker : (at : State T W) (e : Entry T W) → is_vacant at.cell ≡ false → MayFollowBy (UpToClones is_clone) will_wake sure at e → pending_waker e ≡ None
   no_waker at e not may = elim may.replied [
     | inl same ↦ elim same [ inl is ↦ rw is (rw (not_pending at.cell e.call not) refl) | inr cloned ↦ cloned_silent is_clone e.call (reply at.cell e.call) e.reply cloned ]
     | inr refused ↦ rw refused.0 refl
   ]
 
-  nobody : (at : Beginning T W) (e : Entry T W) (vacant ends : Bool) → is_vacant at.cell ≡ vacant → (vacant ≡ true → ends ≡ true) → (vacant ≡ false → at.waiting ≡ []) → MayFollowBy (UpToClones is_clone) will_wake sure at e
-      → keep will_wake ((if ends || false then [] else at.waiting) ++ filter_map pending_waker (if ends || false then [] else e ∷ [])) ≡ []
+  nobody : (at : State T W) (e : Entry T W) (vacant ends : Bool) → is_vacant at.cell ≡ vacant → (vacant ≡ true → ends ≡ true) → (vacant ≡ false → at.waiting ≡ []) → MayFollowBy (UpToClones is_clone) will_wake sure at e
+      → wait_list will_wake ((if ends || false then [] else at.waiting) ++ filter_map pending_waker (if ends || false then [] else e ∷ [])) ≡ []
   nobody at e true ends is must none may = let over : ends ≡ true = must refl in rw over refl
   nobody at e false true is must none may = refl
   nobody at e false false is must none may = let empty : at.waiting ≡ [] = none refl in let silent = no_waker at e is may in rw (empty, silent) refl
 
-  -- an entry that may come leads from a beginning to a beginning
-  pub IsBeginning-step : (at : Beginning T W) (e : Entry T W) → IsBeginning will_wake at → MayFollowBy (UpToClones is_clone) will_wake sure at e → IsBeginning will_wake (after will_wake at (e ∷ []))
-  IsBeginning-step at e begins may = record {
-    counted = next-counted at.cell e begins.counted;
-    waits_vacant = λ not. nobody at e (is_vacant at.cell) _ refl (λ vacant. ends_if at.cell (next at.cell e) vacant not) begins.waits_vacant may;
-    kept = keep-keep will_wake (asked at (e ∷ []));
+  -- a legal entry in a sound state leaves a sound state
+  pub IsSound-step : (at : State T W) (e : Entry T W) → IsSound will_wake at → MayFollowBy (UpToClones is_clone) will_wake sure at e → IsSound will_wake (after will_wake at (e ∷ []))
+  IsSound-step at e sound may = record {
+    counted = next-counted at.cell e sound.counted;
+    waits_vacant = λ not. nobody at e (is_vacant at.cell) _ refl (λ vacant. ends_if at.cell (next at.cell e) vacant not) sound.waits_vacant may;
+    kept = wait_list-wait_list will_wake (registrations at (e ∷ []));
   }

@@ -1,4 +1,4 @@
--- A value is taken once: what the replies give is, in order, some of what was there and was brought.
+-- A value is taken once: the replies give, in order, some of what was there and was brought.
 use Rattle.std.proofs.Common.{◌≡◌, ◌≢◌, inl, inr, ℕ, suc, zero, Bool, true, false, ◌||◌, List, [], ◌∷◌, ◌++◌, Option, Some, None, refl, sym, subst, arith, append_assoc, append-nil, ◌-◌}
 use Rattle.std.specs.Prelude.{if◌then◌else◌, nat_eq, option_to_list, All, AllPairs}
 use Rattle.std.specs.List.{cons_option}
@@ -14,7 +14,7 @@ use Rattle.async_cell_model.specs.declared.reply.Reply.TheVariants.{Done, Value,
 use Rattle.async_cell_model.specs.declared.refusal.Refusal.TheVariants as why
 use Rattle.async_cell_model.specs.Cell.{content, owners_limit}
 use Rattle.async_cell_model.specs.Step.{next, next_open, reply, reply_open, reply_closed, is_memory}
-use Rattle.async_cell_model.specs.History.{Beginning, History, cell_after, after}
+use Rattle.async_cell_model.specs.History.{State, History, cell_after, after}
 use Rattle.async_cell_model.specs.Legal.{IsCloned, IsLegalAfterBy, MayFollowBy, UpToClones}
 use Rattle.async_cell_model.specs.Taken.{IsDistinct, IsSubsequence, none, skip, both, is_update, has_update, brought_by, brought, given_by, given}
 
@@ -192,20 +192,20 @@ module _ {T W : Type 0} where
 
 -- a get gives nothing away, whatever it was told
 cloned_gives : {T W : Type 0} (is_clone : T → T → Type 0) (c : Cell T) (call : Kept T W) (r s : Reply T) → is_update call ≡ false → IsCloned is_clone call r s → Hands c call r (next c (record { call = call; reply = r })) → Hands c call s (next c (record { call = call; reply = s }))
-cloned_gives is_clone Closed TryGet (Value (Some a)) (Value (Some b)) plain cloned hands = record { fits = hands.fits }
-cloned_gives is_clone (Open value owners) TryGet (Value (Some a)) (Value (Some b)) plain cloned hands = record { fits = hands.fits }
-cloned_gives is_clone Closed (PollGet w) (Ready (Some a)) (Ready (Some b)) plain cloned hands = record { fits = hands.fits }
-cloned_gives is_clone (Open value owners) (PollGet w) (Ready (Some a)) (Ready (Some b)) plain cloned hands = record { fits = hands.fits }
-cloned_gives is_clone c call r s plain cloned hands = absurd cloned
+cloned_gives is_clone Closed TryGet (Value (Some a)) (Value (Some b)) plain cloned wakes = record { fits = wakes.fits }
+cloned_gives is_clone (Open value owners) TryGet (Value (Some a)) (Value (Some b)) plain cloned wakes = record { fits = wakes.fits }
+cloned_gives is_clone Closed (PollGet w) (Ready (Some a)) (Ready (Some b)) plain cloned wakes = record { fits = wakes.fits }
+cloned_gives is_clone (Open value owners) (PollGet w) (Ready (Some a)) (Ready (Some b)) plain cloned wakes = record { fits = wakes.fits }
+cloned_gives is_clone c call r s plain cloned wakes = absurd cloned
 
 module _ {T W : Type 0} (is_clone : T → T → Type 0) (will_wake : W → W → Bool) (sure : Bool) where
-  entry_gives : (at : Beginning T W) (e : Entry T W) → is_update e.call ≡ false → MayFollowBy (UpToClones is_clone) will_wake sure at e → Hands at.cell e.call e.reply (next at.cell e)
+  entry_gives : (at : State T W) (e : Entry T W) → is_update e.call ≡ false → MayFollowBy (UpToClones is_clone) will_wake sure at e → Hands at.cell e.call e.reply (next at.cell e)
   entry_gives at e plain may = elim may.replied [
     | inl same ↦ elim same [ inl it ↦ subst (λ (r : Reply T). Hands at.cell e.call r (next at.cell (record { call = e.call; reply = r }))) (sym it) (replied_gives at.cell e.call plain) | inr cloned ↦ cloned_gives is_clone at.cell e.call (reply at.cell e.call) e.reply plain cloned (replied_gives at.cell e.call plain) ]
     | inr refused ↦ subst (λ (r : Reply T). Hands at.cell e.call r (next at.cell (record { call = e.call; reply = r }))) (sym refused.0) (refused_gives at.cell e.call)
   ]
 
-  one_more : (b : Beginning T W) (g : History T W) (e : Entry T W) (h : History T W) → Hands (cell_after b.cell g) e.call e.reply (next (cell_after b.cell g) e)
+  one_more : (b : State T W) (g : History T W) (e : Entry T W) (h : History T W) → Hands (cell_after b.cell g) e.call e.reply (next (cell_after b.cell g) e)
       → IsSubsequence (given h) (option_to_list (content (cell_after b.cell (g ++ e ∷ []))) ++ brought h)
       → IsSubsequence (given (e ∷ h)) (option_to_list (content (cell_after b.cell g)) ++ brought (e ∷ h))
   one_more b g e h head rest =
@@ -219,12 +219,12 @@ module _ {T W : Type 0} (is_clone : T → T → Type 0) (will_wake : W → W →
       rw (cons_is (given_by e.call e.reply) (given h), cons_is (brought_by e.call) (brought h), ← parts) all
 
   -- what the replies give is, in order, some of what was there and was brought
-  pub given_in_order : (b : Beginning T W) (g h : History T W) → has_update h ≡ false → IsLegalAfterBy (UpToClones is_clone) will_wake sure b g h
+  pub given_in_order : (b : State T W) (g h : History T W) → has_update h ≡ false → IsLegalAfterBy (UpToClones is_clone) will_wake sure b g h
       → IsSubsequence (given h) (option_to_list (content (cell_after b.cell g)) ++ brought h)
   given_in_order b g [] plain legal = IsSubsequence-nil _
   given_in_order b g (e ∷ h) plain legal =
       one_more b g e h (entry_gives (after will_wake b g) e (first_plain _ _ plain) legal.0) (given_in_order b (g ++ e ∷ []) h (rest_plain _ _ plain) legal.1)
 
-  pub given_once : (b : Beginning T W) (h : History T W) → has_update h ≡ false → IsLegalAfterBy (UpToClones is_clone) will_wake sure b [] h
+  pub given_once : (b : State T W) (h : History T W) → has_update h ≡ false → IsLegalAfterBy (UpToClones is_clone) will_wake sure b [] h
       → IsDistinct (option_to_list (content b.cell) ++ brought h) → IsDistinct (given h)
   given_once b h plain legal distinct = pairs_of_subsequence (λ x y. x ≢ y) _ _ (given_in_order b [] h plain legal) distinct

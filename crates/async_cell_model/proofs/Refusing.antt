@@ -1,4 +1,4 @@
--- What a single entry leads to: a refused one to nothing, a fill or a close to an empty list.
+-- What a single entry does: a refused one changes nothing, a fill or a close empties the wait list.
 use Rattle.std.proofs.Common.{◌≡◌, inl, inr, ℕ, Bool, true, false, List, [], ◌∷◌, ◌++◌, Option, Some, None, refl, ap, sym, subst, ◌∙◌, append-nil, ◌+◌}
 use Rattle.std.specs.Prelude.{if◌then◌else◌, nat_eq}
 use Rattle.async_cell_model.specs.declared.cell.Cell.{Cell}
@@ -11,10 +11,10 @@ use Rattle.async_cell_model.specs.declared.reply.Reply.TheVariants.{Pending, Don
 use Rattle.async_cell_model.specs.declared.refusal.Refusal.TheVariants as why
 use Rattle.async_cell_model.specs.Cell.{ends_waiting, owners_limit, IsCounted, is_vacant}
 use Rattle.async_cell_model.specs.Step.{next, next_open, reply, reply_open, is_memory, is_refused}
-use Rattle.async_cell_model.specs.Waiting.{keep}
-use Rattle.async_cell_model.specs.History.{Beginning, History, IsBeginning, pending_waker, waiting}
-use Rattle.async_cell_model.specs.Legal.{IsCloned, LeadsBy, MayFollowBy, UpToClones, hands_after}
-use Rattle.async_cell_model.proofs.Whole.{after-nil, IsBeginning-after}
+use Rattle.async_cell_model.specs.WaitList.{wait_list}
+use Rattle.async_cell_model.specs.History.{State, History, IsSound, pending_waker, waiting}
+use Rattle.async_cell_model.specs.Legal.{IsCloned, RunsBy, MayFollowBy, UpToClones, wakes_after}
+use Rattle.async_cell_model.proofs.Whole.{after-nil, IsSound-after}
 
 module _ {T : Type 0} where
   add_if : (value : Option T) (n m : ℕ) (full : Bool) (granted refused : Reply T) → is_refused granted ≡ false → is_refused (if full then refused else granted) ≡ true
@@ -78,53 +78,53 @@ cloned_answers is_clone (PollGet w) (Ready (Some a)) (Ready (Some b)) cloned is 
 cloned_answers is_clone call r s cloned is = absurd cloned
 
 module _ {T W : Type 0} (is_clone : T → T → Type 0) (will_wake : W → W → Bool) (sure : Bool) where
-  next-refused : (at : Beginning T W) (e : Entry T W) → MayFollowBy (UpToClones is_clone) will_wake sure at e → is_refused e.reply ≡ true → next at.cell e ≡ at.cell
+  next-refused : (at : State T W) (e : Entry T W) → MayFollowBy (UpToClones is_clone) will_wake sure at e → is_refused e.reply ≡ true → next at.cell e ≡ at.cell
   next-refused at e may is = elim may.replied [
     | inl same ↦ elim same [ inl it ↦ subst (λ (r : Reply T). is_refused r ≡ true → next at.cell (record { call = e.call; reply = r }) ≡ at.cell) (sym it) (refused_same at.cell e.call) is | inr cloned ↦ absurd (cloned_answers is_clone e.call (reply at.cell e.call) e.reply cloned is) ]
     | inr refused ↦ subst (λ (r : Reply T). next at.cell (record { call = e.call; reply = r }) ≡ at.cell) (sym refused.0) (memory_same at.cell e.call)
   ]
 
   -- a refused entry leaves the cell as it was
-  pub refused_cell : (from to : Beginning T W) (e : Entry T W) (handed_out : List (List W)) → LeadsBy (UpToClones is_clone) will_wake sure from (e ∷ []) handed_out to → is_refused e.reply ≡ true → next from.cell e ≡ from.cell
-  refused_cell from to e handed_out leads is =
-      let here : MayFollowBy (UpToClones is_clone) will_wake sure from e = subst (λ (at : Beginning T W). MayFollowBy (UpToClones is_clone) will_wake sure at e) (after-nil is_clone will_wake sure from leads.begins.kept) leads.legal.0 in
+  pub refused_cell : (from to : State T W) (e : Entry T W) (woken : List (List W)) → RunsBy (UpToClones is_clone) will_wake sure from (e ∷ []) woken to → is_refused e.reply ≡ true → next from.cell e ≡ from.cell
+  refused_cell from to e woken leads is =
+      let here : MayFollowBy (UpToClones is_clone) will_wake sure from e = subst (λ (at : State T W). MayFollowBy (UpToClones is_clone) will_wake sure at e) (after-nil is_clone will_wake sure from leads.sound.kept) leads.legal.0 in
       next-refused from e here is
 
   -- and so neither fills nor closes
-  quiet_if_refused : (from to : Beginning T W) (e : Entry T W) (handed_out : List (List W)) → LeadsBy (UpToClones is_clone) will_wake sure from (e ∷ []) handed_out to → is_refused e.reply ≡ true → ends_waiting from.cell (next from.cell e) ≡ false
-  quiet_if_refused from to e handed_out leads is = subst (λ (c : Cell T). ends_waiting from.cell c ≡ false) (sym (refused_cell from to e handed_out leads is)) (stays from.cell)
+  quiet_if_refused : (from to : State T W) (e : Entry T W) (woken : List (List W)) → RunsBy (UpToClones is_clone) will_wake sure from (e ∷ []) woken to → is_refused e.reply ≡ true → ends_waiting from.cell (next from.cell e) ≡ false
+  quiet_if_refused from to e woken leads is = subst (λ (c : Cell T). ends_waiting from.cell c ≡ false) (sym (refused_cell from to e woken leads is)) (stays from.cell)
 
-  -- leaves those that wait
-  pub refused_waiting : (from to : Beginning T W) (e : Entry T W) (handed_out : List (List W)) → LeadsBy (UpToClones is_clone) will_wake sure from (e ∷ []) handed_out to → is_refused e.reply ≡ true → to.waiting ≡ from.waiting
-  refused_waiting from to e handed_out leads is =
-      let quiet = quiet_if_refused from to e handed_out leads is in
+  -- and leaves the wait list as it was
+  pub refused_waiting : (from to : State T W) (e : Entry T W) (woken : List (List W)) → RunsBy (UpToClones is_clone) will_wake sure from (e ∷ []) woken to → is_refused e.reply ≡ true → to.waiting ≡ from.waiting
+  refused_waiting from to e woken leads is =
+      let quiet = quiet_if_refused from to e woken leads is in
       let silent : pending_waker e ≡ None = refused_silent e.call e.reply is in
-      let list : waiting will_wake from (e ∷ []) ≡ from.waiting = rw (quiet, silent) (ap (keep will_wake) (append-nil from.waiting) ∙ leads.begins.kept) in
+      let list : waiting will_wake from (e ∷ []) ≡ from.waiting = rw (quiet, silent) (ap (wait_list will_wake) (append-nil from.waiting) ∙ leads.sound.kept) in
       leads.waiting_is ∙ list
 
-  -- an entry that neither fills nor closes hands out none
-  pub handed_none : (from to : Beginning T W) (e : Entry T W) (handed_out : List (List W)) → LeadsBy (UpToClones is_clone) will_wake sure from (e ∷ []) handed_out to → ends_waiting from.cell (next from.cell e) ≡ false → handed_out ≡ [] ∷ []
-  handed_none from to e handed_out leads quiet =
-      let none : hands_after will_wake from [] (e ∷ []) ≡ [] ∷ [] = rw quiet refl in
-      leads.handed_is ∙ none
+  -- an entry that neither fills nor closes wakes no waker
+  pub handed_none : (from to : State T W) (e : Entry T W) (woken : List (List W)) → RunsBy (UpToClones is_clone) will_wake sure from (e ∷ []) woken to → ends_waiting from.cell (next from.cell e) ≡ false → woken ≡ [] ∷ []
+  handed_none from to e woken leads quiet =
+      let none : wakes_after will_wake from [] (e ∷ []) ≡ [] ∷ [] = rw quiet refl in
+      leads.wakes_are ∙ none
 
   -- and nor does a refused one
-  pub refused_handed : (from to : Beginning T W) (e : Entry T W) (handed_out : List (List W)) → LeadsBy (UpToClones is_clone) will_wake sure from (e ∷ []) handed_out to → is_refused e.reply ≡ true → handed_out ≡ [] ∷ []
-  refused_handed from to e handed_out leads is = handed_none from to e handed_out leads (quiet_if_refused from to e handed_out leads is)
+  pub refused_handed : (from to : State T W) (e : Entry T W) (woken : List (List W)) → RunsBy (UpToClones is_clone) will_wake sure from (e ∷ []) woken to → is_refused e.reply ≡ true → woken ≡ [] ∷ []
+  refused_handed from to e woken leads is = handed_none from to e woken leads (quiet_if_refused from to e woken leads is)
 
-  -- one that fills or closes hands out all that waited
-  pub handed_all : (from to : Beginning T W) (e : Entry T W) (handed_out : List (List W)) → LeadsBy (UpToClones is_clone) will_wake sure from (e ∷ []) handed_out to → ends_waiting from.cell (next from.cell e) ≡ true → handed_out ≡ from.waiting ∷ []
-  handed_all from to e handed_out leads ends =
-      let list : keep will_wake (from.waiting ++ []) ≡ from.waiting = ap (keep will_wake) (append-nil from.waiting) ∙ leads.begins.kept in
-      let all : hands_after will_wake from [] (e ∷ []) ≡ from.waiting ∷ [] = rw (ends, list) refl in
-      leads.handed_is ∙ all
+  -- one that fills or closes wakes every waiting waker
+  pub handed_all : (from to : State T W) (e : Entry T W) (woken : List (List W)) → RunsBy (UpToClones is_clone) will_wake sure from (e ∷ []) woken to → ends_waiting from.cell (next from.cell e) ≡ true → woken ≡ from.waiting ∷ []
+  handed_all from to e woken leads ends =
+      let list : wait_list will_wake (from.waiting ++ []) ≡ from.waiting = ap (wait_list will_wake) (append-nil from.waiting) ∙ leads.sound.kept in
+      let all : wakes_after will_wake from [] (e ∷ []) ≡ from.waiting ∷ [] = rw (ends, list) refl in
+      leads.wakes_are ∙ all
 
-  -- where a history leads is a beginning
-  pub Leads-begins : (from to : Beginning T W) (h : History T W) (handed_out : List (List W)) → LeadsBy (UpToClones is_clone) will_wake sure from h handed_out to → IsBeginning will_wake to
-  Leads-begins from to h handed_out leads =
-      let there = IsBeginning-after is_clone will_wake sure from h leads.begins leads.legal in
+  -- a history ends in a sound state
+  pub Runs-sound : (from to : State T W) (h : History T W) (woken : List (List W)) → RunsBy (UpToClones is_clone) will_wake sure from h woken to → IsSound will_wake to
+  Runs-sound from to h woken leads =
+      let there = IsSound-after is_clone will_wake sure from h leads.sound leads.legal in
       record {
         counted = subst (λ (c : Cell T). IsCounted c) (sym leads.cell_is) there.counted;
         waits_vacant = λ not. leads.waiting_is ∙ there.waits_vacant (subst (λ (c : Cell T). is_vacant c ≡ false) leads.cell_is not);
-        kept = subst (λ (l : List W). keep will_wake l ≡ l) (sym leads.waiting_is) there.kept;
+        kept = subst (λ (l : List W). wait_list will_wake l ≡ l) (sym leads.waiting_is) there.kept;
       }

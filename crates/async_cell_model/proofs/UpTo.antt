@@ -7,9 +7,9 @@ use Rattle.async_cell_model.specs.declared.entry.Kept.TheVariants.{TryGet, PollG
 use Rattle.async_cell_model.specs.declared.reply.Reply.{Reply}
 use Rattle.async_cell_model.specs.declared.reply.Reply.TheVariants.{Value, Ready}
 use Rattle.async_cell_model.specs.Step.{reply}
-use Rattle.async_cell_model.specs.History.{Beginning, History}
+use Rattle.async_cell_model.specs.History.{State, History}
 use Rattle.async_cell_model.specs.Clones.{IsExact, IsCloned, UpToClones, copies, is_copy}
-use Rattle.async_cell_model.specs.Legal.{IsLegalAfterBy, IsLegalAfter, Leads, LeadsUpTo}
+use Rattle.async_cell_model.specs.Legal.{IsLegalAfterBy, IsLegalAfter, Runs, RunsUpTo}
 
 none_step : (a b : Bool) → (a || b) ≡ false → (a ≡ false) × (b ≡ false)
 none_step false b none = (refl, none)
@@ -30,7 +30,7 @@ module _ {T W : Type 0} (is_clone : T → T → Type 0) where
 
   module _ (will_wake : W → W → Bool) (sure : Bool) where
     -- a history that is legal up to clones is exact where the clones are
-    legal_exactly : IsExact is_clone → (b : Beginning T W) (h rest : History T W) → IsLegalAfterBy (UpToClones is_clone) will_wake sure b h rest → IsLegalAfter will_wake sure b h rest
+    legal_exactly : IsExact is_clone → (b : State T W) (h rest : History T W) → IsLegalAfterBy (UpToClones is_clone) will_wake sure b h rest → IsLegalAfter will_wake sure b h rest
     legal_exactly exact b h [] legal = tt
     legal_exactly exact b h (e ∷ rest) legal = (
       record {
@@ -44,7 +44,7 @@ module _ {T W : Type 0} (is_clone : T → T → Type 0) where
     )
 
     -- so is one in which nothing is copied
-    legal_moved : (b : Beginning T W) (h rest : History T W) → list_any copies rest ≡ false → IsLegalAfterBy (UpToClones is_clone) will_wake sure b h rest → IsLegalAfter will_wake sure b h rest
+    legal_moved : (b : State T W) (h rest : History T W) → list_any copies rest ≡ false → IsLegalAfterBy (UpToClones is_clone) will_wake sure b h rest → IsLegalAfter will_wake sure b h rest
     legal_moved b h [] none legal = tt
     legal_moved b h (e ∷ rest) none legal =
         let both = none_step (copies e) (list_any copies rest) none in (
@@ -58,19 +58,19 @@ module _ {T W : Type 0} (is_clone : T → T → Type 0) where
           legal_moved b (h ++ e ∷ []) rest both.1 legal.1,
         )
 
-    legal_exactly_if : (copied : Bool) (b : Beginning T W) (h rest : History T W)
+    legal_exactly_if : (copied : Bool) (b : State T W) (h rest : History T W)
         → list_any copies rest ≡ copied → (copied ≡ true → IsExact is_clone)
         → IsLegalAfterBy (UpToClones is_clone) will_wake sure b h rest → IsLegalAfter will_wake sure b h rest
     legal_exactly_if true b h rest is exact legal = legal_exactly (exact refl) b h rest legal
     legal_exactly_if false b h rest is exact legal = legal_moved b h rest is legal
 
     -- and so one with either
-    pub legal_told : (b : Beginning T W) (h rest : History T W) → (list_any copies rest ≡ true → IsExact is_clone)
+    pub legal_told : (b : State T W) (h rest : History T W) → (list_any copies rest ≡ true → IsExact is_clone)
         → IsLegalAfterBy (UpToClones is_clone) will_wake sure b h rest → IsLegalAfter will_wake sure b h rest
     legal_told b h rest exact legal = legal_exactly_if (list_any copies rest) b h rest refl exact legal
 
     -- an exact history is legal up to clones
-    pub legal_up_to : (b : Beginning T W) (h rest : History T W) → IsLegalAfter will_wake sure b h rest → IsLegalAfterBy (UpToClones is_clone) will_wake sure b h rest
+    pub legal_up_to : (b : State T W) (h rest : History T W) → IsLegalAfter will_wake sure b h rest → IsLegalAfterBy (UpToClones is_clone) will_wake sure b h rest
     legal_up_to b h [] legal = tt
     legal_up_to b h (e ∷ rest) legal = (
       record { replied = elim legal.0.replied [ inl same ↦ inl (inl same) | inr refused ↦ inr refused ]; updated = legal.0.updated },
@@ -78,26 +78,26 @@ module _ {T W : Type 0} (is_clone : T → T → Type 0) where
     )
 
     -- a history up to clones is exact where the clones are, or where nothing is copied
-    pub exact_told : (from to : Beginning T W) (h : History T W) (handed_out : List (List W))
+    pub exact_told : (from to : State T W) (h : History T W) (woken : List (List W))
         → (list_any copies h ≡ true → IsExact is_clone)
-        → LeadsUpTo will_wake sure is_clone from h handed_out to → Leads will_wake sure from h handed_out to
-    exact_told from to h handed_out exact leads = record {
-      begins = leads.begins;
+        → RunsUpTo will_wake sure is_clone from h woken to → Runs will_wake sure from h woken to
+    exact_told from to h woken exact leads = record {
+      sound = leads.sound;
       legal = legal_told from [] h exact leads.legal;
       cell_is = leads.cell_is;
       waiting_is = leads.waiting_is;
       room_is_left = leads.room_is_left;
-      handed_is = leads.handed_is;
+      wakes_are = leads.wakes_are;
     }
 
     -- an exact history is one up to clones
-    pub up_to_clones : (from to : Beginning T W) (h : History T W) (handed_out : List (List W))
-        → Leads will_wake sure from h handed_out to → LeadsUpTo will_wake sure is_clone from h handed_out to
-    up_to_clones from to h handed_out leads = record {
-      begins = leads.begins;
+    pub up_to_clones : (from to : State T W) (h : History T W) (woken : List (List W))
+        → Runs will_wake sure from h woken to → RunsUpTo will_wake sure is_clone from h woken to
+    up_to_clones from to h woken leads = record {
+      sound = leads.sound;
       legal = legal_up_to from [] h leads.legal;
       cell_is = leads.cell_is;
       waiting_is = leads.waiting_is;
       room_is_left = leads.room_is_left;
-      handed_is = leads.handed_is;
+      wakes_are = leads.wakes_are;
     }

@@ -1,4 +1,4 @@
--- Histories: the cell after one, who waits, and for how many more there is room.
+-- Histories: the cell, the wait list and the room after one.
 use Rattle.std.specs.Prelude.{◌≡◌, ◌-◌, ℕ, Bool, true, false, ◌||◌, List, [], ◌∷◌, ◌++◌, length, Option, Some, None, filter_map, if◌then◌else◌}
 use Rattle.async_cell_model.specs.declared.cell.Cell.{Cell}
 use Rattle.async_cell_model.specs.declared.entry.Entry.{Entry}
@@ -8,10 +8,11 @@ use Rattle.async_cell_model.specs.declared.reply.Reply.{Reply}
 use Rattle.async_cell_model.specs.declared.reply.Reply.TheVariants.{Pending}
 use Rattle.async_cell_model.specs.Cell.{ends_waiting, is_vacant, IsCounted}
 use Rattle.async_cell_model.specs.Step.{next}
-use Rattle.async_cell_model.specs.Waiting.{keep}
+use Rattle.async_cell_model.specs.WaitList.{wait_list}
 
--- where a history begins: a cell, the wakers that wait already, and for how many more there is room without memory
-pub record Beginning (T W : Type 0) : Type 0 where
+-- The state that a history starts from: the cell, the wait list in order of registration, and the
+-- room, which is the number of wakers that can still be added without memory beyond their clones.
+pub record State (T W : Type 0) : Type 0 where
   pub cell : Cell T
   pub waiting : List W
   pub room : ℕ
@@ -36,40 +37,47 @@ module _ {T W : Type 0} where
   has_fill_or_close c [] = false
   has_fill_or_close c (e ∷ h) = ends_waiting c (next c e) || has_fill_or_close (next c e) h
 
-  -- the entries after the last fill or close: all of them where there is none
+  -- the entries after the last fill or close: all entries if there is none
   abbrev pub since : Cell T → History T W → History T W
   since c [] = []
   since c (e ∷ h) = if has_fill_or_close c (e ∷ h) then since (next c e) h else e ∷ h
 
-  -- the waker of a poll that was answered `Pending`
+  -- the waker of a poll: `None` for any other call
   abbrev pub waker_of : Kept T W → Option W
   waker_of (PollTake w) = Some w
   waker_of (PollGet w) = Some w
   waker_of _ = None
 
+  -- the waker of a poll that returned `Pending`
   abbrev pub pending_waker : Entry T W → Option W
   pending_waker e = if is_pending e.reply then waker_of e.call else None
 
-  -- the wakers of the polls that were answered `Pending` since the last fill or close. Where there was none, those that
-  -- waited at the beginning stand before them
-  abbrev pub asked : Beginning T W → History T W → List W
-  asked b h = (if has_fill_or_close b.cell h then [] else b.waiting) ++ filter_map pending_waker (since b.cell h)
+  -- The wakers of the polls that returned `Pending` since the last fill or close, in order. If
+  -- there was none, the wakers that waited in the start state come first.
+  abbrev pub registrations : State T W → History T W → List W
+  registrations b h =
+      (if has_fill_or_close b.cell h then [] else b.waiting)
+      ++ filter_map pending_waker (since b.cell h)
 
 module _ {T W : Type 0} (will_wake : W → W → Bool) where
-  -- the wakers that wait after a history
-  abbrev pub waiting : Beginning T W → History T W → List W
-  waiting b h = keep will_wake (asked b h)
+  -- the wait list after a history
+  abbrev pub waiting : State T W → History T W → List W
+  waiting b h = wait_list will_wake (registrations b h)
 
-  -- for how many more wakers there is room: each that was added takes up one, and a fill or a close ends the room
-  abbrev pub room : Beginning T W → History T W → ℕ
-  room b h = if has_fill_or_close b.cell h then 0 else b.room - (length (waiting b h) - length b.waiting)
+  -- The room after a history. Each waker that was added uses up one place; a fill or a close leaves
+  -- no room.
+  abbrev pub room : State T W → History T W → ℕ
+  room b h =
+      if has_fill_or_close b.cell h then 0
+      else b.room - (length (waiting b h) - length b.waiting)
 
-  -- where a history leads: the beginning of whatever follows
-  abbrev pub after : Beginning T W → History T W → Beginning T W
+  -- the state after a history: the start state of whatever follows
+  abbrev pub after : State T W → History T W → State T W
   after b h = record { cell = cell_after b.cell h; waiting = waiting b h; room = room b h }
 
-  -- a beginning: its owners are counted, wakers wait only where it is open without a value, and none that was to be skipped
-  pub record IsBeginning (b : Beginning T W) : Type 0 where
+  -- A sound state: the number of owners is in range, wakers wait only if the cell is vacant, and
+  -- none of them is one that an earlier waiting waker would wake.
+  pub record IsSound (b : State T W) : Type 0 where
     pub counted : IsCounted b.cell
     pub waits_vacant : is_vacant b.cell ≡ false → b.waiting ≡ []
-    pub kept : keep will_wake b.waiting ≡ b.waiting
+    pub kept : wait_list will_wake b.waiting ≡ b.waiting

@@ -1,4 +1,4 @@
--- Which histories are legal, and what a cell owes to each call: the whole of what is promised of it.
+-- Which histories are legal, and the whole promise of a call and of a list of calls.
 use Rattle.std.specs.Prelude.{◌≡◌, ◌≤◌, ◌⊎◌, Bool, true, false, not, ◌&&◌, ◌||◌, List, [], ◌∷◌, ◌++◌, None, ⊤, nat_lt, if◌then◌else◌}
 use Rattle.async_cell_model.specs.declared.entry.Entry.{Entry}
 use Rattle.async_cell_model.specs.declared.entry.Kept.{Kept}
@@ -8,94 +8,98 @@ use Rattle.async_cell_model.specs.declared.reply.Reply.TheVariants.{Refused}
 use Rattle.async_cell_model.specs.declared.refusal.Refusal.TheVariants as why
 use Rattle.async_cell_model.specs.Cell.{is_full, is_vacant, ends_waiting}
 use Rattle.async_cell_model.specs.Step.{reply, next, FitsUpdate}
-use Rattle.async_cell_model.specs.Waiting.{is_empty, skips}
+use Rattle.async_cell_model.specs.WaitList.{is_empty, skips}
 pub use Rattle.async_cell_model.specs.Clones.{copies, is_copy, Exactly, IsCloned, UpToClones}
-use Rattle.async_cell_model.specs.History.{Beginning, History, IsBeginning, cell_after, waiting, room, after}
+use Rattle.async_cell_model.specs.History.{State, History, IsSound, cell_after, waiting, room, after}
 
--- the wakers that an entry hands out: all that wait, where it fills or closes, and else none
-abbrev pub hands : {T W : Type 0} → Beginning T W → Entry T W → List W
-hands at e = if ends_waiting at.cell (next at.cell e) then at.waiting else []
+-- the wakers that an entry wakes: the whole wait list if it fills or closes the cell, else none
+abbrev pub wakes : {T W : Type 0} → State T W → Entry T W → List W
+wakes at e = if ends_waiting at.cell (next at.cell e) then at.waiting else []
 
 module _ {T W : Type 0} (will_wake : W → W → Bool) where
-  -- what each of these entries hands out, where the entries h came first
-  abbrev pub hands_after : Beginning T W → History T W → History T W → List (List W)
-  hands_after b h [] = []
-  hands_after b h (e ∷ rest) = hands (after will_wake b h) e ∷ hands_after b (h ++ e ∷ []) rest
+  -- the wakers that each of these entries wakes, if the entries h come first
+  abbrev pub wakes_after : State T W → History T W → History T W → List (List W)
+  wakes_after b h [] = []
+  wakes_after b h (e ∷ rest) = wakes (after will_wake b h) e ∷ wakes_after b (h ++ e ∷ []) rest
 
--- `sure` says whether the clone of a waker never fails
+-- `sure` says whether cloning a waker never fails
 module _ {T W : Type 0} (will_wake : W → W → Bool) (sure : Bool) where
-  -- A poll by w that has to wait needs no memory: w is skipped, or its clone is sure and it is the first to wait or finds room.
-  abbrev pub needs_no_memory : Beginning T W → W → Bool
-  needs_no_memory at w = skips will_wake at.waiting w || (sure && (is_empty at.waiting || nat_lt 0 at.room))
+  -- Whether a poll by w that has to wait needs no memory: w is skipped, or its clone is sure and it
+  -- is the first to wait or finds room.
+  abbrev pub needs_no_memory : State T W → W → Bool
+  needs_no_memory at w =
+      skips will_wake at.waiting w || (sure && (is_empty at.waiting || nat_lt 0 at.room))
 
-  -- whether a call may find no memory: one that clones the value, or a poll that has to add its waker
-  abbrev pub may_refuse : Beginning T W → Kept T W → Bool
+  -- whether a call may fail with `Memory`: a get of a full cell, which clones the value, or a poll
+  -- of a vacant cell that needs memory
+  abbrev pub may_refuse : State T W → Kept T W → Bool
   may_refuse at TryGet = is_full at.cell
   may_refuse at (PollTake w) = is_vacant at.cell && not (needs_no_memory at w)
   may_refuse at (PollGet w) = is_full at.cell || (is_vacant at.cell && not (needs_no_memory at w))
   may_refuse at _ = false
 
--- `MayReply` says of a call and the cell's own reply what may be replied in its place
+-- `MayReply call own reply`: the call may return `reply` where the model's own reply is `own`
 module _ {T W : Type 0} (MayReply : Kept T W → Reply T → Reply T → Type 0)
     (will_wake : W → W → Bool) (sure : Bool) where
-  -- the entry may come here: its reply is one that the cell may give, or that there was no memory
-  -- where that may be
-  pub record MayFollowBy (at : Beginning T W) (e : Entry T W) : Type 0 where
+  -- The entry is legal in this state: its reply is an allowed one, or `Memory` if the call may fail
+  -- with it; and an update fits the cell.
+  pub record MayFollowBy (at : State T W) (e : Entry T W) : Type 0 where
     pub replied : MayReply e.call (reply at.cell e.call) e.reply
         ⊎ ((e.reply ≡ Refused why.Memory None) × (may_refuse will_wake sure at e.call ≡ true))
     pub updated : FitsUpdate at.cell e.call
 
-  -- each of these entries may follow those before it, where the entries h came first
-  abbrev pub IsLegalAfterBy : Beginning T W → History T W → History T W → Type 0
+  -- each of these entries is legal after those before it, if the entries h come first
+  abbrev pub IsLegalAfterBy : State T W → History T W → History T W → Type 0
   IsLegalAfterBy b h [] = ⊤
   IsLegalAfterBy b h (e ∷ rest) =
       MayFollowBy (after will_wake b h) e × IsLegalAfterBy b (h ++ e ∷ []) rest
 
-  -- The promise: from one beginning a legal history leads to another, and hands out these lists of
-  -- wakers, one an entry.
-  pub record LeadsBy (from : Beginning T W) (h : History T W)
-      (handed_out : List (List W)) (to : Beginning T W) : Type 0 where
-    pub begins : IsBeginning will_wake from
+  -- The promise of a list of calls: `from` is sound; `h` is a legal history from it; `to` has the
+  -- cell and the wait list after `h`, and at least the room after it; and `woken` has the wakers
+  -- that each entry wakes, one list an entry.
+  pub record RunsBy (from : State T W) (h : History T W)
+      (woken : List (List W)) (to : State T W) : Type 0 where
+    pub sound : IsSound will_wake from
     pub legal : IsLegalAfterBy from [] h
     pub cell_is : to.cell ≡ cell_after from.cell h
     pub waiting_is : to.waiting ≡ waiting will_wake from h
     pub room_is_left : room will_wake from h ≤ to.room
-    pub handed_is : handed_out ≡ hands_after will_wake from [] h
+    pub wakes_are : woken ≡ wakes_after will_wake from [] h
 
--- Each reply is the cell's own, or that there was no memory.
+-- Exact histories: each reply is the model's own, or `Memory`.
 module _ {T W : Type 0} (will_wake : W → W → Bool) (sure : Bool) where
-  -- the entry may come here
-  abbrev pub MayFollow : Beginning T W → Entry T W → Type 0
+  -- the entry is legal in this state
+  abbrev pub MayFollow : State T W → Entry T W → Type 0
   MayFollow at e = MayFollowBy Exactly will_wake sure at e
 
-  -- each of these entries may follow those before it, where the entries h came first
-  abbrev pub IsLegalAfter : Beginning T W → History T W → History T W → Type 0
+  -- each of these entries is legal after those before it, if the entries h come first
+  abbrev pub IsLegalAfter : State T W → History T W → History T W → Type 0
   IsLegalAfter b h rest = IsLegalAfterBy Exactly will_wake sure b h rest
 
-  -- each entry may follow those before it
-  abbrev pub IsLegal : Beginning T W → History T W → Type 0
+  -- each entry is legal after those before it
+  abbrev pub IsLegal : State T W → History T W → Type 0
   IsLegal b h = IsLegalAfter b [] h
 
   -- the promise of a list of calls
-  abbrev pub Leads : Beginning T W → History T W → List (List W) → Beginning T W → Type 0
-  Leads from h handed_out to = LeadsBy Exactly will_wake sure from h handed_out to
+  abbrev pub Runs : State T W → History T W → List (List W) → State T W → Type 0
+  Runs from h woken to = RunsBy Exactly will_wake sure from h woken to
 
-  -- the promise of one call: answered so, it leads there, and hands out these wakers
-  abbrev pub Answers : Beginning T W → Kept T W → Reply T → List W → Beginning T W → Type 0
-  Answers from call answer handed_out to =
-      Leads from (record { call = call; reply = answer } ∷ []) (handed_out ∷ []) to
+  -- the promise of one call: it returns this reply, wakes these wakers, and leaves this state
+  abbrev pub Steps : State T W → Kept T W → Reply T → List W → State T W → Type 0
+  Steps from call answer woken to =
+      Runs from (record { call = call; reply = answer } ∷ []) (woken ∷ []) to
 
--- The same up to clones: a get of a full cell may give a clone of the value.
+-- The same up to clones: a get of a full cell may return a clone of the value.
 module _ {T W : Type 0} (will_wake : W → W → Bool) (sure : Bool) (is_clone : T → T → Type 0) where
-  -- each entry may follow those before it
-  abbrev pub IsLegalUpTo : Beginning T W → History T W → Type 0
+  -- each entry is legal after those before it
+  abbrev pub IsLegalUpTo : State T W → History T W → Type 0
   IsLegalUpTo b h = IsLegalAfterBy (UpToClones is_clone) will_wake sure b [] h
 
   -- the promise of a list of calls
-  abbrev pub LeadsUpTo : Beginning T W → History T W → List (List W) → Beginning T W → Type 0
-  LeadsUpTo from h handed_out to = LeadsBy (UpToClones is_clone) will_wake sure from h handed_out to
+  abbrev pub RunsUpTo : State T W → History T W → List (List W) → State T W → Type 0
+  RunsUpTo from h woken to = RunsBy (UpToClones is_clone) will_wake sure from h woken to
 
   -- the promise of one call
-  abbrev pub AnswersUpTo : Beginning T W → Kept T W → Reply T → List W → Beginning T W → Type 0
-  AnswersUpTo from call answer handed_out to =
-      LeadsUpTo from (record { call = call; reply = answer } ∷ []) (handed_out ∷ []) to
+  abbrev pub StepsUpTo : State T W → Kept T W → Reply T → List W → State T W → Type 0
+  StepsUpTo from call answer woken to =
+      RunsUpTo from (record { call = call; reply = answer } ∷ []) (woken ∷ []) to

@@ -4,4 +4,4 @@ pub mod History
 pub mod Legal
 pub mod Step
 pub mod Taken
-pub mod Waiting
+pub mod WaitList

@@ -1,4 +1,4 @@
--- What a call is answered, and what it makes of the cell.
+-- The reply to each call, and the cell after it.
 use Rattle.std.specs.Prelude.{◌≡◌, ◌+◌, ◌-◌, ℕ, Bool, true, false, Option, Some, None, IsSome, ⊤, nat_eq, if◌then◌else◌, is_some}
 use Rattle.async_cell_model.specs.declared.cell.Cell.{Cell}
 use Rattle.async_cell_model.specs.declared.cell.Cell.TheVariants.{Closed, Open}
@@ -10,7 +10,7 @@ use Rattle.async_cell_model.specs.declared.reply.Reply.TheVariants.{Done, Value,
 use Rattle.async_cell_model.specs.declared.refusal.Refusal.TheVariants as why
 use Rattle.async_cell_model.specs.Cell.{owners_limit}
 
--- whether the reply is that there was no memory
+-- whether the reply is that the call failed with `Memory`
 abbrev pub is_memory : {T : Type 0} → Reply T → Bool
 is_memory (Refused why.Memory back) = true
 is_memory _ = false
@@ -36,9 +36,11 @@ module _ {T W : Type 0} where
   reply_open (Some v) owners (PollTake w) = Ready (Some v)
   reply_open None owners (PollGet w) = Pending
   reply_open (Some v) owners (PollGet w) = Ready (Some v)
-  reply_open value owners AddOwner = if nat_eq owners owners_limit then Refused why.OwnersFull None else Done
+  reply_open value owners AddOwner =
+      if nat_eq owners owners_limit then Refused why.OwnersFull None else Done
   reply_open value owners EndOwner = Value (if nat_eq owners 1 then value else None)
-  reply_open value owners TakeInner = if nat_eq owners 1 then Value value else Refused why.StillShared None
+  reply_open value owners TakeInner =
+      if nat_eq owners 1 then Value value else Refused why.StillShared None
 
   -- the reply to a call on a closed cell
   abbrev pub reply_closed : Kept T W → Reply T
@@ -56,7 +58,7 @@ module _ {T W : Type 0} where
   reply_closed EndOwner = Refused why.Closed None
   reply_closed TakeInner = Refused why.Closed None
 
-  -- the reply to a call, where memory is not wanting
+  -- the reply to a call that does not fail with `Memory`
   abbrev pub reply : Cell T → Kept T W → Reply T
   reply Closed call = reply_closed call
   reply (Open value owners) call = reply_open value owners call
@@ -75,17 +77,21 @@ module _ {T W : Type 0} where
   next_open value owners IsSet = Open value owners
   next_open value owners (PollTake w) = Open None owners
   next_open value owners (PollGet w) = Open value owners
-  next_open value owners AddOwner = Open value (if nat_eq owners owners_limit then owners else owners + 1)
+  next_open value owners AddOwner =
+      Open value (if nat_eq owners owners_limit then owners else owners + 1)
   next_open value owners EndOwner = if nat_eq owners 1 then Closed else Open value (owners - 1)
   next_open value owners TakeInner = if nat_eq owners 1 then Closed else Open value owners
 
-  -- the cell after an entry: a closed cell stays closed, and a call that found no memory changes nothing
+  -- The cell after an entry. A closed cell stays closed, and a call that failed with `Memory`
+  -- changes nothing.
   abbrev pub next : Cell T → Entry T W → Cell T
   next Closed e = Closed
-  next (Open value owners) e = if is_memory e.reply then Open value owners else next_open value owners e.call
+  next (Open value owners) e =
+      if is_memory e.reply then Open value owners else next_open value owners e.call
 
-  -- What an update's closure saw and answered fits the cell. That of `update` is called exactly on an open cell, that of
-  -- `update_some` exactly on one with a value, and answers a value. Where no closure is called, both stand empty.
+  -- Whether an update fits the cell: `saw` is what its closure was called with, and `put` is what
+  -- it returned. `update` calls its closure exactly on an open cell. `update_some` calls it exactly
+  -- on a full one, and it returns a value. If no closure was called, both are `None`.
   abbrev pub FitsUpdate : Cell T → Kept T W → Type 0
   FitsUpdate Closed (Update saw put) = (saw ≡ None) × (put ≡ None)
   FitsUpdate (Open value owners) (Update saw put) = saw ≡ value

@@ -1,4 +1,4 @@
--- The values that writes put in, and those that replies give.
+-- The values passed to writes, and those that replies move out of the cell.
 use Rattle.std.specs.Prelude.{◌≢◌, Bool, true, false, List, [], ◌∷◌, Option, Some, None, filter_map, AllPairs}
 use Rattle.std.specs.List.{list_any}
 use Rattle.async_cell_model.specs.declared.entry.Kept.{Kept}
@@ -7,37 +7,39 @@ use Rattle.async_cell_model.specs.declared.reply.Reply.{Reply}
 use Rattle.async_cell_model.specs.declared.reply.Reply.TheVariants.{Value, Ready}
 use Rattle.async_cell_model.specs.History.{History}
 
--- no two of these values are the same
+-- no two of these values are equal
 abbrev pub IsDistinct : {A : Type 0} → List A → Type 0
 IsDistinct xs = AllPairs (λ x y. x ≢ y) xs
 
--- the first list is the second without some of its elements, in the same order
+-- the first list is the second with any number of its elements left out, in the same order
 pub data IsSubsequence {A : Type 0} : List A → List A → Type 0 where
   none : IsSubsequence [] []
   skip : {x : A} {xs ys : List A} → IsSubsequence xs ys → IsSubsequence xs (x ∷ ys)
   both : {x : A} {xs ys : List A} → IsSubsequence xs ys → IsSubsequence (x ∷ xs) (x ∷ ys)
 
 module _ {T W : Type 0} where
+  -- whether the call is an update
   abbrev pub is_update : Kept T W → Bool
   is_update (Update saw put) = true
   is_update (UpdateSome saw put) = true
   is_update _ = false
 
+  -- whether some call of the history is an update
   abbrev pub has_update : History T W → Bool
   has_update h = list_any (λ e. is_update e.call) h
 
-  -- the value that a write brings
+  -- the value passed to the call, if it writes one
   abbrev pub brought_by : Kept T W → Option T
   brought_by (Set x) = Some x
   brought_by (OrSet x) = Some x
   brought_by (Replace x) = Some x
   brought_by _ = None
 
-  -- the values that the writes brought, in order
+  -- the values passed to the writes, in order
   abbrev pub brought : History T W → List T
   brought h = filter_map (λ e. brought_by e.call) h
 
-  -- the value that a reply gives out of the cell
+  -- the value that a reply moves out of the cell: a get only copies it
   abbrev pub given_by : Kept T W → Reply T → Option T
   given_by TryTake (Value v) = v
   given_by (Replace x) (Value v) = v
@@ -46,6 +48,6 @@ module _ {T W : Type 0} where
   given_by (PollTake w) (Ready v) = v
   given_by _ _ = None
 
-  -- the values that the replies gave, in order
+  -- the values that the replies moved out of the cell, in order
   abbrev pub given : History T W → List T
   given h = filter_map (λ e. given_by e.call e.reply) h

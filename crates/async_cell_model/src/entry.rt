@@ -1,42 +1,43 @@
 use crate::reply::Reply;
 
-/// A call on a cell, as a history keeps it. `W` is the type of wakers.
+/// A call on a cell, as a history holds it. `W` is the type of the wakers.
 #[derive(Clone, Copy, Debug, Drop, PartialEq, Eq)]
 pub enum Kept<T, W> {
-    /// A write of this value.
+    /// Writes this value.
     Set(T),
-    /// A write of this value where there is none.
+    /// Writes this value if there is none.
     OrSet(T),
-    /// A write of this value, which answers the old one.
+    /// Writes this value and returns the old one.
     Replace(T),
-    /// A change of the content: what the closure saw and what it answered, both `None` where it was not called.
+    /// Changes the content. `saw` is what the closure was called with, and `put` is what it
+    /// returned. Both are `None` if it was not called.
     Update { saw: Option<T>, put: Option<T> },
-    /// A change of the value, if there is one: what the closure saw and what it answered, both `None` where it was not
-    /// called.
+    /// Changes the value, if there is one. `saw` is what the closure was called with, and `put` is
+    /// what it returned. Both are `None` if it was not called.
     UpdateSome { saw: Option<T>, put: Option<T> },
     /// Takes the value, if there is one.
     TryTake,
     /// Copies the value, if there is one.
     TryGet,
-    /// Asks whether there is a value.
+    /// Tests whether there is a value.
     IsSet,
-    /// A poll that takes the value, and whose waker waits where there is none.
+    /// Polls for the value and takes it. Registers this waker if there is none yet.
     PollTake(W),
-    /// A poll that copies the value, and whose waker waits where there is none.
+    /// Polls for the value and copies it. Registers this waker if there is none yet.
     PollGet(W),
-    /// One owner more.
+    /// Adds an owner.
     AddOwner,
-    /// One owner less. The last one closes the cell.
+    /// Ends an owner. The last one closes the cell.
     EndOwner,
-    /// Closes the cell for its only owner, and gives the value.
+    /// Closes the cell for its only owner and returns the value.
     TakeInner,
 }
 
-/// A call and what it was answered.
+/// A call and its reply.
 #[derive(Clone, Copy, Debug, Drop, PartialEq, Eq)]
 pub struct Entry<T, W> {
-    /// The call, with what its closure saw and answered.
+    /// The call, with what its closure was called with and returned.
     pub call: Kept<T, W>,
-    /// What it was answered.
+    /// Its reply.
     pub reply: Reply<T>,
 }

@@ -1,189 +1,196 @@
-//! Laws of every legal history, whatever the waking test, each the contract of a function that does
-//! nothing. Histories are legal up to clones here: a get of a full cell may give a clone of the
+//! Laws of every legal history, for any `will_wake`. Each is the contract of a function that does
+//! nothing. Histories are legal up to clones here: a get of a full cell may return a clone of the
 //! value. `exact` has the same laws of exact histories, whose values need no `Clone`.
-ghost use Rattle.std.specs.Prelude.{◌≡◌, ◌↔◌, ◌<◌, ◌≤◌, ◌-◌, ◌++◌, ◌∷◌, [], List, length, Bool, Option, Some, true, false, not, filter, option_to_list, if◌then◌else◌};
+ghost use Rattle.std.specs.Prelude.{◌≡◌, ◌↔◌, ◌<◌, ◌≤◌, ◌-◌, ◌++◌, ◌∷◌, [], List, length, Bool, Some, true, false, not, filter, option_to_list, if◌then◌else◌};
 ghost use Rattle.std.specs.List.{list_any};
 ghost use Rattle.async_cell_model.specs.declared.entry.Entry.{Entry};
 ghost use Rattle.async_cell_model.specs.Cell.{is_vacant, content, ends_waiting};
 ghost use Rattle.async_cell_model.specs.Clones.{IsExact, copies};
-ghost use Rattle.async_cell_model.specs.History.{Beginning, History, IsBeginning, cell_after, waiting, room, after, has_fill_or_close, pending_waker};
-ghost use Rattle.async_cell_model.specs.Legal.{IsLegal, IsLegalUpTo, Leads, LeadsUpTo};
+ghost use Rattle.async_cell_model.specs.History.{State, History, IsSound, cell_after, waiting, room, after, has_fill_or_close, pending_waker};
+ghost use Rattle.async_cell_model.specs.Legal.{IsLegal, IsLegalUpTo, Runs, RunsUpTo};
 ghost use Rattle.async_cell_model.specs.Step.{next, is_refused};
-ghost use Rattle.async_cell_model.specs.Waiting.{IsCovered, keep, skips};
+ghost use Rattle.async_cell_model.specs.WaitList.{IsCovered, wait_list, skips};
 ghost use Rattle.async_cell_model.specs.Taken.{IsDistinct, IsSubsequence, has_update, brought, given};
 
 pub mod exact;
 
-/// Wakers wait only where the cell is open without a value. So a cell that holds a value, and a
-/// closed one, keep nobody waiting.
+/// Wakers wait only if the cell is vacant: open without a value. So the wait list of a full cell
+/// and of a closed one is empty.
 #[tactic(auto, using(crate::proofs::Whole::waits_only_vacant))]
 pub fn only_a_vacant_cell_keeps_waiting<T: Clone, W>()
-    ensures { (will_wake : W → W → Bool) (sure : Bool) (b : Beginning T W) (h : History T W)
-        → IsBeginning will_wake b → IsLegalUpTo will_wake sure T.is_clone b h
+    ensures { (will_wake : W → W → Bool) (sure : Bool) (b : State T W) (h : History T W)
+        → IsSound will_wake b → IsLegalUpTo will_wake sure T.is_clone b h
         → is_vacant (cell_after b.cell h) ≡ false → waiting will_wake b h ≡ [] }
 {}
 
-/// No waiting poll is forgotten: until the next fill or close, the waker of each poll that was
-/// answered `Pending` waits, or some waiting waker would wake it.
+/// No waiting poll is forgotten. Until the next fill or close, the waker of each poll that returned
+/// `Pending` waits, or some waiting waker would wake it.
 #[tactic(auto, using(crate::proofs::Whole::stays_covered))]
 pub fn a_pending_waker_stays_covered<T: Clone, W>()
     ensures { (will_wake : W → W → Bool) (sure : Bool)
-        (b : Beginning T W) (g : History T W) (e : Entry T W) (rest : History T W) (w : W)
+        (b : State T W) (g : History T W) (e : Entry T W) (rest : History T W) (w : W)
         → IsLegalUpTo will_wake sure T.is_clone b (g ++ e ∷ rest) → pending_waker e ≡ Some w
         → has_fill_or_close (cell_after b.cell (g ++ e ∷ [])) rest ≡ false
         → IsCovered will_wake (waiting will_wake b (g ++ e ∷ rest)) w }
 {}
 
-/// A value is taken once. Where no update changes values, those that the replies give out of the
-/// cell are, in order, some of those that it held at the beginning and that the writes brought,
-/// each at most once. So where the latter differ, no value is given by two replies. A clone that a
-/// get gives is not taken out of the cell, and doesn't count.
+/// A value is taken once. In a history without updates, the values that the replies move out of the
+/// cell are, in order, some of those that it held at the start and that were passed to the writes,
+/// each at most once. So if the latter differ, no value is returned by two replies. A clone that a
+/// get returns is not taken out of the cell, and does not count.
 pub fn a_value_is_taken_once<T: Clone, W>()
-    ensures in_order { (will_wake : W → W → Bool) (sure : Bool) (b : Beginning T W) (h : History T W)
+    ensures in_order { (will_wake : W → W → Bool) (sure : Bool) (b : State T W) (h : History T W)
         → IsLegalUpTo will_wake sure T.is_clone b h → has_update h ≡ false
         → IsSubsequence (given h) (option_to_list (content b.cell) ++ brought h) }
-    ensures once { (will_wake : W → W → Bool) (sure : Bool) (b : Beginning T W) (h : History T W)
+    ensures once { (will_wake : W → W → Bool) (sure : Bool) (b : State T W) (h : History T W)
         → IsLegalUpTo will_wake sure T.is_clone b h → has_update h ≡ false
         → IsDistinct (option_to_list (content b.cell) ++ brought h) → IsDistinct (given h) }
 {}
 
-/// Only what is now matters: after a joined history the cell, those that wait and the room are
-/// those of its second part, begun where the first ends; and the first part is legal, as the second
-/// is there.
+/// Only the current state matters. After a joined history `g ++ h`, the cell, the wait list and the
+/// room are those after `h` alone, started from the state after `g`. If the joined history is
+/// legal, so is `g`, and so is `h` from that state. A legal history from a sound state ends in a
+/// sound state.
 pub fn a_history_can_begin_anew<T: Clone, W>()
-    ensures begins { (will_wake : W → W → Bool) (sure : Bool) (b : Beginning T W) (g : History T W)
-        → IsBeginning will_wake b → IsLegalUpTo will_wake sure T.is_clone b g
-        → IsBeginning will_wake (after will_wake b g) }
-    ensures front { (will_wake : W → W → Bool) (sure : Bool) (b : Beginning T W) (g h : History T W)
+    ensures begins { (will_wake : W → W → Bool) (sure : Bool) (b : State T W) (g : History T W)
+        → IsSound will_wake b → IsLegalUpTo will_wake sure T.is_clone b g
+        → IsSound will_wake (after will_wake b g) }
+    ensures front { (will_wake : W → W → Bool) (sure : Bool) (b : State T W) (g h : History T W)
         → IsLegalUpTo will_wake sure T.is_clone b (g ++ h)
         → IsLegalUpTo will_wake sure T.is_clone b g }
-    ensures legal { (will_wake : W → W → Bool) (sure : Bool) (b : Beginning T W) (g h : History T W)
-        → IsBeginning will_wake b → IsLegalUpTo will_wake sure T.is_clone b (g ++ h)
+    ensures legal { (will_wake : W → W → Bool) (sure : Bool) (b : State T W) (g h : History T W)
+        → IsSound will_wake b → IsLegalUpTo will_wake sure T.is_clone b (g ++ h)
         → IsLegalUpTo will_wake sure T.is_clone (after will_wake b g) h }
-    ensures cell { (will_wake : W → W → Bool) (b : Beginning T W) (g h : History T W)
+    ensures cell { (will_wake : W → W → Bool) (b : State T W) (g h : History T W)
         → cell_after b.cell (g ++ h) ≡ cell_after (after will_wake b g).cell h }
-    ensures waiting { (will_wake : W → W → Bool) (b : Beginning T W) (g h : History T W)
+    ensures waiting { (will_wake : W → W → Bool) (b : State T W) (g h : History T W)
         → waiting will_wake b (g ++ h) ≡ waiting will_wake (after will_wake b g) h }
-    ensures room { (will_wake : W → W → Bool) (b : Beginning T W) (g h : History T W)
-        → IsBeginning will_wake b → room will_wake b (g ++ h) ≡ room will_wake (after will_wake b g) h }
+    ensures room { (will_wake : W → W → Bool) (b : State T W) (g h : History T W)
+        → IsSound will_wake b → room will_wake b (g ++ h) ≡ room will_wake (after will_wake b g) h }
 {}
 
-/// Two histories, the second from where the first leads, are one. So two runs, one after the other,
-/// are one run of the joined calls.
+/// Two histories, the second from the state where the first ends, are one. So two runs, one after
+/// the other, are one run of the joined calls.
 pub fn two_histories_are_one<T: Clone, W>()
     ensures { (will_wake : W → W → Bool) (sure : Bool)
-        (from at to : Beginning T W) (g h : History T W)
+        (from at to : State T W) (g h : History T W)
         (first second : List (List W))
-        → LeadsUpTo will_wake sure T.is_clone from g first at
-        → LeadsUpTo will_wake sure T.is_clone at h second to
-        → LeadsUpTo will_wake sure T.is_clone from (g ++ h) (first ++ second) to }
+        → RunsUpTo will_wake sure T.is_clone from g first at
+        → RunsUpTo will_wake sure T.is_clone at h second to
+        → RunsUpTo will_wake sure T.is_clone from (g ++ h) (first ++ second) to }
 {}
 
-/// What one poll does to those that wait. One more waker is added last, or skipped: it is skipped
-/// exactly where some waiting waker would wake it.
+/// What one poll does to the wait list. Its waker is added last, or skipped: it is skipped exactly
+/// if some waiting waker would wake it.
 pub fn one_more_waker_is_last_or_skipped<T: Clone, W>()
     ensures list { (will_wake : W → W → Bool) (l : List W) (w : W)
-        → keep will_wake l ≡ l
-        → keep will_wake (l ++ w ∷ []) ≡ (if skips will_wake l w then l else l ++ w ∷ []) }
+        → wait_list will_wake l ≡ l
+        → wait_list will_wake (l ++ w ∷ []) ≡ (if skips will_wake l w then l else l ++ w ∷ []) }
     ensures poll { (will_wake : W → W → Bool) (sure : Bool)
-        (b : Beginning T W) (h : History T W) (e : Entry T W) (w : W)
+        (b : State T W) (h : History T W) (e : Entry T W) (w : W)
         → IsLegalUpTo will_wake sure T.is_clone b (h ++ e ∷ []) → pending_waker e ≡ Some w
         → waiting will_wake b (h ++ e ∷ [])
         ≡ (if skips will_wake (waiting will_wake b h) w
         then waiting will_wake b h else waiting will_wake b h ++ w ∷ []) }
 {}
 
-/// The wait list, from its first waker on: the first that asked waits, and after it those of the
-/// others that wait once all that the first would wake are left out.
+/// The wait list, from its first waker on. The first registered waker waits. After it comes the
+/// wait list of the other registrations, without those that the first would wake.
 #[tactic(auto, using(crate::proofs::Adding::keep_first))]
 pub fn the_first_waker_skips_all_that_it_would_wake<W>()
-    ensures none { (will_wake : W → W → Bool) → keep will_wake [] ≡ [] }
+    ensures none { (will_wake : W → W → Bool) → wait_list will_wake [] ≡ [] }
     ensures first { (will_wake : W → W → Bool) (w : W) (rest : List W)
-        → keep will_wake (w ∷ rest) ≡ w ∷ keep will_wake (filter (λ v. not (will_wake w v)) rest) }
+        → wait_list will_wake (w ∷ rest)
+        ≡ w ∷ wait_list will_wake (filter (λ v. not (will_wake w v)) rest) }
 {}
 
-/// No waker waits twice, where a waker would wake another exactly if the two are equal, as with
-/// names.
+/// No waker waits twice if a waker would wake another exactly if the two are equal, as with
+/// `Named`.
 #[tactic(auto, using(crate::proofs::Whole::waits_once))]
 pub fn no_waker_waits_twice<T, W>()
-    ensures { (will_wake : W → W → Bool) (b : Beginning T W) (h : History T W)
+    ensures { (will_wake : W → W → Bool) (b : State T W) (h : History T W)
         → ((v w : W) → (will_wake v w ≡ true) ↔ (v ≡ w))
         → IsDistinct (waiting will_wake b h) }
 {}
 
-/// How the room goes, entry by entry: a fill or a close leaves none; any other entry takes one, if
-/// there is one, where it made the list longer, and else leaves the room as it was.
+/// How each entry changes the room. A fill or a close leaves none. Any other entry uses up one
+/// place, if there is one, where it made the wait list longer, and otherwise leaves the room as it
+/// was.
 pub fn the_room_goes_by_one<T, W>()
-    ensures ended { (will_wake : W → W → Bool) (b : Beginning T W) (h : History T W) (e : Entry T W)
-        → IsBeginning will_wake b → ends_waiting (cell_after b.cell h) (next (cell_after b.cell h) e) ≡ true
+    ensures ended { (will_wake : W → W → Bool) (b : State T W) (h : History T W) (e : Entry T W)
+        → IsSound will_wake b
+        → ends_waiting (cell_after b.cell h) (next (cell_after b.cell h) e) ≡ true
         → room will_wake b (h ++ e ∷ []) ≡ 0 }
-    ensures longer { (will_wake : W → W → Bool) (b : Beginning T W) (h : History T W) (e : Entry T W)
-        → IsBeginning will_wake b → ends_waiting (cell_after b.cell h) (next (cell_after b.cell h) e) ≡ false
+    ensures longer { (will_wake : W → W → Bool) (b : State T W) (h : History T W) (e : Entry T W)
+        → IsSound will_wake b
+        → ends_waiting (cell_after b.cell h) (next (cell_after b.cell h) e) ≡ false
         → length (waiting will_wake b h) < length (waiting will_wake b (h ++ e ∷ []))
         → room will_wake b (h ++ e ∷ []) ≡ room will_wake b h - 1 }
-    ensures as_before { (will_wake : W → W → Bool) (b : Beginning T W) (h : History T W) (e : Entry T W)
-        → IsBeginning will_wake b → ends_waiting (cell_after b.cell h) (next (cell_after b.cell h) e) ≡ false
+    ensures as_before { (will_wake : W → W → Bool) (b : State T W) (h : History T W) (e : Entry T W)
+        → IsSound will_wake b
+        → ends_waiting (cell_after b.cell h) (next (cell_after b.cell h) e) ≡ false
         → length (waiting will_wake b (h ++ e ∷ [])) ≤ length (waiting will_wake b h)
         → room will_wake b (h ++ e ∷ []) ≡ room will_wake b h }
 {}
 
-/// Where a history leads is a beginning: whatever follows can begin there.
+/// A history ends in a sound state, so another history can start from there.
 pub fn a_history_leads_to_a_beginning<T: Clone, W>()
     ensures { (will_wake : W → W → Bool) (sure : Bool)
-        (from to : Beginning T W) (h : History T W) (handed_out : List (List W))
-        → LeadsUpTo will_wake sure T.is_clone from h handed_out to → IsBeginning will_wake to }
+        (from to : State T W) (h : History T W) (woken : List (List W))
+        → RunsUpTo will_wake sure T.is_clone from h woken to → IsSound will_wake to }
 {}
 
-/// A refused call changes nothing: the cell and those that wait are as before, and no waker is
-/// handed out.
+/// A refused call changes nothing: the cell and the wait list are as before, and it wakes no waker.
 pub fn a_refused_call_changes_nothing<T: Clone, W>()
     ensures cell { (will_wake : W → W → Bool) (sure : Bool)
-        (from to : Beginning T W) (e : Entry T W) (handed_out : List (List W))
-        → LeadsUpTo will_wake sure T.is_clone from (e ∷ []) handed_out to
+        (from to : State T W) (e : Entry T W) (woken : List (List W))
+        → RunsUpTo will_wake sure T.is_clone from (e ∷ []) woken to
         → is_refused e.reply ≡ true → to.cell ≡ from.cell }
     ensures waiting { (will_wake : W → W → Bool) (sure : Bool)
-        (from to : Beginning T W) (e : Entry T W) (handed_out : List (List W))
-        → LeadsUpTo will_wake sure T.is_clone from (e ∷ []) handed_out to
+        (from to : State T W) (e : Entry T W) (woken : List (List W))
+        → RunsUpTo will_wake sure T.is_clone from (e ∷ []) woken to
         → is_refused e.reply ≡ true → to.waiting ≡ from.waiting }
-    ensures handed_out { (will_wake : W → W → Bool) (sure : Bool)
-        (from to : Beginning T W) (e : Entry T W) (handed_out : List (List W))
-        → LeadsUpTo will_wake sure T.is_clone from (e ∷ []) handed_out to
-        → is_refused e.reply ≡ true → handed_out ≡ [] ∷ [] }
+    ensures woken { (will_wake : W → W → Bool) (sure : Bool)
+        (from to : State T W) (e : Entry T W) (woken : List (List W))
+        → RunsUpTo will_wake sure T.is_clone from (e ∷ []) woken to
+        → is_refused e.reply ≡ true → woken ≡ [] ∷ [] }
 {}
 
-/// A fill or a close ends all waiting: after it nobody waits, and what it handed out is all that
-/// waited. No other entry hands out any waker.
+/// A fill or a close ends all waiting: it wakes every waiting waker, and nobody waits after it. No
+/// other entry wakes any waker.
 pub fn a_fill_or_close_ends_all_waiting<T: Clone, W>()
-    ensures nobody_waits { (will_wake : W → W → Bool) (b : Beginning T W) (h : History T W) (e : Entry T W)
+    ensures nobody_waits { (will_wake : W → W → Bool)
+        (b : State T W) (h : History T W) (e : Entry T W)
         → ends_waiting (cell_after b.cell h) (next (cell_after b.cell h) e) ≡ true
         → waiting will_wake b (h ++ e ∷ []) ≡ [] }
     ensures all_are_handed_out { (will_wake : W → W → Bool) (sure : Bool)
-        (from to : Beginning T W) (e : Entry T W) (handed_out : List (List W))
-        → LeadsUpTo will_wake sure T.is_clone from (e ∷ []) handed_out to
-        → ends_waiting from.cell (next from.cell e) ≡ true → handed_out ≡ from.waiting ∷ [] }
+        (from to : State T W) (e : Entry T W) (woken : List (List W))
+        → RunsUpTo will_wake sure T.is_clone from (e ∷ []) woken to
+        → ends_waiting from.cell (next from.cell e) ≡ true → woken ≡ from.waiting ∷ [] }
     ensures others_hand_out_none { (will_wake : W → W → Bool) (sure : Bool)
-        (from to : Beginning T W) (e : Entry T W) (handed_out : List (List W))
-        → LeadsUpTo will_wake sure T.is_clone from (e ∷ []) handed_out to
-        → ends_waiting from.cell (next from.cell e) ≡ false → handed_out ≡ [] ∷ [] }
+        (from to : State T W) (e : Entry T W) (woken : List (List W))
+        → RunsUpTo will_wake sure T.is_clone from (e ∷ []) woken to
+        → ends_waiting from.cell (next from.cell e) ≡ false → woken ≡ [] ∷ [] }
 {}
 
-/// Where the clones of a type are exact, or a history has no get, a history that is legal up to
-/// clones is an exact one: each reply is the cell's own. And an exact history is one up to clones.
+/// A history that is legal up to clones is an exact one if the type's clones are exact or the
+/// history has no get: each reply is then the model's own. And an exact history is one up to
+/// clones.
 pub fn with_exact_clones_a_history_is_exact<T: Clone, W>()
     ensures exact { (will_wake : W → W → Bool) (sure : Bool)
-        (from to : Beginning T W) (h : History T W) (handed_out : List (List W))
+        (from to : State T W) (h : History T W) (woken : List (List W))
         → (list_any copies h ≡ true → IsExact T.is_clone)
-        → LeadsUpTo will_wake sure T.is_clone from h handed_out to
-        → Leads will_wake sure from h handed_out to }
+        → RunsUpTo will_wake sure T.is_clone from h woken to
+        → Runs will_wake sure from h woken to }
     ensures up_to_clones { (will_wake : W → W → Bool) (sure : Bool)
-        (from to : Beginning T W) (h : History T W) (handed_out : List (List W))
-        → Leads will_wake sure from h handed_out to
-        → LeadsUpTo will_wake sure T.is_clone from h handed_out to }
+        (from to : State T W) (h : History T W) (woken : List (List W))
+        → Runs will_wake sure from h woken to
+        → RunsUpTo will_wake sure T.is_clone from h woken to }
     ensures exact_legal { (will_wake : W → W → Bool) (sure : Bool)
-        (b : Beginning T W) (h : History T W)
+        (b : State T W) (h : History T W)
         → (list_any copies h ≡ true → IsExact T.is_clone)
         → IsLegalUpTo will_wake sure T.is_clone b h → IsLegal will_wake sure b h }
     ensures legal_up_to_clones { (will_wake : W → W → Bool) (sure : Bool)
-        (b : Beginning T W) (h : History T W)
+        (b : State T W) (h : History T W)
         → IsLegal will_wake sure b h → IsLegalUpTo will_wake sure T.is_clone b h }
 {}

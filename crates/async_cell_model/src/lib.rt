@@ -1,4 +1,5 @@
-//! What a cell is: the definitions that every contract of this repository speaks in.
+//! The model of a cell: the definitions that every contract of this repository refers to, and their
+//! laws.
 #![tactic(auto)]
 
 mod cell;
@@ -6,8 +7,6 @@ mod entry;
 pub mod laws;
 mod refusal;
 mod reply;
-#[cfg(test)]
-mod tests;
 
 pub use cell::Cell;
 pub use entry::{Entry, Kept};

@@ -2,21 +2,21 @@ use std::alloc::AllocError;
 use std::error::Error;
 use std::fmt;
 
-/// Why a call was refused. A refused call changes nothing.
+/// The reason why a call was refused. A refused call changes nothing.
 #[derive(Clone, Copy, Debug, PartialEq, Eq)]
 pub enum Refusal {
-    /// There was no memory: for a growth of a list, for a clone, or for the waker of a task. Also where the count of a
-    /// pointer is full.
+    /// There was no memory: to grow a list, for a clone, or for the waker of a task. Also if the
+    /// count of a pointer is full.
     Memory,
-    /// A write, an owner call or a strong future met a closed cell.
+    /// The cell is closed. Writes, owner calls and strong futures fail with this.
     Closed,
-    /// One owner more than 4,294,967,295.
+    /// The cell has 4,294,967,295 owners already, as many as it can count.
     OwnersFull,
     /// The cell has other owners.
     StillShared,
-    /// A recorded call whose share does not fit the history.
+    /// The share of a recorded call does not fit the history.
     OutOfTurn,
-    /// A recorded cell is finished without all of its shares.
+    /// A recorded cell was finished without all of its shares.
     ShareMissing,
 }
 

@@ -1,18 +1,19 @@
 use crate::refusal::Refusal;
 
-/// What a call is answered.
+/// The reply to a call.
 #[derive(Clone, Copy, Debug, Drop, PartialEq, Eq)]
 pub enum Reply<T> {
-    /// The call is done, and has nothing to say.
+    /// The call is done and returns nothing.
     Done,
-    /// The value that the call took, copied, replaced or did not use, if there was one.
+    /// The value that the call took, copied, replaced or did not use: `None` if there was none.
     Value(Option<T>),
     /// Whether there is a value.
     Is(bool),
-    /// There is no value yet, and the poll's waker waits for one.
+    /// There is no value yet. The poll's waker is registered, unless it is skipped (see
+    /// `WaitList::skips`).
     Pending,
-    /// The value, or none from a closed cell.
+    /// The value, or `None` if the cell is closed.
     Ready(Option<T>),
-    /// The call was refused. A value that it was given comes back.
+    /// The call was refused. A value that was passed to it comes back.
     Refused(Refusal, Option<T>),
 }

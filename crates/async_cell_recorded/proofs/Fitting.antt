@@ -12,7 +12,7 @@ use Rattle.async_cell_model.specs.Step.{reply}
 use Rattle.async_cell_core.specs.declared.call.Call.{Call}
 use Rattle.async_cell_core.specs.declared.call.Call.TheVariants.{Set, OrSet, Replace, Update, UpdateSome, TryTake, TryGet, IsSet, PollTake, PollGet, AddOwner, EndOwner, TakeInner}
 use Rattle.async_cell_core.specs.Kept.{kept_call}
-use Rattle.async_cell_recorded.specs.declared.entry.Entry.{Entry}
+use Rattle.async_cell_model.specs.declared.entry.Entry.{Entry}
 use Rattle.async_cell_recorded.specs.Fitting.{Fits}
 
 -- the reply to `add_owner` on an open cell, which is full or not
@@ -32,7 +32,7 @@ taken false value = inr (inl refl)
 
 module _ {T E : Type 0} (edit : E → Option T → Option T) (edit_some : E → T → T) where
   -- the entry of a call on this cell
-  abbrev entry_at : Cell T → Call T Named E → Entry T
+  abbrev entry_at : Cell T → Call T Named E → Entry T Named
   entry_at c call =
       let kept = kept_call edit edit_some c call in record { call = kept; reply = reply c kept }
 
@@ -69,7 +69,7 @@ module _ {T E : Type 0} (edit : E → Option T → Option T) (edit_some : E → 
   fits_at (Open value owners) TakeInner = taken (nat_eq owners 1) value
 
   -- an entry of the call on this cell fits the call
-  pub fits : (c : Cell T) (call : Call T Named E) (e : Entry T)
+  pub fits : (c : Cell T) (call : Call T Named E) (e : Entry T Named)
       → e.call ≡ kept_call edit edit_some c call → e.reply ≡ reply c e.call
       → Fits edit edit_some call e
   fits c call e kept_is reply_is =

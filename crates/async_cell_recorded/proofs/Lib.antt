@@ -1,4 +1,6 @@
+mod Carrying
 mod Counted
 mod Fitting
 mod Making
+mod Serials
 mod Stepping

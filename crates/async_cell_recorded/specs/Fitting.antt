@@ -1,4 +1,4 @@
--- What the answer to each call is, whatever the cell was.
+-- Which replies each call can have, whatever the cell was.
 use Rattle.std.specs.Prelude.{◌≡◌, ◌⊎◌, Bool, Option, Some, None}
 use Rattle.async_cell_cons.specs.declared.named.Named.{Named}
 use Rattle.async_cell_model.specs.declared.entry.Kept.TheVariants as kept
@@ -6,12 +6,12 @@ use Rattle.async_cell_model.specs.declared.refusal.Refusal.TheVariants as why
 use Rattle.async_cell_model.specs.declared.reply.Reply.TheVariants.{Done, Value, Is, Pending, Ready, Refused}
 use Rattle.async_cell_core.specs.declared.call.Call.{Call}
 use Rattle.async_cell_core.specs.declared.call.Call.TheVariants.{Set, OrSet, Replace, Update, UpdateSome, TryTake, TryGet, IsSet, PollTake, PollGet, AddOwner, EndOwner, TakeInner}
-use Rattle.async_cell_recorded.specs.declared.entry.Entry.{Entry}
+use Rattle.async_cell_model.specs.declared.entry.Entry.{Entry}
 
 module _ {T E : Type 0} (edit : E → Option T → Option T) (edit_some : E → T → T) where
-  -- The replies that a call can have. Of an update also what stands in its entry: what the edit
-  -- saw and what it made of that, or `None` twice where it was not called.
-  abbrev pub Fits : Call T Named E → Entry T → Type 0
+  -- The replies that a call can have. For an update also what is in its entry: what the edit saw
+  -- and what it made of that, or `None` twice if it was not called.
+  abbrev pub Fits : Call T Named E → Entry T Named → Type 0
   Fits (Set x) entry = (entry.reply ≡ Done) ⊎ (entry.reply ≡ Refused why.Closed (Some x))
   Fits (OrSet x) entry =
       (entry.reply ≡ Value None) ⊎ (entry.reply ≡ Value (Some x))

@@ -1,4 +1,5 @@
--- How the entry of a call comes about: what an update saw is known before the call, and what it answered after it.
+-- How the entry of a call is made: what an update saw is known before the call, and what it
+-- returned after it.
 use Rattle.std.specs.Prelude.{Option, None}
 use Rattle.async_cell_model.specs.declared.entry.Kept.{Kept}
 use Rattle.async_cell_model.specs.declared.entry.Kept.TheVariants as kept
@@ -22,7 +23,7 @@ module _ {T W : Type 0} where
   kept_before EndOwner saw = kept.EndOwner
   kept_before TakeInner saw = kept.TakeInner
 
-  -- the call once it left this content
+  -- the call, after it left this content
   abbrev pub kept_after : Kept T W → Option T → Kept T W
   kept_after (kept.Update saw _) put = kept.Update saw put
   kept_after (kept.UpdateSome saw _) put = kept.UpdateSome saw put

@@ -1,6 +1,6 @@
 pub mod Answering
 pub mod Counting
 pub mod Fitting
-pub mod Giving
 pub mod Keeping
+pub mod Outcomes
 pub mod Recording

@@ -1,17 +1,20 @@
-ghost use Rattle.std.specs.Prelude.{◌≡◌, ◌↔◌, [], IsTrue, length};
-ghost use Rattle.async_cell_recorded.specs.Recording.{IsRecorded};
+ghost use Rattle.std.specs.Prelude.{◌≡◌, ◌↔◌, [], IsTrue, IfOk, IfErr, length};
+ghost use Rattle.async_cell_recorded.specs.Recording.{IsRecorded, without_shares, with_one_share};
 
-use crate::entry::Entry;
+use crate::entry::{Entry, Plain};
+use crate::plain_history::PlainHistory;
+use async_cell_core::Refusal;
 use std::marker::Model;
 
-/// The calls that were made on a recorded cell, in the order in which they took effect, each with its reply.
+/// The calls that were made on a recorded cell, in the order in which they took effect, each with
+/// its reply.
 #[derive(Drop)]
 pub struct History<T> {
     pub(crate) begin: u32,
     pub(crate) entries: Vec<Entry<T>>,
 }
 
-/// Contracts see the number of owners at the beginning and the list of the entries.
+/// Contracts see the number of owners at the start, and the list of the entries.
 impl<T> Model for History<T> {
     ghost use Rattle.std.specs.Prelude.{◌≡◌};
     ghost use Rattle.async_cell_recorded.specs.Recording.{Recording, IsRecorded};
@@ -24,32 +27,86 @@ impl<T> Model for History<T> {
 }
 
 impl<T> History<T> {
-    /// The number of owners that the cell began with: one for each share.
+    /// Returns the number of owners that the cell started with: one for each share.
     pub fn begin(&self) -> u32
         ensures { result ≡ self.now.begin }
     {
         self.begin
     }
 
-    /// The number of entries.
+    /// Returns the number of entries.
     pub fn len(&self) -> usize
         ensures { result ≡ length self.now.entries }
     {
         self.entries.len()
     }
 
-    /// Whether no call was made.
+    /// Returns whether no call was made.
     pub fn is_empty(&self) -> bool
         ensures { IsTrue result ↔ (self.now.entries ≡ []) }
     {
         self.entries.is_empty()
     }
 
-    /// The entries, in order. They are legal from the beginning, and none replies that there was no memory.
+    /// Returns the entries, in order. They are a legal history from the start, and none replies
+    /// that there was no memory. The serials of each share's entries are 0, 1, 2, .. in order.
     pub fn entries(&self) -> &[Entry<T>]
         ensures entries { result.now ≡ self.now.entries }
         ensures recorded { IsRecorded self.now }
     {
         self.entries.as_slice()
+    }
+}
+
+impl<T: Copy> History<T> {
+    /// Returns the same history without the shares that made the calls. Fails with `Memory` if
+    /// there is no memory.
+    pub fn plain(&self) -> Result<PlainHistory<T>, Refusal>
+        ensures same { IfOk result (λ plain. plain ≡ without_shares self.now) }
+        ensures memory { IfErr result (λ why. why ≡ Refusal.Memory) }
+    {
+        let all = self.entries.as_slice();
+        let mut entries = Vec::new(*self.entries.allocator());
+        entries.reserve_exact(all.len())?;
+        for entry in all {
+            entries.push_reserved(Plain {
+                call: entry.call,
+                reply: entry.reply,
+            });
+        }
+        Ok(PlainHistory {
+            begin: self.begin,
+            entries,
+        })
+    }
+
+    /// Returns a plain history as if share 0 had made all of its calls, with the serials 0, 1, 2,
+    /// .. in their order. If there is no memory, it is returned in the error, beside `Memory`.
+    pub fn carry(old: PlainHistory<T>) -> Result<History<T>, (Refusal, PlainHistory<T>)>
+        ensures entries { IfOk result (λ history. history ≡ with_one_share old) }
+        ensures recorded { IfOk result (λ history. IsRecorded history) }
+        ensures plain { IfOk result (λ history. without_shares history ≡ old) }
+        ensures memory { IfErr result (λ back. back.0 ≡ Refusal.Memory) }
+        ensures comes_back { IfErr result (λ back. back.1 ≡ old) }
+    {
+        let mut entries = Vec::new(*old.entries.allocator());
+        let Ok(()) = entries.reserve_exact(old.entries.len()) else {
+            return Err((Refusal::Memory, old));
+        };
+        let PlainHistory {
+            begin,
+            entries: calls,
+        } = old;
+        let mut serial = 0;
+        for plain in calls {
+            entries.push_reserved(Entry {
+                share: 0,
+                serial,
+                call: plain.call,
+                reply: plain.reply,
+            });
+            serial += 1;
+        }
+        Ok(History { begin, entries })
     }
 }

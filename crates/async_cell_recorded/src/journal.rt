@@ -1,10 +1,11 @@
-ghost use Rattle.std.specs.Prelude.{◌≡◌, ◌↔◌, ◌⊎◌, ◌≤◌, ◌<◌, ◌++◌, ◌∷◌, [], length, vec_len, IfOk, IfErr, OnErr};
+ghost use Rattle.std.specs.Prelude.{◌≡◌, ◌≢◌, ◌↔◌, ◌⊎◌, ◌≤◌, ◌++◌, ◌∷◌, [], length, vec_len};
+ghost use Rattle.std.specs.Prelude.{IfOk, IfErr, OnErr};
 ghost use Rattle.std.specs.List.{sum_by};
 ghost use Rattle.async_cell_model.specs.Step.{reply};
-ghost use Rattle.async_cell_model.specs.Legal.{hands};
+ghost use Rattle.async_cell_model.specs.Legal.{wakes};
 ghost use Rattle.async_cell_core.specs.Kept.{kept_call};
-ghost use Rattle.async_cell_recorded.specs.Recording.{IsRecorded, state, told};
-ghost use Rattle.async_cell_recorded.specs.Counting.{fresh, counted, picked};
+ghost use Rattle.async_cell_recorded.specs.Recording.{IsRecorded, state, plain_entry, made_by};
+ghost use Rattle.async_cell_recorded.specs.Counting.{new_shares, share_after, picked};
 
 use crate::books;
 use crate::books::Books;
@@ -17,8 +18,8 @@ use async_cell_core::{Call, Core, Edit, Named, Refusal, Wakers};
 use std::alloc::Global;
 use std::marker::Model;
 
-/// The value under the lock of a recorded cell: the cell, its history, and the books of what the shares count. `M` names the
-/// cell.
+/// The value under the lock of a recorded cell: the cell, its history, and the books of what the
+/// shares count. `M` names the cell.
 #[derive(Drop)]
 pub struct Journal<T, M: Pick<T>> {
     core: Core<T, Named>,
@@ -27,8 +28,8 @@ pub struct Journal<T, M: Pick<T>> {
     books: Books<M>,
 }
 
-/// Contracts see the history. It is legal, it leads to the cell and to those that wait, and it has as many entries as the
-/// books count.
+/// Contracts see the history. It is legal, the serials of each share's entries are 0, 1, 2, .. in
+/// order, it leads to the cell and its wait list, and it has as many entries as the books count.
 impl<T, M: Pick<T>> Model for Journal<T, M> {
     ghost use Rattle.std.specs.Prelude.{◌≡◌};
     ghost use Rattle.async_cell_recorded.specs.Recording.{Recording};
@@ -38,20 +39,23 @@ impl<T, M: Pick<T>> Model for Journal<T, M> {
 
     ghost view = { λ j. record { begin = j.count.shares; entries = j.entries.items } };
 
-    ghost invariant = { λ j. IsJournal M.pick (record { begin = j.count.shares; entries = j.entries.items }) j.core j.books };
+    ghost invariant = { λ j.
+        let history : Recording T = record { begin = j.count.shares; entries = j.entries.items } in
+        IsJournal M.pick history j.core j.books };
 }
 
 impl<T: Copy, M: Pick<T>> Journal<T, M> {
-    /// An open cell without a value, with an owner for each share, and its shares, numbered from 0. Refused where there was
-    /// no memory.
-    #[tactic(auto, using(crate::proofs::Stepping::journal_new))]
+    /// Makes an open cell without a value, with an owner for each share, and its shares, numbered
+    /// from 0. Fails with `Memory` if there is no memory.
+    #[tactic(auto, using(crate::proofs::Stepping::journal_new, crate::proofs::Counted::length_new_shares))]
     pub fn new(alloc: Global, shares: u32, blanks: Blanks) -> Result<(Self, Vec<Share<M>>), Refusal>
         requires some { 1 ≤ shares }
         requires shares { shares ≡ M.shares }
         requires calls { (blanks.calls.name ≡ M.calls) × (blanks.calls.parts ≡ M.shares) }
-        requires answers { (blanks.answers.name ≡ M.answers) × (blanks.answers.parts ≡ M.shares) }
+        requires picked { (blanks.picked.name ≡ M.picked) × (blanks.picked.parts ≡ M.shares) }
         ensures begins { IfOk result (λ new. new.0 ≡ record { begin = shares; entries = [] }) }
-        ensures fresh { IfOk result (λ new. new.1.items ≡ fresh shares) }
+        ensures one_each { IfOk result (λ new. vec_len new.1 ≡ shares) }
+        ensures new_shares { IfOk result (λ new. new.1.items ≡ new_shares shares) }
         ensures memory { IfErr result (λ why. why ≡ Refusal.Memory) }
     {
         let (books, made) = Books::open(alloc, shares, blanks)?;
@@ -64,37 +68,58 @@ impl<T: Copy, M: Pick<T>> Journal<T, M> {
         Ok((journal, made))
     }
 
-    /// Makes a call, and gives the entry that is kept of it, with the wakers that it hands out. The refusals of the cell are
-    /// replies, and have an entry. The call itself is refused, and leaves no entry, where the share counts more calls than the
-    /// history has entries, which is looked at first, and where there was no memory.
+    /// Makes a call. Returns its entry, and the wakers that are to be woken by the caller. The
+    /// entry has the number of the share, and the share's count before the call as its serial. A
+    /// refusal of the cell is a reply, and has an entry. The call itself fails, and leaves no
+    /// entry, in two cases. It fails with `OutOfTurn`, which is checked first, if the share's count
+    /// is not the number of its entries in the history. It fails with `Memory` if there is no
+    /// memory.
     pub fn step<E: Edit<T> + Drop>(
         &mut self,
         share: &mut Share<M>,
         call: Call<T, Named, E>,
     ) -> Result<(Entry<T>, Wakers<Named>), Refusal>
-        ensures call { IfOk result (λ answer. answer.0.call ≡ kept_call E.edit E.edit_some (state self.old).cell call) }
-        ensures reply { IfOk result (λ answer. answer.0.reply ≡ reply (state self.old).cell answer.0.call) }
-        ensures appended { IfOk result (λ answer. self.new ≡ record self.old { entries = self.old.entries ++ answer.0 ∷ [] }) }
-        ensures hands_out { IfOk result (λ answer. answer.1 ≡ hands (state self.old) (told answer.0)) }
-        ensures counted { IfOk result (λ answer. share.new ≡ counted M.pick share.old answer.0 answer.1) }
+        ensures share { IfOk result (λ answer. answer.0.share ≡ share.old.number) }
+        ensures serial { IfOk result (λ answer. answer.0.serial ≡ share.old.count) }
+        ensures call { IfOk result (λ answer.
+            answer.0.call ≡ kept_call E.edit E.edit_some (state self.old).cell call) }
+        ensures reply { IfOk result (λ answer.
+            answer.0.reply ≡ reply (state self.old).cell answer.0.call) }
+        ensures appended { IfOk result (λ answer.
+            self.new ≡ record self.old { entries = self.old.entries ++ answer.0 ∷ [] }) }
+        ensures hands_out { IfOk result (λ answer.
+            answer.1 ≡ wakes (state self.old) (plain_entry answer.0)) }
+        ensures counted { IfOk result (λ answer.
+            share.new ≡ share_after M.pick share.old answer.0 answer.1) }
         ensures recorded { IsRecorded self.new }
 
-        ensures out_of_turn { (result ≡ Err Refusal.OutOfTurn) ↔ (length self.old.entries < share.old.count) }
-        ensures refused { IfErr result (λ why. (why ≡ Refusal.OutOfTurn) ⊎ (why ≡ Refusal.Memory)) }
+        ensures out_of_turn { (result ≡ Err Refusal.OutOfTurn)
+            ↔ (share.old.count ≢ made_by share.old.number self.old.entries) }
+        ensures in_turn { result ≢ Err Refusal.OutOfTurn
+            → share.old.count ≡ made_by share.old.number self.old.entries }
+        ensures refused { IfErr result (λ why.
+            (why ≡ Refusal.OutOfTurn) ⊎ (why ≡ Refusal.Memory)) }
         ensures unchanged { OnErr result ((self.new ≡ self.old) × (share.new ≡ share.old)) }
     {
-        if share.count() > self.entries.len() as u64 {
+        if share.count() != self.books.next_serial(share) {
             return Err(Refusal::OutOfTurn);
         }
         self.entries.reserve(1)?;
-        let answer = make(&mut self.core, call)?;
-        self.entries.push_reserved(answer.0);
+        let (made, woken) = make(&mut self.core, call)?;
+        let entry = Entry {
+            share: share.number(),
+            serial: share.count(),
+            call: made.call,
+            reply: made.reply,
+        };
+        self.entries.push_reserved(entry);
+        let answer = (entry, woken);
         books::count(&mut self.books, share, &answer);
         Ok(answer)
     }
 
-    /// Takes all shares back, and gives the history. It has as many entries as the shares count, and as many that pass the
-    /// test as the shares were answered.
+    /// Takes all shares back, and returns the history. It has as many entries as the shares count.
+    /// As many of its entries pass the test as results were picked over all shares.
     pub(crate) fn close(self, shares: Vec<Share<M>>) -> History<T>
         requires { vec_len shares ≡ M.shares }
         ensures history { result ≡ self }

@@ -1,17 +1,17 @@
-//! One call on the core, with the entry that a history keeps of it.
+//! One call on the core, as a history stores it.
 ghost use Rattle.std.specs.Prelude.{◌≡◌, true, false, IfOk, OnErr};
 ghost use Rattle.async_cell_model.specs.Cell.{content};
 ghost use Rattle.async_cell_model.specs.Step.{is_memory};
-ghost use Rattle.async_cell_model.specs.Legal.{Answers};
+ghost use Rattle.async_cell_model.specs.Legal.{Steps};
 ghost use Rattle.async_cell_core.specs.Kept.{kept_call};
 ghost use Rattle.async_cell_recorded.specs.Recording.{names_wake};
 ghost use Rattle.async_cell_recorded.specs.Keeping.{kept_before, kept_after};
 
-use crate::entry::{Entry, Kept};
+use crate::entry::{Kept, Plain};
 use async_cell_core::{Answer, Call, Core, Edit, Named, Refusal, Reply, Wakers, step_copied};
 use std::alloc::AllocError;
 
-/// A call on a cell with this content as a history keeps it, before it is made.
+/// Returns a call on a cell with this content as a history stores it, before it is made.
 fn keep<T: Copy, E>(call: &Call<T, Named, E>, saw: Option<T>) -> Kept<T>
     ensures { result ≡ kept_before call.now saw }
 {
@@ -32,7 +32,7 @@ fn keep<T: Copy, E>(call: &Call<T, Named, E>, saw: Option<T>) -> Kept<T>
     }
 }
 
-/// The same call, once it left this content.
+/// Returns the same call, after it left this content.
 fn answered<T: Copy>(kept: Kept<T>, put: Option<T>) -> Kept<T>
     ensures { result ≡ kept_after kept put }
 {
@@ -43,7 +43,7 @@ fn answered<T: Copy>(kept: Kept<T>, put: Option<T>) -> Kept<T>
     }
 }
 
-/// A copy of the content.
+/// Returns a copy of the content.
 #[tactic(auto, using(crate::proofs::Making::got_content))]
 fn content<T: Copy>(core: &Core<T, Named>) -> Option<T>
     ensures { result ≡ content core.now.cell }
@@ -51,17 +51,20 @@ fn content<T: Copy>(core: &Core<T, Named>) -> Option<T>
     core.try_get_copied()
 }
 
-/// Makes the call, and gives its entry with the wakers that it hands out. Refused for want of memory where the core refuses
-/// a poll.
+/// Makes the call. Returns it with its reply, and the wakers that are to be woken by the caller.
+/// Fails if the core refuses a poll because there is no memory.
 #[tactic(auto, using(crate::proofs::Making::refused_unchanged, crate::proofs::Making::kept_made))]
 pub(crate) fn make<T: Copy, E: Edit<T> + Drop>(
     core: &mut Core<T, Named>,
     call: Call<T, Named, E>,
-) -> Result<(Entry<T>, Wakers<Named>), AllocError>
-    ensures kept { IfOk result (λ made. made.0.call ≡ kept_call E.edit E.edit_some core.old.cell call) }
-    ensures model { IfOk result (λ made. Answers names_wake true core.old made.0.call made.0.reply made.1 core.new) }
+) -> Result<(Plain<T>, Wakers<Named>), AllocError>
+    ensures kept { IfOk result (λ made.
+        made.0.call ≡ kept_call E.edit E.edit_some core.old.cell call) }
+    ensures model { IfOk result (λ made.
+        Steps names_wake true core.old made.0.call made.0.reply made.1 core.new) }
     ensures answered { IfOk result (λ made. is_memory made.0.reply ≡ false) }
-    ensures unchanged { OnErr result ((core.new.cell ≡ core.old.cell) × (core.new.waiting ≡ core.old.waiting)) }
+    ensures unchanged { OnErr result
+        ((core.new.cell ≡ core.old.cell) × (core.new.waiting ≡ core.old.waiting)) }
 {
     let kept = keep(&call, content(core));
     let Answer { reply, woken } = step_copied(core, call);
@@ -69,5 +72,5 @@ pub(crate) fn make<T: Copy, E: Edit<T> + Drop>(
         return Err(AllocError);
     }
     let call = answered(kept, content(core));
-    Ok((Entry { call, reply }, woken))
+    Ok((Plain { call, reply }, woken))
 }

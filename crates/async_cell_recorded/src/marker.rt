@@ -5,28 +5,29 @@ ghost use Rattle.async_cell_recorded.specs.Counting.{Test};
 use std::marker::{Brand, PhantomData};
 use std::sync::ledger::{Blank, Ledger};
 
-/// Names one recorded cell. No value of such a type is needed: contracts alone read it.
+/// A type that names one recorded cell. No value of such a type is needed: only contracts read it.
 pub trait Marker {
     /// The ledger of the calls.
     ghost calls: { ℕ };
 
-    /// The ledger of the answers that were picked.
-    ghost answers: { ℕ };
+    /// The ledger of the results that were picked.
+    ghost picked: { ℕ };
 
     /// The number of shares.
     ghost shares: { ℕ };
 }
 
-/// Which answers the cell's second ledger counts. Nothing is asked of the test, so what is counted holds for each test.
+/// Which results of calls are picked: the cell's second ledger counts those. Nothing is required of
+/// the test, so what is counted holds for each test.
 pub trait Pick<T>: Marker {
-    /// A test on the entry and the list of names that a call was answered.
+    /// A test on the entry and the list of names that a call returned.
     ghost pick: { Test T };
 }
 
 impl Marker for Brand {
     ghost calls = { 0 };
 
-    ghost answers = { 0 };
+    ghost picked = { 0 };
 
     ghost shares = { 0 };
 }
@@ -36,42 +37,42 @@ impl<T> Pick<T> for Brand {
 }
 
 /// The ledger of a cell's calls.
-pub(crate) struct Calls<M>(PhantomData<M>);
+pub(crate) struct CallsLedger<M>(PhantomData<M>);
 
-impl<M: Marker> Ledger for Calls<M> {
+impl<M: Marker> Ledger for CallsLedger<M> {
     ghost name = { M.calls };
 
     ghost parts = { M.shares };
 }
 
-/// The ledger of a cell's answers that were picked.
-pub(crate) struct Answers<M>(PhantomData<M>);
+/// The ledger of the results of a cell's calls that were picked.
+pub(crate) struct PickedLedger<M>(PhantomData<M>);
 
-impl<M: Marker> Ledger for Answers<M> {
-    ghost name = { M.answers };
+impl<M: Marker> Ledger for PickedLedger<M> {
+    ghost name = { M.picked };
 
     ghost parts = { M.shares };
 }
 
-/// The two blank ledgers that a new recorded cell spends, with a part for each share.
+/// The two blank ledgers that a new recorded cell uses up, with a part for each share.
 #[derive(Drop)]
 pub struct Blanks {
-    /// That of the calls.
+    /// The ledger of the calls.
     pub calls: Blank,
 
-    /// That of the answers that are picked.
-    pub answers: Blank,
+    /// The ledger of the results that are picked.
+    pub picked: Blank,
 }
 
 impl Blanks {
-    /// Blank ledgers for this number of shares.
+    /// Makes blank ledgers for this number of shares.
     pub fn new(shares: u32) -> Self
         ensures calls { result.calls.parts ≡ shares }
-        ensures answers { result.answers.parts ≡ shares }
+        ensures picked { result.picked.parts ≡ shares }
     {
         Blanks {
             calls: Blank::new(u64::from(shares)),
-            answers: Blank::new(u64::from(shares)),
+            picked: Blank::new(u64::from(shares)),
         }
     }
 }
@@ -85,7 +86,7 @@ pub(crate) struct ShareCount<M: Marker> {
 }
 
 impl<M: Marker> ShareCount<M> {
-    /// The number, of which contracts know that it is the marker's.
+    /// Stores the number, of which contracts know that it is the marker's.
     pub(crate) fn new(shares: u32) -> Self
         requires { shares ≡ M.shares }
         ensures { result.shares ≡ shares }
@@ -96,7 +97,7 @@ impl<M: Marker> ShareCount<M> {
         }
     }
 
-    /// The number itself.
+    /// Returns the number.
     pub(crate) fn get(&self) -> u32
         ensures same { result ≡ self.now.shares }
         ensures all { result ≡ M.shares }
@@ -104,7 +105,7 @@ impl<M: Marker> ShareCount<M> {
         self.shares
     }
 
-    /// Whether so many shares are all of them.
+    /// Returns whether this many shares are all of them.
     pub(crate) fn is_all(&self, count: usize) -> bool
         ensures { IsTrue result ↔ (count ≡ M.shares) }
     {

@@ -1,9 +1,10 @@
 ghost use Rattle.std.specs.Prelude.{◌≡◌, ◌↔◌, ◌≤◌, ◌⊎◌, Bool, Option, length, vec_len};
 ghost use Rattle.std.specs.Prelude.{IsOk, IfOk, IfErr};
 ghost use Rattle.std.specs.List.{sum_by};
-ghost use Rattle.async_cell_recorded.specs.Recording.{IsRecorded};
-ghost use Rattle.async_cell_recorded.specs.Answering.{IsAnswered, IsEdited, Counts};
-ghost use Rattle.async_cell_recorded.specs.Counting.{fresh, picked};
+ghost use Rattle.async_cell_recorded.specs.Recording.{IsRecorded, plain_entry};
+ghost use Rattle.async_cell_recorded.specs.Answering.{IsCallResult};
+ghost use Rattle.async_cell_core.specs.Kept.{kept_call};
+ghost use Rattle.async_cell_recorded.specs.Counting.{new_shares, picked};
 ghost use Rattle.async_cell_recorded.specs.Fitting.{Fits};
 
 use crate::entry::Entry;
@@ -16,29 +17,29 @@ use async_cell_model::Kept;
 use std::alloc::Global;
 use std::sync::{Mutex, Wait};
 
-/// A cell whose calls are kept, in the order in which they take effect. Threads share it by
+/// A cell whose calls are recorded, in the order in which they take effect. Threads share it by
 /// reference, and each makes its calls with a share of its own. `M` names the cell.
 ///
-/// A call waits for the cell's lock, and then makes one step of its journal. It answers the entry
-/// that was made, with the wakers that it hands out, which the caller has the duty to wake. It is
-/// refused, and leaves no entry, for want of memory, or out of turn, where the share counts more
-/// calls than the history has entries. No contract says that the latter never comes about; tests
-/// meet none with a share of the cell.
+/// A call waits for the cell's lock, and then makes one step of its journal. It returns its entry,
+/// and the wakers that are to be woken: the caller must wake them. A call that fails leaves no
+/// entry. It fails with `Memory`, or with `OutOfTurn` if the share's count is not the number of its
+/// entries in the history. No contract says that the latter never happens; tests see none with a
+/// share of the cell.
 ///
-/// An edit is called, and dropped, while the lock is held: one that calls its own cell waits for
-/// ever.
+/// An edit is called, and dropped, while the lock is held: one that calls its own cell waits
+/// forever.
 #[derive(Drop)]
 pub struct Recorded<T, M: Pick<T>> {
     journal: Mutex<Journal<T, M>>,
     count: ShareCount<M>,
 }
 
-/// What a recorded call answers: its entry, with the names that it hands out, or why there is no
+/// The result of a recorded call: its entry, with the names that it wakes, or why there is no
 /// entry.
-pub type Answered<T> = Result<(Entry<T>, Wakers<Named>), Refusal>;
+pub type CallResult<T> = Result<(Entry<T>, Wakers<Named>), Refusal>;
 
-/// A call that is given no edit.
-type Plain<T> = Call<T, Named, NoEdit>;
+/// A call that takes no edit.
+type NoEditCall<T> = Call<T, Named, NoEdit>;
 
 /// The edit of the calls that have none.
 #[derive(Drop)]
@@ -63,14 +64,16 @@ impl<T> Edit<T> for NoEdit {
 }
 
 impl<T: Copy, M: Pick<T>> Recorded<T, M> {
-    /// An open cell without a value, with an owner for each share, and its shares, numbered from 0.
-    /// Refused where there was no memory.
+    /// Makes an open cell without a value, with an owner for each share, and its shares, numbered
+    /// from 0. Fails with `Memory` if there is no memory.
+    #[tactic(auto, using(crate::proofs::Counted::length_new_shares))]
     pub fn new(alloc: Global, shares: u32, blanks: Blanks) -> Result<(Self, Vec<Share<M>>), Refusal>
         requires some { 1 ≤ shares }
         requires shares { shares ≡ M.shares }
         requires calls { (blanks.calls.name ≡ M.calls) × (blanks.calls.parts ≡ M.shares) }
-        requires answers { (blanks.answers.name ≡ M.answers) × (blanks.answers.parts ≡ M.shares) }
-        ensures fresh { IfOk result (λ new. new.1.items ≡ fresh shares) }
+        requires picked { (blanks.picked.name ≡ M.picked) × (blanks.picked.parts ≡ M.shares) }
+        ensures one_each { IfOk result (λ new. vec_len new.1 ≡ shares) }
+        ensures new_shares { IfOk result (λ new. new.1.items ≡ new_shares shares) }
         ensures memory { IfErr result (λ why. why ≡ Refusal.Memory) }
     {
         let (journal, made) = Journal::new(alloc, shares, blanks)?;
@@ -81,10 +84,10 @@ impl<T: Copy, M: Pick<T>> Recorded<T, M> {
         Ok((cell, made))
     }
 
-    /// Takes the cell and all of its shares, in any order, and gives the history: it is legal, has
-    /// as many entries as the shares count, and as many that pass the marker's test as the shares
-    /// were answered. Where a share is missing, the cell and the shares come back as they were. It
-    /// takes no lock and no memory.
+    /// Takes the cell and all of its shares, in any order, and returns the history. The history is
+    /// legal, and has as many entries as the shares count. As many of its entries pass the marker's
+    /// test as results were picked over all shares. If a share is missing, the cell and the shares
+    /// are returned in the error as they were. Takes no lock and no memory.
     pub fn finish(
         self,
         shares: Vec<Share<M>>,
@@ -112,67 +115,67 @@ impl<T: Copy, M: Pick<T>> Recorded<T, M> {
         share: &mut Share<M>,
         call: Call<T, Named, E>,
         rt: &impl Wait,
-    ) -> Answered<T>
-        ensures call { IfOk result (λ answer. IsEdited E.edit E.edit_some call answer.0 answer.1) }
-        ensures fits { IfOk result (λ answer. Fits E.edit E.edit_some call answer.0) }
-        ensures counted { Counts M.pick share.old result share.new }
+    ) -> CallResult<T>
+        ensures call { IsCallResult M.pick (λ cell. kept_call E.edit E.edit_some cell call)
+            share.old result share.new }
+        ensures fits { IfOk result (λ answer.
+            Fits E.edit E.edit_some call (plain_entry answer.0)) }
     {
         self.journal.lock(rt).step(share, call)
     }
 
-    /// Puts the value in. All that wait are handed out. A closed cell refuses the value, and the
-    /// reply has it.
-    pub fn set(&self, share: &mut Share<M>, value: T, rt: &impl Wait) -> Answered<T>
-        ensures call { IfOk result (λ answer. IsAnswered (Kept.Set value) answer.0 answer.1) }
+    /// Sets the value. Returns the waiting wakers, to be woken by the caller. A closed cell refuses
+    /// the value, and the reply has it.
+    pub fn set(&self, share: &mut Share<M>, value: T, rt: &impl Wait) -> CallResult<T>
+        ensures call { IsCallResult M.pick (λ _. Kept.Set value) share.old result share.new }
         ensures replied { IfOk result (λ answer.
             (answer.0.reply ≡ Reply.Done)
             ⊎ (answer.0.reply ≡ Reply.Refused Refusal.Closed (Some value))) }
-        ensures counted { Counts M.pick share.old result share.new }
     {
-        self.call(share, Plain::<T>::Set(value), rt)
+        self.call(share, NoEditCall::<T>::Set(value), rt)
     }
 
-    /// Puts the value in where there is none; all that wait are handed out then. Else the reply has
-    /// the value, and so it does where the cell is closed and refuses.
-    pub fn or_set(&self, share: &mut Share<M>, value: T, rt: &impl Wait) -> Answered<T>
-        ensures call { IfOk result (λ answer. IsAnswered (Kept.OrSet value) answer.0 answer.1) }
+    /// Sets the value if the cell holds none, and then returns the waiting wakers, to be woken by
+    /// the caller. Otherwise the reply has the value, and so it does if the cell is closed and
+    /// refuses.
+    pub fn or_set(&self, share: &mut Share<M>, value: T, rt: &impl Wait) -> CallResult<T>
+        ensures call { IsCallResult M.pick (λ _. Kept.OrSet value) share.old result share.new }
         ensures replied { IfOk result (λ answer.
             (answer.0.reply ≡ Reply.Value None)
             ⊎ (answer.0.reply ≡ Reply.Value (Some value))
             ⊎ (answer.0.reply ≡ Reply.Refused Refusal.Closed (Some value))) }
-        ensures counted { Counts M.pick share.old result share.new }
     {
-        self.call(share, Plain::<T>::OrSet(value), rt)
+        self.call(share, NoEditCall::<T>::OrSet(value), rt)
     }
 
-    /// Puts the value in, and replies the old one. All that wait are handed out. A closed cell
-    /// refuses the value, and the reply has it.
-    pub fn replace(&self, share: &mut Share<M>, value: T, rt: &impl Wait) -> Answered<T>
-        ensures call { IfOk result (λ answer. IsAnswered (Kept.Replace value) answer.0 answer.1) }
+    /// Sets the value, and replies with the old one. Returns the waiting wakers, to be woken by the
+    /// caller. A closed cell refuses the value, and the reply has it.
+    pub fn replace(&self, share: &mut Share<M>, value: T, rt: &impl Wait) -> CallResult<T>
+        ensures call { IsCallResult M.pick (λ _. Kept.Replace value) share.old result share.new }
         ensures replied { IfOk result (λ answer.
             ((old : Option T) × (answer.0.reply ≡ Reply.Value old))
             ⊎ (answer.0.reply ≡ Reply.Refused Refusal.Closed (Some value))) }
-        ensures counted { Counts M.pick share.old result share.new }
     {
-        self.call(share, Plain::<T>::Replace(value), rt)
+        self.call(share, NoEditCall::<T>::Replace(value), rt)
     }
 
-    /// Makes the new content of the old one. A value where there was none hands out all that wait.
-    /// A closed cell refuses, and the edit is not called.
+    /// Makes the new content of the old one. If that puts a value into an empty cell, returns the
+    /// waiting wakers, to be woken by the caller. A closed cell refuses, and the edit is not
+    /// called.
     pub fn update<E: Edit<T> + Drop>(
         &self,
         share: &mut Share<M>,
         edit: E,
         rt: &impl Wait,
-    ) -> Answered<T>
-        ensures call { IfOk result (λ answer.
-            IsEdited E.edit E.edit_some (Call.Update edit) answer.0 answer.1) }
+    ) -> CallResult<T>
+        ensures call { IsCallResult M.pick
+            (λ cell. kept_call E.edit E.edit_some cell (Call.Update edit))
+            share.old result share.new }
         ensures edited { IfOk result (λ answer.
             ((saw : Option T) × (answer.0.call ≡ Kept.Update saw (E.edit edit saw))
             × (answer.0.reply ≡ Reply.Done))
             ⊎ ((answer.0.call ≡ Kept.Update None None)
             × (answer.0.reply ≡ Reply.Refused Refusal.Closed None))) }
-        ensures counted { Counts M.pick share.old result share.new }
     {
         self.call(share, Call::Update(edit), rt)
     }
@@ -184,104 +187,97 @@ impl<T: Copy, M: Pick<T>> Recorded<T, M> {
         share: &mut Share<M>,
         edit: E,
         rt: &impl Wait,
-    ) -> Answered<T>
-        ensures call { IfOk result (λ answer.
-            IsEdited E.edit E.edit_some (Call.UpdateSome edit) answer.0 answer.1) }
+    ) -> CallResult<T>
+        ensures call { IsCallResult M.pick
+            (λ cell. kept_call E.edit E.edit_some cell (Call.UpdateSome edit))
+            share.old result share.new }
         ensures edited { IfOk result (λ answer.
             ((v : T) × (answer.0.call ≡ Kept.UpdateSome (Some v) (Some (E.edit_some edit v)))
             × (answer.0.reply ≡ Reply.Done))
             ⊎ ((answer.0.call ≡ Kept.UpdateSome None None) × (answer.0.reply ≡ Reply.Done))
             ⊎ ((answer.0.call ≡ Kept.UpdateSome None None)
             × (answer.0.reply ≡ Reply.Refused Refusal.Closed None))) }
-        ensures counted { Counts M.pick share.old result share.new }
     {
         self.call(share, Call::UpdateSome(edit), rt)
     }
 
     /// Takes the value, if there is one.
-    pub fn try_take(&self, share: &mut Share<M>, rt: &impl Wait) -> Answered<T>
-        ensures call { IfOk result (λ answer. IsAnswered Kept.TryTake answer.0 answer.1) }
+    pub fn try_take(&self, share: &mut Share<M>, rt: &impl Wait) -> CallResult<T>
+        ensures call { IsCallResult M.pick (λ _. Kept.TryTake) share.old result share.new }
         ensures replied { IfOk result (λ answer.
             (v : Option T) × (answer.0.reply ≡ Reply.Value v)) }
-        ensures counted { Counts M.pick share.old result share.new }
     {
-        self.call(share, Plain::<T>::TryTake, rt)
+        self.call(share, NoEditCall::<T>::TryTake, rt)
     }
 
     /// Copies the value, if there is one.
-    pub fn try_get(&self, share: &mut Share<M>, rt: &impl Wait) -> Answered<T>
-        ensures call { IfOk result (λ answer. IsAnswered Kept.TryGet answer.0 answer.1) }
+    pub fn try_get(&self, share: &mut Share<M>, rt: &impl Wait) -> CallResult<T>
+        ensures call { IsCallResult M.pick (λ _. Kept.TryGet) share.old result share.new }
         ensures replied { IfOk result (λ answer.
             (v : Option T) × (answer.0.reply ≡ Reply.Value v)) }
-        ensures counted { Counts M.pick share.old result share.new }
     {
-        self.call(share, Plain::<T>::TryGet, rt)
+        self.call(share, NoEditCall::<T>::TryGet, rt)
     }
 
-    /// Whether there is a value.
-    pub fn is_set(&self, share: &mut Share<M>, rt: &impl Wait) -> Answered<T>
-        ensures call { IfOk result (λ answer. IsAnswered Kept.IsSet answer.0 answer.1) }
+    /// Replies whether there is a value.
+    pub fn is_set(&self, share: &mut Share<M>, rt: &impl Wait) -> CallResult<T>
+        ensures call { IsCallResult M.pick (λ _. Kept.IsSet) share.old result share.new }
         ensures replied { IfOk result (λ answer. (b : Bool) × (answer.0.reply ≡ Reply.Is b)) }
-        ensures counted { Counts M.pick share.old result share.new }
     {
-        self.call(share, Plain::<T>::IsSet, rt)
+        self.call(share, NoEditCall::<T>::IsSet, rt)
     }
 
     /// Takes the value, or waits for one under this name.
-    pub fn poll_take(&self, share: &mut Share<M>, name: Named, rt: &impl Wait) -> Answered<T>
-        ensures call { IfOk result (λ answer. IsAnswered (Kept.PollTake name) answer.0 answer.1) }
+    pub fn poll_take(&self, share: &mut Share<M>, name: Named, rt: &impl Wait) -> CallResult<T>
+        ensures call { IsCallResult M.pick (λ _. Kept.PollTake name) share.old result share.new }
         ensures replied { IfOk result (λ answer.
             (answer.0.reply ≡ Reply.Pending)
             ⊎ ((v : Option T) × (answer.0.reply ≡ Reply.Ready v))) }
-        ensures counted { Counts M.pick share.old result share.new }
     {
-        self.call(share, Plain::<T>::PollTake(name), rt)
+        self.call(share, NoEditCall::<T>::PollTake(name), rt)
     }
 
     /// Copies the value, or waits for one under this name.
-    pub fn poll_get(&self, share: &mut Share<M>, name: Named, rt: &impl Wait) -> Answered<T>
-        ensures call { IfOk result (λ answer. IsAnswered (Kept.PollGet name) answer.0 answer.1) }
+    pub fn poll_get(&self, share: &mut Share<M>, name: Named, rt: &impl Wait) -> CallResult<T>
+        ensures call { IsCallResult M.pick (λ _. Kept.PollGet name) share.old result share.new }
         ensures replied { IfOk result (λ answer.
             (answer.0.reply ≡ Reply.Pending)
             ⊎ ((v : Option T) × (answer.0.reply ≡ Reply.Ready v))) }
-        ensures counted { Counts M.pick share.old result share.new }
     {
-        self.call(share, Plain::<T>::PollGet(name), rt)
+        self.call(share, NoEditCall::<T>::PollGet(name), rt)
     }
 
-    /// One owner more.
-    pub fn add_owner(&self, share: &mut Share<M>, rt: &impl Wait) -> Answered<T>
-        ensures call { IfOk result (λ answer. IsAnswered Kept.AddOwner answer.0 answer.1) }
+    /// Adds an owner.
+    pub fn add_owner(&self, share: &mut Share<M>, rt: &impl Wait) -> CallResult<T>
+        ensures call { IsCallResult M.pick (λ _. Kept.AddOwner) share.old result share.new }
         ensures replied { IfOk result (λ answer.
             (answer.0.reply ≡ Reply.Done)
             ⊎ (answer.0.reply ≡ Reply.Refused Refusal.OwnersFull None)
             ⊎ (answer.0.reply ≡ Reply.Refused Refusal.Closed None)) }
-        ensures counted { Counts M.pick share.old result share.new }
     {
-        self.call(share, Plain::<T>::AddOwner, rt)
+        self.call(share, NoEditCall::<T>::AddOwner, rt)
     }
 
-    /// One owner less. The last one closes the cell: the reply has its value, and all that wait are
-    /// handed out.
-    pub fn end_owner(&self, share: &mut Share<M>, rt: &impl Wait) -> Answered<T>
-        ensures call { IfOk result (λ answer. IsAnswered Kept.EndOwner answer.0 answer.1) }
+    /// Ends one owner. The last one closes the cell: the reply has its value, and the waiting
+    /// wakers are returned, to be woken by the caller.
+    pub fn end_owner(&self, share: &mut Share<M>, rt: &impl Wait) -> CallResult<T>
+        ensures call { IsCallResult M.pick (λ _. Kept.EndOwner) share.old result share.new }
         ensures replied { IfOk result (λ answer.
             ((last : Option T) × (answer.0.reply ≡ Reply.Value last))
             ⊎ (answer.0.reply ≡ Reply.Refused Refusal.Closed None)) }
-        ensures counted { Counts M.pick share.old result share.new }
     {
-        self.call(share, Plain::<T>::EndOwner, rt)
+        self.call(share, NoEditCall::<T>::EndOwner, rt)
     }
 
-    /// Closes the cell of a sole owner: the reply has its value, and all that wait are handed out.
-    pub fn take_inner(&self, share: &mut Share<M>, rt: &impl Wait) -> Answered<T>
-        ensures call { IfOk result (λ answer. IsAnswered Kept.TakeInner answer.0 answer.1) }
+    /// Closes the cell if it has one owner: the reply has its value, and the waiting wakers are
+    /// returned, to be woken by the caller.
+    pub fn take_inner(&self, share: &mut Share<M>, rt: &impl Wait) -> CallResult<T>
+        ensures call { IsCallResult M.pick (λ _. Kept.TakeInner) share.old result share.new }
         ensures replied { IfOk result (λ answer.
             ((v : Option T) × (answer.0.reply ≡ Reply.Value v))
             ⊎ (answer.0.reply ≡ Reply.Refused Refusal.StillShared None)
             ⊎ (answer.0.reply ≡ Reply.Refused Refusal.Closed None)) }
-        ensures counted { Counts M.pick share.old result share.new }
     {
-        self.call(share, Plain::<T>::TakeInner, rt)
+        self.call(share, NoEditCall::<T>::TakeInner, rt)
     }
 }

@@ -1,8 +1,10 @@
-//! The way to share a recorded cell among threads without a proof of one's own.
-ghost use Rattle.std.specs.Prelude.{◌≡◌, ◌≤◌, ⊤, ℕ, List, [], length, vec_len, vec_capacity, IfOk, IfErr, map};
-ghost use Rattle.std.specs.List.{All, AllZip, sum};
+//! Sharing a recorded cell among threads, without a proof by the caller.
+ghost use Rattle.std.specs.Prelude.{◌≡◌, ◌≤◌, ⊤, false, [], length, vec_len, vec_capacity, map};
+ghost use Rattle.std.specs.Prelude.{IfOk, IfErr};
+ghost use Rattle.std.specs.List.{All, AllZip};
+ghost use Rattle.async_cell_recorded.specs.Counting.{ShareState, Test, new_shares};
+ghost use Rattle.async_cell_recorded.specs.Outcomes.{AreOutcomes, HasEnded, IsNew, share_of};
 ghost use Rattle.async_cell_recorded.specs.Recording.{IsRecorded};
-ghost use Rattle.async_cell_recorded.specs.Giving.{HasGiven};
 
 use crate::history::History;
 use crate::marker::{Blanks, Marker, Pick};
@@ -17,32 +19,45 @@ use std::thread::Threads;
 
 /// What threads do with a recorded cell.
 pub trait Session {
-    /// The values of the cell.
+    /// The type of the values of the cell.
     type Value;
 
-    /// What a thread gives.
+    /// What a thread returns.
     type Outcome;
 
-    /// What an outcome tells of the number of calls that its share counts. Without one of your own it tells nothing.
-    ghost told: { Self.Outcome → ℕ → Type 0 } = { λ _ _. ⊤ };
+    /// Which results of calls are picked, as [`Pick`] says. If you leave it out, none is.
+    ghost pick: { Test Self.Value } = { λ _ _. false };
 
-    /// What one thread does with the cell, through its share, which is new. The number of the share tells the threads apart.
+    /// What an outcome says of the share of its thread: of its number, of how many calls it counts,
+    /// and of how many of their results were picked. If you leave it out, it says nothing.
+    ghost describes: { Self.Outcome → ShareState → Type 0 } = { λ _ _. ⊤ };
+
+    /// What one thread does with the cell, through its share, which is new. The number of the share
+    /// distinguishes the threads.
     fn run<M: Pick<Self::Value>, R: Wait>(
         &self,
         rt: &R,
         cell: &Recorded<Self::Value, M>,
         share: &mut Share<M>,
     ) -> Self::Outcome
-        requires new { share.old.count ≡ 0 }
-        ensures told { told result share.new.count };
+        requires new { (share.old.count ≡ 0) × (share.old.picked ≡ 0) }
+        requires pick { M.pick ≡ pick }
+        ensures described { describes result (record share.new { number = share.old.number }) };
 }
 
-/// Makes an open cell without a value, with an owner for each share, runs the session once for each share, each in a thread
-/// of its own, and finishes the cell once all have ended. Gives what the threads gave, in the order of the shares' numbers,
-/// and the history, which has as many entries as the shares count: each outcome tells of its share's count what `Session::told`
-/// says. Refused where there was no memory for the cell, its shares or the outcomes. All of that is got before the first run
-/// begins, so no refusal comes after it; what a run's own calls are refused is for its outcome to say. Where no thread can be
-/// made, the runs come one after another, so none may wait for another one to come.
+/// Runs a session on a new cell, in a thread for each share. Makes an open cell without a value,
+/// with an owner for each share, runs the session once for each share, each in a thread of its own,
+/// and finishes the cell once all have ended.
+///
+/// Returns what the threads returned, in the order of the shares' numbers, and the history. What
+/// `Session::describes` says relates each outcome to its share: its number, its count, and how many
+/// of its results were picked. The history has as many entries as the shares count, and as many of
+/// its entries are picked, each with the names that it wakes.
+///
+/// Fails with `Memory` if there is no memory for the cell, its shares or the outcomes. All of that
+/// is allocated before the first run begins, so no refusal comes after it. Refusals of a run's own
+/// calls are for its outcome to report. If no thread can be made, the runs come one after another,
+/// so none may wait for another one to come.
 pub fn with_recorded<
     T: Copy + Send,
     O: Send + Drop,
@@ -53,14 +68,15 @@ pub fn with_recorded<
     ensures one_each { IfOk result (λ done. vec_len done.0 ≡ shares) }
     ensures begins { IfOk result (λ done. done.1.begin ≡ shares) }
     ensures recorded { IfOk result (λ done. IsRecorded done.1) }
-    ensures counted { IfOk result (λ done. (counts : List ℕ) × AllZip S.told done.0.items counts × (length done.1.entries ≡ sum counts)) }
+    ensures outcomes { IfOk result (λ done.
+        AreOutcomes S.describes S.pick shares done.0.items done.1) }
     ensures memory { IfErr result (λ why. why ≡ Refusal.Memory) }
 {
     run_marked::<T, O, S, R, Brand>(rt, alloc, shares, Blanks::new(shares), session)
 }
 
-/// The same for a cell that is named by `M`.
-#[tactic(auto, using(crate::proofs::Counted::length_fresh, crate::proofs::Counted::fresh_unused, crate::proofs::Counted::sum_counts))]
+/// Does the same for a cell that is named by `M`.
+#[tactic(auto, using(crate::proofs::Counted::length_new_shares))]
 fn run_marked<
     T: Copy + Send,
     O: Send + Drop,
@@ -76,12 +92,14 @@ fn run_marked<
 ) -> Result<(Vec<O>, History<T>), Refusal>
     requires some { 1 ≤ shares }
     requires shares { shares ≡ M.shares }
+    requires pick { M.pick ≡ S.pick }
     requires calls { (blanks.calls.name ≡ M.calls) × (blanks.calls.parts ≡ M.shares) }
-    requires answers { (blanks.answers.name ≡ M.answers) × (blanks.answers.parts ≡ M.shares) }
+    requires picked { (blanks.picked.name ≡ M.picked) × (blanks.picked.parts ≡ M.shares) }
     ensures one_each { IfOk result (λ done. vec_len done.0 ≡ shares) }
     ensures begins { IfOk result (λ done. done.1.begin ≡ shares) }
     ensures recorded { IfOk result (λ done. IsRecorded done.1) }
-    ensures counted { IfOk result (λ done. (counts : List ℕ) × AllZip S.told done.0.items counts × (length done.1.entries ≡ sum counts)) }
+    ensures outcomes { IfOk result (λ done.
+        AreOutcomes S.describes S.pick shares done.0.items done.1) }
     ensures memory { IfErr result (λ why. why ≡ Refusal.Memory) }
 {
     let (cell, made) = Recorded::<T, M>::new(alloc, shares, blanks)?;
@@ -98,37 +116,50 @@ fn run_marked<
     }
 }
 
-/// A share, and what its thread gave, once it has ended.
-type Seat<O, M> = (Share<M>, Option<O>);
+/// A share with its number, and what its thread returned, once it has ended.
+#[derive(Drop)]
+struct Seat<S, O> {
+    number: u32,
+    share: S,
+    outcome: Option<O>,
+}
 
-/// A seat for each share. Refused where there was no memory.
+/// Makes a seat for each share. Fails if there is no memory.
 fn seated<O: Drop, M: Marker>(
     alloc: Global,
     shares: Vec<Share<M>>,
-) -> Result<Vec<Seat<O, M>>, AllocError>
-    requires { All (λ share. share.count ≡ 0) shares.items }
+) -> Result<Vec<Seat<Share<M>, O>>, AllocError>
+    requires { All (λ share. (share.count ≡ 0) × (share.picked ≡ 0)) shares.items }
     ensures one_each { IfOk result (λ seats. vec_len seats ≡ vec_len shares) }
-    ensures unused { IfOk result (λ seats. All (λ seat. seat.0.count ≡ 0) seats.items) }
+    ensures new { IfOk result (λ seats. All IsNew seats.items) }
+    ensures numbers { IfOk result (λ seats.
+        map (λ seat. seat.number) seats.items ≡ map (λ share. share.number) shares.items) }
 {
     let mut seats = Vec::new(alloc);
     seats.reserve_exact(shares.len())?;
     for share in shares {
-        seats.push_reserved((share, None));
+        seats.push_reserved(Seat {
+            number: share.number(),
+            share,
+            outcome: None,
+        });
     }
     Ok(seats)
 }
 
-/// Runs the session for each share, in a thread of its own. It takes no memory.
+/// Runs the session for each share, in a thread of its own. Takes no memory.
 fn in_threads<
     T: Copy + Send,
     O: Send + Drop,
     S: Session<Value = T, Outcome = O> + Sync,
     R: Threads + Wait + Sync,
     M: Pick<T> + Send + Sync,
->(rt: &R, cell: &Recorded<T, M>, seats: &mut [Seat<O, M>], session: &S)
-    requires unused { All (λ seat. seat.0.count ≡ 0) seats.old }
+>(rt: &R, cell: &Recorded<T, M>, seats: &mut [Seat<Share<M>, O>], session: &S)
+    requires pick { M.pick ≡ S.pick }
+    requires new { All IsNew seats.old }
     ensures one_each { length seats.new ≡ length seats.old }
-    ensures given { All (HasGiven S.told) seats.new }
+    ensures numbers { map (λ seat. seat.number) seats.new ≡ map (λ seat. seat.number) seats.old }
+    ensures ended { All (HasEnded S.describes) seats.new }
 {
     let threads = seats.len().max(1);
     thread::for_each_mut(
@@ -143,30 +174,39 @@ fn in_threads<
 fn run_one<T: Copy, O: Drop, S: Session<Value = T, Outcome = O>, R: Wait, M: Pick<T>>(
     rt: &R,
     cell: &Recorded<T, M>,
-    seat: &mut Seat<O, M>,
+    seat: &mut Seat<Share<M>, O>,
     session: &S,
 )
-    requires { seat.old.0.count ≡ 0 }
-    ensures { HasGiven S.told seat.new }
+    requires pick { M.pick ≡ S.pick }
+    requires new { IsNew seat.old }
+    ensures number { seat.new.number ≡ seat.old.number }
+    ensures ended { HasEnded S.describes seat.new }
 {
-    let outcome = session.run::<M, R>(rt, cell, &mut seat.0);
-    seat.1 = Some(outcome);
+    let outcome = session.run::<M, R>(rt, cell, &mut seat.share);
+    seat.outcome = Some(outcome);
 }
 
-/// Parts the seats into the outcomes, and the shares. There is room for both.
+/// Splits the seats into the outcomes and the shares. There is room for both.
 fn part<O: Drop, S: Session<Outcome = O>, M: Marker>(
-    seats: Vec<Seat<O, M>>,
+    seats: Vec<Seat<Share<M>, O>>,
     outcomes: &mut Vec<O>,
     shares: &mut Vec<Share<M>>,
 )
-    requires given { All (HasGiven S.told) seats.items }
+    requires ended { All (HasEnded S.describes) seats.items }
     requires empty { (outcomes.old.items ≡ []) × (shares.old.items ≡ []) }
-    requires room { (vec_len seats ≤ vec_capacity outcomes.old) × (vec_len seats ≤ vec_capacity shares.old) }
+    requires room { (vec_len seats ≤ vec_capacity outcomes.old)
+        × (vec_len seats ≤ vec_capacity shares.old) }
     ensures outcomes { vec_len outcomes.new ≡ vec_len seats }
-    ensures shares { vec_len shares.new ≡ vec_len seats }
-    ensures told { AllZip S.told outcomes.new.items (map (λ share. share.count) shares.new.items) }
+    ensures one_each { vec_len shares.new ≡ vec_len seats }
+    ensures described { AllZip S.describes outcomes.new.items (map share_of seats.items) }
+    ensures shares { shares.new.items ≡ map (λ seat. seat.share) seats.items }
 {
-    for (share, outcome) in seats {
+    for seat in seats {
+        let Seat {
+            number: _,
+            share,
+            outcome,
+        } = seat;
         let Some(outcome) = outcome else {
             unreachable!();
         };

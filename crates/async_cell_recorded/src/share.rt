@@ -1,40 +1,43 @@
 ghost use Rattle.std.specs.Prelude.{◌≡◌};
 
-use crate::marker::{Answers, Calls, Marker};
+use crate::marker::{CallsLedger, Marker, PickedLedger};
 use std::marker::Model;
 use std::sync::ledger;
 
-/// The right to make calls on a recorded cell, and the number of those that were made with it. It is lent to each call,
-/// and all shares together finish the cell. `M` names the cell.
+/// The right to make calls on a recorded cell, and the number of those that were made with it. Each
+/// call borrows it, and all shares together finish the cell. `M` names the cell.
 #[derive(Drop)]
 pub struct Share<M: Marker> {
     pub(crate) number: u32,
     pub(crate) count: u64,
-    pub(crate) calls: ledger::Share<Calls<M>>,
-    pub(crate) answers: ledger::Share<Answers<M>>,
+    pub(crate) calls: ledger::Share<CallsLedger<M>>,
+    pub(crate) picked: ledger::Share<PickedLedger<M>>,
 }
 
-/// Contracts see the number, the count, and how many of the answers were picked.
+/// Contracts see the number, the count, and how many of the results were picked.
 impl<M: Marker> Model for Share<M> {
-    ghost use Rattle.std.specs.Prelude.{◌≡◌};
-    ghost use Rattle.async_cell_recorded.specs.Counting.{Standing};
+    ghost use Rattle.std.specs.Prelude.{◌≡◌, ◌<◌};
+    ghost use Rattle.async_cell_recorded.specs.Counting.{ShareState};
 
-    ghost Value = { Standing };
+    ghost Value = { ShareState };
 
-    ghost view = { λ s. record { number = s.number; count = s.count; picked = s.answers.amount } };
+    ghost view = { λ s. record { number = s.number; count = s.count; picked = s.picked.amount } };
 
-    ghost invariant = { λ s. (s.calls.parts ≡ 1) × (s.calls.amount ≡ s.count) × (s.answers.parts ≡ 1) };
+    ghost invariant = { λ s.
+        (s.calls.parts ≡ 1) × (s.calls.amount ≡ s.count) × (s.picked.parts ≡ 1)
+        × (s.number < M.shares) };
 }
 
 impl<M: Marker> Share<M> {
-    /// The number of the share, from 0.
+    /// Returns the number of the share, from 0.
     pub fn number(&self) -> u32
         ensures { result ≡ self.now.number }
     {
         self.number
     }
 
-    /// How many calls were made with the share. A call that was refused for want of memory or out of turn does not count.
+    /// Returns how many calls were made with the share. A call that failed with `Memory` or
+    /// `OutOfTurn` does not count.
     pub fn count(&self) -> u64
         ensures { result ≡ self.now.count }
     {

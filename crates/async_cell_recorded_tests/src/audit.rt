@@ -20,7 +20,7 @@ impl Session for Replacing {
 
     type Outcome = u64;
 
-    ghost told = { λ answered count. answered ≡ count };
+    ghost describes = { λ answered share. answered ≡ share.count };
 
     /// Gives how many calls were answered.
     fn run<M: Pick<u64>, R: Wait>(
@@ -39,9 +39,9 @@ impl Session for Replacing {
     }
 }
 
-/// What four threads did with one cell: how many calls of each were answered, and the history. It is legal, begins with four
-/// owners, and has as many entries as calls were answered.
-#[tactic(auto, using(crate::proofs::Audited::sum_told))]
+/// What four threads did with one cell: how many calls of each were answered, and the history. It
+/// is legal, begins with four owners, and has as many entries as calls were answered.
+#[tactic(auto, using(crate::proofs::Audited::sum_counts))]
 pub fn audited<R: Threads + Wait + Sync>(
     rt: &R,
     alloc: Global,

@@ -7,32 +7,33 @@ use std::sync::Wait;
 use std::test::Fail;
 use std::thread::Threads;
 
-/// What is answered by a wait, two updates that find nothing, a value, the end and an update after it.
-pub const WAIT_AND_CLOSE: &str = "PollTake(Named(1)): Pending\n\
-    Update { saw: None, put: None }: Done\n\
-    UpdateSome { saw: None, put: None }: Done\n\
-    Set(5): Done woke 1\n\
-    EndOwner: Value(Some(5))\n\
-    Update { saw: None, put: None }: Refused(Closed, None)\n";
+/// What is answered by a wait, two updates that find nothing, a value, the end and an update after
+/// it: the share, the serial, the call and the reply.
+pub const WAIT_AND_CLOSE: &str = "0 0 PollTake(Named(1)): Pending\n\
+    0 1 Update { saw: None, put: None }: Done\n\
+    0 2 UpdateSome { saw: None, put: None }: Done\n\
+    0 3 Set(5): Done woke 1\n\
+    0 4 EndOwner: Value(Some(5))\n\
+    0 5 Update { saw: None, put: None }: Refused(Closed, None)\n";
 
 /// The history of the same calls.
-pub const WAIT_AND_CLOSE_KEPT: &str = "PollTake(Named(1)): Pending\n\
-    Update { saw: None, put: None }: Done\n\
-    UpdateSome { saw: None, put: None }: Done\n\
-    Set(5): Done\n\
-    EndOwner: Value(Some(5))\n\
-    Update { saw: None, put: None }: Refused(Closed, None)\n";
+pub const WAIT_AND_CLOSE_KEPT: &str = "0 0 PollTake(Named(1)): Pending\n\
+    0 1 Update { saw: None, put: None }: Done\n\
+    0 2 UpdateSome { saw: None, put: None }: Done\n\
+    0 3 Set(5): Done\n\
+    0 4 EndOwner: Value(Some(5))\n\
+    0 5 Update { saw: None, put: None }: Refused(Closed, None)\n";
 
 /// What the calls on owners are answered, with values between them.
-pub const OWNERS: &str = "AddOwner: Done\n\
-    TakeInner: Refused(StillShared, None)\n\
-    OrSet(3): Value(None)\n\
-    IsSet: Is(true)\n\
-    PollGet(Named(1)): Ready(Some(3))\n\
-    TryTake: Value(Some(3))\n\
-    Replace(4): Value(None)\n\
-    EndOwner: Value(None)\n\
-    TakeInner: Value(Some(4))\n";
+pub const OWNERS: &str = "0 0 AddOwner: Done\n\
+    0 1 TakeInner: Refused(StillShared, None)\n\
+    0 2 OrSet(3): Value(None)\n\
+    0 3 IsSet: Is(true)\n\
+    0 4 PollGet(Named(1)): Ready(Some(3))\n\
+    0 5 TryTake: Value(Some(3))\n\
+    0 6 Replace(4): Value(None)\n\
+    0 7 EndOwner: Value(None)\n\
+    0 8 TakeInner: Value(Some(4))\n";
 
 /// The calls that a test makes with the only share of a cell.
 #[derive(Clone, Copy)]
@@ -135,8 +136,8 @@ fn a_cell_without_calls_has_an_empty_history(rt: HostRuntime) -> Result<(), Fail
 #[test]
 fn a_value_that_was_set_is_got(rt: HostRuntime) -> Result<(), Fail> {
     let (answers, history) = answers_and_history(Calls::SetAndGet, rt.alloc(), &rt)?;
-    let wanted = "Set(5): Done\n\
-    TryGet: Value(Some(5))\n";
+    let wanted = "0 0 Set(5): Done\n\
+    0 1 TryGet: Value(Some(5))\n";
     assert_eq!(rt; answers.as_str(), wanted);
     let kept = text_of(&history, String::new(rt.alloc()))?;
     assert_eq!(rt; kept.as_str(), wanted);
@@ -168,9 +169,9 @@ fn owners_of_a_cell_with_one_share(rt: HostRuntime) -> Result<(), Fail> {
 #[test]
 fn an_update_is_kept_with_what_it_saw_and_put(rt: HostRuntime) -> Result<(), Fail> {
     let (answers, history) = answers_and_history(Calls::Changes, rt.alloc(), &rt)?;
-    let wanted = "Update { saw: None, put: Some(1) }: Done\n\
-    UpdateSome { saw: Some(1), put: Some(2) }: Done\n\
-    PollTake(Named(1)): Ready(Some(2))\n";
+    let wanted = "0 0 Update { saw: None, put: Some(1) }: Done\n\
+    0 1 UpdateSome { saw: Some(1), put: Some(2) }: Done\n\
+    0 2 PollTake(Named(1)): Ready(Some(2))\n";
     assert_eq!(rt; answers.as_str(), wanted);
     let kept = text_of(&history, String::new(rt.alloc()))?;
     assert_eq!(rt; kept.as_str(), wanted);

@@ -3,8 +3,8 @@ ghost use Rattle.std.specs.Prelude.{◌≡◌, IfOk};
 
 use crate::calls::{OWNERS, WAIT_AND_CLOSE};
 use crate::edits::{Leave, Put};
-use crate::text::note;
-use async_cell_recorded::{Blanks, Call, Journal, Named, Pick, Recorded, Refusal, Share};
+use crate::text::{note, text_of};
+use async_cell_recorded::{Blanks, Call, History, Journal, Named, Pick, Recorded, Refusal, Share};
 use std::alloc::Global;
 use std::marker::Brand;
 use std::sync::Wait;
@@ -43,14 +43,15 @@ fn owners<M: Pick<u32>>(
     note(text, journal.step(share, Made::<Leave>::TakeInner))
 }
 
-/// What both lists of steps are answered, each on a journal of its own, with the counts of the shares.
+/// What both lists of steps are answered, each on a journal of its own, with the counts of the
+/// shares.
 fn steps<M: Pick<u32>>(
     alloc: Global,
     blanks: Blanks,
     is_owners: bool,
 ) -> Result<(String, u64), Refusal>
     requires calls { (blanks.calls.name ≡ M.calls) × (blanks.calls.parts ≡ 1) }
-    requires answers { (blanks.answers.name ≡ M.answers) × (blanks.answers.parts ≡ 1) }
+    requires picked { (blanks.picked.name ≡ M.picked) × (blanks.picked.parts ≡ 1) }
     requires shares { M.shares ≡ 1 }
 {
     let (mut journal, mut shares) = Journal::<u32, M>::new(alloc, 1, blanks)?;
@@ -84,7 +85,7 @@ fn finish_twice<M: Pick<u32>>(
     rt: &impl Wait,
 ) -> Result<(bool, usize, Vec<u32>), Refusal>
     requires calls { (blanks.calls.name ≡ M.calls) × (blanks.calls.parts ≡ 2) }
-    requires answers { (blanks.answers.name ≡ M.answers) × (blanks.answers.parts ≡ 2) }
+    requires picked { (blanks.picked.name ≡ M.picked) × (blanks.picked.parts ≡ 2) }
     requires shares { M.shares ≡ 2 }
 {
     let (cell, mut shares) = Recorded::<u32, M>::new(alloc, 2, blanks)?;
@@ -111,5 +112,59 @@ fn a_cell_is_not_finished_without_all_shares(rt: HostRuntime) -> Result<(), Fail
     assert!(rt; came_back);
     assert_eq!(rt; len, 1);
     assert_eq!(rt; numbers.as_slice(), [0, 1].as_slice());
+    Ok(())
+}
+
+/// Makes a call with the first of two shares, one with the second, and another with the first.
+fn calls_of_two<M: Pick<u32>>(
+    alloc: Global,
+    blanks: Blanks,
+    rt: &impl Wait,
+) -> Result<History<u32>, Refusal>
+    requires calls { (blanks.calls.name ≡ M.calls) × (blanks.calls.parts ≡ 2) }
+    requires picked { (blanks.picked.name ≡ M.picked) × (blanks.picked.parts ≡ 2) }
+    requires shares { M.shares ≡ 2 }
+{
+    let (cell, mut shares) = Recorded::<u32, M>::new(alloc, 2, blanks)?;
+    let (Some(mut second), Some(mut first)) = (shares.pop(), shares.pop()) else {
+        return Err(Refusal::ShareMissing);
+    };
+    let _ = cell.set(&mut first, 5, rt)?;
+    let _ = cell.replace(&mut second, 6, rt)?;
+    let _ = cell.try_get(&mut first, rt)?;
+    shares.push_reserved(second);
+    shares.push_reserved(first);
+    cell.finish(shares).map_err(|_| Refusal::ShareMissing)
+}
+
+#[test]
+fn each_share_has_serials_of_its_own(rt: HostRuntime) -> Result<(), Fail> {
+    let history = calls_of_two::<Brand>(rt.alloc(), Blanks::new(2), &rt)?;
+    let text = text_of(&history, String::new(rt.alloc()))?;
+    assert_eq!(rt;
+        text.as_str(),
+        "0 0 Set(5): Done\n\
+        1 0 Replace(6): Value(Some(5))\n\
+        0 1 TryGet: Value(Some(6))\n"
+    );
+    Ok(())
+}
+
+#[test]
+fn a_plain_history_is_carried_to_one_share(rt: HostRuntime) -> Result<(), Fail> {
+    let history = calls_of_two::<Brand>(rt.alloc(), Blanks::new(2), &rt)?;
+    let plain = history.plain()?;
+    assert_eq!(rt; plain.begin(), 2);
+    assert_eq!(rt; plain.len(), 3);
+    assert!(rt; !plain.is_empty() && plain.entries().len() == 3);
+    let carried = History::carry(plain).map_err(|(why, _)| why)?;
+    let text = text_of(&carried, String::new(rt.alloc()))?;
+    assert_eq!(rt;
+        text.as_str(),
+        "0 0 Set(5): Done\n\
+        0 1 Replace(6): Value(Some(5))\n\
+        0 2 TryGet: Value(Some(6))\n"
+    );
+    assert_eq!(rt; carried.begin(), 2);
     Ok(())
 }

@@ -1,5 +1,5 @@
-//! Tests of the recorded cell, in a crate of their own so that the library is not proved twice, and two callers: an audit of a
-//! cell that four threads share, and a count of one kind of answers.
+//! Tests of the recorded cell, in a crate of their own so that the library is not proved twice, and
+//! two callers: an audit of a cell that four threads share, and a count of one kind of answers.
 #![tactic(auto)]
 
 pub mod audit;

@@ -1,11 +1,11 @@
-//! Want of memory: a call that finds none leaves no entry and does not count. The tests hold whichever request is refused,
-//! and are run with each in turn.
+//! Want of memory: a call that finds none leaves no entry, does not count and uses up no serial.
+//! The tests hold whichever request is refused, and are run with each in turn.
 ghost use Rattle.std.specs.Prelude.{◌≡◌};
 
 use crate::edits::{Leave, Put};
 use async_cell_recorded::{
-    Answered, Blanks, Call, Entry, History, Journal, Kept, Named, Pick, Recorded, Refusal, Reply,
-    Share,
+    Blanks, Call, CallResult, Entry, History, Journal, Kept, Named, Pick, Plain, Recorded, Refusal,
+    Reply, Share,
 };
 use std::alloc::Global;
 use std::marker::Brand;
@@ -18,7 +18,7 @@ type Step<E> = Call<u32, Named, E>;
 /// What a call was answered, with how many names it handed out, or none where it found no memory.
 type Made = Option<(Entry<u32>, usize)>;
 
-fn found(answer: Answered<u32>) -> Result<Made, Refusal> {
+fn found(answer: CallResult<u32>) -> Result<Made, Refusal> {
     match answer {
         Ok((entry, woken)) => Ok(Some((entry, woken.len()))),
         Err(Refusal::Memory) => Ok(None),
@@ -26,8 +26,9 @@ fn found(answer: Answered<u32>) -> Result<Made, Refusal> {
     }
 }
 
-/// A wait, two updates that find nothing, a value, the end and an update after it, as calls of a new cell with one share,
-/// with the share's count and the history. Refused where there was no memory for the cell.
+/// A wait, two updates that find nothing, a value, the end and an update after it, as calls of a
+/// new cell with one share, with the share's count and the history. Refused where there was no
+/// memory for the cell.
 fn calls<M: Pick<u32>>(
     alloc: Global,
     blanks: Blanks,
@@ -35,7 +36,7 @@ fn calls<M: Pick<u32>>(
     rt: &impl Wait,
 ) -> Result<(u64, History<u32>), Refusal>
     requires calls { (blanks.calls.name ≡ M.calls) × (blanks.calls.parts ≡ 1) }
-    requires answers { (blanks.answers.name ≡ M.answers) × (blanks.answers.parts ≡ 1) }
+    requires picked { (blanks.picked.name ≡ M.picked) × (blanks.picked.parts ≡ 1) }
     requires shares { M.shares ≡ 1 }
 {
     let (cell, mut shares) = Recorded::<u32, M>::new(alloc, 1, blanks)?;
@@ -53,10 +54,34 @@ fn calls<M: Pick<u32>>(
     Ok((count, history))
 }
 
+/// Two waits and a value, as calls of a new cell with one share, with the share's count and the
+/// history. Refused where there was no memory for the cell.
+fn waits<M: Pick<u32>>(
+    alloc: Global,
+    blanks: Blanks,
+    made: &mut [Made; 3],
+    rt: &impl Wait,
+) -> Result<(u64, History<u32>), Refusal>
+    requires calls { (blanks.calls.name ≡ M.calls) × (blanks.calls.parts ≡ 1) }
+    requires picked { (blanks.picked.name ≡ M.picked) × (blanks.picked.parts ≡ 1) }
+    requires shares { M.shares ≡ 1 }
+{
+    let (cell, mut shares) = Recorded::<u32, M>::new(alloc, 1, blanks)?;
+    let Some(share) = shares.first_mut() else {
+        return Err(Refusal::ShareMissing);
+    };
+    made[0] = found(cell.poll_take(share, Named(1), rt))?;
+    made[1] = found(cell.poll_get(share, Named(2), rt))?;
+    made[2] = found(cell.set(share, 5, rt))?;
+    let count = share.count();
+    let history = cell.finish(shares).map_err(|_| Refusal::ShareMissing)?;
+    Ok((count, history))
+}
+
 /// The same as steps of a new journal, with the share's count.
 fn steps<M: Pick<u32>>(alloc: Global, blanks: Blanks, made: &mut [Made; 6]) -> Result<u64, Refusal>
     requires calls { (blanks.calls.name ≡ M.calls) × (blanks.calls.parts ≡ 1) }
-    requires answers { (blanks.answers.name ≡ M.answers) × (blanks.answers.parts ≡ 1) }
+    requires picked { (blanks.picked.name ≡ M.picked) × (blanks.picked.parts ≡ 1) }
     requires shares { M.shares ≡ 1 }
 {
     let (mut journal, mut shares) = Journal::<u32, M>::new(alloc, 1, blanks)?;
@@ -73,8 +98,11 @@ fn steps<M: Pick<u32>>(alloc: Global, blanks: Blanks, made: &mut [Made; 6]) -> R
 }
 
 /// What each of the calls is to be answered, where those that found no memory left all as it was.
-fn expected(made: &[Made; 6]) -> [(Entry<u32>, usize); 6] {
-    let told = |call, reply, names| (Entry { call, reply }, names);
+fn expected(made: &[Made; 6]) -> [(Plain<u32>, usize); 6] {
+    let told = |call, reply, names| {
+        let plain = Plain { call, reply };
+        (plain, names)
+    };
     let nothing = (None, None);
     let waiting = if made[0].is_some() { 1 } else { 0 };
     let value = if made[3].is_some() { Some(5) } else { None };
@@ -116,12 +144,18 @@ fn expected(made: &[Made; 6]) -> [(Entry<u32>, usize); 6] {
     ]
 }
 
-/// Each call that found memory was answered as is expected, and is counted; at most one found none.
+/// Each call that found memory was answered as is expected, with the next serial, and is counted;
+/// at most one found none.
 fn judge(made: &[Made; 6], count: u64, rt: &impl Abort) {
     let mut answered = 0u64;
     for (made, wanted) in made.iter().zip(expected(made).iter()) {
-        if let Some(told) = made {
-            assert_eq!(rt; told, wanted);
+        if let Some((entry, names)) = made {
+            let told = Plain {
+                call: entry.call,
+                reply: entry.reply,
+            };
+            assert_eq!(rt; &(told, *names), wanted);
+            assert!(rt; entry.share == 0 && entry.serial == answered);
             answered = answered.saturating_add(1);
         }
     }
@@ -151,6 +185,33 @@ fn a_step_without_memory_does_not_count(rt: HostRuntime) -> Result<(), Fail> {
     let mut made = [None; 6];
     match steps::<Brand>(rt.alloc(), Blanks::new(1), &mut made) {
         Ok(count) => judge(&made, count, &rt),
+        Err(why) => assert_eq!(rt; why, Refusal::Memory),
+    }
+    Ok(())
+}
+
+/// The value was handed to those that wait, where there was memory for it.
+fn hands_out_to_all(made: &[Made; 3], rt: &impl Abort) {
+    let waiting = made
+        .iter()
+        .flatten()
+        .filter(|told| told.0.reply == Reply::Pending)
+        .count();
+    if let Some((_, names)) = made[2] {
+        assert_eq!(rt; names, waiting);
+    }
+}
+
+#[test]
+fn a_recorded_wait_without_memory_is_not_handed_out(rt: HostRuntime) -> Result<(), Fail> {
+    let mut made = [None; 3];
+    match waits::<Brand>(rt.alloc(), Blanks::new(1), &mut made, &rt) {
+        Ok((count, history)) => {
+            hands_out_to_all(&made, &rt);
+            assert!(rt; count >= 2);
+            assert_eq!(rt; count, made.iter().flatten().count() as u64);
+            assert_eq!(rt; count, history.len() as u64);
+        }
         Err(why) => assert_eq!(rt; why, Refusal::Memory),
     }
     Ok(())

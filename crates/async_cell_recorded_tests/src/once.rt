@@ -30,8 +30,8 @@ impl Edit<u32> for Counting<'_> {
     }
 }
 
-/// Both updates on a cell without a value, on one with a value, and on a closed one. Gives how often edits were called until
-/// after each of the three.
+/// Both updates on a cell without a value, on one with a value, and on a closed one. Returns how
+/// often edits were called until after each of the three.
 #[derive(Drop)]
 struct Updates(AtomicU32);
 

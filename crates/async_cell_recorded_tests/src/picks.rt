@@ -1,6 +1,6 @@
 //! A count of one kind of answers: the marker's test picks the entries of calls that put five in.
 ghost use Rattle.std.specs.Prelude.{◌≡◌, IfOk};
-ghost use Rattle.async_cell_recorded.specs.Counting.{one_if, picked};
+ghost use Rattle.async_cell_recorded.specs.Counting.{from_bool, picked};
 ghost use Rattle.async_cell_recorded_tests.specs.Picks.{is_set_of_five};
 
 use async_cell_recorded::{Blanks, Entry, History, Named, Pick, Recorded, Refusal, Wakers};
@@ -24,10 +24,12 @@ pub struct Told {
 /// The same for a cell that is named by `M`, whose test picks the sets of five.
 fn set_five<M: Pick<u32>>(alloc: Global, blanks: Blanks, rt: &impl Wait) -> Result<Told, Refusal>
     requires calls { (blanks.calls.name ≡ M.calls) × (blanks.calls.parts ≡ 1) }
-    requires answers { (blanks.answers.name ≡ M.answers) × (blanks.answers.parts ≡ 1) }
+    requires picked { (blanks.picked.name ≡ M.picked) × (blanks.picked.parts ≡ 1) }
     requires shares { M.shares ≡ 1 }
     requires pick { M.pick ≡ is_set_of_five }
-    ensures as_told { IfOk result (λ told. picked is_set_of_five told.history ≡ one_if (is_set_of_five told.entry told.names)) }
+    ensures as_told { IfOk result (λ told.
+        picked is_set_of_five told.history
+        ≡ from_bool (is_set_of_five told.entry told.names)) }
     ensures once { IfOk result (λ told. picked is_set_of_five told.history ≡ 1) }
 {
     let (cell, mut shares) = Recorded::<u32, M>::new(alloc, 1, blanks)?;
@@ -44,10 +46,12 @@ fn set_five<M: Pick<u32>>(alloc: Global, blanks: Blanks, rt: &impl Wait) -> Resu
     })
 }
 
-/// Puts five into a new cell. The history has exactly as many sets of five, each with the names that it hands out, as the
-/// call was answered: one.
+/// Puts five into a new cell. The history has exactly as many sets of five, each with the names
+/// that it wakes, as the call was answered: one.
 pub fn five_once(alloc: Global, rt: &impl Wait) -> Result<Told, Refusal>
-    ensures as_told { IfOk result (λ told. picked is_set_of_five told.history ≡ one_if (is_set_of_five told.entry told.names)) }
+    ensures as_told { IfOk result (λ told.
+        picked is_set_of_five told.history
+        ≡ from_bool (is_set_of_five told.entry told.names)) }
     ensures once { IfOk result (λ told. picked is_set_of_five told.history ≡ 1) }
 {
     set_five::<Brand>(alloc, Blanks::new(1), rt)

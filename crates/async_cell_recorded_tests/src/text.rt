@@ -1,11 +1,17 @@
 //! What was answered, as text.
-use async_cell_recorded::{Answered, History, Named, Refusal};
+use async_cell_recorded::{CallResult, History, Named, Refusal};
 use std::fmt::Write;
 
-/// Adds the entry that a call answered, with the names that it handed out.
-pub fn note(text: &mut String, answer: Answered<u32>) -> Result<(), Refusal> {
+/// Adds the entry that a call answered: its share, its serial, the call and the reply. Adds the
+/// names that it handed out.
+pub fn note(text: &mut String, answer: CallResult<u32>) -> Result<(), Refusal> {
     let (entry, mut woken) = answer?;
-    write!(text, "{:?}: {:?}", entry.call, entry.reply).map_err(|_| Refusal::Memory)?;
+    write!(
+        text,
+        "{} {} {:?}: {:?}",
+        entry.share, entry.serial, entry.call, entry.reply
+    )
+    .map_err(|_| Refusal::Memory)?;
     for _ in 0..woken.len() {
         if let Some(Named(name)) = woken.next() {
             write!(text, " woke {name}").map_err(|_| Refusal::Memory)?;
@@ -14,10 +20,15 @@ pub fn note(text: &mut String, answer: Answered<u32>) -> Result<(), Refusal> {
     write!(text, "\n").map_err(|_| Refusal::Memory)
 }
 
-/// The calls of a history, a line for each, with its reply.
+/// The entries of a history, a line for each: its share, its serial, the call and the reply.
 pub fn text_of(history: &History<u32>, mut text: String) -> Result<String, Refusal> {
     for entry in history.entries() {
-        write!(text, "{:?}: {:?}\n", entry.call, entry.reply).map_err(|_| Refusal::Memory)?;
+        write!(
+            text,
+            "{} {} {:?}: {:?}\n",
+            entry.share, entry.serial, entry.call, entry.reply
+        )
+        .map_err(|_| Refusal::Memory)?;
     }
     Ok(text)
 }

@@ -41,19 +41,40 @@ fn last_put(history: &History<u32>) -> Option<u32> {
     }
 }
 
+/// Whether each share's entries have the serials 0 to 99 in order, and each replies what the thread
+/// was told by that call.
+fn is_as_told(told: &[Vec<Reply<u32>>], history: &History<u32>) -> bool {
+    let mut next_serials = [0u64; 2];
+    for entry in history.entries() {
+        let share = entry.share as usize;
+        let (Some(next), Some(replies)) = (next_serials.get_mut(share), told.get(share)) else {
+            return false;
+        };
+        if entry.serial != *next || replies.get(entry.serial as usize) != Some(&entry.reply) {
+            return false;
+        }
+        *next = next.wrapping_add(1);
+    }
+    next_serials == [100, 100]
+}
+
 #[test]
 fn each_value_that_was_put_in_is_given_once(rt: HostRuntime) -> Result<(), Fail> {
     let alloc = rt.alloc();
     let (given, history) = with_recorded(&rt, alloc, 2, &Replaces(alloc))?;
     assert_eq!(rt; history.len(), 200);
     let mut values = Vec::new(alloc);
+    let mut told = Vec::new(alloc);
     for replies in given {
-        for reply in replies? {
+        let replies = replies?;
+        for reply in &replies {
             if let Reply::Value(Some(value)) = reply {
-                values.push(value)?;
+                values.push(*value)?;
             }
         }
+        told.push(replies)?;
     }
+    assert!(rt; is_as_told(told.as_slice(), &history));
     if let Some(last) = last_put(&history) {
         values.push(last)?;
     }
@@ -141,8 +162,8 @@ fn no_call_waits_for_the_others_to_end(rt: HostRuntime) -> Result<(), Fail> {
 #[derive(Drop)]
 struct WaitAndEnd(Global);
 
-/// What a thread was answered: the number of its share, how often it is to wait, whether its end gave no value, whether a
-/// poll handed out any name, and the names that its end handed out.
+/// What the calls of a thread returned: the number of its share, how often it is to wait, whether
+/// its end returned no value, whether a poll returned any name, and the names of its end.
 #[derive(Drop)]
 struct Ended {
     share: u32,

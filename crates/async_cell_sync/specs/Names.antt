@@ -1,4 +1,4 @@
--- Which cell a pointer names.
+-- Which cell a pointer points to.
 use Rattle.std.specs.Prelude.{◌≡◌, None, IfSome, IsSomeAnd, MatchOption}
 use Rattle.std.specs.Arc.{arc_value}
 use Rattle.async_cell_sync.specs.declared.async_cell.AsyncCell.{AsyncCell}
@@ -10,22 +10,24 @@ module _ {T : Type 0} where
   abbrev pub cell_of : Shared T → AsyncCell T
   cell_of owner = arc_value owner.cell
 
-  -- the weak pointer names this cell
+  -- the weak pointer points to this cell
   abbrev pub Names : Weak T → AsyncCell T → Type 0
   Names weak cell = IsSomeAnd weak.cell (λ pointer. arc_value pointer ≡ cell)
 
-  -- the weak pointer names this cell, or could not be counted when it was made and names none
+  -- the weak pointer points to this cell, or to none because it could not be counted when it was
+  -- made
   abbrev pub NamesAtMost : Weak T → AsyncCell T → Type 0
   NamesAtMost weak cell = IfSome weak.cell (λ pointer. arc_value pointer ≡ cell)
 
-  -- the second weak pointer names what the first one names
+  -- the second weak pointer points to what the first one points to
   abbrev pub NameTheSame : Weak T → Weak T → Type 0
-  NameTheSame weak copy = MatchOption weak.cell (copy.cell ≡ None) (λ pointer. Names copy (arc_value pointer))
+  NameTheSame weak copy =
+      MatchOption weak.cell (copy.cell ≡ None) (λ pointer. Names copy (arc_value pointer))
 
-  -- the owner is of the cell that the weak pointer names
+  -- the owner is of the cell that the weak pointer points to
   abbrev pub OwnsNamed : Weak T → Shared T → Type 0
   OwnsNamed weak owner = Names weak (cell_of owner)
 
-  -- the pointer could not be counted when the weak one was made
+  -- the pointer could not be counted when the weak pointer was made
   abbrev pub IsLost : Weak T → Type 0
   IsLost weak = weak.cell ≡ None

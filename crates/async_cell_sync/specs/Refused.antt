@@ -3,6 +3,6 @@ use Rattle.std.specs.Prelude.{◌≡◌, ◌⊎◌}
 use Rattle.async_cell_model.specs.declared.refusal.Refusal.{Refusal}
 use Rattle.async_cell_model.specs.declared.refusal.Refusal.TheVariants.{Memory, Closed, OwnersFull}
 
--- why there is no new owner
+-- why a new owner is refused
 abbrev pub IsOwnerRefusal : Refusal → Type 0
 IsOwnerRefusal why = (why ≡ Memory) ⊎ ((why ≡ OwnersFull) ⊎ (why ≡ Closed))

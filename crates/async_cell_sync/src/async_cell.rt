@@ -1,26 +1,31 @@
 ghost use Rattle.std.specs.Prelude.{◌≡◌, IsOk, IfOk, IfErr};
 ghost use Rattle.async_cell_sync.specs.Names.{cell_of};
 
+mod debug;
 mod polls;
-mod show;
 mod steps;
 
 use crate::get::Get;
 use crate::guarded_cell::GuardedCell;
+use crate::locked_core::LockedCore;
 use crate::shared::Shared;
 use crate::take::Take;
 use async_cell_core::{Core, Refusal};
-use async_cell_locked::LockedCore;
 use async_cell_task::TaskWaker;
 use futures::task::Source;
 use std::alloc::Global;
 use std::sync::Wait;
 
-/// A cell that threads share. It holds a value or none, and futures wait on it for a value.
+/// A cell that threads share. It holds an optional value, and futures wait on it for a value.
 ///
-/// Wakers are woken and values are dropped after the lock is free, so whatever runs then may call the cell. The closure of
-/// an update, a clone of the value and the value's own printing run while the lock is held: one that calls its own cell
-/// waits for ever. Dropping a cell takes no lock, and wakes all that wait.
+/// Wakers are woken and values are dropped after the lock is released, so whatever runs then may
+/// call the cell. The closure of an update, the clone of the value and the value's own printing run
+/// while the lock is held: one that calls its own cell waits forever. Dropping a cell takes no
+/// lock, and wakes all waiters.
+///
+/// A future made by `with` holds one place in the wait list while it waits (see `With`), so the
+/// list is no longer than the number of such futures that were alive at once. Each `poll_shared`
+/// that waits may add one waker, which stays until the next fill or close.
 #[derive(Drop)]
 pub struct AsyncCell<T> {
     core: LockedCore<T, TaskWaker>,
@@ -30,24 +35,25 @@ pub struct AsyncCell<T> {
 }
 
 impl<T: Drop> AsyncCell<T> {
-    /// A cell without a value. It takes no memory. The allocator is kept for all later growth.
+    /// Makes a cell without a value. Takes no memory. Stores the allocator for all later growth.
     pub fn new(alloc: Global) -> Self {
         AsyncCell::of(alloc, Core::new(alloc))
     }
 
-    /// A cell that holds a value. It takes no memory. The allocator is kept for all later growth.
+    /// Makes a cell that holds a value. Takes no memory. Stores the allocator for all later growth.
     pub fn new_with(alloc: Global, value: T) -> Self {
         AsyncCell::of(alloc, Core::new_with(alloc, value))
     }
 
-    /// A cell without a value, with one counted owner. Refused with `Memory`.
+    /// Makes a cell without a value, with one counted owner. Fails with `Memory`.
     pub fn shared(alloc: Global) -> Result<Shared<T>, Refusal>
         ensures refused { IfErr result (λ why. why ≡ Refusal.Memory) }
     {
         Shared::shared(alloc)
     }
 
-    /// This cell, with one counted owner. Refused with `Memory`, and then the cell comes back.
+    /// Makes the first counted owner of this cell. Fails with `Memory`, and then the cell is
+    /// returned in the error.
     pub fn into_shared(self) -> Result<Shared<T>, (Refusal, AsyncCell<T>)>
         ensures owns { IfOk result (λ owner. cell_of owner ≡ self) }
         ensures comes_back { IfErr result (λ back. back ≡ (Refusal.Memory, self)) }
@@ -55,23 +61,23 @@ impl<T: Drop> AsyncCell<T> {
         Shared::into_shared(self)
     }
 
-    /// Puts the value in and drops the old one. All that wait are woken.
+    /// Sets the value and drops the old one. Wakes all waiters.
     pub fn set<R: Wait>(&self, value: T, rt: &R) {
         let _ = self.core.set(value, rt);
     }
 
-    /// Puts the value in where there is none, and all that wait are woken then. Else it is dropped.
+    /// Sets the value and wakes all waiters, if the cell holds no value. Drops `value` otherwise.
     pub fn or_set<R: Wait>(&self, value: T, rt: &R) {
         let _ = self.core.or_set(value, rt);
     }
 
-    /// Puts the value in and gives the old one. All that wait are woken.
+    /// Sets the value and returns the old one. Wakes all waiters.
     pub fn replace<R: Wait>(&self, value: T, rt: &R) -> Option<T> {
         self.core.replace(value, rt).unwrap_or(None)
     }
 
-    /// Calls the closure on the content, and puts its answer in: a value where there was none, and all that wait are woken.
-    /// No other call comes between.
+    /// Calls the closure on the content and stores what it returns. Wakes all waiters if that puts
+    /// a value into an empty cell. No other call comes in between.
     pub fn update<F, R>(&self, change: F, rt: &R)
     where
         F: FnOnce(Option<T>) -> Option<T> + Drop,
@@ -81,7 +87,8 @@ impl<T: Drop> AsyncCell<T> {
         let _ = self.core.update(change, rt);
     }
 
-    /// Calls the closure on the value, if there is one, and puts its answer in. No other call comes between.
+    /// Calls the closure on the value, if there is one, and stores what it returns. No other call
+    /// comes in between.
     pub fn update_some<F, R>(&self, change: F, rt: &R)
     where
         F: FnOnce(T) -> T + Drop,
@@ -91,12 +98,13 @@ impl<T: Drop> AsyncCell<T> {
         let _ = self.core.update_some(change, rt);
     }
 
-    /// Takes the value, if there is one. Those that wait stay.
+    /// Takes the value, if there is one. The waiters stay registered.
     pub fn try_take<R: Wait>(&self, rt: &R) -> Option<T> {
         self.core.try_take(rt)
     }
 
-    /// A clone of the value, if there is one. Refused with `Memory` where the clone was, and then the value is still there.
+    /// Returns a clone of the value, if there is one. Fails with `Memory` if the clone fails; the
+    /// value then stays in the cell.
     pub fn try_get<R: Wait>(&self, rt: &R) -> Result<Option<T>, Refusal>
     where
         T: Clone,
@@ -106,12 +114,12 @@ impl<T: Drop> AsyncCell<T> {
         self.core.try_get(rt)
     }
 
-    /// Whether there is a value.
+    /// Returns whether the cell holds a value.
     pub fn is_set<R: Wait>(&self, rt: &R) -> bool {
         self.core.is_set(rt)
     }
 
-    /// The content. All that wait are woken. It takes no lock.
+    /// Returns the content. Wakes all waiters. Takes no lock.
     pub fn into_inner(self) -> Option<T> {
         let AsyncCell {
             core,
@@ -121,21 +129,22 @@ impl<T: Drop> AsyncCell<T> {
         core.into_inner()
     }
 
-    /// A future that takes the value.
+    /// Returns a future that takes the value.
     pub fn take(&self) -> Take<&Self>
         ensures of_this { result.0.now ≡ self.now }
     {
         Take(self)
     }
 
-    /// A future that clones the value and leaves it.
+    /// Returns a future that clones the value and leaves it.
     pub fn get(&self) -> Get<&Self>
         ensures of_this { result.0.now ≡ self.now }
     {
         Get(self)
     }
 
-    /// A guard that puts this value into the cell when it is cancelled, unless there is a value then. It must be spent.
+    /// Returns a guard that sets this value when it is cancelled, unless the cell then holds one.
+    /// The guard must be consumed (see `GuardedCell`).
     pub fn guard(&self, cancel: T) -> GuardedCell<T, &Self>
         ensures of_this { result.pointer.now ≡ self.now }
         ensures keeps { result.cancel ≡ cancel }
@@ -145,12 +154,12 @@ impl<T: Drop> AsyncCell<T> {
 }
 
 impl AsyncCell<()> {
-    /// Wakes all that wait: the next `take` or `get` is ready.
+    /// Wakes all waiters: the next `take` or `get` is ready.
     pub fn notify<R: Wait>(&self, rt: &R) {
         self.set((), rt);
     }
 
-    /// A future that waits for `notify`.
+    /// Returns a future that waits for `notify`.
     pub fn wait(&self) -> Take<&AsyncCell<()>>
         ensures of_this { result.0.now ≡ self.now }
     {

@@ -7,18 +7,19 @@ use std::sync::{Arc, Wait};
 
 /// A pointer to a cell. `Take`, `Get` and guards work over any.
 pub trait CellRef {
-    /// What the cell holds.
+    /// The type of the value in the cell.
     type Value: Drop;
 
-    /// Names the source that a pending future over this pointer has registered with. Leave it out
-    /// in your own impl: nothing is then promised of the source.
+    /// The source that a pending future over this pointer has registered with. Leave it out in your
+    /// own impl: nothing is then promised of the source.
     ghost waits_for: { Self → ℕ → Type 0 } = { λ _ _. ⊥ };
 
-    /// The cell that it points to.
+    /// Returns the cell that it points to: the same one at each call, since a future keeps its
+    /// place in that cell's wait list.
     fn cell(&self) -> &AsyncCell<Self::Value>
         ensures { (s : ℕ) → waits_for self.now s → s ≡ source_of result.now };
 
-    /// Lets the pointer go: an owner ends, and any other is only dropped.
+    /// Gives the pointer up: an owner ends, and any other pointer is only dropped.
     fn leave<R: Wait>(self, rt: &R);
 }
 

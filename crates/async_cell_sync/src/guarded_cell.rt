@@ -5,8 +5,9 @@ use crate::async_cell::AsyncCell;
 use crate::cell_ref::CellRef;
 use std::sync::Wait;
 
-/// A guard of a cell. It has no drop and must be spent: by `cancel`, which puts its cancel value in where there is no value,
-/// or by `release`, `set` or `or_set`. After each of these its pointer leaves: a guard that is an owner ends its owner.
+/// A guard of a cell. It is not `Drop` and must be consumed: by `cancel`, which sets its cancel
+/// value if the cell holds no value, or by `release`, `set` or `or_set`. Each of these then calls
+/// `leave` on the pointer: a guard that is an owner ends its owner.
 pub struct GuardedCell<T, C: CellRef<Value = T>> {
     pointer: C,
     cancel: T,
@@ -20,34 +21,34 @@ impl<T: Drop, C: CellRef<Value = T>> GuardedCell<T, C> {
         GuardedCell { pointer, cancel }
     }
 
-    /// The cell that it guards.
+    /// Returns the cell that it guards.
     pub fn cell(&self) -> &AsyncCell<T>
         ensures { (s : ℕ) → C.waits_for self.now.pointer s → s ≡ source_of result.now }
     {
         self.pointer.cell()
     }
 
-    /// Ends the guard unreleased: its cancel value is put in where there is no value, and all that wait are woken then. Else
-    /// it is dropped.
+    /// Ends the guard unreleased. Sets its cancel value and wakes all waiters, if the cell holds no
+    /// value. Drops the cancel value otherwise.
     pub fn cancel<R: Wait>(self, rt: &R) {
         let GuardedCell { pointer, cancel } = self;
         pointer.cell().end_guard(Some(cancel), rt);
         pointer.leave(rt);
     }
 
-    /// Ends the guard without a write. Its cancel value is dropped.
+    /// Ends the guard without a write. Drops its cancel value.
     pub fn release<R: Wait>(self, rt: &R) {
         let GuardedCell { pointer, cancel: _ } = self;
         pointer.leave(rt);
     }
 
-    /// Puts the value in, and releases the guard.
+    /// Sets the value, and releases the guard.
     pub fn set<R: Wait>(self, value: T, rt: &R) {
         self.cell().set(value, rt);
         self.release(rt);
     }
 
-    /// Puts the value in where there is none, and releases the guard.
+    /// Sets the value if the cell holds none, and releases the guard.
     pub fn or_set<R: Wait>(self, value: T, rt: &R) {
         self.cell().or_set(value, rt);
         self.release(rt);

@@ -12,23 +12,24 @@ use async_cell_core::Refusal;
 use std::alloc::{AllocFailed, Global};
 use std::sync::{Arc, Wait};
 
-/// One counted owner of a cell. The end of the last one closes the cell: the value is dropped, all that wait are woken, and
-/// weak futures are ready with none.
+/// One counted owner of a cell. The end of the last one closes the cell: the value is dropped, all
+/// waiters are woken, and weak futures are ready with `None`.
 ///
-/// It has no drop and must be spent: by `end`, `leave` or `try_into_inner`.
+/// It is not `Drop` and must be consumed: by `end`, `leave` or `try_into_inner`.
 pub struct Shared<T> {
     cell: Arc<AsyncCell<T>>,
 }
 
 impl<T: Drop> Shared<T> {
-    /// The first owner of a new cell without a value. Refused with `Memory`.
+    /// Makes a cell without a value, and its first owner. Fails with `Memory`.
     pub fn shared(alloc: Global) -> Result<Self, Refusal>
         ensures refused { IfErr result (λ why. why ≡ Refusal.Memory) }
     {
         Shared::into_shared(AsyncCell::new(alloc)).map_err(|(why, _)| why)
     }
 
-    /// The first owner of this cell. Refused with `Memory`, and then the cell is given back.
+    /// Makes the first owner of this cell. Fails with `Memory`; the cell is then returned in the
+    /// error.
     pub fn into_shared(cell: AsyncCell<T>) -> Result<Self, (Refusal, AsyncCell<T>)>
         ensures owns { IfOk result (λ owner. cell_of owner ≡ cell) }
         ensures comes_back { IfErr result (λ back. back ≡ (Refusal.Memory, cell)) }
@@ -39,15 +40,16 @@ impl<T: Drop> Shared<T> {
         }
     }
 
-    /// The cell, to call it.
+    /// Returns the cell, to call it.
     pub fn cell(&self) -> &AsyncCell<T>
         ensures held { result.now ≡ cell_of self.now }
     {
         self.cell.as_ref()
     }
 
-    /// One owner more, in place of a clone. Refused with `Memory` where the pointer can't be counted, and with
-    /// `OwnersFull`. `Closed` is in the contract, and does not come about while this owner lives.
+    /// Adds an owner, in place of a clone. Fails with `Memory` if the pointer cannot be counted, or
+    /// with `OwnersFull`. The contract also allows `Closed`, which does not happen while this owner
+    /// lives.
     pub fn another<R: Wait>(&self, rt: &R) -> Result<Self, Refusal>
         ensures of_this { IfOk result (λ owner. cell_of owner ≡ cell_of self.now) }
         ensures refused { IfErr result IsOwnerRefusal }
@@ -55,7 +57,7 @@ impl<T: Drop> Shared<T> {
         Shared::owning(&self.cell, rt)
     }
 
-    /// A new owner that takes the value. Refused as `another` is.
+    /// Returns a `Take` that is a new owner. Fails as `another` does.
     pub fn take_shared<R: Wait>(&self, rt: &R) -> Result<Take<Self>, Refusal>
         ensures of_this { IfOk result (λ polled. cell_of polled.0 ≡ cell_of self.now) }
         ensures refused { IfErr result IsOwnerRefusal }
@@ -63,7 +65,7 @@ impl<T: Drop> Shared<T> {
         Ok(Take(self.another(rt)?))
     }
 
-    /// A new owner that clones the value and leaves it. Refused as `another` is.
+    /// Returns a `Get` that is a new owner. Fails as `another` does.
     pub fn get_shared<R: Wait>(&self, rt: &R) -> Result<Get<Self>, Refusal>
         ensures of_this { IfOk result (λ polled. cell_of polled.0 ≡ cell_of self.now) }
         ensures refused { IfErr result IsOwnerRefusal }
@@ -71,7 +73,8 @@ impl<T: Drop> Shared<T> {
         Ok(Get(self.another(rt)?))
     }
 
-    /// A guard that is a new owner. Refused as `another` is, and then the value comes back.
+    /// Returns a guard that is a new owner. Fails as `another` does; the value is then returned in
+    /// the error.
     pub fn guard_shared<R: Wait>(
         &self,
         cancel: T,
@@ -88,22 +91,22 @@ impl<T: Drop> Shared<T> {
         }
     }
 
-    /// A future that takes the value and is no owner.
+    /// Returns a future that takes the value and is not an owner.
     pub fn take_weak(&self) -> TakeWeak<T>
         ensures of_this { NamesAtMost result.0 (cell_of self.now) }
     {
         TakeWeak(Weak::of(&self.cell))
     }
 
-    /// A future that clones the value, leaves it and is no owner.
+    /// Returns a future that clones the value, leaves it, and is not an owner.
     pub fn get_weak(&self) -> GetWeak<T>
         ensures of_this { NamesAtMost result.0 (cell_of self.now) }
     {
         GetWeak(Weak::of(&self.cell))
     }
 
-    /// Closes the cell of a sole owner and gives its content. All that wait are woken. Beside other owners this one comes
-    /// back.
+    /// Closes the cell and returns its content, if this is the only owner. Wakes all waiters.
+    /// Otherwise this owner is returned in the error.
     pub fn try_into_inner<R: Wait>(self, rt: &R) -> Result<Option<T>, Self>
         ensures comes_back { IfErr result (λ back. back ≡ self) }
     {
@@ -122,8 +125,8 @@ impl<T: Drop> Shared<T> {
         cell.end_owner(rt);
     }
 
-    /// A new owner of the cell. Refused with `Memory` where the pointer can't be counted, and else with `Closed` and
-    /// `OwnersFull`.
+    /// Makes a new owner of the cell. Fails with `Memory` if the pointer cannot be counted,
+    /// otherwise with `Closed` or `OwnersFull`.
     pub(crate) fn owning<R: Wait>(cell: &Arc<AsyncCell<T>>, rt: &R) -> Result<Self, Refusal>
         ensures of_this { IfOk result (λ owner. cell_of owner ≡ arc_value cell.now) }
         ensures refused { IfErr result IsOwnerRefusal }
@@ -135,7 +138,7 @@ impl<T: Drop> Shared<T> {
 }
 
 impl Shared<()> {
-    /// A new owner that waits for `notify`. Refused as `another` is.
+    /// Returns a new owner that waits for `notify`. Fails as `another` does.
     pub fn wait_shared<R: Wait>(&self, rt: &R) -> Result<Take<Self>, Refusal>
         ensures of_this { IfOk result (λ polled. cell_of polled.0 ≡ cell_of self.now) }
         ensures refused { IfErr result IsOwnerRefusal }

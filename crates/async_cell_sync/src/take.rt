@@ -5,20 +5,21 @@ ghost use Rattle.futures.specs.Task.{Covers, Keeps};
 use crate::cell_ref::CellRef;
 use crate::with::With;
 use async_cell_core::Refusal;
+use async_cell_task::Place;
 use futures::task::{Context, Poll};
 use std::sync::Wait;
 
-/// Takes the value of a cell. It may be polled again after it was ready, and gives further values. `with` gives the
-/// future. Each poll that waits adds one waker, which stays until the next fill or close, also when the future is
-/// dropped.
+/// Takes the value of a cell. Make the future by `with`. It may be polled again after it was ready,
+/// and then returns further values. For the waker that `poll_shared` may add, see `AsyncCell`.
 ///
-/// A `Take` of a `Shared` must be spent, as its owner must: by `.0.end(rt)`.
+/// A `Take` of a `Shared` must be consumed, as its owner must: by `.0.end(rt)`.
 #[derive(Clone, Copy, Drop)]
 pub struct Take<C>(pub C);
 
 impl<C: CellRef> Take<C> {
-    /// Polls by a shared reference. Ready with the value, which leaves none behind; with `Memory` where the poll would have
-    /// to wait and found none; and with `Closed` on a closed cell.
+    /// Polls by a shared reference. Returns `Ready` with the value, which leaves the cell empty.
+    /// Fails with `Memory` if the poll would have to wait and there is no memory for that. Fails
+    /// with `Closed` on a closed cell.
     pub fn poll_shared<R: Wait>(
         &self,
         cx: &mut Context<'_>,
@@ -26,9 +27,25 @@ impl<C: CellRef> Take<C> {
     ) -> Poll<Result<C::Value, Refusal>>
         ensures registered { OnPending result (Covers cx.new (C.waits_for self.now.0)) }
         ensures kept { Keeps cx.old cx.new }
-        ensures refused { IfReady result (λ answer. IfErr answer (λ why. (why ≡ Refusal.Memory) ⊎ (why ≡ Refusal.Closed))) }
+        ensures refused { IfReady result (λ answer. IfErr answer (λ why.
+            (why ≡ Refusal.Memory) ⊎ (why ≡ Refusal.Closed))) }
     {
-        match self.0.cell().poll_take(cx, rt) {
+        self.poll_at(&mut Place::new(), cx, rt)
+    }
+
+    /// `poll_shared`, for a future that waits in this place.
+    pub(crate) fn poll_at<R: Wait>(
+        &self,
+        place: &mut Place,
+        cx: &mut Context<'_>,
+        rt: &R,
+    ) -> Poll<Result<C::Value, Refusal>>
+        ensures registered { OnPending result (Covers cx.new (C.waits_for self.now.0)) }
+        ensures kept { Keeps cx.old cx.new }
+        ensures refused { IfReady result (λ answer. IfErr answer (λ why.
+            (why ≡ Refusal.Memory) ⊎ (why ≡ Refusal.Closed))) }
+    {
+        match self.0.cell().poll_take(place, cx, rt) {
             Poll::Ready(Ok(taken)) => Poll::Ready(taken.ok_or(Refusal::Closed)),
             Poll::Ready(Err(why)) => Poll::Ready(Err(why)),
             Poll::Pending => Poll::Pending,
@@ -36,9 +53,10 @@ impl<C: CellRef> Take<C> {
     }
 }
 
-impl<C: Drop> Take<C> {
-    /// The future, which keeps the right to wait for the lock: a poll of `futures` is lent none. Not for a `Take` of an
-    /// owner, which must be spent: poll that by `poll_shared`.
+impl<C: CellRef + Drop> Take<C> {
+    /// Returns the future. It stores `rt`, the right to wait for the lock, because a poll of
+    /// `futures` is not passed one. Do not use it for a `Take` of an owner, which must be consumed:
+    /// poll that by `poll_shared`.
     pub fn with<R: Wait>(self, rt: R) -> With<Self, R>
         ensures polls { result.polled ≡ self }
     {

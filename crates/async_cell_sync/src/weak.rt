@@ -11,14 +11,15 @@ use crate::shared::Shared;
 use crate::take::Take;
 use crate::with::With;
 use async_cell_core::Refusal;
+use async_cell_task::Place;
 use futures::task::{Context, Poll};
 use std::alloc::AllocError;
 use std::sync::{Arc, Wait};
 
-/// Names a cell and is no owner of it.
+/// A weak pointer to a cell. It does not count as an owner.
 #[derive(Drop)]
 pub struct Weak<T> {
-    /// None where the pointer could not be counted when it was made.
+    /// `None` if the pointer could not be counted when it was made.
     cell: Option<Arc<AsyncCell<T>>>,
 }
 
@@ -31,8 +32,8 @@ impl<T: Drop> Weak<T> {
         }
     }
 
-    /// The cell. Refused with `Memory` where the pointer could not be counted when it was made.
-    fn cell(&self) -> Result<&AsyncCell<T>, Refusal>
+    /// Returns the cell. Fails with `Memory` if the pointer could not be counted when it was made.
+    pub(crate) fn cell(&self) -> Result<&AsyncCell<T>, Refusal>
         ensures source { IfOk result (λ c. (s : ℕ) → IsSourceOf self.now s → s ≡ source_of c.now) }
         ensures lost { IsLost self.now → result ≡ Err Refusal.Memory }
         ensures refused { IfErr result (λ why. why ≡ Refusal.Memory) }
@@ -43,11 +44,13 @@ impl<T: Drop> Weak<T> {
         }
     }
 
-    /// A new owner, or none of a closed cell. Refused with `Memory` and `OwnersFull`; want of memory is found first.
+    /// Makes a new owner; `Ok(None)` if the cell is closed. Fails with `Memory` (checked first) or
+    /// `OwnersFull`.
     fn upgrade<R: Wait>(&self, rt: &R) -> Result<Option<Shared<T>>, Refusal>
         ensures of_this { IfOk result (λ found. IfSome found (OwnsNamed self.now)) }
         ensures lost { IsLost self.now → result ≡ Err Refusal.Memory }
-        ensures refused { IfErr result (λ why. (why ≡ Refusal.Memory) ⊎ (why ≡ Refusal.OwnersFull)) }
+        ensures refused { IfErr result (λ why.
+            (why ≡ Refusal.Memory) ⊎ (why ≡ Refusal.OwnersFull)) }
     {
         let cell = self.cell.as_ref().ok_or(Refusal::Memory)?;
         match Shared::owning(cell, rt) {
@@ -58,7 +61,7 @@ impl<T: Drop> Weak<T> {
     }
 }
 
-/// Names the same cell.
+/// A clone points to the same cell.
 impl<T: Drop> Clone for Weak<T> {
     ghost is_clone = { λ weak copy. NameTheSame weak copy };
 
@@ -72,14 +75,15 @@ impl<T: Drop> Clone for Weak<T> {
     }
 }
 
-/// Takes the value of a cell and is no owner of it. It may be polled again after it was ready. `with` gives the future.
-/// Each poll that waits adds one waker, which stays until the next fill or close, also when the future is dropped.
+/// Takes the value of a cell and is not an owner of it. Make the future by `with`. It may be polled
+/// again after it was ready. For the waker that `poll_shared` may add, see `AsyncCell`.
 #[derive(Drop)]
 pub struct TakeWeak<T>(pub Weak<T>);
 
 impl<T: Drop> TakeWeak<T> {
-    /// Polls by a shared reference. Ready with the value, which leaves none behind; with none on a closed cell; and with
-    /// `Memory` where the poll would have to wait and found none.
+    /// Polls by a shared reference. Returns `Ready` with the value, which leaves the cell empty, or
+    /// with `None` on a closed cell. Fails with `Memory` if the poll would have to wait and there
+    /// is no memory for that.
     pub fn poll_shared<R: Wait>(
         &self,
         cx: &mut Context<'_>,
@@ -90,31 +94,49 @@ impl<T: Drop> TakeWeak<T> {
         ensures kept { Keeps cx.old cx.new }
         ensures refused { IfReady result (λ answer. IfErr answer (λ why. why ≡ Refusal.Memory)) }
     {
+        self.poll_at(&mut Place::new(), cx, rt)
+    }
+
+    /// `poll_shared`, for a future that waits in this place.
+    pub(crate) fn poll_at<R: Wait>(
+        &self,
+        place: &mut Place,
+        cx: &mut Context<'_>,
+        rt: &R,
+    ) -> Poll<Result<Option<T>, Refusal>>
+        ensures lost { IsLost self.now.0 → result ≡ Poll.Ready (Err Refusal.Memory) }
+        ensures registered { OnPending result (Covers cx.new (IsSourceOf self.now.0)) }
+        ensures kept { Keeps cx.old cx.new }
+        ensures refused { IfReady result (λ answer. IfErr answer (λ why. why ≡ Refusal.Memory)) }
+    {
         match self.0.cell() {
-            Ok(cell) => cell.poll_take(cx, rt),
+            Ok(cell) => cell.poll_take(place, cx, rt),
             Err(why) => Poll::Ready(Err(why)),
         }
     }
 
-    /// The future, which keeps the right to wait for the lock: a poll of `futures` is lent none.
+    /// Returns the future. It stores `rt`, the right to wait for the lock, because a poll of
+    /// `futures` is not passed one.
     pub fn with<R: Wait>(self, rt: R) -> With<Self, R>
         ensures polls { result.polled ≡ self }
     {
         With::new(self, rt)
     }
 
-    /// A new owner that takes the value, or none where the cell is closed. Refused with `Memory`, which is found first, and
-    /// with `OwnersFull`.
+    /// Makes a `Take` that is a new owner; `Ok(None)` if the cell is closed. Fails with `Memory`
+    /// (checked first) or `OwnersFull`.
     pub fn upgrade<R: Wait>(&self, rt: &R) -> Result<Option<Take<Shared<T>>>, Refusal>
-        ensures of_this { IfOk result (λ found. IfSome found (λ take. OwnsNamed self.now.0 take.0)) }
+        ensures of_this { IfOk result (λ found. IfSome found (λ take.
+            OwnsNamed self.now.0 take.0)) }
         ensures lost { IsLost self.now.0 → result ≡ Err Refusal.Memory }
-        ensures refused { IfErr result (λ why. (why ≡ Refusal.Memory) ⊎ (why ≡ Refusal.OwnersFull)) }
+        ensures refused { IfErr result (λ why.
+            (why ≡ Refusal.Memory) ⊎ (why ≡ Refusal.OwnersFull)) }
     {
         Ok(self.0.upgrade(rt)?.map(Take))
     }
 }
 
-/// Names the same cell.
+/// A clone points to the same cell.
 impl<T: Drop> Clone for TakeWeak<T> {
     ghost is_clone = { λ weak copy. NameTheSame weak.0 copy.0 };
 
@@ -123,15 +145,16 @@ impl<T: Drop> Clone for TakeWeak<T> {
     }
 }
 
-/// Clones the value of a cell, leaves it, and is no owner of the cell. It may be polled again after it was ready.
-/// `with` gives the future. Each poll that waits adds one waker, which stays until the next fill or close, also when
-/// the future is dropped.
+/// Clones the value of a cell, leaves it, and is not an owner of the cell. Make the future by
+/// `with`. It may be polled again after it was ready. For the waker that `poll_shared` may add, see
+/// `AsyncCell`.
 #[derive(Drop)]
 pub struct GetWeak<T>(pub Weak<T>);
 
 impl<T: Clone> GetWeak<T> {
-    /// Polls by a shared reference. Ready with a clone of the value; with none on a closed cell; and with `Memory` where the
-    /// clone found none, or the poll would have to wait and found none.
+    /// Polls by a shared reference. Returns `Ready` with a clone of the value, or with `None` on a
+    /// closed cell. Fails with `Memory` if the clone fails, or if the poll would have to wait and
+    /// there is no memory for that.
     pub fn poll_shared<R: Wait>(
         &self,
         cx: &mut Context<'_>,
@@ -142,33 +165,50 @@ impl<T: Clone> GetWeak<T> {
         ensures kept { Keeps cx.old cx.new }
         ensures refused { IfReady result (λ answer. IfErr answer (λ why. why ≡ Refusal.Memory)) }
     {
+        self.poll_at(&mut Place::new(), cx, rt)
+    }
+
+    /// `poll_shared`, for a future that waits in this place.
+    pub(crate) fn poll_at<R: Wait>(
+        &self,
+        place: &mut Place,
+        cx: &mut Context<'_>,
+        rt: &R,
+    ) -> Poll<Result<Option<T>, Refusal>>
+        ensures lost { IsLost self.now.0 → result ≡ Poll.Ready (Err Refusal.Memory) }
+        ensures registered { OnPending result (Covers cx.new (IsSourceOf self.now.0)) }
+        ensures kept { Keeps cx.old cx.new }
+        ensures refused { IfReady result (λ answer. IfErr answer (λ why. why ≡ Refusal.Memory)) }
+    {
         match self.0.cell() {
-            Ok(cell) => cell.poll_get(cx, rt),
+            Ok(cell) => cell.poll_get(place, cx, rt),
             Err(why) => Poll::Ready(Err(why)),
         }
     }
 }
 
 impl<T: Drop> GetWeak<T> {
-    /// The future, which keeps the right to wait for the lock: a poll of `futures` is lent none.
+    /// Returns the future. It stores `rt`, the right to wait for the lock, because a poll of
+    /// `futures` is not passed one.
     pub fn with<R: Wait>(self, rt: R) -> With<Self, R>
         ensures polls { result.polled ≡ self }
     {
         With::new(self, rt)
     }
 
-    /// A new owner that clones the value and leaves it, or none where the cell is closed. Refused with `Memory`, which is
-    /// found first, and with `OwnersFull`.
+    /// Makes a `Get` that is a new owner; `Ok(None)` if the cell is closed. Fails with `Memory`
+    /// (checked first) or `OwnersFull`.
     pub fn upgrade<R: Wait>(&self, rt: &R) -> Result<Option<Get<Shared<T>>>, Refusal>
         ensures of_this { IfOk result (λ found. IfSome found (λ get. OwnsNamed self.now.0 get.0)) }
         ensures lost { IsLost self.now.0 → result ≡ Err Refusal.Memory }
-        ensures refused { IfErr result (λ why. (why ≡ Refusal.Memory) ⊎ (why ≡ Refusal.OwnersFull)) }
+        ensures refused { IfErr result (λ why.
+            (why ≡ Refusal.Memory) ⊎ (why ≡ Refusal.OwnersFull)) }
     {
         Ok(self.0.upgrade(rt)?.map(Get))
     }
 }
 
-/// Names the same cell.
+/// A clone points to the same cell.
 impl<T: Drop> Clone for GetWeak<T> {
     ghost is_clone = { λ weak copy. NameTheSame weak.0 copy.0 };
 

@@ -1,27 +1,91 @@
 ghost use Rattle.std.specs.Prelude.{◌≡◌};
 ghost use Rattle.async_cell_sync.specs.Source.{IsSourceOf};
 
+use crate::async_cell::AsyncCell;
 use crate::cell_ref::CellRef;
 use crate::get::Get;
 use crate::take::Take;
 use crate::weak::{GetWeak, TakeWeak};
 use async_cell_core::Refusal;
+use async_cell_task::Place;
 use futures::future::Future;
 use futures::task::{Context, Poll};
 use std::sync::Wait;
 
-/// The future of what takes or gets, with the right to wait for the lock. `with` of a `Take`, a `Get` or a weak one makes it.
-#[derive(Drop)]
-pub struct With<P, R: Wait> {
-    polled: P,
-    rt: R,
+/// A `Take`, a `Get`, a `TakeWeak` or a `GetWeak`: what `With` makes a future of.
+pub trait Waits: Drop {
+    /// The type of the value in the cell.
+    type Value: Drop;
+
+    /// Returns the cell, unless there is no pointer to it.
+    fn waits_on(&self) -> Option<&AsyncCell<Self::Value>>;
 }
 
-impl<P, R: Wait> With<P, R> {
+impl<C: CellRef + Drop> Waits for Take<C> {
+    type Value = C::Value;
+
+    fn waits_on(&self) -> Option<&AsyncCell<C::Value>> {
+        Some(self.0.cell())
+    }
+}
+
+impl<C: CellRef + Drop> Waits for Get<C> {
+    type Value = C::Value;
+
+    fn waits_on(&self) -> Option<&AsyncCell<C::Value>> {
+        Some(self.0.cell())
+    }
+}
+
+impl<T: Drop> Waits for TakeWeak<T> {
+    type Value = T;
+
+    fn waits_on(&self) -> Option<&AsyncCell<T>> {
+        self.0.cell().ok()
+    }
+}
+
+impl<T: Drop> Waits for GetWeak<T> {
+    type Value = T;
+
+    fn waits_on(&self) -> Option<&AsyncCell<T>> {
+        self.0.cell().ok()
+    }
+}
+
+/// The future of a `Take`, a `Get`, a `TakeWeak` or a `GetWeak`, with the right to wait for the
+/// lock. Their `with` makes it.
+///
+/// While it waits it holds one place in the cell's wait list, and each poll renews the waker there:
+/// the task that polled it last is woken. Dropping it wakes nobody, and may wait for the lock. The
+/// place is then free for the next future, and the task that polled the dropped one may be woken
+/// once more. So keep a future that you poll again: two tasks that each make, poll and drop one
+/// within every poll wake each other each time.
+pub struct With<P: Waits, R: Wait> {
+    polled: P,
+    rt: R,
+    place: Place,
+}
+
+impl<P: Waits, R: Wait> With<P, R> {
     pub(crate) fn new(polled: P, rt: R) -> Self
         ensures polls { result.polled ≡ polled }
     {
-        With { polled, rt }
+        With {
+            polled,
+            rt,
+            place: Place::new(),
+        }
+    }
+}
+
+/// Leaves its place in the wait list free.
+impl<P: Waits, R: Wait + Drop> Drop for With<P, R> {
+    fn drop(self) {
+        let With { polled, rt, place } = self;
+        if let Some(cell) = polled.waits_on() {
+            cell.leave(place, &rt);
+        }
     }
 }
 
@@ -31,7 +95,7 @@ impl<C: CellRef + Drop, R: Wait + Drop> Future for With<Take<C>, R> {
     ghost needs = { λ future. C.waits_for future.polled.0 };
 
     fn poll(&mut self, cx: &mut Context<'_>) -> Poll<Result<C::Value, Refusal>> {
-        self.polled.poll_shared(cx, &self.rt)
+        self.polled.poll_at(&mut self.place, cx, &self.rt)
     }
 }
 
@@ -44,7 +108,7 @@ where
     ghost needs = { λ future. C.waits_for future.polled.0 };
 
     fn poll(&mut self, cx: &mut Context<'_>) -> Poll<Result<C::Value, Refusal>> {
-        self.polled.poll_shared(cx, &self.rt)
+        self.polled.poll_at(&mut self.place, cx, &self.rt)
     }
 }
 
@@ -54,7 +118,7 @@ impl<T: Drop, R: Wait + Drop> Future for With<TakeWeak<T>, R> {
     ghost needs = { λ future. IsSourceOf future.polled.0 };
 
     fn poll(&mut self, cx: &mut Context<'_>) -> Poll<Result<Option<T>, Refusal>> {
-        self.polled.poll_shared(cx, &self.rt)
+        self.polled.poll_at(&mut self.place, cx, &self.rt)
     }
 }
 
@@ -64,6 +128,6 @@ impl<T: Clone, R: Wait + Drop> Future for With<GetWeak<T>, R> {
     ghost needs = { λ future. IsSourceOf future.polled.0 };
 
     fn poll(&mut self, cx: &mut Context<'_>) -> Poll<Result<Option<T>, Refusal>> {
-        self.polled.poll_shared(cx, &self.rt)
+        self.polled.poll_at(&mut self.place, cx, &self.rt)
     }
 }

@@ -1,24 +1,25 @@
 //! Guards: what their end writes, and that their pointer leaves.
+use crate::checks::{holds, holds_at, same, same_at};
 use crate::meeting::{ComesWhenDropped, Meeting};
-use crate::ticks::tick_future;
-use async_cell_sync::{AsyncCell, CellRef, Get, GuardedCell, Take};
+use crate::owning::{first_owner, guard_of, weak_getter, weak_taker};
+use crate::ticks::{Tick, task, tick_future, tick_take};
+use async_cell_sync::{AsyncCell, CellRef, Get, GuardedCell, Shared, Take};
 use futures::task::Poll;
-use futures::test::MockTask;
 use std::alloc::Global;
+use std::process::Abort;
 use std::sync::atomic::{AtomicU64, Ordering};
 use std::sync::{Arc, Wait};
-use std::test::Fail;
 use std::thread;
 
 #[test]
 fn a_guard_ends_by_its_cancel_value_a_value_or_nothing(rt: HostRuntime) {
     let cell: AsyncCell<u32> = AsyncCell::new(rt.alloc());
     cell.guard(9).cancel(&rt);
-    assert_eq!(rt; cell.try_take(&rt), Some(9));
+    same(&rt, cell.try_take(&rt), Some(9));
     cell.guard(9).set(5, &rt);
-    assert_eq!(rt; cell.try_take(&rt), Some(5));
+    same(&rt, cell.try_take(&rt), Some(5));
     cell.guard(9).release(&rt);
-    assert_eq!(rt; cell.try_take(&rt), None);
+    same(&rt, cell.try_take(&rt), None);
 }
 
 #[test]
@@ -27,25 +28,24 @@ fn a_guard_leaves_the_value_that_is_there(rt: HostRuntime) {
     let guard = cell.guard(9);
     guard.cell().set(2, &rt);
     guard.cancel(&rt);
-    assert_eq!(rt; cell.try_get(&rt), Ok(Some(2)));
+    same(&rt, cell.try_get(&rt), Ok(Some(2)));
     cell.guard(9).or_set(5, &rt);
-    assert_eq!(rt; cell.try_get(&rt), Ok(Some(2)));
+    same(&rt, cell.try_get(&rt), Ok(Some(2)));
     cell.guard(9).set(6, &rt);
-    assert_eq!(rt; cell.try_take(&rt), Some(6));
+    same(&rt, cell.try_take(&rt), Some(6));
     cell.guard(9).or_set(7, &rt);
-    assert_eq!(rt; cell.try_take(&rt), Some(7));
+    same(&rt, cell.try_take(&rt), Some(7));
 }
 
 #[test]
-fn a_cancelled_guard_wakes(rt: HostRuntime) -> Result<(), Fail> {
+fn a_cancelled_guard_wakes(rt: HostRuntime) {
     let cell: AsyncCell<u32> = AsyncCell::new(rt.alloc());
-    let flag = MockTask::new(&rt)?;
-    assert_eq!(rt; tick_future(cell.take().with(&rt), &flag), Poll::Pending);
+    let flag = task(&rt);
+    same(&rt, tick_take(&cell, &flag, &rt), Poll::Pending);
     cell.guard(8).release(&rt);
-    assert!(rt; !flag.is_woken());
+    holds(&rt, !flag.is_woken());
     cell.guard(9).cancel(&rt);
-    assert!(rt; flag.is_woken());
-    Ok(())
+    holds(&rt, flag.is_woken());
 }
 
 type Guarded<'a> = AsyncCell<Option<ComesWhenDropped<'a>>>;
@@ -87,8 +87,8 @@ fn a_guard_that_wrote_puts_no_cancel_value_in(rt: HostRuntime) {
                 came && matches!(taken, Some(None))
             },
         );
-        assert!(rt; taken, "{ending:?}");
-        assert!(rt; !cell.is_set(&rt), "{ending:?}");
+        holds_at(&rt, &ending, taken);
+        holds_at(&rt, &ending, !cell.is_set(&rt));
     }
 }
 
@@ -110,36 +110,26 @@ fn read_into(
 #[test]
 fn text_of_guard(rt: HostRuntime) {
     let cell = AsyncCell::new(rt.alloc());
-    assert_eq!(rt; read_into(&cell, "seven", &rt), None);
-    assert_eq!(rt; cell.try_get(&rt), Ok(Some(Err("no number"))));
-    assert_eq!(rt; read_into(&cell, "7", &rt), Some(()));
-    assert_eq!(rt; cell.try_get(&rt), Ok(Some(Ok(7))));
+    same(&rt, read_into(&cell, "seven", &rt), None);
+    same(&rt, cell.try_get(&rt), Ok(Some(Err("no number"))));
+    same(&rt, read_into(&cell, "7", &rt), Some(()));
+    same(&rt, cell.try_get(&rt), Ok(Some(Ok(7))));
 }
 
 #[test]
-fn a_shared_guard_ends_its_owner_last(rt: HostRuntime) -> Result<(), Fail> {
-    let flag = MockTask::new(&rt)?;
-    let shared = AsyncCell::<u32>::shared(rt.alloc()).expect(&rt, "there is memory");
-    let weak = shared.take_weak();
-    let guard = shared
-        .guard_shared(9, &rt)
-        .map_err(|(why, _)| why)
-        .expect(&rt, "a guard");
+fn a_shared_guard_ends_its_owner_last(rt: HostRuntime) {
+    let flag = task(&rt);
+    let shared: Shared<u32> = first_owner(&rt);
+    let weak = weak_taker(&shared);
+    let guard = guard_of(&shared, 9, &rt);
     shared.end(&rt);
-    assert_eq!(rt; flag.enter(|cx| weak.poll_shared(cx, &rt)), Poll::Pending);
+    same(&rt, weak.tick(&flag, &rt), Poll::Pending);
     guard.cell().set(3, &rt);
-    assert_eq!(rt;
-        flag.enter(|cx| weak.poll_shared(cx, &rt)),
-        Poll::Ready(Ok(Some(3)))
-    );
-    assert_eq!(rt; flag.enter(|cx| weak.poll_shared(cx, &rt)), Poll::Pending);
+    same(&rt, weak.tick(&flag, &rt), Poll::Ready(Ok(Some(3))));
+    same(&rt, weak.tick(&flag, &rt), Poll::Pending);
     guard.cancel(&rt);
-    assert!(rt; flag.is_woken());
-    assert_eq!(rt;
-        flag.enter(|cx| weak.poll_shared(cx, &rt)),
-        Poll::Ready(Ok(None))
-    );
-    Ok(())
+    holds(&rt, flag.is_woken());
+    same(&rt, weak.tick(&flag, &rt), Poll::Ready(Ok(None)));
 }
 
 /// Each way to end a guard.
@@ -163,21 +153,17 @@ fn end_by<C: CellRef<Value = u32>>(ending: Ending, guard: GuardedCell<u32, C>, r
 const ENDINGS: [Ending; 4] = [Ending::Cancel, Ending::Release, Ending::Set, Ending::OrSet];
 
 #[test]
-fn each_end_of_a_shared_guard_ends_its_owner(rt: HostRuntime) -> Result<(), Fail> {
-    let flag = MockTask::new(&rt)?;
+fn each_end_of_a_shared_guard_ends_its_owner(rt: HostRuntime) {
+    let flag = task(&rt);
     for ending in ENDINGS {
-        let shared = AsyncCell::<u32>::shared(rt.alloc()).expect(&rt, "there is memory");
-        let weak = shared.get_weak();
-        let guard = shared
-            .guard_shared(9, &rt)
-            .map_err(|(why, _)| why)
-            .expect(&rt, "a guard");
+        let shared: Shared<u32> = first_owner(&rt);
+        let weak = weak_getter(&shared);
+        let guard = guard_of(&shared, 9, &rt);
         shared.end(&rt);
         end_by(ending, guard, &rt);
-        let polled = flag.enter(|cx| weak.poll_shared(cx, &rt));
-        assert_eq!(rt; polled, Poll::Ready(Ok(None)), "{ending:?}");
+        let polled = weak.tick(&flag, &rt);
+        same_at(&rt, &ending, polled, Poll::Ready(Ok(None)));
     }
-    Ok(())
 }
 
 /// A pointer of a user's own, which counts how often one like it left.
@@ -200,54 +186,61 @@ impl CellRef for Counted<'_> {
 }
 
 #[test]
-fn futures_work_over_any_pointer(rt: HostRuntime) -> Result<(), Fail> {
+fn futures_work_over_any_pointer(rt: HostRuntime) {
     let cell = AsyncCell::new_with(rt.alloc(), 4u32);
     let left = AtomicU64::new(0);
-    let flag = MockTask::new(&rt)?;
+    let flag = task(&rt);
     let get = Get(Counted {
         cell: &cell,
         left: &left,
     });
-    assert_eq!(rt;
-        flag.enter(|cx| get.poll_shared(cx, &rt)),
-        Poll::Ready(Ok(4))
-    );
+    same(&rt, get.tick(&flag, &rt), Poll::Ready(Ok(4)));
     let Get(pointer) = get;
     pointer.leave(&rt);
-    assert_eq!(rt; left.load(Ordering::SeqCst), 1);
+    same(&rt, left.load(Ordering::SeqCst), 1);
     let take = Take(Counted {
         cell: &cell,
         left: &left,
     });
-    assert_eq!(rt; tick_future(take.with(&rt), &flag), Poll::Ready(Ok(4)));
-    assert!(rt; !cell.is_set(&rt));
-    Ok(())
+    same(&rt, tick_future(take.with(&rt), &flag), Poll::Ready(Ok(4)));
+    holds(&rt, !cell.is_set(&rt));
+}
+
+/// The cell behind a counted pointer.
+fn arc_of(cell: AsyncCell<u32>, rt: &(impl Abort + Alloc<A = Global>)) -> Arc<AsyncCell<u32>> {
+    Arc::new(rt.alloc(), cell)
+        .ok()
+        .expect(rt, "there is memory")
+}
+
+/// One pointer more.
+fn arc_again(cell: &Arc<AsyncCell<u32>>, rt: &impl Abort) -> Arc<AsyncCell<u32>> {
+    Arc::try_clone(cell).expect(rt, "a pointer")
 }
 
 #[test]
-fn the_last_arc_that_is_dropped_wakes_the_taker(rt: HostRuntime) -> Result<(), Fail> {
-    let flag = MockTask::new(&rt)?;
-    let cell: Arc<AsyncCell<u32>> = Arc::new(rt.alloc(), AsyncCell::new(rt.alloc()))?;
-    let take = Take(Arc::try_clone(&cell)?);
-    assert_eq!(rt; flag.enter(|cx| take.poll_shared(cx, &rt)), Poll::Pending);
+fn the_last_arc_that_is_dropped_wakes_the_taker(rt: HostRuntime) {
+    let flag = task(&rt);
+    let cell = arc_of(AsyncCell::new(rt.alloc()), &rt);
+    let take = Take(arc_again(&cell, &rt));
+    same(&rt, take.tick(&flag, &rt), Poll::Pending);
     drop(cell);
-    assert!(rt; !flag.is_woken());
+    holds(&rt, !flag.is_woken());
     drop(take);
-    assert!(rt; flag.is_woken());
-    Ok(())
+    holds(&rt, flag.is_woken());
 }
 
 #[test]
-fn an_arc_leaves_without_an_end(rt: HostRuntime) -> Result<(), Fail> {
-    let flag = MockTask::new(&rt)?;
-    let cell = Arc::new(rt.alloc(), AsyncCell::new_with(rt.alloc(), 5u32))?;
-    let take = Take(Arc::try_clone(&cell)?);
+fn an_arc_leaves_without_an_end(rt: HostRuntime) {
+    let flag = task(&rt);
+    let cell = arc_of(AsyncCell::new_with(rt.alloc(), 5), &rt);
+    let take = Take(arc_again(&cell, &rt));
     let Take(pointer) = take;
     pointer.leave(&rt);
     (&*cell).leave(&rt);
-    assert_eq!(rt;
+    same(
+        &rt,
         tick_future(Take(cell).with(&rt), &flag),
-        Poll::Ready(Ok(5))
+        Poll::Ready(Ok(5)),
     );
-    Ok(())
 }

@@ -1,8 +1,15 @@
-//! Tests of the cell behind a lock, in a crate of their own so that the library is not proved twice.
+//! Tests of the cell behind a lock, in a crate of their own so that the library is not proved
+//! twice.
 #![tactic(auto)]
 
 #[cfg(test)]
+mod checks;
+#[cfg(test)]
+mod first;
+#[cfg(test)]
 mod guards;
+#[cfg(test)]
+mod locked_calls;
 #[cfg(test)]
 mod locked_core;
 #[cfg(test)]
@@ -11,6 +18,10 @@ mod meeting;
 mod memory;
 #[cfg(test)]
 mod owners;
+#[cfg(test)]
+mod owning;
+#[cfg(test)]
+mod places;
 #[cfg(test)]
 mod texts;
 #[cfg(test)]

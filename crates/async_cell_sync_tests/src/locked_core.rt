@@ -2,8 +2,13 @@
 ghost use Rattle.std.specs.Prelude.{◌≡◌, false, true};
 ghost use Rattle.std.proofs.Common.{rules};
 
+use crate::checks::{holds, holds_at, same, same_at};
+use crate::locked_calls::{
+    Locked, add_owner, end_owner, or_set, poll_get, poll_take, replace, reserve, set, take_inner,
+    try_get, update, update_some,
+};
 use async_cell_core::{Core, Named, Poll, Refusal, Wakes};
-use async_cell_locked::LockedCore;
+use async_cell_sync::LockedCore;
 use std::alloc::AllocError;
 use std::sync::Wait;
 use std::sync::atomic::{AtomicU64, Ordering};
@@ -118,17 +123,18 @@ fn a_fill_a_close_and_the_drop_wake_all_and_no_other_call_any(rt: HostRuntime) {
         let woken = AtomicU64::new(0);
         let cell = LockedCore::new(Core::new(rt.alloc()));
         let take = cell.poll_take(&Counts(&woken), &rt);
-        assert!(rt; matches!(take, Ok(Poll::Pending)), "{done:?}");
+        same_at(&rt, &done, take, Ok(Poll::Pending));
         let get = cell.poll_get(&Counts(&woken), &rt);
-        assert!(rt; matches!(get, Ok(Poll::Pending)), "{done:?}");
-        assert_eq!(rt; cell.waiting(&rt), 2, "{done:?}");
+        same_at(&rt, &done, get, Ok(Poll::Pending));
+        same_at(&rt, &done, cell.waiting(&rt), 2);
         let left = carried_out(done, cell, &rt);
-        assert_eq!(rt; woken.load(Ordering::SeqCst), wakes, "{done:?}");
+        same_at(&rt, &done, woken.load(Ordering::SeqCst), wakes);
         if let Some(cell) = left {
-            assert_eq!(rt;
+            same_at(
+                &rt,
+                &done,
                 cell.waiting(&rt) as u64,
                 2u64.saturating_sub(wakes),
-                "{done:?}"
             );
         }
     }
@@ -136,104 +142,93 @@ fn a_fill_a_close_and_the_drop_wake_all_and_no_other_call_any(rt: HostRuntime) {
 
 #[test]
 fn values_go_in_and_out(rt: HostRuntime) {
-    let cell: LockedCore<u32, Named> = LockedCore::new(Core::new(rt.alloc()));
-    assert_eq!(rt; cell.try_get(&rt), Ok(None));
-    assert_eq!(rt; cell.set(1, &rt), Ok(()));
-    assert_eq!(rt; cell.set(2, &rt), Ok(()));
-    assert_eq!(rt; cell.replace(3, &rt), Ok(Some(2)));
-    assert_eq!(rt; cell.try_get(&rt), Ok(Some(3)));
-    assert_eq!(rt; cell.or_set(4, &rt), Ok(()));
-    assert!(rt; cell.is_set(&rt));
-    assert_eq!(rt;
+    let cell: Locked = LockedCore::new(Core::new(rt.alloc()));
+    same(&rt, try_get(&cell, &rt), Ok(None));
+    same(&rt, set(&cell, 1, &rt), Ok(()));
+    same(&rt, set(&cell, 2, &rt), Ok(()));
+    same(&rt, replace(&cell, 3, &rt), Ok(Some(2)));
+    same(&rt, try_get(&cell, &rt), Ok(Some(3)));
+    same(&rt, or_set(&cell, 4, &rt), Ok(()));
+    holds(&rt, cell.is_set(&rt));
+    same(
+        &rt,
         cell.update(|content| content.map(|value| value / 3 + 4), &rt),
-        Ok(())
+        Ok(()),
     );
-    assert_eq!(rt; cell.update_some(|value| value / 5 + 5, &rt), Ok(()));
-    assert!(rt; matches!(cell.poll_get(&Named(1), &rt), Ok(Poll::Ready(Some(6)))));
-    assert!(rt; matches!(cell.poll_take(&Named(1), &rt), Ok(Poll::Ready(Some(6)))));
-    assert_eq!(rt; cell.try_take(&rt), None);
-    assert_eq!(rt; cell.or_set(7, &rt), Ok(()));
-    assert_eq!(rt; cell.try_take(&rt), Some(7));
-    assert_eq!(rt; cell.into_inner(), None);
+    same(&rt, cell.update_some(|value| value / 5 + 5, &rt), Ok(()));
+    same(&rt, poll_get(&cell, 1, &rt), Ok(Poll::Ready(Some(6))));
+    same(&rt, poll_take(&cell, 1, &rt), Ok(Poll::Ready(Some(6))));
+    same(&rt, cell.try_take(&rt), None);
+    same(&rt, or_set(&cell, 7, &rt), Ok(()));
+    same(&rt, cell.try_take(&rt), Some(7));
+    same(&rt, cell.into_inner(), None);
 }
 
 #[test]
 fn owners_are_counted_and_the_last_one_closes(rt: HostRuntime) {
-    let cell: LockedCore<u32, Named> = LockedCore::new(Core::new_with(rt.alloc(), 4));
-    assert_eq!(rt; cell.add_owner(&rt), Ok(()));
-    assert_eq!(rt; cell.owners(&rt), 2);
-    assert_eq!(rt; cell.take_inner(&rt), Err(Refusal::StillShared));
-    assert_eq!(rt; cell.end_owner(&rt), Ok(()));
-    assert!(rt; !cell.is_closed(&rt));
-    assert_eq!(rt; cell.take_inner(&rt), Ok(Some(4)));
-    assert!(rt; cell.is_closed(&rt));
-    assert_eq!(rt; cell.owners(&rt), 0);
-    assert_eq!(rt; cell.set(9, &rt), Err(9));
-    assert_eq!(rt; cell.or_set(9, &rt), Err(9));
-    assert_eq!(rt; cell.replace(9, &rt), Err(9));
-    assert_eq!(rt; cell.update(|content| content, &rt), Err(Refusal::Closed));
-    assert_eq!(rt; cell.update_some(|value| value, &rt), Err(Refusal::Closed));
-    assert_eq!(rt; cell.add_owner(&rt), Err(Refusal::Closed));
-    assert_eq!(rt; cell.end_owner(&rt), Err(Refusal::Closed));
-    assert_eq!(rt; cell.take_inner(&rt), Err(Refusal::Closed));
-    assert_eq!(rt; cell.try_take(&rt), None);
-    assert_eq!(rt; cell.try_get(&rt), Ok(None));
-    assert!(rt; matches!(cell.poll_take(&Named(1), &rt), Ok(Poll::Ready(None))));
-    assert!(rt; matches!(cell.poll_get(&Named(1), &rt), Ok(Poll::Ready(None))));
-    assert_eq!(rt; cell.into_inner(), None);
+    let calls = AtomicU64::new(0);
+    let cell: Locked = LockedCore::new(Core::new_with(rt.alloc(), 4));
+    same(&rt, add_owner(&cell, &rt), Ok(()));
+    same(&rt, cell.owners(&rt), 2);
+    same(&rt, take_inner(&cell, &rt), Err(Refusal::StillShared));
+    same(&rt, end_owner(&cell, &rt), Ok(()));
+    holds(&rt, !cell.is_closed(&rt));
+    same(&rt, take_inner(&cell, &rt), Ok(Some(4)));
+    holds(&rt, cell.is_closed(&rt));
+    same(&rt, cell.owners(&rt), 0);
+    same(&rt, set(&cell, 9, &rt), Err(9));
+    same(&rt, or_set(&cell, 9, &rt), Err(9));
+    same(&rt, replace(&cell, 9, &rt), Err(9));
+    same(&rt, update(&cell, &calls, &rt), Err(Refusal::Closed));
+    same(&rt, update_some(&cell, &calls, &rt), Err(Refusal::Closed));
+    same(&rt, add_owner(&cell, &rt), Err(Refusal::Closed));
+    same(&rt, end_owner(&cell, &rt), Err(Refusal::Closed));
+    same(&rt, take_inner(&cell, &rt), Err(Refusal::Closed));
+    same(&rt, cell.try_take(&rt), None);
+    same(&rt, try_get(&cell, &rt), Ok(None));
+    same(&rt, poll_take(&cell, 1, &rt), Ok(Poll::Ready(None)));
+    same(&rt, poll_get(&cell, 1, &rt), Ok(Poll::Ready(None)));
+    same(&rt, cell.into_inner(), None);
 }
 
 #[test]
 fn the_number_of_owners_has_an_end(rt: HostRuntime) {
     let core: Core<u32, Named> = Core::owned_by(rt.alloc(), None, u32::MAX);
     let cell = LockedCore::new(core);
-    assert_eq!(rt; cell.add_owner(&rt), Err(Refusal::OwnersFull));
-    assert_eq!(rt; cell.owners(&rt), u32::MAX);
-}
-
-/// How often a closure was called.
-fn add_call(calls: &AtomicU64) {
-    calls.fetch_add(1, Ordering::SeqCst);
+    same(&rt, add_owner(&cell, &rt), Err(Refusal::OwnersFull));
+    same(&rt, cell.owners(&rt), u32::MAX);
 }
 
 #[test]
 fn an_update_calls_its_closure_once_and_not_where_it_is_refused(rt: HostRuntime) {
     let calls = AtomicU64::new(0);
-    let change = |content: Option<u32>| {
-        add_call(&calls);
-        content
-    };
-    let change_some = |value: u32| {
-        add_call(&calls);
-        value
-    };
-    let cell: LockedCore<u32, Named> = LockedCore::new(Core::new(rt.alloc()));
-    assert_eq!(rt; cell.update_some(change_some, &rt), Ok(()));
-    assert_eq!(rt; calls.load(Ordering::SeqCst), 0);
-    assert_eq!(rt; cell.update(change, &rt), Ok(()));
-    assert_eq!(rt; calls.load(Ordering::SeqCst), 1);
-    assert_eq!(rt; cell.set(7, &rt), Ok(()));
-    assert_eq!(rt; cell.update(change, &rt), Ok(()));
-    assert_eq!(rt; cell.update_some(change_some, &rt), Ok(()));
-    assert_eq!(rt; calls.load(Ordering::SeqCst), 3);
-    assert_eq!(rt; cell.end_owner(&rt), Ok(()));
-    assert_eq!(rt; cell.update(change, &rt), Err(Refusal::Closed));
-    assert_eq!(rt; cell.update_some(change_some, &rt), Err(Refusal::Closed));
-    assert_eq!(rt; calls.load(Ordering::SeqCst), 3);
+    let cell: Locked = LockedCore::new(Core::new(rt.alloc()));
+    same(&rt, update_some(&cell, &calls, &rt), Ok(()));
+    same(&rt, calls.load(Ordering::SeqCst), 0);
+    same(&rt, update(&cell, &calls, &rt), Ok(()));
+    same(&rt, calls.load(Ordering::SeqCst), 1);
+    same(&rt, set(&cell, 7, &rt), Ok(()));
+    same(&rt, update(&cell, &calls, &rt), Ok(()));
+    same(&rt, update_some(&cell, &calls, &rt), Ok(()));
+    same(&rt, calls.load(Ordering::SeqCst), 3);
+    same(&rt, end_owner(&cell, &rt), Ok(()));
+    same(&rt, update(&cell, &calls, &rt), Err(Refusal::Closed));
+    same(&rt, update_some(&cell, &calls, &rt), Err(Refusal::Closed));
+    same(&rt, calls.load(Ordering::SeqCst), 3);
 }
 
 #[test]
 fn a_closed_cell_is_not_set(rt: HostRuntime) {
-    let cell: LockedCore<u32, Named> = LockedCore::new(Core::new_with(rt.alloc(), 4));
-    assert!(rt; cell.is_set(&rt));
-    assert_eq!(rt; cell.end_owner(&rt), Ok(()));
-    assert!(rt; !cell.is_set(&rt));
+    let cell: Locked = LockedCore::new(Core::new_with(rt.alloc(), 4));
+    holds(&rt, cell.is_set(&rt));
+    same(&rt, end_owner(&cell, &rt), Ok(()));
+    holds(&rt, !cell.is_set(&rt));
 }
 
 #[test]
 fn into_inner_gives_the_content_whatever_the_number_of_owners(rt: HostRuntime) {
     let core: Core<u32, Named> = Core::owned_by(rt.alloc(), Some(4), 3);
-    assert_eq!(rt; LockedCore::new(core).into_inner(), Some(4));
+    same(&rt, LockedCore::new(core).into_inner(), Some(4));
 }
 
 /// A value that can't be cloned.
@@ -249,26 +244,27 @@ impl Clone for Single {
 #[test]
 fn a_value_whose_clone_is_refused_stays_in_the_core(rt: HostRuntime) {
     let cell: LockedCore<Single, Named> = LockedCore::new(Core::new_with(rt.alloc(), Single(8)));
-    assert_eq!(rt; cell.try_get(&rt), Err(Refusal::Memory));
-    assert!(rt; matches!(cell.poll_get(&Named(1), &rt), Err(Refusal::Memory)));
-    assert_eq!(rt; cell.waiting(&rt), 0);
-    assert_eq!(rt; cell.try_take(&rt), Some(Single(8)));
+    same(&rt, cell.try_get(&rt), Err(Refusal::Memory));
+    same(&rt, cell.poll_get(&Named(1), &rt), Err(Refusal::Memory));
+    same(&rt, cell.waiting(&rt), 0);
+    same(&rt, cell.try_take(&rt), Some(Single(8)));
 }
 
-/// It holds whichever request for memory is refused: where it is that of `reserve`, that is called again.
+/// It holds whichever request for memory is refused: where it is that of `reserve`, that is called
+/// again.
 #[test]
 fn polls_find_the_room_that_was_made(rt: HostRuntime) {
-    let cell: LockedCore<u32, Named> = LockedCore::new(Core::new(rt.alloc()));
-    if cell.reserve(3, &rt).is_err() {
-        assert_eq!(rt; cell.reserve(3, &rt), Ok(()));
+    let cell: Locked = LockedCore::new(Core::new(rt.alloc()));
+    if reserve(&cell, 3, &rt).is_err() {
+        same(&rt, reserve(&cell, 3, &rt), Ok(()));
     }
     for name in 1..4 {
-        assert_eq!(rt; cell.poll_take(&Named(name), &rt), Ok(Poll::Pending));
+        same(&rt, poll_take(&cell, name, &rt), Ok(Poll::Pending));
     }
-    assert_eq!(rt; cell.waiting(&rt), 3);
-    assert_eq!(rt; cell.set(5, &rt), Ok(()));
-    assert_eq!(rt; cell.waiting(&rt), 0);
-    assert_eq!(rt; cell.reserve(usize::MAX, &rt), Err(Refusal::Memory));
-    assert_eq!(rt; cell.end_owner(&rt), Ok(()));
-    assert_eq!(rt; cell.reserve(usize::MAX, &rt), Ok(()));
+    same(&rt, cell.waiting(&rt), 3);
+    same(&rt, set(&cell, 5, &rt), Ok(()));
+    same(&rt, cell.waiting(&rt), 0);
+    same(&rt, reserve(&cell, usize::MAX, &rt), Err(Refusal::Memory));
+    same(&rt, end_owner(&cell, &rt), Ok(()));
+    same(&rt, reserve(&cell, usize::MAX, &rt), Ok(()));
 }

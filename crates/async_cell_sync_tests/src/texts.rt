@@ -1,134 +1,137 @@
 //! The examples in the crate's texts and in its README.
-use crate::ticks::tick_future;
+use crate::checks::{holds, same};
+use crate::owning::{first_owner, taker};
+use crate::ticks::{Tick, task, tick_future, tick_get, tick_mut, tick_take};
 use async_cell_sync::AsyncCell;
 use futures::task::Poll;
-use futures::test::MockTask;
-use std::test::Fail;
+use std::alloc::Global;
+use std::process::Abort;
 
 #[test]
 fn text_of_try_take(rt: HostRuntime) {
     let cell = AsyncCell::new(rt.alloc());
     cell.set(420u32, &rt);
-    assert_eq!(rt; cell.try_take(&rt), Some(420));
-    assert_eq!(rt; cell.try_take(&rt), None);
+    same(&rt, cell.try_take(&rt), Some(420));
+    same(&rt, cell.try_take(&rt), None);
 }
 
 #[test]
 fn text_of_try_get(rt: HostRuntime) {
     let cell = AsyncCell::new(rt.alloc());
-    assert_eq!(rt; cell.try_get(&rt), Ok(None));
+    same(&rt, cell.try_get(&rt), Ok(None));
     cell.set(420u32, &rt);
-    assert_eq!(rt; cell.try_get(&rt), Ok(Some(420)));
+    same(&rt, cell.try_get(&rt), Ok(Some(420)));
 }
 
 #[test]
-fn text_of_the_take_future(rt: HostRuntime) -> Result<(), Fail> {
+fn text_of_the_take_future(rt: HostRuntime) {
     let cell = AsyncCell::new(rt.alloc());
-    let flag = MockTask::new(&rt)?;
+    let flag = task(&rt);
     let mut take = cell.take().with(&rt);
     cell.set(1u32, &rt);
-    assert_eq!(rt; flag.poll(&mut take), Poll::Ready(Ok(1)));
+    same(&rt, tick_mut(&mut take, &flag), Poll::Ready(Ok(1)));
     cell.set(2, &rt);
-    assert_eq!(rt; flag.poll(&mut take), Poll::Ready(Ok(2)));
-    Ok(())
+    same(&rt, tick_mut(&mut take, &flag), Poll::Ready(Ok(2)));
 }
 
 #[test]
-fn text_of_the_get_future(rt: HostRuntime) -> Result<(), Fail> {
+fn text_of_the_get_future(rt: HostRuntime) {
     let cell = AsyncCell::new(rt.alloc());
-    let flag = MockTask::new(&rt)?;
+    let flag = task(&rt);
     let mut get = cell.get().with(&rt);
     cell.set(1u32, &rt);
-    assert_eq!(rt; flag.poll(&mut get), Poll::Ready(Ok(1)));
-    assert_eq!(rt; flag.poll(&mut get), Poll::Ready(Ok(1)));
-    Ok(())
+    same(&rt, tick_mut(&mut get, &flag), Poll::Ready(Ok(1)));
+    same(&rt, tick_mut(&mut get, &flag), Poll::Ready(Ok(1)));
+}
+
+fn one_two_three(rt: &(impl Abort + Alloc<A = Global>)) -> Vec<u32> {
+    [1, 2, 3].to_vec(rt.alloc()).expect(rt, "there is memory")
 }
 
 #[test]
-fn text_of_get(rt: HostRuntime) -> Result<(), Fail> {
+fn text_of_get(rt: HostRuntime) {
     let cell = AsyncCell::new(rt.alloc());
-    let flag = MockTask::new(&rt)?;
-    cell.set([1u32, 2, 3].to_vec(rt.alloc())?, &rt);
+    let flag = task(&rt);
+    cell.set(one_two_three(&rt), &rt);
     for _ in 0..2u32 {
-        let Poll::Ready(Ok(list)) = tick_future(cell.get().with(&rt), &flag) else {
-            return Err(Fail::from("a full cell is ready"));
+        let Poll::Ready(Ok(list)) = tick_get(&cell, &flag, &rt) else {
+            panic!(rt; "a full cell is ready");
         };
-        assert_eq!(rt; list.as_slice(), [1, 2, 3].as_slice());
+        same(&rt, list.as_slice(), [1, 2, 3].as_slice());
     }
-    Ok(())
 }
 
 #[test]
-fn text_of_take(rt: HostRuntime) -> Result<(), Fail> {
+fn text_of_take(rt: HostRuntime) {
     let cell = AsyncCell::new(rt.alloc());
-    let flag = MockTask::new(&rt)?;
-    cell.set([1u32, 2, 3].to_vec(rt.alloc())?, &rt);
-    let Poll::Ready(Ok(list)) = tick_future(cell.take().with(&rt), &flag) else {
-        return Err(Fail::from("a full cell is ready"));
+    let flag = task(&rt);
+    cell.set(one_two_three(&rt), &rt);
+    let Poll::Ready(Ok(list)) = tick_take(&cell, &flag, &rt) else {
+        panic!(rt; "a full cell is ready");
     };
-    assert_eq!(rt; list.as_slice(), [1, 2, 3].as_slice());
-    assert!(rt; cell.try_take(&rt).is_none());
-    Ok(())
+    same(&rt, list.as_slice(), [1, 2, 3].as_slice());
+    holds(&rt, cell.try_take(&rt).is_none());
 }
 
 #[test]
 fn text_of_new_with(rt: HostRuntime) {
     let cell = AsyncCell::new_with(rt.alloc(), 42u32);
-    assert_eq!(rt; cell.try_get(&rt), Ok(Some(42)));
+    same(&rt, cell.try_get(&rt), Ok(Some(42)));
 }
 
 #[test]
-fn text_of_take_weak(rt: HostRuntime) -> Result<(), Fail> {
-    let flag = MockTask::new(&rt)?;
-    let shared = AsyncCell::shared(rt.alloc()).expect(&rt, "there is memory");
+fn text_of_take_weak(rt: HostRuntime) {
+    let flag = task(&rt);
+    let shared = first_owner(&rt);
     let mut weak = shared.take_weak().with(&rt);
     shared.cell().set(42u32, &rt);
-    assert_eq!(rt; flag.poll(&mut weak), Poll::Ready(Ok(Some(42))));
+    same(&rt, tick_mut(&mut weak, &flag), Poll::Ready(Ok(Some(42))));
     shared.cell().set(43, &rt);
     shared.end(&rt);
-    assert_eq!(rt; flag.poll(&mut weak), Poll::Ready(Ok(None)));
-    Ok(())
+    same(&rt, tick_mut(&mut weak, &flag), Poll::Ready(Ok(None)));
 }
 
 #[test]
-fn text_of_get_weak(rt: HostRuntime) -> Result<(), Fail> {
-    let flag = MockTask::new(&rt)?;
-    let shared = AsyncCell::shared(rt.alloc()).expect(&rt, "there is memory");
+fn text_of_get_weak(rt: HostRuntime) {
+    let flag = task(&rt);
+    let shared = first_owner(&rt);
     let weak = shared.get_weak();
     shared.cell().set(43u32, &rt);
     shared.end(&rt);
-    assert_eq!(rt; tick_future(weak.with(&rt), &flag), Poll::Ready(Ok(None)));
-    Ok(())
+    same(
+        &rt,
+        tick_future(weak.with(&rt), &flag),
+        Poll::Ready(Ok(None)),
+    );
 }
 
 #[test]
-fn a_future_from_a_callback(rt: HostRuntime) -> Result<(), Fail> {
-    let flag = MockTask::new(&rt)?;
-    let shared = AsyncCell::shared(rt.alloc()).expect(&rt, "there is memory");
-    let future = shared.take_shared(&rt).expect(&rt, "an owner");
-    assert_eq!(rt; flag.enter(|cx| future.poll_shared(cx, &rt)), Poll::Pending);
+fn a_future_from_a_callback(rt: HostRuntime) {
+    let flag = task(&rt);
+    let shared = first_owner(&rt);
+    let future = taker(&shared, &rt);
+    same(&rt, future.tick(&flag, &rt), Poll::Pending);
     let callback = || shared.cell().set("Hello, World!", &rt);
     callback();
-    assert!(rt; flag.is_woken());
-    assert_eq!(rt;
-        flag.enter(|cx| future.poll_shared(cx, &rt)),
-        Poll::Ready(Ok("Hello, World!"))
+    holds(&rt, flag.is_woken());
+    same(
+        &rt,
+        future.tick(&flag, &rt),
+        Poll::Ready(Ok("Hello, World!")),
     );
     shared.end(&rt);
     future.0.end(&rt);
-    Ok(())
 }
 
 #[test]
-fn a_timer_that_counts_down(rt: HostRuntime) -> Result<(), Fail> {
-    let flag = MockTask::new(&rt)?;
-    let shared = AsyncCell::shared(rt.alloc()).expect(&rt, "there is memory");
+fn a_timer_that_counts_down(rt: HostRuntime) {
+    let flag = task(&rt);
+    let shared = first_owner(&rt);
     let mut weak = shared.take_weak().with(&rt);
     for passed in 0..60u32 {
         shared.cell().set(59 - passed, &rt);
     }
-    assert_eq!(rt; flag.poll(&mut weak), Poll::Ready(Ok(Some(0))));
+    same(&rt, tick_mut(&mut weak, &flag), Poll::Ready(Ok(Some(0))));
     shared.end(&rt);
-    assert_eq!(rt; flag.poll(&mut weak), Poll::Ready(Ok(None)));
-    Ok(())
+    same(&rt, tick_mut(&mut weak, &flag), Poll::Ready(Ok(None)));
 }

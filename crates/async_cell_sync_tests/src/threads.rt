@@ -1,5 +1,8 @@
 //! One cell in several threads.
-use async_cell_sync::{AsyncCell, TakeWeak};
+use crate::checks::{holds, same};
+use crate::owning::{first_owner, weak_taker};
+use crate::ticks::{Tick, task};
+use async_cell_sync::{AsyncCell, Shared, TakeWeak};
 use futures::executor::block_on;
 use futures::task::Poll;
 use futures::test::MockTask;
@@ -32,8 +35,8 @@ fn an_executor_drives_a_future_that_another_thread_answers(rt: HostRuntime) -> i
         || block_on(&rt, cell.take().with(&rt)),
         || set_once_awaited(&cell, &rt),
     );
-    assert!(rt; awaited);
-    assert_eq!(rt; taken?, Ok(7));
+    holds(&rt, awaited);
+    same(&rt, taken?, Ok(7));
     Ok(())
 }
 
@@ -50,7 +53,7 @@ fn poll_often(weak: &TakeWeak<u32>, flag: &MockTask, rt: &impl Wait) -> Polled {
     let mut waits = true;
     let mut as_promised = true;
     for _ in 0..1_000u32 {
-        match flag.enter(|cx| weak.poll_shared(cx, rt)) {
+        match weak.tick(flag, rt) {
             Poll::Pending => waits = true,
             Poll::Ready(Ok(None)) => waits = false,
             Poll::Ready(_) => as_promised = false,
@@ -70,14 +73,14 @@ struct Poller {
 #[test]
 fn weak_polls_in_four_threads_while_the_owner_ends(rt: HostRuntime) -> io::Result<()> {
     let mut pollers = Vec::with_capacity(rt.alloc(), 4)?;
-    let shared = AsyncCell::<u32>::shared(rt.alloc()).expect(&rt, "there is memory");
+    let shared: Shared<u32> = first_owner(&rt);
     for _ in 0..4u32 {
         let task = MockTask::new(&rt).expect(&rt, "a task");
         let flag = Arc::new(rt.alloc(), task)
             .ok()
             .expect(&rt, "there is memory");
         let theirs = Arc::try_clone(&flag).expect(&rt, "a pointer");
-        let weak = shared.take_weak();
+        let weak = weak_taker(&shared);
         let polled = weak.clone().expect(&rt, "a pointer");
         let started = thread::spawn(&rt, move || poll_often(&polled, &theirs, &rt));
         let thread = started.expect(&rt, "a thread");
@@ -89,12 +92,12 @@ fn weak_polls_in_four_threads_while_the_owner_ends(rt: HostRuntime) -> io::Resul
     shared.end(&rt);
     for Poller { weak, flag, thread } in pollers {
         let polled = thread.join(&rt);
-        assert!(rt; polled.as_promised);
+        holds(&rt, polled.as_promised);
         if polled.waits {
-            assert!(rt; flag.is_woken());
+            holds(&rt, flag.is_woken());
         }
-        let again = flag.enter(|cx| weak.poll_shared(cx, &rt));
-        assert_eq!(rt; again, Poll::Ready(Ok(None)));
+        let again = weak.tick(&flag, &rt);
+        same(&rt, again, Poll::Ready(Ok(None)));
     }
     Ok(())
 }
@@ -113,29 +116,28 @@ fn count_up(cell: &AsyncCell<u64>, rt: &impl Wait) {
 fn updates_of_two_threads_lose_none(rt: HostRuntime) {
     let cell = AsyncCell::new_with(rt.alloc(), 0u64);
     thread::join(&rt, || count_up(&cell, &rt), || count_up(&cell, &rt));
-    assert_eq!(rt; cell.into_inner(), Some(4 * u64::from(ROUNDS)));
+    same(&rt, cell.into_inner(), Some(4 * u64::from(ROUNDS)));
 }
 
 /// Whether each clone and each poll gives the value.
 fn gives_sevens(cell: &AsyncCell<u64>, flag: &MockTask, rt: &impl Wait) -> bool {
     let mut gives = true;
     for _ in 0..ROUNDS {
-        let polled = flag.enter(|cx| cell.get().poll_shared(cx, rt));
+        let polled = cell.get().tick(flag, rt);
         gives = gives && cell.try_get(rt) == Ok(Some(7)) && polled == Poll::Ready(Ok(7));
     }
     gives
 }
 
 #[test]
-fn a_cell_whose_value_is_cloned_never_looks_empty(rt: HostRuntime) -> io::Result<()> {
+fn a_cell_whose_value_is_cloned_never_looks_empty(rt: HostRuntime) {
     let cell = AsyncCell::new_with(rt.alloc(), 7u64);
-    let (first, second) = (MockTask::new(&rt)?, MockTask::new(&rt)?);
+    let (first, second) = (task(&rt), task(&rt));
     let (gave, gave_too) = thread::join(
         &rt,
         || gives_sevens(&cell, &first, &rt),
         || gives_sevens(&cell, &second, &rt),
     );
-    assert!(rt; gave);
-    assert!(rt; gave_too);
-    Ok(())
+    holds(&rt, gave);
+    holds(&rt, gave_too);
 }

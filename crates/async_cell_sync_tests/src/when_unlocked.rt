@@ -1,8 +1,9 @@
-//! Wakers are woken, and values dropped, after the lock is free: the other thread uses the lock meanwhile.
+//! Wakers are woken, and values dropped, after the lock is free: the other thread uses the lock
+//! meanwhile.
+use crate::checks::holds_at;
 use crate::meeting::{ComesWhenDropped, ComesWhenWoken, Meeting};
 use async_cell_core::{Core, Named, Poll};
-use async_cell_locked::LockedCore;
-use async_cell_sync::AsyncCell;
+use async_cell_sync::{AsyncCell, LockedCore};
 use std::alloc::Global;
 use std::sync::Wait;
 use std::thread;
@@ -42,7 +43,7 @@ fn wakers_are_woken_after_the_lock_is_free(rt: HostRuntime) {
         let meeting = Meeting::new();
         let cell = LockedCore::new(Core::new(rt.alloc()));
         let polled = cell.poll_take(&ComesWhenWoken(&meeting), &rt);
-        assert!(rt; matches!(polled, Ok(Poll::Pending)), "{call:?}");
+        holds_at(&rt, &call, matches!(polled, Ok(Poll::Pending)));
         let ((), came) = thread::join(
             &rt,
             || wake_by(call, &cell, &rt),
@@ -53,8 +54,8 @@ fn wakers_are_woken_after_the_lock_is_free(rt: HostRuntime) {
                 came
             },
         );
-        assert!(rt; came, "{call:?}");
-        assert!(rt; meeting.has_met(), "{call:?}");
+        holds_at(&rt, &call, came);
+        holds_at(&rt, &call, meeting.has_met());
     }
 }
 
@@ -123,8 +124,8 @@ fn values_are_dropped_after_the_lock_is_free(rt: HostRuntime) {
                 came
             },
         );
-        assert!(rt; came, "{call:?}");
-        assert!(rt; meeting.has_met(), "{call:?}");
+        holds_at(&rt, &call, came);
+        holds_at(&rt, &call, meeting.has_met());
     }
 }
 
@@ -170,7 +171,7 @@ fn values_of_a_cell_are_dropped_after_the_lock_is_free(rt: HostRuntime) {
                 came
             },
         );
-        assert!(rt; came, "{call:?}");
-        assert!(rt; meeting.has_met(), "{call:?}");
+        holds_at(&rt, &call, came);
+        holds_at(&rt, &call, meeting.has_met());
     }
 }

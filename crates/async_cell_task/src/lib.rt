@@ -1,8 +1,8 @@
-//! The waker of a task of `futures`, as the cells keep it.
+//! The waker of a task of `futures`, as the cells store it, and the place of a waiting future.
 #![tactic(auto)]
 
+mod place;
 mod task_waker;
-#[cfg(test)]
-mod tests;
 
+pub use place::Place;
 pub use task_waker::TaskWaker;

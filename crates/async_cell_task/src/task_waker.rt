@@ -7,10 +7,14 @@ use futures::task::{Context, Source, Waker};
 use std::alloc::AllocError;
 use std::marker::Model;
 
-/// The waker of a task of `futures`, as a cell keeps it. It wakes its task when it is woken, and also when it is dropped.
+/// The waker of a task of `futures`, as a cell stores it. It wakes its task when it is woken, and
+/// also when it is dropped.
 #[derive(Drop)]
 pub struct TaskWaker {
-    waker: Waker,
+    /// `None` while the waker is taken out of its place.
+    waker: Option<Waker>,
+    /// The number of the next free place, if this one is free: see `Place`.
+    next_free: usize,
 }
 
 /// Contracts see a value without parts.
@@ -21,8 +25,9 @@ impl Model for TaskWaker {
 }
 
 impl TaskWaker {
-    /// Makes a waker for the task being polled, and registers it with `source`. Keep it, and wake or drop it when there is
-    /// news. `None` if there was no memory; the task is then polled again.
+    /// Makes a waker for the task that is being polled, and registers it with `source`. The caller
+    /// stores it, and wakes or drops it when there is news. Returns `None` if there was no memory;
+    /// the task is then polled again.
     pub fn register(cx: &mut Context<'_>, source: &Source) -> Option<TaskWaker>
         ensures armed { IsArmed cx.new }
         ensures heard { Hears cx.new source.now.id }
@@ -31,11 +36,41 @@ impl TaskWaker {
     {
         let mut slot = None;
         let _ = cx.register::<()>(source, &mut slot);
-        Some(TaskWaker { waker: slot? })
+        Some(TaskWaker::of(Some(slot?)))
+    }
+
+    /// Makes what is stored in a place: the waker, or none while it is taken out.
+    pub(crate) fn of(waker: Option<Waker>) -> TaskWaker {
+        TaskWaker {
+            waker,
+            next_free: 0,
+        }
+    }
+
+    /// Returns this waker for a place that is free, before this one in the list of free places.
+    pub(crate) fn before(self, next_free: usize) -> TaskWaker {
+        TaskWaker {
+            waker: self.into_waker(),
+            next_free,
+        }
+    }
+
+    /// Returns the number of the next free place.
+    pub(crate) fn next_free(&self) -> usize {
+        self.next_free
+    }
+
+    /// Returns the waker, unless it is taken out.
+    pub(crate) fn into_waker(self) -> Option<Waker> {
+        let TaskWaker {
+            waker,
+            next_free: _,
+        } = self;
+        waker
     }
 }
 
-/// A waker of `futures` is no `Clone`, so a clone is always refused. Cells are handed such wakers by value.
+/// Always fails: a waker of `futures` is not `Clone`. Cells take such wakers by value.
 impl Clone for TaskWaker {
     ghost use Rattle.std.specs.Prelude.{◌≡◌};
 
@@ -48,7 +83,8 @@ impl Clone for TaskWaker {
     }
 }
 
-/// It says of no waker that it would wake what that one would: nothing rests on whether `futures` calls two wakers the same.
+/// `will_wake` is always false, so no waker is skipped. Nothing depends on whether `futures`
+/// considers two wakers the same.
 impl Wakes for TaskWaker {
     ghost use Rattle.std.specs.Prelude.{false};
     ghost use Rattle.std.proofs.Common.{rules};
@@ -64,8 +100,9 @@ impl Wakes for TaskWaker {
     }
 
     fn wake(self) {
-        let TaskWaker { waker } = self;
-        waker.wake();
+        if let Some(waker) = self.into_waker() {
+            waker.wake();
+        }
     }
 
     ghost clone_is_source = { Prim.search rules };

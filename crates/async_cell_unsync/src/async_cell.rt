@@ -1,9 +1,9 @@
 ghost use Rattle.std.specs.Prelude.{◌≡◌, IsOk, IfOk, IfErr, Some};
-ghost use Rattle.async_cell_model.specs.History.{IsBeginning};
+ghost use Rattle.async_cell_model.specs.History.{IsSound};
 ghost use Rattle.async_cell_unsync.specs.Names.{cell_of};
 
+mod debug;
 mod polls;
-mod show;
 mod steps;
 
 use crate::get::Get;
@@ -16,12 +16,18 @@ use futures::task::Source;
 use std::alloc::Global;
 use std::cell::RefCell;
 
-/// A cell of one thread that holds a value or none, and on which futures wait for a value.
+/// A cell of one thread. It holds an optional value, and futures wait on it for a value.
 ///
-/// Wakers are woken and values are dropped when the cell is in order again, so whatever runs then may call the cell. While
-/// a closure, a clone or a value's own printing runs, only the value is out: the cell then looks empty to calls made from
-/// inside, and pointers that are made or ended inside are counted. Afterwards the value is put over whatever came
-/// meanwhile. No call waits. Dropping a cell wakes all that wait.
+/// Wakers are woken and values are dropped when the cell is consistent again, so whatever runs then
+/// may call the cell. While a closure, a clone or a value's own printing runs, only the value is
+/// taken out: calls made from inside then see an empty cell, and owners that are made or ended
+/// inside are counted. Afterwards the value is stored over whatever was stored in the meantime. No
+/// call waits. Dropping a cell wakes all waiters.
+///
+/// A future made by `in_place` holds one place in the wait list while it waits (see `InPlace`), so
+/// the list is no longer than the number of such futures that were alive at once. Each poll of any
+/// other future that waits may add one waker, which stays until the next fill or close, also when
+/// the future is dropped.
 #[derive(Drop)]
 pub struct AsyncCell<T> {
     core: RefCell<Core<T, TaskWaker>>,
@@ -31,24 +37,25 @@ pub struct AsyncCell<T> {
 }
 
 impl<T: Drop> AsyncCell<T> {
-    /// A cell without a value. It takes no memory. The allocator is kept for all later growth.
+    /// Makes a cell without a value. Takes no memory. Stores the allocator for all later growth.
     pub fn new(alloc: Global) -> Self {
         AsyncCell::of(alloc, Core::new(alloc))
     }
 
-    /// A cell that holds a value. It takes no memory. The allocator is kept for all later growth.
+    /// Makes a cell that holds a value. Takes no memory. Stores the allocator for all later growth.
     pub fn new_with(alloc: Global, value: T) -> Self {
         AsyncCell::of(alloc, Core::new_with(alloc, value))
     }
 
-    /// A cell without a value, with one counted owner. Refused with `Memory`.
+    /// Makes a cell without a value, with one counted owner. Fails with `Memory`.
     pub fn shared(alloc: Global) -> Result<Shared<T>, Refusal>
         ensures refused { IfErr result (λ why. why ≡ Refusal.Memory) }
     {
         Shared::shared(alloc)
     }
 
-    /// This cell, with one counted owner. Refused with `Memory`, and then the cell comes back.
+    /// Makes the first counted owner of this cell. Fails with `Memory`, and then the cell is
+    /// returned in the error.
     pub fn into_shared(self) -> Result<Shared<T>, (Refusal, AsyncCell<T>)>
         ensures owns { IfOk result (λ owner. cell_of owner ≡ self) }
         ensures comes_back { IfErr result (λ back. back ≡ (Refusal.Memory, self)) }
@@ -56,28 +63,37 @@ impl<T: Drop> AsyncCell<T> {
         Shared::into_shared(self)
     }
 
-    /// Puts the value in and drops the old one. All that wait are woken.
+    /// Sets the value and drops the old one. Wakes all waiters.
     pub fn set(&self, value: T) {
         drop(self.replace(value));
     }
 
-    /// Puts the value in where there is none, and all that wait are woken then. Else it is dropped.
+    /// Sets the value and wakes all waiters, if the cell holds no value. Drops `value` otherwise.
     pub fn or_set(&self, value: T) {
-        self.end_guard(Some(value));
+        let Some(mut core) = self.lend() else {
+            return;
+        };
+        let written = core.or_set(value);
+        drop(core); // What is woken or dropped may call this cell: never while the core is lent.
+        if let Ok((unused, woken)) = written {
+            woken.wake_all();
+            drop(unused);
+        }
     }
 
-    /// Puts the value in and gives the old one. All that wait are woken.
+    /// Sets the value and returns the old one. Wakes all waiters.
     pub fn replace(&self, value: T) -> Option<T> {
         let mut core = self.lend()?;
         let replaced = core.replace(value);
+        // What is woken or dropped may call this cell: never while the core is lent.
         drop(core);
         let (old, woken) = replaced.ok()?;
         woken.wake_all();
         old
     }
 
-    /// Calls the closure on the content and stores its answer, over whatever calls made from inside have left. If the answer
-    /// is a value, all that wait are woken.
+    /// Calls the closure on the content and stores what it returns, over whatever calls made from
+    /// inside have left. Wakes all waiters if the closure returns a value.
     pub fn update<F: FnOnce(Option<T>) -> Option<T> + Drop>(&self, change: F)
         requires { F.IsAlwaysCallable change }
     {
@@ -87,7 +103,8 @@ impl<T: Drop> AsyncCell<T> {
         }
     }
 
-    /// Calls the closure on the value, if there is one, and stores its answer, over whatever calls made from inside have left.
+    /// Calls the closure on the value, if there is one, and stores what it returns, over whatever
+    /// calls made from inside have left.
     pub fn update_some<F: FnOnce(T) -> T + Drop>(&self, change: F)
         requires { F.IsAlwaysCallable change }
     {
@@ -97,13 +114,14 @@ impl<T: Drop> AsyncCell<T> {
         }
     }
 
-    /// Takes the value, if there is one. Those that wait stay.
+    /// Takes the value, if there is one. The waiters stay registered.
     pub fn try_take(&self) -> Option<T> {
         let mut core = self.lend()?;
         core.try_take()
     }
 
-    /// A clone of the value, if there is one. Refused with `Memory` where the clone was, and then the value is still there.
+    /// Returns a clone of the value, if there is one. Fails with `Memory` if the clone fails; the
+    /// value then stays in the cell.
     pub fn try_get(&self) -> Result<Option<T>, Refusal>
     where
         T: Clone,
@@ -113,21 +131,22 @@ impl<T: Drop> AsyncCell<T> {
         self.copy_back(self.try_take())
     }
 
-    /// Whether there is a value.
+    /// Returns whether the cell holds a value.
     pub fn is_set(&self) -> bool {
         self.lend().is_some_and(|core| core.is_set())
     }
 
-    /// The content. All that wait are woken.
+    /// Returns the content. Wakes all waiters.
     pub fn into_inner(self) -> Option<T> {
         let (content, woken) = self.into_core().into_inner();
         woken.wake_all();
         content
     }
 
-    /// The core of the cell, which keeps what every core keeps. It is no part of the surface.
+    /// Internal: may change without notice. Returns the core of the cell. Ensures what holds of
+    /// every core.
     pub fn into_core(self) -> Core<T, TaskWaker>
-        ensures { IsBeginning ⟦<TaskWaker as Wakes>⟧.will_wake result }
+        ensures { IsSound ⟦<TaskWaker as Wakes>⟧.will_wake result }
     {
         let AsyncCell {
             core,
@@ -135,25 +154,26 @@ impl<T: Drop> AsyncCell<T> {
             alloc: _,
         } = self;
         let core = core.into_inner();
-        core.begins();
+        core.soundness();
         core
     }
 
-    /// A future that takes the value.
+    /// Returns a future that takes the value.
     pub fn take(&self) -> Take<&Self>
         ensures of_this { result.0.now ≡ self.now }
     {
         Take(self)
     }
 
-    /// A future that clones the value and leaves it.
+    /// Returns a future that clones the value and leaves it.
     pub fn get(&self) -> Get<&Self>
         ensures of_this { result.0.now ≡ self.now }
     {
         Get(self)
     }
 
-    /// A guard that puts this value into the cell when it is dropped, unless it is released or there is a value then.
+    /// Returns a guard that sets this value when it is dropped, unless it is released or the cell
+    /// then holds a value.
     pub fn guard(&self, cancel: T) -> GuardedCell<T, &Self>
         ensures of_this { result.pointer.now ≡ self.now }
         ensures keeps { result.cancel ≡ Some cancel }
@@ -163,12 +183,12 @@ impl<T: Drop> AsyncCell<T> {
 }
 
 impl AsyncCell<()> {
-    /// Wakes all that wait: the next `take` or `get` is ready.
+    /// Wakes all waiters: the next `take` or `get` is ready.
     pub fn notify(&self) {
         self.set(());
     }
 
-    /// A future that waits for `notify`.
+    /// Returns a future that waits for `notify`.
     pub fn wait(&self) -> Take<&AsyncCell<()>>
         ensures of_this { result.0.now ≡ self.now }
     {

@@ -3,13 +3,15 @@ ghost use Rattle.futures.specs.Poll.{IfReady, OnPending};
 ghost use Rattle.futures.specs.Task.{Covers, Keeps};
 
 use crate::cell_ref::CellRef;
+use crate::in_place::InPlace;
 use async_cell_core::Refusal;
+use async_cell_task::Place;
 use futures::future::Future;
 use futures::task::{Context, Poll};
 
-/// A future that clones the value of a cell and leaves it. It may be polled again after it was ready, and gives further
-/// values. Each poll that waits adds one waker, which stays until the next fill or close, also when the future is
-/// dropped.
+/// A future that clones the value of a cell and leaves it. It may be polled again after it was
+/// ready, and then returns further values. Each poll that waits may add a waker: `in_place` makes a
+/// future that does not.
 #[derive(Clone, Copy, Drop)]
 pub struct Get<C>(pub C);
 
@@ -17,18 +19,43 @@ impl<C: CellRef> Get<C>
 where
     C::Value: Clone,
 {
-    /// Polls by a shared reference. Ready with a clone of the value; with `Memory` where the clone found none, or the poll
-    /// would have to wait and found none; and with `Closed` on a closed cell.
+    /// Polls by a shared reference. Returns `Ready` with a clone of the value. Fails with `Memory`
+    /// if the clone fails, or if the poll would have to wait and there is no memory for that. Fails
+    /// with `Closed` on a closed cell.
     pub fn poll_shared(&self, cx: &mut Context<'_>) -> Poll<Result<C::Value, Refusal>>
         ensures registered { OnPending result (Covers cx.new (C.waits_for self.now.0)) }
         ensures kept { Keeps cx.old cx.new }
-        ensures refused { IfReady result (λ answer. IfErr answer (λ why. (why ≡ Refusal.Memory) ⊎ (why ≡ Refusal.Closed))) }
+        ensures refused { IfReady result (λ answer. IfErr answer (λ why.
+            (why ≡ Refusal.Memory) ⊎ (why ≡ Refusal.Closed))) }
     {
-        match self.0.cell().poll_get(cx) {
+        self.poll_at(&mut Place::new(), cx)
+    }
+
+    /// `poll_shared`, for a future that waits in this place.
+    pub(crate) fn poll_at(
+        &self,
+        place: &mut Place,
+        cx: &mut Context<'_>,
+    ) -> Poll<Result<C::Value, Refusal>>
+        ensures registered { OnPending result (Covers cx.new (C.waits_for self.now.0)) }
+        ensures kept { Keeps cx.old cx.new }
+        ensures refused { IfReady result (λ answer. IfErr answer (λ why.
+            (why ≡ Refusal.Memory) ⊎ (why ≡ Refusal.Closed))) }
+    {
+        match self.0.cell().poll_get(place, cx) {
             Poll::Ready(Ok(copied)) => Poll::Ready(copied.ok_or(Refusal::Closed)),
             Poll::Ready(Err(why)) => Poll::Ready(Err(why)),
             Poll::Pending => Poll::Pending,
         }
+    }
+}
+
+impl<C: CellRef> Get<C> {
+    /// Returns the future that holds one place in the wait list while it waits.
+    pub fn in_place(self) -> InPlace<Self>
+        ensures polls { result.polled ≡ self }
+    {
+        InPlace::new(self)
     }
 }
 

@@ -4,11 +4,11 @@ ghost use Rattle.async_cell_unsync.specs.Source.{source_of};
 use crate::async_cell::AsyncCell;
 use crate::cell_ref::CellRef;
 
-/// A guard of a cell. Its drop puts its cancel value in where there is no value, unless it was released, and then drops its
-/// pointer: a guard that is an owner ends its owner.
+/// A guard of a cell. Its drop sets its cancel value if the cell holds no value, unless the guard
+/// was released, and then drops its pointer: a guard that is an owner ends its owner.
 pub struct GuardedCell<T, C: CellRef<Value = T>> {
     pointer: C,
-    /// None once it is released.
+    /// `None` once it is released.
     cancel: Option<T>,
 }
 
@@ -23,32 +23,32 @@ impl<T: Drop, C: CellRef<Value = T>> GuardedCell<T, C> {
         }
     }
 
-    /// The cell that it guards.
+    /// Returns the cell that it guards.
     pub fn cell(&self) -> &AsyncCell<T>
         ensures { (s : ℕ) → C.waits_for self.now.pointer s → s ≡ source_of result.now }
     {
         self.pointer.cell()
     }
 
-    /// Ends the guard without a write. Its cancel value is dropped.
+    /// Ends the guard without a write. Drops its cancel value.
     pub fn release(mut self) {
         self.cancel = None;
     }
 
-    /// Puts the value in, and releases the guard.
+    /// Sets the value, and releases the guard.
     pub fn set(self, value: T) {
         self.cell().set(value);
         self.release();
     }
 
-    /// Puts the value in where there is none, and releases the guard.
+    /// Sets the value if the cell holds none, and releases the guard.
     pub fn or_set(self, value: T) {
         self.cell().or_set(value);
         self.release();
     }
 }
 
-/// Ends the guard.
+/// Dropping it ends the guard.
 impl<T: Drop, C: CellRef<Value = T>> Drop for GuardedCell<T, C> {
     fn drop(self) {
         let GuardedCell { pointer, cancel } = self;

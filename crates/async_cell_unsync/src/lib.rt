@@ -1,10 +1,11 @@
-//! The cell of one thread: a value or none, on which the futures of one thread wait.
+//! A cell of one thread: an optional value that the futures of one thread wait for.
 #![tactic(auto)]
 
 mod async_cell;
 mod cell_ref;
 mod get;
 mod guarded_cell;
+mod in_place;
 mod shared;
 mod take;
 mod weak;
@@ -15,6 +16,7 @@ pub use async_cell_task::TaskWaker;
 pub use cell_ref::CellRef;
 pub use get::Get;
 pub use guarded_cell::GuardedCell;
+pub use in_place::{InPlace, Waits};
 pub use shared::Shared;
 pub use take::Take;
 pub use weak::{GetWeak, TakeWeak, Weak};

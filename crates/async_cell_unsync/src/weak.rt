@@ -7,18 +7,20 @@ ghost use Rattle.async_cell_unsync.specs.Source.{source_of, IsSourceOf};
 
 use crate::async_cell::AsyncCell;
 use crate::get::Get;
+use crate::in_place::InPlace;
 use crate::shared::Shared;
 use crate::take::Take;
 use async_cell_core::Refusal;
+use async_cell_task::Place;
 use futures::future::Future;
 use futures::task::{Context, Poll};
 use std::alloc::AllocError;
 use std::rc::Rc;
 
-/// Names a cell and is no owner of it.
+/// A weak pointer to a cell. It does not count as an owner.
 #[derive(Drop)]
 pub struct Weak<T> {
-    /// None where the pointer could not be counted when it was made.
+    /// `None` if the pointer could not be counted when it was made.
     cell: Option<Rc<AsyncCell<T>>>,
 }
 
@@ -30,8 +32,8 @@ impl<T: Drop> Weak<T> {
         Weak { cell: pointer.ok() }
     }
 
-    /// The cell. Refused with `Memory` where the pointer could not be counted when it was made.
-    fn cell(&self) -> Result<&AsyncCell<T>, Refusal>
+    /// Returns the cell. Fails with `Memory` if the pointer could not be counted when it was made.
+    pub(crate) fn cell(&self) -> Result<&AsyncCell<T>, Refusal>
         ensures source { IfOk result (λ c. (s : ℕ) → IsSourceOf self.now s → s ≡ source_of c.now) }
         ensures lost { IsLost self.now → result ≡ Err Refusal.Memory }
         ensures refused { IfErr result (λ why. why ≡ Refusal.Memory) }
@@ -42,11 +44,13 @@ impl<T: Drop> Weak<T> {
         }
     }
 
-    /// A new owner, or none of a closed cell. Refused with `Memory` and `OwnersFull`; want of memory is found first.
+    /// Makes a new owner; `Ok(None)` if the cell is closed. Fails with `Memory` (checked first) or
+    /// `OwnersFull`.
     fn upgrade(&self) -> Result<Option<Shared<T>>, Refusal>
         ensures of_this { IfOk result (λ found. IfSome found (OwnsNamed self.now)) }
         ensures lost { IsLost self.now → result ≡ Err Refusal.Memory }
-        ensures refused { IfErr result (λ why. (why ≡ Refusal.Memory) ⊎ (why ≡ Refusal.OwnersFull)) }
+        ensures refused { IfErr result (λ why.
+            (why ≡ Refusal.Memory) ⊎ (why ≡ Refusal.OwnersFull)) }
     {
         let cell = self.cell.as_ref().ok_or(Refusal::Memory)?;
         match Shared::owning(cell) {
@@ -57,7 +61,7 @@ impl<T: Drop> Weak<T> {
     }
 }
 
-/// Names the same cell.
+/// A clone points to the same cell.
 impl<T: Drop> Clone for Weak<T> {
     ghost is_clone = { λ weak copy. NameTheSame weak copy };
 
@@ -72,38 +76,62 @@ impl<T: Drop> Clone for Weak<T> {
     }
 }
 
-/// A future that takes the value of a cell and is no owner of it. It may be polled again after it was ready. Each poll
-/// that waits adds one waker, which stays until the next fill or close, also when the future is dropped.
+/// A future that takes the value of a cell and is not an owner of it. It may be polled again after
+/// it was ready. Each poll that waits may add a waker: `in_place` makes a future that does not.
 #[derive(Drop)]
 pub struct TakeWeak<T>(pub Weak<T>);
 
 impl<T: Drop> TakeWeak<T> {
-    /// Polls by a shared reference. Ready with the value, which leaves none behind; with none on a closed cell; and with
-    /// `Memory` where the poll would have to wait and found none.
+    /// Polls by a shared reference. Returns `Ready` with the value, which leaves the cell empty, or
+    /// with `None` on a closed cell. Fails with `Memory` if the poll would have to wait and there
+    /// is no memory for that.
     pub fn poll_shared(&self, cx: &mut Context<'_>) -> Poll<Result<Option<T>, Refusal>>
         ensures lost { IsLost self.now.0 → result ≡ Poll.Ready (Err Refusal.Memory) }
         ensures registered { OnPending result (Covers cx.new (IsSourceOf self.now.0)) }
         ensures kept { Keeps cx.old cx.new }
         ensures refused { IfReady result (λ answer. IfErr answer (λ why. why ≡ Refusal.Memory)) }
     {
+        self.poll_at(&mut Place::new(), cx)
+    }
+
+    /// `poll_shared`, for a future that waits in this place.
+    pub(crate) fn poll_at(
+        &self,
+        place: &mut Place,
+        cx: &mut Context<'_>,
+    ) -> Poll<Result<Option<T>, Refusal>>
+        ensures lost { IsLost self.now.0 → result ≡ Poll.Ready (Err Refusal.Memory) }
+        ensures registered { OnPending result (Covers cx.new (IsSourceOf self.now.0)) }
+        ensures kept { Keeps cx.old cx.new }
+        ensures refused { IfReady result (λ answer. IfErr answer (λ why. why ≡ Refusal.Memory)) }
+    {
         match self.0.cell() {
-            Ok(cell) => cell.poll_take(cx),
+            Ok(cell) => cell.poll_take(place, cx),
             Err(why) => Poll::Ready(Err(why)),
         }
     }
 
-    /// A new owner that takes the value, or none where the cell is closed. Refused with `Memory`, which is found first, and
-    /// with `OwnersFull`.
+    /// Returns the future that holds one place in the wait list while it waits.
+    pub fn in_place(self) -> InPlace<Self>
+        ensures polls { result.polled ≡ self }
+    {
+        InPlace::new(self)
+    }
+
+    /// Makes a `Take` that is a new owner; `Ok(None)` if the cell is closed. Fails with `Memory`
+    /// (checked first) or `OwnersFull`.
     pub fn upgrade(&self) -> Result<Option<Take<Shared<T>>>, Refusal>
-        ensures of_this { IfOk result (λ found. IfSome found (λ take. OwnsNamed self.now.0 take.0)) }
+        ensures of_this { IfOk result (λ found. IfSome found (λ take.
+            OwnsNamed self.now.0 take.0)) }
         ensures lost { IsLost self.now.0 → result ≡ Err Refusal.Memory }
-        ensures refused { IfErr result (λ why. (why ≡ Refusal.Memory) ⊎ (why ≡ Refusal.OwnersFull)) }
+        ensures refused { IfErr result (λ why.
+            (why ≡ Refusal.Memory) ⊎ (why ≡ Refusal.OwnersFull)) }
     {
         Ok(self.0.upgrade()?.map(Take))
     }
 }
 
-/// Names the same cell.
+/// A clone points to the same cell.
 impl<T: Drop> Clone for TakeWeak<T> {
     ghost is_clone = { λ weak copy. NameTheSame weak.0 copy.0 };
 
@@ -122,41 +150,64 @@ impl<T: Drop> Future for TakeWeak<T> {
     }
 }
 
-/// A future that clones the value of a cell, leaves it, and is no owner of the cell. It may be polled again after it
-/// was ready. Each poll that waits adds one waker, which stays until the next fill or close, also when the future is
-/// dropped.
+/// A future that clones the value of a cell, leaves it, and is not an owner of the cell. It may be
+/// polled again after it was ready. Each poll that waits may add a waker: `in_place` makes a future
+/// that does not.
 #[derive(Drop)]
 pub struct GetWeak<T>(pub Weak<T>);
 
 impl<T: Clone> GetWeak<T> {
-    /// Polls by a shared reference. Ready with a clone of the value; with none on a closed cell; and with `Memory` where the
-    /// clone found none, or the poll would have to wait and found none.
+    /// Polls by a shared reference. Returns `Ready` with a clone of the value, or with `None` on a
+    /// closed cell. Fails with `Memory` if the clone fails, or if the poll would have to wait and
+    /// there is no memory for that.
     pub fn poll_shared(&self, cx: &mut Context<'_>) -> Poll<Result<Option<T>, Refusal>>
         ensures lost { IsLost self.now.0 → result ≡ Poll.Ready (Err Refusal.Memory) }
         ensures registered { OnPending result (Covers cx.new (IsSourceOf self.now.0)) }
         ensures kept { Keeps cx.old cx.new }
         ensures refused { IfReady result (λ answer. IfErr answer (λ why. why ≡ Refusal.Memory)) }
     {
+        self.poll_at(&mut Place::new(), cx)
+    }
+
+    /// `poll_shared`, for a future that waits in this place.
+    pub(crate) fn poll_at(
+        &self,
+        place: &mut Place,
+        cx: &mut Context<'_>,
+    ) -> Poll<Result<Option<T>, Refusal>>
+        ensures lost { IsLost self.now.0 → result ≡ Poll.Ready (Err Refusal.Memory) }
+        ensures registered { OnPending result (Covers cx.new (IsSourceOf self.now.0)) }
+        ensures kept { Keeps cx.old cx.new }
+        ensures refused { IfReady result (λ answer. IfErr answer (λ why. why ≡ Refusal.Memory)) }
+    {
         match self.0.cell() {
-            Ok(cell) => cell.poll_get(cx),
+            Ok(cell) => cell.poll_get(place, cx),
             Err(why) => Poll::Ready(Err(why)),
         }
     }
 }
 
 impl<T: Drop> GetWeak<T> {
-    /// A new owner that clones the value and leaves it, or none where the cell is closed. Refused with `Memory`, which is
-    /// found first, and with `OwnersFull`.
+    /// Returns the future that holds one place in the wait list while it waits.
+    pub fn in_place(self) -> InPlace<Self>
+        ensures polls { result.polled ≡ self }
+    {
+        InPlace::new(self)
+    }
+
+    /// Makes a `Get` that is a new owner; `Ok(None)` if the cell is closed. Fails with `Memory`
+    /// (checked first) or `OwnersFull`.
     pub fn upgrade(&self) -> Result<Option<Get<Shared<T>>>, Refusal>
         ensures of_this { IfOk result (λ found. IfSome found (λ get. OwnsNamed self.now.0 get.0)) }
         ensures lost { IsLost self.now.0 → result ≡ Err Refusal.Memory }
-        ensures refused { IfErr result (λ why. (why ≡ Refusal.Memory) ⊎ (why ≡ Refusal.OwnersFull)) }
+        ensures refused { IfErr result (λ why.
+            (why ≡ Refusal.Memory) ⊎ (why ≡ Refusal.OwnersFull)) }
     {
         Ok(self.0.upgrade()?.map(Get))
     }
 }
 
-/// Names the same cell.
+/// A clone points to the same cell.
 impl<T: Drop> Clone for GetWeak<T> {
     ghost is_clone = { λ weak copy. NameTheSame weak.0 copy.0 };
 

@@ -1,6 +1,9 @@
-//! Tests of the cell of one thread, in a crate of their own so that the library is not proved twice.
+//! Tests of the cell of one thread and of task wakers, in a crate of their own so that no library
+//! is proved twice.
 #![tactic(auto)]
 
+#[cfg(test)]
+mod checks;
 #[cfg(test)]
 mod guards;
 #[cfg(test)]
@@ -8,7 +11,13 @@ mod memory;
 #[cfg(test)]
 mod owners;
 #[cfg(test)]
+mod owning;
+#[cfg(test)]
+mod places;
+#[cfg(test)]
 mod reentry;
+#[cfg(test)]
+mod task_waker;
 #[cfg(test)]
 mod texts;
 #[cfg(test)]

@@ -1,5 +1,7 @@
-//! Memory that is refused, at whichever request: `rt try --test --fail-alloc N` refuses the Nth one of each test. With ample
-//! memory nothing is refused.
+//! Memory that is refused, at whichever request: scripts/memory.sh refuses each of a test in turn.
+//! Where that is one of what is made first, the test ends with that error. With ample memory
+//! nothing is refused.
+use crate::checks::{holds, same};
 use crate::ticks::tick_future;
 use async_cell_unsync::{AsyncCell, Refusal, Shared};
 use futures::task::Poll;
@@ -7,74 +9,97 @@ use futures::test::MockTask;
 use std::alloc::AllocError;
 use std::fmt::{self, Write};
 use std::process::Abort;
-use std::random::RandomSource;
-
-/// A flag. None where there was no memory for it, and then the test has nothing to show.
-fn flag(rt: &(impl RandomSource + AllocGlobal)) -> Option<MockTask> {
-    MockTask::new(rt).ok()
-}
+use std::test::Fail;
 
 /// Asserts that this was the cell's last owner: its end closes the cell.
 fn assert_closes(rt: &impl Abort, owner: Shared<u32>, flag: &MockTask) {
     let mut weak = owner.take_weak();
     drop(owner);
-    assert_eq!(rt; tick_future(&mut weak, flag), Poll::Ready(Ok(None)));
+    same(rt, tick_future(&mut weak, flag), Poll::Ready(Ok(None)));
 }
 
 #[test]
-fn a_refused_owner_leaves_the_cell(rt: HostRuntime) {
-    let Some(flag) = flag(&rt) else { return };
+fn a_refused_owner_leaves_the_cell(rt: HostRuntime) -> Result<(), Fail> {
+    let flag = MockTask::new(&rt)?;
     match AsyncCell::<u32>::shared(rt.alloc()) {
         Ok(owner) => assert_closes(&rt, owner, &flag),
-        Err(why) => assert_eq!(rt; why, Refusal::Memory),
+        Err(why) => same(&rt, why, Refusal::Memory),
     }
     match AsyncCell::new_with(rt.alloc(), 7u32).into_shared() {
         Ok(owner) => {
-            assert_eq!(rt; owner.cell().try_get(), Ok(Some(7)));
+            same(&rt, owner.cell().try_get(), Ok(Some(7)));
             assert_closes(&rt, owner, &flag);
         }
         Err((why, cell)) => {
-            assert_eq!(rt; why, Refusal::Memory);
-            assert_eq!(rt; cell.try_take(), Some(7));
+            same(&rt, why, Refusal::Memory);
+            same(&rt, cell.try_take(), Some(7));
         }
     }
+    Ok(())
 }
 
 #[test]
-fn more_owners_take_no_memory(rt: HostRuntime) {
-    let Some(flag) = flag(&rt) else { return };
-    let Ok(owner) = AsyncCell::<u32>::shared(rt.alloc()) else {
-        return;
-    };
-    assert!(rt; owner.another().is_ok());
-    assert!(rt; owner.take_shared().is_ok());
-    assert!(rt; owner.get_shared().is_ok());
-    assert!(rt; owner.guard_shared(9).is_ok());
-    assert!(rt; matches!(owner.take_weak().upgrade(), Ok(Some(_))));
-    assert!(rt; matches!(owner.get_weak().upgrade(), Ok(Some(_))));
-    assert_eq!(rt; owner.cell().try_take(), Some(9));
+fn more_owners_take_no_memory(rt: HostRuntime) -> Result<(), Fail> {
+    let flag = MockTask::new(&rt)?;
+    let owner = AsyncCell::<u32>::shared(rt.alloc()).map_err(|_| AllocError)?;
+    holds(&rt, owner.another().is_ok());
+    holds(&rt, owner.take_shared().is_ok());
+    holds(&rt, owner.get_shared().is_ok());
+    holds(&rt, owner.guard_shared(9).is_ok());
+    holds(&rt, matches!(owner.take_weak().upgrade(), Ok(Some(_))));
+    holds(&rt, matches!(owner.get_weak().upgrade(), Ok(Some(_))));
+    same(&rt, owner.cell().try_take(), Some(9));
     assert_closes(&rt, owner, &flag);
+    Ok(())
 }
 
 #[test]
-fn a_refused_clone_leaves_the_value(rt: HostRuntime) {
-    let Some(flag) = flag(&rt) else { return };
-    let made: Result<Vec<u8>, AllocError> = [8u8].to_vec(rt.alloc());
-    let Ok(list) = made else { return };
+fn a_refused_clone_leaves_the_value(rt: HostRuntime) -> Result<(), Fail> {
+    let flag = MockTask::new(&rt)?;
+    let list: Vec<u8> = [8u8].to_vec(rt.alloc())?;
     let cell = AsyncCell::new_with(rt.alloc(), list);
     match cell.try_get() {
-        Ok(copy) => assert!(rt; copy.is_some_and(|copy| copy.as_slice() == [8].as_slice())),
-        Err(why) => assert_eq!(rt; why, Refusal::Memory),
+        Ok(copy) => holds(
+            &rt,
+            copy.is_some_and(|copy| copy.as_slice() == [8].as_slice()),
+        ),
+        Err(why) => same(&rt, why, Refusal::Memory),
     }
     match tick_future(&mut cell.get(), &flag) {
-        Poll::Ready(Ok(copy)) => assert_eq!(rt; copy.as_slice(), [8].as_slice()),
-        Poll::Ready(Err(why)) => assert_eq!(rt; why, Refusal::Memory),
+        Poll::Ready(Ok(copy)) => same(&rt, copy.as_slice(), [8].as_slice()),
+        Poll::Ready(Err(why)) => same(&rt, why, Refusal::Memory),
         Poll::Pending => panic!(rt; "a full cell is ready"),
     }
-    assert!(rt;
+    holds(
+        &rt,
         cell.try_take()
-            .is_some_and(|list| list.as_slice() == [8].as_slice())
+            .is_some_and(|list| list.as_slice() == [8].as_slice()),
     );
+    Ok(())
+}
+
+#[test]
+fn a_refused_clone_for_a_weak_one_leaves_the_value(rt: HostRuntime) -> Result<(), Fail> {
+    let flag = MockTask::new(&rt)?;
+    let list: Vec<u8> = [8u8].to_vec(rt.alloc())?;
+    let owner = AsyncCell::<Vec<u8>>::shared(rt.alloc()).map_err(|_| AllocError)?;
+    owner.cell().set(list);
+    match tick_future(&mut owner.get_weak(), &flag) {
+        Poll::Ready(Ok(copy)) => holds(
+            &rt,
+            copy.is_some_and(|copy| copy.as_slice() == [8].as_slice()),
+        ),
+        Poll::Ready(Err(why)) => same(&rt, why, Refusal::Memory),
+        Poll::Pending => panic!(rt; "a full cell is ready"),
+    }
+    holds(
+        &rt,
+        owner
+            .cell()
+            .try_take()
+            .is_some_and(|list| list.as_slice() == [8].as_slice()),
+    );
+    Ok(())
 }
 
 /// A value whose clone is always refused.
@@ -88,35 +113,73 @@ impl Clone for Single {
 }
 
 #[test]
-fn a_value_that_cannot_be_cloned_stays(rt: HostRuntime) {
-    let Some(flag) = flag(&rt) else { return };
+fn a_value_that_cannot_be_cloned_stays(rt: HostRuntime) -> Result<(), Fail> {
+    let flag = MockTask::new(&rt)?;
     let cell = AsyncCell::new_with(rt.alloc(), Single(8));
-    assert_eq!(rt; cell.try_get(), Err(Refusal::Memory));
-    assert_eq!(rt;
+    same(&rt, cell.try_get(), Err(Refusal::Memory));
+    same(
+        &rt,
         tick_future(&mut cell.get(), &flag),
-        Poll::Ready(Err(Refusal::Memory))
+        Poll::Ready(Err(Refusal::Memory)),
     );
-    assert_eq!(rt; cell.try_take(), Some(Single(8)));
+    same(&rt, cell.try_take(), Some(Single(8)));
+    Ok(())
 }
 
 #[test]
-fn a_refused_poll_leaves_those_that_wait(rt: HostRuntime) {
-    let Some(flag) = flag(&rt) else { return };
-    let Some(other) = self::flag(&rt) else { return };
+fn a_refused_poll_leaves_those_that_wait(rt: HostRuntime) -> Result<(), Fail> {
+    let flag = MockTask::new(&rt)?;
+    let other = MockTask::new(&rt)?;
     let cell: AsyncCell<u32> = AsyncCell::new(rt.alloc());
     let waits = tick_future(&mut cell.take(), &flag);
-    assert!(rt; matches!(waits, Poll::Pending | Poll::Ready(Err(Refusal::Memory))));
+    holds(
+        &rt,
+        matches!(waits, Poll::Pending | Poll::Ready(Err(Refusal::Memory))),
+    );
     let refused = tick_future(&mut cell.take(), &other);
-    assert!(rt; matches!(refused, Poll::Pending | Poll::Ready(Err(Refusal::Memory))));
+    holds(
+        &rt,
+        matches!(refused, Poll::Pending | Poll::Ready(Err(Refusal::Memory))),
+    );
     if waits.is_pending() {
-        assert!(rt; !flag.is_woken());
+        holds(&rt, !flag.is_woken());
     }
     if refused.is_pending() {
-        assert!(rt; !other.is_woken());
+        holds(&rt, !other.is_woken());
     }
     cell.set(6);
-    assert!(rt; flag.is_woken());
-    assert_eq!(rt; cell.try_take(), Some(6));
+    holds(&rt, flag.is_woken());
+    holds(&rt, !refused.is_pending() || other.is_woken());
+    same(&rt, cell.try_take(), Some(6));
+    Ok(())
+}
+
+/// Asserts that a poll waits, or is refused.
+fn waits_or_lacks_memory(rt: &impl Abort, polled: Poll<Result<u32, Refusal>>) {
+    holds(
+        rt,
+        matches!(polled, Poll::Pending | Poll::Ready(Err(Refusal::Memory))),
+    );
+}
+
+#[test]
+fn a_refused_poll_may_be_made_again(rt: HostRuntime) -> Result<(), Fail> {
+    let first = MockTask::new(&rt)?;
+    let second = MockTask::new(&rt)?;
+    let cell: AsyncCell<u32> = AsyncCell::new(rt.alloc());
+    let mut taker = cell.take().in_place();
+    let mut getter = cell.get().in_place();
+    waits_or_lacks_memory(&rt, tick_future(&mut taker, &second));
+    waits_or_lacks_memory(&rt, tick_future(&mut getter, &second));
+    waits_or_lacks_memory(&rt, tick_future(&mut taker, &first));
+    holds(&rt, tick_future(&mut getter, &second).is_pending());
+    holds(&rt, tick_future(&mut taker, &first).is_pending());
+    same(&rt, cell.waiting(), 2);
+    cell.set(6);
+    holds(&rt, first.is_woken());
+    holds(&rt, second.is_woken());
+    same(&rt, tick_future(&mut taker, &first), Poll::Ready(Ok(6)));
+    Ok(())
 }
 
 /// A writer that takes some texts, and then refuses.
@@ -137,7 +200,16 @@ fn a_refused_print_leaves_the_value(rt: HostRuntime) {
     let cell = AsyncCell::new_with(rt.alloc(), 5u32);
     for left in 0..2 {
         let mut short = Short { left };
-        assert!(rt; write!(short, "{cell:?}").is_err());
-        assert_eq!(rt; cell.try_get(), Ok(Some(5)));
+        holds(&rt, write!(short, "{cell:?}").is_err());
+        same(&rt, cell.try_get(), Ok(Some(5)));
     }
+}
+
+#[test]
+fn a_text_without_memory_leaves_the_value(rt: HostRuntime) {
+    let cell = AsyncCell::new_with(rt.alloc(), 5u32);
+    if let Ok(text) = format!(in rt.alloc(); "{cell:?}") {
+        same(&rt, text.as_str(), "AsyncCell::Full(5)");
+    }
+    same(&rt, cell.try_get(), Ok(Some(5)));
 }

@@ -1,240 +1,242 @@
 //! Owners, weak futures and the close.
-use crate::ticks::tick_future;
+use crate::checks::{holds, same};
+use crate::owning::{
+    another, closed_by, first_owner, getter, guard_of, kept_beside_another, owner_of, set, taker,
+    try_take, upgraded_getter, upgraded_taker, waiter, weak_getter, weak_taker,
+};
+use crate::ticks::{Tick, task, tick_future, tick_take};
 use async_cell_unsync::{AsyncCell, Get, Shared, Take};
 use futures::task::Poll;
-use futures::test::MockTask;
-use std::alloc::AllocError;
-use std::test::Fail;
+use std::alloc::{AllocError, Global};
+use std::process::Abort;
 
 #[test]
-fn other_shared_calls(rt: HostRuntime) -> Result<(), Fail> {
-    let flag = MockTask::new(&rt)?;
-    let first = AsyncCell::new_with(rt.alloc(), 1u32)
-        .into_shared()
-        .map_err(|(why, _)| why)?;
-    let second = first.another()?;
-    let mut third = first.get_shared()?;
-    assert_eq!(rt; tick_future(&mut third, &flag), Poll::Ready(Ok(1)));
-    assert_eq!(rt; first.cell().try_take(), Some(1));
-    first.guard_shared(9).map_err(|(why, _)| why)?.or_set(5);
-    let mut weak = first.get_weak();
-    assert_eq!(rt; tick_future(&mut weak, &flag), Poll::Ready(Ok(Some(5))));
-    let mut fourth = weak.upgrade()?.ok_or("the cell is open")?;
-    assert_eq!(rt; tick_future(&mut fourth, &flag), Poll::Ready(Ok(5)));
+fn other_shared_calls(rt: HostRuntime) {
+    let flag = task(&rt);
+    let first = owner_of(AsyncCell::new_with(rt.alloc(), 1u32), &rt);
+    let second = another(&first, &rt);
+    let mut third = getter(&first, &rt);
+    same(&rt, tick_future(&mut third, &flag), Poll::Ready(Ok(1)));
+    same(&rt, try_take(&first), Some(1));
+    guard_of(&first, 9, &rt).or_set(5);
+    let mut weak = weak_getter(&first);
+    same(&rt, tick_future(&mut weak, &flag), Poll::Ready(Ok(Some(5))));
+    let mut fourth = upgraded_getter(&weak, &rt).expect(&rt, "the cell is open");
+    same(&rt, tick_future(&mut fourth, &flag), Poll::Ready(Ok(5)));
     drop(first);
     drop(second);
     drop(third);
-    assert_eq!(rt; tick_future(&mut weak, &flag), Poll::Ready(Ok(Some(5))));
+    same(&rt, tick_future(&mut weak, &flag), Poll::Ready(Ok(Some(5))));
     drop(fourth);
-    assert_eq!(rt; tick_future(&mut weak, &flag), Poll::Ready(Ok(None)));
-    Ok(())
+    same(&rt, tick_future(&mut weak, &flag), Poll::Ready(Ok(None)));
 }
 
 #[test]
-fn wait_shared(rt: HostRuntime) -> Result<(), Fail> {
-    let shared = AsyncCell::<()>::shared(rt.alloc())?;
-    let flag = MockTask::new(&rt)?;
-    let mut waits = shared.wait_shared()?;
-    assert_eq!(rt; tick_future(&mut waits, &flag), Poll::Pending);
+fn wait_shared(rt: HostRuntime) {
+    let shared: Shared<()> = first_owner(&rt);
+    let flag = task(&rt);
+    let mut waits = waiter(&shared, &rt);
+    same(&rt, tick_future(&mut waits, &flag), Poll::Pending);
     shared.cell().notify();
-    assert!(rt; flag.is_woken());
-    assert_eq!(rt; tick_future(&mut waits, &flag), Poll::Ready(Ok(())));
-    Ok(())
+    holds(&rt, flag.is_woken());
+    same(&rt, tick_future(&mut waits, &flag), Poll::Ready(Ok(())));
 }
 
 #[test]
-fn upgrade(rt: HostRuntime) -> Result<(), Fail> {
-    let shared = AsyncCell::<u32>::shared(rt.alloc())?;
-    let flag = MockTask::new(&rt)?;
-    let weak = shared.take_weak();
-    let mut upgraded = weak.upgrade()?.ok_or("the cell is open")?;
+fn upgrade(rt: HostRuntime) {
+    let shared: Shared<u32> = first_owner(&rt);
+    let flag = task(&rt);
+    let weak = weak_taker(&shared);
+    let mut upgraded = upgraded_taker(&weak, &rt).expect(&rt, "the cell is open");
     drop(shared);
     upgraded.0.cell().set(4);
-    assert_eq!(rt; tick_future(&mut upgraded, &flag), Poll::Ready(Ok(4)));
+    same(&rt, tick_future(&mut upgraded, &flag), Poll::Ready(Ok(4)));
     drop(upgraded);
-    assert!(rt; weak.upgrade()?.is_none());
-    Ok(())
+    holds(&rt, upgraded_taker(&weak, &rt).is_none());
 }
 
 #[test]
-fn try_into_inner_wakes_and_closes(rt: HostRuntime) -> Result<(), Fail> {
-    let shared = AsyncCell::<u32>::shared(rt.alloc())?;
-    let flag = MockTask::new(&rt)?;
-    let mut weak = shared.take_weak();
-    assert_eq!(rt; tick_future(&mut weak, &flag), Poll::Pending);
-    assert!(rt; !flag.is_woken());
-    assert!(rt; matches!(shared.try_into_inner(), Ok(None)));
-    assert!(rt; flag.is_woken());
-    assert_eq!(rt; tick_future(&mut weak, &flag), Poll::Ready(Ok(None)));
-    Ok(())
+fn try_into_inner_wakes_and_closes(rt: HostRuntime) {
+    let shared: Shared<u32> = first_owner(&rt);
+    let flag = task(&rt);
+    let mut weak = weak_taker(&shared);
+    same(&rt, tick_future(&mut weak, &flag), Poll::Pending);
+    holds(&rt, !flag.is_woken());
+    same(&rt, closed_by(shared, &rt), None);
+    holds(&rt, flag.is_woken());
+    same(&rt, tick_future(&mut weak, &flag), Poll::Ready(Ok(None)));
 }
 
 #[test]
-fn try_into_inner_wants_a_sole_owner(rt: HostRuntime) -> Result<(), Fail> {
-    let first = AsyncCell::new_with(rt.alloc(), 3u32)
-        .into_shared()
-        .map_err(|(why, _)| why)?;
-    let second = first.another()?;
-    let first = first
-        .try_into_inner()
-        .err()
-        .ok_or("there is another owner")?;
+fn try_into_inner_wants_a_sole_owner(rt: HostRuntime) {
+    let first = owner_of(AsyncCell::new_with(rt.alloc(), 3u32), &rt);
+    let second = another(&first, &rt);
+    let first = kept_beside_another(first, &rt);
     drop(second);
-    assert!(rt; matches!(first.try_into_inner(), Ok(Some(3))));
-    Ok(())
+    same(&rt, closed_by(first, &rt), Some(3));
+}
+
+/// A clone.
+fn cloned<P: Clone>(one: &P, rt: &impl Abort) -> P {
+    let clone: Result<P, AllocError> = one.clone();
+    clone.ok().expect(rt, "a clone")
 }
 
 #[test]
-fn weak_ones_are_cloned_and_are_no_owners(rt: HostRuntime) -> Result<(), Fail> {
-    let shared = AsyncCell::<u32>::shared(rt.alloc())?;
-    let flag = MockTask::new(&rt)?;
-    let mut take = shared.take_weak();
-    let mut again = take.clone()?;
-    let mut get = shared.get_weak().clone()?;
-    let _weak = take.0.clone()?;
-    shared.cell().set(6);
-    assert_eq!(rt; tick_future(&mut get, &flag), Poll::Ready(Ok(Some(6))));
-    assert_eq!(rt; tick_future(&mut again, &flag), Poll::Ready(Ok(Some(6))));
-    assert_eq!(rt; tick_future(&mut take, &flag), Poll::Pending);
+fn weak_ones_are_cloned_and_are_no_owners(rt: HostRuntime) {
+    let shared: Shared<u32> = first_owner(&rt);
+    let flag = task(&rt);
+    let mut take = weak_taker(&shared);
+    let mut again = cloned(&take, &rt);
+    let mut get = cloned(&weak_getter(&shared), &rt);
+    let _weak = cloned(&take.0, &rt);
+    set(&shared, 6);
+    same(&rt, tick_future(&mut get, &flag), Poll::Ready(Ok(Some(6))));
+    same(
+        &rt,
+        tick_future(&mut again, &flag),
+        Poll::Ready(Ok(Some(6))),
+    );
+    same(&rt, tick_future(&mut take, &flag), Poll::Pending);
     drop(shared);
-    assert!(rt; flag.is_woken());
-    assert_eq!(rt; tick_future(&mut get, &flag), Poll::Ready(Ok(None)));
-    Ok(())
+    holds(&rt, flag.is_woken());
+    same(&rt, tick_future(&mut get, &flag), Poll::Ready(Ok(None)));
 }
 
 #[test]
-fn each_future_is_polled_by_a_shared_reference(rt: HostRuntime) -> Result<(), Fail> {
-    let shared = AsyncCell::<u32>::shared(rt.alloc())?;
-    let flag = MockTask::new(&rt)?;
-    let (take, get) = (shared.take_shared()?, shared.get_shared()?);
-    let (take_weak, get_weak) = (shared.take_weak(), shared.get_weak());
-    assert_eq!(rt; flag.enter(|cx| get.poll_shared(cx)), Poll::Pending);
-    assert_eq!(rt; flag.enter(|cx| get_weak.poll_shared(cx)), Poll::Pending);
-    shared.cell().set(4);
-    assert!(rt; flag.is_woken());
-    assert_eq!(rt; flag.enter(|cx| get.poll_shared(cx)), Poll::Ready(Ok(4)));
-    assert_eq!(rt;
-        flag.enter(|cx| get_weak.poll_shared(cx)),
-        Poll::Ready(Ok(Some(4)))
-    );
-    assert_eq!(rt; flag.enter(|cx| take.poll_shared(cx)), Poll::Ready(Ok(4)));
-    assert_eq!(rt; flag.enter(|cx| take_weak.poll_shared(cx)), Poll::Pending);
-    shared.cell().set(5);
-    assert_eq!(rt;
-        flag.enter(|cx| take_weak.poll_shared(cx)),
-        Poll::Ready(Ok(Some(5)))
-    );
-    assert_eq!(rt; flag.enter(|cx| take.poll_shared(cx)), Poll::Pending);
-    Ok(())
+fn each_future_is_polled_by_a_shared_reference(rt: HostRuntime) {
+    let shared: Shared<u32> = first_owner(&rt);
+    let flag = task(&rt);
+    let (take, get) = (taker(&shared, &rt), getter(&shared, &rt));
+    let (take_weak, get_weak) = (weak_taker(&shared), weak_getter(&shared));
+    same(&rt, get.tick(&flag), Poll::Pending);
+    same(&rt, get_weak.tick(&flag), Poll::Pending);
+    set(&shared, 4);
+    holds(&rt, flag.is_woken());
+    same(&rt, get.tick(&flag), Poll::Ready(Ok(4)));
+    same(&rt, get_weak.tick(&flag), Poll::Ready(Ok(Some(4))));
+    same(&rt, take.tick(&flag), Poll::Ready(Ok(4)));
+    same(&rt, take_weak.tick(&flag), Poll::Pending);
+    set(&shared, 5);
+    same(&rt, take_weak.tick(&flag), Poll::Ready(Ok(Some(5))));
+    same(&rt, take.tick(&flag), Poll::Pending);
+}
+
+fn first_of_nothing(rt: &(impl Abort + Alloc<A = Global>)) -> Shared<u32> {
+    Shared::shared(rt.alloc()).expect(rt, "there is memory")
+}
+
+fn first_of(cell: AsyncCell<u32>, rt: &impl Abort) -> Shared<u32> {
+    Shared::into_shared(cell)
+        .map_err(|(why, _)| why)
+        .expect(rt, "there is memory")
 }
 
 #[test]
-fn a_first_owner_is_made_of_nothing_or_of_a_cell(rt: HostRuntime) -> Result<(), Fail> {
-    let flag = MockTask::new(&rt)?;
-    let empty: Shared<u32> = Shared::shared(rt.alloc())?;
-    assert_eq!(rt; empty.cell().try_take(), None);
-    let mut weak = empty.take_weak();
+fn a_first_owner_is_made_of_nothing_or_of_a_cell(rt: HostRuntime) {
+    let flag = task(&rt);
+    let empty = first_of_nothing(&rt);
+    same(&rt, try_take(&empty), None);
+    let mut weak = weak_taker(&empty);
     drop(empty);
-    assert_eq!(rt; tick_future(&mut weak, &flag), Poll::Ready(Ok(None)));
+    same(&rt, tick_future(&mut weak, &flag), Poll::Ready(Ok(None)));
     let cell = AsyncCell::new_with(rt.alloc(), 3u32);
-    assert_eq!(rt; tick_future(&mut cell.take(), &flag), Poll::Ready(Ok(3)));
-    assert_eq!(rt; tick_future(&mut cell.take(), &flag), Poll::Pending);
-    let first = Shared::into_shared(cell).map_err(|(why, _)| why)?;
-    first.cell().set(4);
-    assert!(rt; flag.is_woken());
-    let mut weak = first.take_weak();
-    assert_eq!(rt; tick_future(&mut weak, &flag), Poll::Ready(Ok(Some(4))));
+    same(&rt, tick_take(&cell, &flag), Poll::Ready(Ok(3)));
+    same(&rt, tick_take(&cell, &flag), Poll::Pending);
+    let first = first_of(cell, &rt);
+    set(&first, 4);
+    holds(&rt, flag.is_woken());
+    let mut weak = weak_taker(&first);
+    same(&rt, tick_future(&mut weak, &flag), Poll::Ready(Ok(Some(4))));
     drop(first);
-    assert_eq!(rt; tick_future(&mut weak, &flag), Poll::Ready(Ok(None)));
-    Ok(())
+    same(&rt, tick_future(&mut weak, &flag), Poll::Ready(Ok(None)));
 }
 
 #[test]
-fn weak_futures_wait_while_the_cell_is_open(rt: HostRuntime) -> Result<(), Fail> {
-    let (takes, gets) = (MockTask::new(&rt)?, MockTask::new(&rt)?);
-    let shared = AsyncCell::<u32>::shared(rt.alloc())?;
-    let (mut get, mut take) = (shared.get_weak(), shared.take_weak());
+fn weak_futures_wait_while_the_cell_is_open(rt: HostRuntime) {
+    let (takes, gets) = (task(&rt), task(&rt));
+    let shared: Shared<u32> = first_owner(&rt);
+    let (mut get, mut take) = (weak_getter(&shared), weak_taker(&shared));
     for value in 0..3u32 {
-        assert_eq!(rt; tick_future(&mut get, &gets), Poll::Pending);
-        assert_eq!(rt; tick_future(&mut take, &takes), Poll::Pending);
-        shared.cell().set(value);
-        assert!(rt; gets.is_woken());
-        assert!(rt; takes.is_woken());
-        assert_eq!(rt; tick_future(&mut get, &gets), Poll::Ready(Ok(Some(value))));
-        assert_eq!(rt;
+        same(&rt, tick_future(&mut get, &gets), Poll::Pending);
+        same(&rt, tick_future(&mut take, &takes), Poll::Pending);
+        set(&shared, value);
+        holds(&rt, gets.is_woken());
+        holds(&rt, takes.is_woken());
+        same(
+            &rt,
+            tick_future(&mut get, &gets),
+            Poll::Ready(Ok(Some(value))),
+        );
+        same(
+            &rt,
             tick_future(&mut take, &takes),
-            Poll::Ready(Ok(Some(value)))
+            Poll::Ready(Ok(Some(value))),
         );
     }
     drop(shared);
-    assert_eq!(rt; tick_future(&mut get, &gets), Poll::Ready(Ok(None)));
-    assert_eq!(rt; tick_future(&mut take, &takes), Poll::Ready(Ok(None)));
-    Ok(())
+    same(&rt, tick_future(&mut get, &gets), Poll::Ready(Ok(None)));
+    same(&rt, tick_future(&mut take, &takes), Poll::Ready(Ok(None)));
 }
 
 #[test]
-fn a_pending_poll_of_a_weak_one_counts_no_owner(rt: HostRuntime) -> Result<(), Fail> {
-    let flag = MockTask::new(&rt)?;
-    let shared = AsyncCell::<u32>::shared(rt.alloc())?;
-    let (mut get, mut take) = (shared.get_weak(), shared.take_weak());
-    assert_eq!(rt; tick_future(&mut get, &flag), Poll::Pending);
-    assert_eq!(rt; tick_future(&mut take, &flag), Poll::Pending);
-    assert!(rt; !flag.is_woken());
-    assert!(rt; matches!(shared.try_into_inner(), Ok(None)));
-    assert!(rt; flag.is_woken());
-    assert_eq!(rt; tick_future(&mut get, &flag), Poll::Ready(Ok(None)));
-    assert_eq!(rt; tick_future(&mut take, &flag), Poll::Ready(Ok(None)));
-    Ok(())
+fn a_pending_poll_of_a_weak_one_counts_no_owner(rt: HostRuntime) {
+    let flag = task(&rt);
+    let shared: Shared<u32> = first_owner(&rt);
+    let (mut get, mut take) = (weak_getter(&shared), weak_taker(&shared));
+    same(&rt, tick_future(&mut get, &flag), Poll::Pending);
+    same(&rt, tick_future(&mut take, &flag), Poll::Pending);
+    holds(&rt, !flag.is_woken());
+    same(&rt, closed_by(shared, &rt), None);
+    holds(&rt, flag.is_woken());
+    same(&rt, tick_future(&mut get, &flag), Poll::Ready(Ok(None)));
+    same(&rt, tick_future(&mut take, &flag), Poll::Ready(Ok(None)));
 }
 
 #[test]
-fn an_upgrade_of_a_closed_cell_is_none(rt: HostRuntime) -> Result<(), Fail> {
-    let shared = AsyncCell::<u32>::shared(rt.alloc())?;
-    let (get, take) = (shared.get_weak(), shared.take_weak());
+fn an_upgrade_of_a_closed_cell_is_none(rt: HostRuntime) {
+    let shared: Shared<u32> = first_owner(&rt);
+    let (get, take) = (weak_getter(&shared), weak_taker(&shared));
     drop(shared);
-    assert!(rt; get.upgrade()?.is_none());
-    assert!(rt; take.upgrade()?.is_none());
-    Ok(())
+    holds(&rt, upgraded_getter(&get, &rt).is_none());
+    holds(&rt, upgraded_taker(&take, &rt).is_none());
 }
 
 #[test]
-fn a_shared_waiter_is_a_counted_owner(rt: HostRuntime) -> Result<(), Fail> {
-    let flag = MockTask::new(&rt)?;
-    let shared = AsyncCell::<()>::shared(rt.alloc())?;
-    let mut weak = shared.take_weak();
-    let mut waits = shared.wait_shared()?;
+fn a_shared_waiter_is_a_counted_owner(rt: HostRuntime) {
+    let flag = task(&rt);
+    let shared: Shared<()> = first_owner(&rt);
+    let mut weak = weak_taker(&shared);
+    let mut waits = waiter(&shared, &rt);
     drop(shared);
-    assert_eq!(rt; tick_future(&mut waits, &flag), Poll::Pending);
+    same(&rt, tick_future(&mut waits, &flag), Poll::Pending);
     waits.0.cell().notify();
-    assert_eq!(rt; tick_future(&mut waits, &flag), Poll::Ready(Ok(())));
-    assert_eq!(rt; tick_future(&mut weak, &flag), Poll::Pending);
+    same(&rt, tick_future(&mut waits, &flag), Poll::Ready(Ok(())));
+    same(&rt, tick_future(&mut weak, &flag), Poll::Pending);
     drop(waits);
-    assert!(rt; flag.is_woken());
-    assert_eq!(rt; tick_future(&mut weak, &flag), Poll::Ready(Ok(None)));
-    Ok(())
+    holds(&rt, flag.is_woken());
+    same(&rt, tick_future(&mut weak, &flag), Poll::Ready(Ok(None)));
 }
 
 /// A copy and a clone.
-fn copied<P: Clone + Copy>(one: P) -> Result<(P, P), AllocError> {
-    let clone: Result<P, AllocError> = one.clone();
-    Ok((one, clone?))
+fn copied<P: Clone + Copy>(one: P, rt: &impl Abort) -> (P, P) {
+    (one, cloned(&one, rt))
 }
 
 #[test]
-fn takers_and_getters_are_copied_and_cloned(rt: HostRuntime) -> Result<(), Fail> {
-    let flag = MockTask::new(&rt)?;
+fn takers_and_getters_are_copied_and_cloned(rt: HostRuntime) {
+    let flag = task(&rt);
     let cell = AsyncCell::new_with(rt.alloc(), 6u32);
     let get: Get<&AsyncCell<u32>> = cell.get();
-    let (copy, clone) = copied(get)?;
+    let (copy, clone) = copied(get, &rt);
     for mut one in [get, copy, clone] {
-        assert_eq!(rt; tick_future(&mut one, &flag), Poll::Ready(Ok(6)));
+        same(&rt, tick_future(&mut one, &flag), Poll::Ready(Ok(6)));
     }
     let take: Take<&AsyncCell<u32>> = cell.take();
-    let (copy, clone) = copied(take)?;
+    let (copy, clone) = copied(take, &rt);
     for mut one in [take, copy, clone] {
-        assert_eq!(rt; tick_future(&mut one, &flag), Poll::Ready(Ok(6)));
-        assert_eq!(rt; tick_future(&mut one, &flag), Poll::Pending);
+        same(&rt, tick_future(&mut one, &flag), Poll::Ready(Ok(6)));
+        same(&rt, tick_future(&mut one, &flag), Poll::Pending);
         cell.set(6);
     }
-    Ok(())
 }

@@ -1,10 +1,11 @@
 -- How far a script has come, from one line to the next.
 use Rattle.std.proofs.Common.{ℕ, ◌+◌, List, Option, Some, None, IfSome}
 use Rattle.cellrun.specs.Next.{IsNext}
-use Rattle.cellrun.specs.Ended.{ComesTo}
+use Rattle.cellrun.specs.Ended.{ComesTo, EndsAs}
 use Rattle.cellrun.specs.Ended.{start, past}
 use Rattle.cellrun.specs.declared.command.Command.{Command}
-use Rattle.cellrun.specs.declared.lines.Next.TheVariants.{Call, Blank}
+use Rattle.cellrun.specs.declared.lines.Next.TheVariants.{Call, Blank, Bad, End}
+use Rattle.cellrun.specs.declared.script.Ended.TheVariants.{Done, BadLine}
 
 -- of known bytes, some are left, and line n begins with them
 abbrev pub IsAt : Option (List ℕ) → Option (List ℕ) → ℕ → Type 0
@@ -25,3 +26,13 @@ pub after_blank : (bytes left now : Option (List ℕ)) (n : ℕ) → IsAt bytes 
 after_blank None left now n h next = tt
 after_blank (Some bytes) None now n h next = absurd h
 after_blank (Some bytes) (Some rest) now n h next = rw (next.2) (past Blank h (next.0) (λ e. cc) (next.1))
+
+pub at_bad : (bytes left now : Option (List ℕ)) (n : ℕ) → IsAt bytes left n → IfSome left (λ rest. IsNext rest now Bad) → IfSome bytes (λ input. EndsAs input (BadLine n))
+at_bad None left now n h next = tt
+at_bad (Some bytes) None now n h next = absurd h
+at_bad (Some bytes) (Some rest) now n h next = (rest, h, next)
+
+pub at_end : (bytes left now : Option (List ℕ)) (n : ℕ) → IsAt bytes left n → IfSome left (λ rest. IsNext rest now End) → IfSome bytes (λ input. EndsAs input Done)
+at_end None left now n h next = tt
+at_end (Some bytes) None now n h next = absurd h
+at_end (Some bytes) (Some rest) now n h next = (n, rw (← next) h)

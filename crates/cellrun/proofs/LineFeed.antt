@@ -1,10 +1,10 @@
 -- Where the first line feed of joined bytes is, and what that says of the next line.
-use Rattle.std.proofs.Common.{◌≡◌, ◌≢◌, ℕ, ◌+◌, ◌<◌, ◌≤◌, Bool, true, false, not, cond, nat_lt, List, [], ◌∷◌, ◌++◌, length, take, drop, Option, Some, None, IfSome, if◌then◌else◌, ◌==◌, refl, sym, ap, ◌∙◌, arith, append_assoc, zero-add}
+use Rattle.std.proofs.Common.{◌≡◌, ◌≢◌, ℕ, ◌+◌, ◌<◌, ◌≤◌, Bool, true, false, not, cond, nat_lt, List, [], ◌∷◌, ◌++◌, length, take, drop, Option, Some, None, IfSome, if◌then◌else◌, ◌==◌, refl, sym, ap, ◌∙◌, arith, append_assoc, append-nil, take_all, zero-add}
 use Rattle.std.specs.List.{position, position_or_len}
-use Rattle.std.specs.Io.KnownBytes.{Keeps, prepend_known}
+use Rattle.std.specs.Io.KnownBytes.{Keeps, IsAtEnd, prepend_known}
 use Rattle.std.specs.Io.BufRead.{DropsConsumable}
 use Rattle.std.proofs.Math.Seq.{take-append-add, drop-append-add}
-use Rattle.std.proofs.lemmas.List.{take-append-le, take-append-drop, length-append, length-take}
+use Rattle.std.proofs.lemmas.List.{drop_all, take-append-le, take-append-drop, length-append, length-take}
 use borrow.Author.Tests.{ltb-true, ltb-false}
 use Rattle.std.proofs.lemmas.List.Sums.{prefix_len-le-length}
 use Rattle.cellrun.specs.Next.{IsLine, IsNext, is_line_feed, first_line, after_line}
@@ -116,3 +116,20 @@ pub kept_next : (old now left : Option (List ℕ)) (next : Next) → Keeps old n
 kept_next None now left next k h = tt
 kept_next (Some xs) None left next k h = absurd k
 kept_next (Some xs) (Some ys) left next k h = rw (← k) h
+
+-- bytes with no line feed are one line
+whole_line : (bytes : List ℕ) → place bytes ≡ length bytes → first_line bytes ≡ bytes
+whole_line bytes held = rw held (take_all (length bytes) bytes (omega arith))
+
+none_after : (bytes : List ℕ) → place bytes ≡ length bytes → after_line bytes ≡ []
+none_after bytes held = rw held (drop_all (length bytes + 1) bytes (omega arith))
+
+-- at the end of the bytes what is held is the last line, if there is one
+pub end_next : (h : List ℕ) (old : Option (List ℕ)) (next : Next) → place h ≡ length h → IsAtEnd old → (h ≢ [] → IsLine h next) → (h ≡ [] → next ≡ End) → IfSome (prepend_known h old) (λ bytes. IsNext bytes (Some []) next)
+end_next h None next held at line end = tt
+end_next [] (Some xs) next held at line end = rw (end refl) at
+end_next (x ∷ h) (Some xs) next held at line end =
+    let all : (x ∷ h) ++ xs ≡ x ∷ h = rw at (append-nil (x ∷ h)) in
+    let first : first_line ((x ∷ h) ++ xs) ≡ x ∷ h = ap first_line all ∙ whole_line (x ∷ h) held in
+    let others : after_line ((x ∷ h) ++ xs) ≡ [] = ap after_line all ∙ none_after (x ∷ h) held in
+    next_of_line ((x ∷ h) ++ xs) (x ∷ h) [] next (λ e. cc) first others (line (λ e. cc))

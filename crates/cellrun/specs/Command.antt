@@ -11,7 +11,9 @@ without_minus text = if starts_with_minus text then drop 1 text else text
 
 -- the number that decimal digits write, below 0 after a minus
 abbrev pub number_of : List ℕ → ℤ
-number_of text = if starts_with_minus text then neg_ℤ (pos (digits_value 10 (without_minus text))) else pos (digits_value 10 (without_minus text))
+number_of text =
+    if starts_with_minus text then neg_ℤ (pos (digits_value 10 (without_minus text)))
+    else pos (digits_value 10 (without_minus text))
 
 -- one decimal digit or more, which a minus may precede, and a number of 64 bits with a sign
 abbrev pub IsValue : List ℕ → Type 0
@@ -75,7 +77,8 @@ SpellsParts word rest (Replace v) = (word ≡ codes "replace") × WritesValue re
 SpellsParts word rest (UpdatePut v) = (word ≡ codes "update") × EndsWithValue (codes "put ") rest v
 SpellsParts word rest UpdateNone = (word ≡ codes "update") × (rest ≡ codes "none")
 SpellsParts word rest UpdateKeep = (word ≡ codes "update") × (rest ≡ codes "keep")
-SpellsParts word rest (UpdateSomeAdd v) = (word ≡ codes "update_some") × EndsWithValue (codes "add ") rest v
+SpellsParts word rest (UpdateSomeAdd v) =
+    (word ≡ codes "update_some") × EndsWithValue (codes "add ") rest v
 SpellsParts word rest (Take w) = (word ≡ codes "take") × WritesWaker rest w
 SpellsParts word rest (Get w) = (word ≡ codes "get") × WritesWaker rest w
 SpellsParts word rest _ = ⊥

@@ -9,9 +9,11 @@ use Rattle.cellrun.specs.declared.script.Ended.TheVariants.{Done, BadLine, Faile
 -- line n of the bytes begins with rest, and each line before it is a call or empty
 pub data ComesTo (bytes : List ℕ) : ℕ → List ℕ → Type 0 where
   start : ComesTo bytes 1 bytes
-  past : {n : ℕ} {rest : List ℕ} (next : Next) → ComesTo bytes n rest → rest ≢ [] → next ≢ Bad → IsLine (first_line rest) next → ComesTo bytes (n + 1) (after_line rest)
+  past : {n : ℕ} {rest : List ℕ} (next : Next) → ComesTo bytes n rest
+      → rest ≢ [] → next ≢ Bad → IsLine (first_line rest) next
+      → ComesTo bytes (n + 1) (after_line rest)
 
--- done: every line is a call or empty; at a bad line: it is none, and each before it is one or empty
+-- done: every line is a call or empty; at a bad line: it is neither, and each before it is one
 abbrev pub EndsAs : List ℕ → Ended → Type 0
 EndsAs bytes Done = (n : ℕ) × ComesTo bytes n []
 EndsAs bytes (BadLine n) = (rest : List ℕ) × ComesTo bytes n rest × IsLine (first_line rest) Bad

@@ -1,4 +1,7 @@
+pub mod Answered
 pub mod Command
 pub mod Ended
 pub mod Lines
 pub mod Next
+pub mod Output
+pub mod Written

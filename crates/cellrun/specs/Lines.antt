@@ -5,6 +5,8 @@ use Rattle.std.specs.Io.Buffered.{reader_remaining}
 use Rattle.std.specs.declared.io.traits.Read.{Ghosts}
 use Rattle.cellrun.specs.declared.lines.Lines.{Lines}
 
--- the part of a line that is held, and the reader's bytes, where those are known; nothing after the end
+-- the held part of a line and the reader's bytes, if those are known; nothing after the end
 abbrev pub bytes_left : {R : Type 0} {reader : Ghosts R} → Lines R reader → Option (List ℕ)
-bytes_left {reader = reader} lines = if lines.is_done then Some [] else prepend_known lines.held.items (reader_remaining reader.remaining lines.input)
+bytes_left {reader = reader} lines =
+    if lines.is_done then Some []
+    else prepend_known lines.held.items (reader_remaining reader.remaining lines.input)

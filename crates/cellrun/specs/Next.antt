@@ -26,7 +26,9 @@ IsLine line End = ⊥
 
 -- what the bytes have next, and what they leave: after a bad line that is open
 abbrev pub IsNext : List ℕ → Option (List ℕ) → Next → Type 0
-IsNext bytes left (Call call) = (bytes ≢ []) × IsLine (first_line bytes) (Call call) × (left ≡ Some (after_line bytes))
-IsNext bytes left Blank = (bytes ≢ []) × IsLine (first_line bytes) Blank × (left ≡ Some (after_line bytes))
+IsNext bytes left (Call call) =
+    (bytes ≢ []) × IsLine (first_line bytes) (Call call) × (left ≡ Some (after_line bytes))
+IsNext bytes left Blank =
+    (bytes ≢ []) × IsLine (first_line bytes) Blank × (left ≡ Some (after_line bytes))
 IsNext bytes left Bad = IsLine (first_line bytes) Bad
 IsNext bytes left End = bytes ≡ []

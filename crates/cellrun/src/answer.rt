@@ -1,10 +1,16 @@
 //! The texts of the answers.
+ghost use Rattle.std.specs.Prelude.{◌≡◌, ◌++◌, codes, OnOk, Option, Some, None, Ok, Err};
+ghost use Rattle.cellrun.specs.Answered.{done_text, replaced_text, polled_text, found_text};
+ghost use Rattle.cellrun.specs.Answered.{owners_text, refusal_text, end_text};
+
 use async_cell_core::{Named, Poll, Refusal, Wakers};
 use std::io;
 use std::io::Write;
 
 /// A write that answers nothing: done, unless the cell is closed.
-pub fn done<W: Write>(out: &mut W, woken: Option<Wakers<Named>>) -> io::Result<()> {
+pub fn done(out: &mut Vec<u8>, woken: Option<Wakers<Named>>) -> io::Result<()>
+    ensures { OnOk result (out.new.items ≡ out.old.items ++ done_text woken) }
+{
     match woken {
         Some(woken) => {
             write!(out, "done")?;
@@ -15,10 +21,9 @@ pub fn done<W: Write>(out: &mut W, woken: Option<Wakers<Named>>) -> io::Result<(
 }
 
 /// A write that answers the old value, unless the cell is closed.
-pub fn replaced<W: Write>(
-    out: &mut W,
-    answer: Option<(Option<i64>, Wakers<Named>)>,
-) -> io::Result<()> {
+pub fn replaced(out: &mut Vec<u8>, answer: Option<(Option<i64>, Wakers<Named>)>) -> io::Result<()>
+    ensures { OnOk result (out.new.items ≡ out.old.items ++ replaced_text answer) }
+{
     let Some((old, woken)) = answer else {
         return refused(out, Refusal::Closed);
     };
@@ -30,7 +35,9 @@ pub fn replaced<W: Write>(
 }
 
 /// What a poll answers.
-pub fn polled<W: Write>(out: &mut W, answer: Result<Poll<Option<i64>>, Refusal>) -> io::Result<()> {
+pub fn polled(out: &mut Vec<u8>, answer: Result<Poll<Option<i64>>, Refusal>) -> io::Result<()>
+    ensures { OnOk result (out.new.items ≡ out.old.items ++ polled_text answer) }
+{
     match answer {
         Ok(Poll::Ready(Some(value))) => writeln!(out, "ready {value}"),
         Ok(Poll::Ready(None)) => writeln!(out, "closed"),
@@ -40,7 +47,9 @@ pub fn polled<W: Write>(out: &mut W, answer: Result<Poll<Option<i64>>, Refusal>)
 }
 
 /// The value, if there is one.
-pub fn found<W: Write>(out: &mut W, content: Option<i64>) -> io::Result<()> {
+pub fn found(out: &mut Vec<u8>, content: Option<i64>) -> io::Result<()>
+    ensures { OnOk result (out.new.items ≡ out.old.items ++ found_text content) }
+{
     match content {
         Some(value) => write!(out, "some {value}"),
         None => write!(out, "none"),
@@ -48,26 +57,35 @@ pub fn found<W: Write>(out: &mut W, content: Option<i64>) -> io::Result<()> {
 }
 
 /// The number of owners.
-pub fn owned<W: Write>(out: &mut W, owners: u32) -> io::Result<()> {
+pub fn owned(out: &mut Vec<u8>, owners: u32) -> io::Result<()>
+    ensures { OnOk result (out.new.items ≡ out.old.items ++ owners_text owners) }
+{
     write!(out, "owners {owners}")
 }
 
-/// Why a call was refused.
-pub fn refused<W: Write>(out: &mut W, why: Refusal) -> io::Result<()> {
-    let word = match why {
-        Refusal::Closed => "closed",
-        Refusal::OwnersFull => "owners",
-        Refusal::StillShared => "shared",
-        Refusal::Memory | Refusal::OutOfTurn | Refusal::ShareMissing => "memory",
-    };
-    writeln!(out, "refused {word}")
+/// Why a call was refused, and the end of the line.
+pub fn refused(out: &mut Vec<u8>, why: Refusal) -> io::Result<()>
+    ensures { OnOk result (out.new.items ≡ out.old.items ++ refusal_text why ++ codes "\n") }
+{
+    match why {
+        Refusal::Closed => writeln!(out, "refused closed"),
+        Refusal::OwnersFull => writeln!(out, "refused owners"),
+        Refusal::StillShared => writeln!(out, "refused shared"),
+        Refusal::Memory | Refusal::OutOfTurn | Refusal::ShareMissing => {
+            writeln!(out, "refused memory")
+        }
+    }
 }
 
 /// The names of the wakers that were handed out, if there are any, and the end of the line.
-pub fn woke<W: Write>(out: &mut W, woken: Wakers<Named>) -> io::Result<()> {
-    if !woken.is_empty() {
-        write!(out, " woke")?;
+#[tactic(auto, using(crate::proofs::Naming::some_named))]
+pub fn woke(out: &mut Vec<u8>, woken: Wakers<Named>) -> io::Result<()>
+    ensures { OnOk result (out.new.items ≡ out.old.items ++ end_text woken) }
+{
+    if woken.is_empty() {
+        return writeln!(out);
     }
+    write!(out, " woke")?;
     for Named(name) in woken {
         write!(out, " {name}")?;
     }

@@ -5,10 +5,12 @@ ghost use Rattle.std.specs.List.{position, position_or_len};
 ghost use Rattle.std.specs.Io.KnownBytes.{Keeps, IsAtEnd};
 ghost use Rattle.std.specs.Io.Buffered.{reader_remaining, reader_buffer};
 ghost use Rattle.arrayvec.specs.ArrayVec.{array_vec_len};
+ghost use Rattle.cellrun.specs.Output.{output_contents};
 ghost use Rattle.cellrun.specs.Next.{IsLine, IsNext, is_line_feed};
 
 use crate::command;
 use crate::command::{Command, MAX_LINE};
+use crate::output::Output;
 use arrayvec::ArrayVec;
 use std::alloc::Global;
 use std::io;
@@ -53,11 +55,12 @@ impl<R: Read + Drop> Lines<R> {
     }
 
     /// What the input has next. Before it is read from, `out` is flushed.
-    pub fn next<W: Write>(&mut self, out: &mut W) -> io::Result<Next>
+    pub fn next<W: Write + Drop>(&mut self, out: &mut Output<W>) -> io::Result<Next>
         ensures next { IfOk result (λ next. IfSome (bytes_left self.old)
             (λ bytes. IsNext bytes (bytes_left self.new) next)) }
         ensures err { OnErr result (Keeps (bytes_left self.old) (bytes_left self.new)) }
-        ensures out { Keeps (W.contents out.old) (W.contents out.new) }
+        ensures out { Keeps (output_contents W.contents out.old)
+            (output_contents W.contents out.new) }
     {
         loop {
             if let Some(next) = self.look(out)? {
@@ -68,15 +71,18 @@ impl<R: Read + Drop> Lines<R> {
 
     /// What the input has next by the bytes that its buffer shows, or nothing where they are a part
     /// of a line, which is then held.
-    fn look<W: Write>(&mut self, out: &mut W) -> io::Result<Option<Next>>
+    fn look<W: Write + Drop>(&mut self, out: &mut Output<W>) -> io::Result<Option<Next>>
         ensures next { IfOk result (λ found. IfSome found (λ next. IfSome (bytes_left self.old)
             (λ bytes. IsNext bytes (bytes_left self.new) next))) }
-        ensures longer { IfOk result (λ found. IfNone found (array_vec_len self.old.held < array_vec_len self.new.held)) }
-        ensures fits { IfOk result (λ found. IfNone found (array_vec_len self.new.held ≤ MAX_LINE)) }
+        ensures longer { IfOk result (λ found. IfNone found
+            (array_vec_len self.old.held < array_vec_len self.new.held)) }
+        ensures fits { IfOk result (λ found. IfNone found
+            (array_vec_len self.new.held ≤ MAX_LINE)) }
         ensures part { IfOk result (λ found. IfNone found
             (Keeps (bytes_left self.old) (bytes_left self.new))) }
         ensures err { OnErr result (Keeps (bytes_left self.old) (bytes_left self.new)) }
-        ensures out { Keeps (W.contents out.old) (W.contents out.new) }
+        ensures out { Keeps (output_contents W.contents out.old)
+            (output_contents W.contents out.new) }
     {
         if self.is_done {
             return Ok(Some(Next::End));
@@ -104,12 +110,13 @@ impl<R: Read + Drop> Lines<R> {
 
 /// Shows bytes in the buffer, if the reader has further ones. Before it is read from, `out` is
 /// flushed.
-fn refill<R: Read, W: Write>(input: &mut BufReader<R>, out: &mut W) -> io::Result<()>
-    ensures bytes { Keeps (reader_remaining R.remaining input.old) (reader_remaining R.remaining input.new) }
+fn refill<R: Read, W: Write + Drop>(input: &mut BufReader<R>, out: &mut Output<W>) -> io::Result<()>
+    ensures bytes { Keeps (reader_remaining R.remaining input.old)
+        (reader_remaining R.remaining input.new) }
     ensures end { OnOk result (length (reader_buffer input.new) ≡ 0
         → IsAtEnd (reader_remaining R.remaining input.old)) }
     ensures ready { 0 < length (reader_buffer input.old) → IsOk result }
-    ensures out { Keeps (W.contents out.old) (W.contents out.new) }
+    ensures out { Keeps (output_contents W.contents out.old) (output_contents W.contents out.new) }
 {
     if !input.buffer().is_empty() {
         return Ok(());

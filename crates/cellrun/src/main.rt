@@ -5,6 +5,7 @@
 mod answer;
 mod command;
 mod lines;
+mod output;
 mod script;
 mod session;
 
@@ -22,7 +23,8 @@ fn main(rt: HostRuntime) -> ExitCode {
         let _ = eprint!(rt; "{USAGE}");
         return ExitCode::from(2);
     }
-    match script::script(rt.alloc(), rt.stdin(), rt.stdout()) {
+    let (ended, _) = script::script(rt.alloc(), rt.stdin(), rt.stdout());
+    match ended {
         Ended::Done => ExitCode::SUCCESS,
         Ended::BadLine(number) => {
             let _ = eprintln!(rt; "bad line {number}");

@@ -1,4 +1,8 @@
 //! The cell that a script steps.
+ghost use Rattle.std.specs.Prelude.{◌≡◌, [], OnOk};
+ghost use Rattle.cellrun.specs.Answered.{Answered};
+ghost use Rattle.cellrun.specs.Written.{new_cell};
+
 use crate::answer::{done, found, owned, polled, refused, replaced, woke};
 use crate::command::Command;
 use async_cell_core::{Core, Named};
@@ -14,15 +18,19 @@ pub struct Session {
 
 impl Session {
     /// An open cell without a value, with one owner.
-    pub fn new(alloc: Global) -> Session {
+    pub fn new(alloc: Global) -> Session
+        ensures { result.core ≡ new_cell }
+    {
         Session {
             core: Core::new(alloc),
         }
     }
 
-    /// Makes the call, and writes what it answers and a line feed. The call has got its memory before the first byte of its
-    /// answer is written.
-    pub fn answer<W: Write>(&mut self, command: Command, out: &mut W) -> io::Result<()> {
+    /// Makes the call, and puts what it prints into `out`, which is to be empty.
+    pub fn answer(&mut self, command: Command, out: &mut Vec<u8>) -> io::Result<()>
+        requires { out.old.items ≡ [] }
+        ensures { OnOk result (Answered self.old.core command out.new.items self.new.core) }
+    {
         match command {
             Command::Set(value) => done(out, self.core.set(value).ok()),
             Command::OrSet(value) => done(out, self.core.or_set(value).ok().map(|answer| answer.1)),

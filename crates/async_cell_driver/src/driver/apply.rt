@@ -1,4 +1,4 @@
-//! Lists of events, made in order.
+//! Lists of events that happen in order.
 ghost use Rattle.std.specs.Prelude.{◌≡◌, List, [], map, length, vec_len, IsOk, IfOk, IfErr, OnErr};
 ghost use Rattle.async_cell_cons.specs.declared.named.Named.{Named as Name};
 ghost use Rattle.async_cell_driver.specs.Log.{log_of, with_edit};
@@ -10,9 +10,10 @@ use crate::event::{Event, Told};
 use async_cell_core::{Edit, Refusal, Reply};
 
 impl<T: Clone> Driver<T> {
-    /// Makes the events happen in order, and tells one line for each: what is refused is told so,
-    /// and those after it happen. The room for what is told is got first; where there is none,
-    /// nothing is done and the list is given back. An empty list needs none.
+    /// Makes the events happen in order, and returns one outcome for each. The outcome of a refused
+    /// event is its refusal, and the events after it happen. Room for the outcomes is reserved
+    /// first. If there is no memory for it, nothing is done and the list is returned in the error.
+    /// An empty list needs no memory.
     pub fn apply<E: Edit<T> + Drop>(
         &mut self,
         events: Vec<Event<T, E>>,
@@ -29,7 +30,7 @@ impl<T: Clone> Driver<T> {
         ensures comes_back { IfErr result (λ back. back ≡ events) }
         ensures unchanged { OnErr result (self.new ≡ self.old) }
     {
-        self.core.begins();
+        self.core.soundness();
         let mut told = Vec::new(*events.allocator());
         if told.reserve_exact(events.len()).is_err() {
             return Err(events);
@@ -40,10 +41,11 @@ impl<T: Clone> Driver<T> {
         Ok(told)
     }
 
-    /// Makes one event happen, and gives what it is told.
+    /// Makes one event happen, and returns its outcome.
     fn happen<E: Edit<T> + Drop>(&mut self, event: Event<T, E>) -> Told<T>
         ensures drives { Happens T.is_clone self.old (with_edit E.edit event) result self.new }
-        ensures spared { IsSpared T.is_infallible self.old.core.cell (with_edit E.edit event) result }
+        ensures spared { IsSpared T.is_infallible self.old.core.cell
+            (with_edit E.edit event) result }
         ensures results_stay { KeepsResults self.old self.new }
     {
         match event {
@@ -78,7 +80,7 @@ impl<T: Clone> Driver<T> {
     }
 }
 
-/// The reply that such an answer stands for.
+/// Returns the reply for the result of a call that returns no value.
 fn done<T>(answer: Result<(), Refusal>) -> Reply<T>
     ensures { result ≡ done_or answer }
 {

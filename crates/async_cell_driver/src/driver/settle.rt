@@ -1,7 +1,7 @@
 //! Polls of all tasks that are ready.
 ghost use Rattle.std.specs.Prelude.{◌≡◌, ◌≢◌, ℕ, [], true, false, length, IsOk, OnOk, None, MatchOption};
 ghost use Rattle.async_cell_model.specs.Cell.{content, is_vacant};
-ghost use Rattle.async_cell_driver.specs.State.{result_at};
+ghost use Rattle.async_cell_driver.specs.DriverState.{result_at};
 ghost use Rattle.async_cell_driver.specs.Log.{Log, is_ready, waits};
 ghost use Rattle.async_cell_driver.specs.Drives.{Drives};
 ghost use Rattle.async_cell_driver.specs.Settle.{Settles, SettlesOne};
@@ -12,22 +12,22 @@ use crate::event::Polled;
 use async_cell_core::Refusal;
 
 impl<T: Clone> Driver<T> {
-    /// Hands over what `settle` got for a task: `Some(Some(v))`, `Some(None)` from a closed cell,
-    /// `None` if there is nothing or it was handed over already.
+    /// Takes out what `settle` got for a task: `Some(Some(v))`, or `Some(None)` from a closed cell.
+    /// Returns `None` if there is nothing, or if it was taken out already.
     pub fn result(&mut self, i: usize) -> Option<Option<T>>
         ensures gives { result ≡ result_at self.old.tasks i }
         ensures once { result_at self.new.tasks i ≡ None }
         ensures others { (j : ℕ) → j ≢ i → result_at self.new.tasks j ≡ result_at self.old.tasks j }
         ensures nothing_else { Drives T.is_clone self.old [] self.new }
     {
-        self.core.begins();
+        self.core.soundness();
         self.tasks.take_result(i)
     }
 
-    /// Polls each task that is ready now once, in order of number, and gives the number of these
-    /// polls. What a poll is ready with is kept for `result`. A refused poll stops it: that task
-    /// and those after it are ready still. It looks at every task that was ever started; a done
-    /// task keeps its place.
+    /// Polls each task that is ready now once, in order of number, and returns the number of these
+    /// polls. Stores what a poll is ready with for `result`. A refused poll stops it: that task and
+    /// those after it are still ready. It visits every task that was ever started; a done task
+    /// stays in the list.
     pub fn settle(&mut self) -> Result<usize, Refusal>
         ensures settles { (log : Log T) × Settles T.is_clone self.old result log self.new }
         ensures none_ready { OnOk result ((i : ℕ) → is_ready self.new [] i ≡ false) }
@@ -37,7 +37,7 @@ impl<T: Clone> Driver<T> {
             → MatchOption (content self.new.core.cell) (IsOk result)
             (λ value. T.is_infallible value → IsOk result) }
     {
-        self.core.begins();
+        self.core.soundness();
         let mut polls = 0;
         for i in 0..self.tasks.len() {
             if !self.is_ready(i) {
@@ -49,7 +49,7 @@ impl<T: Clone> Driver<T> {
         Ok(polls)
     }
 
-    /// Polls a task that is ready, and keeps what the poll is ready with.
+    /// Polls a task that is ready, and stores what the poll is ready with.
     fn poll_and_keep(&mut self, i: usize) -> Result<(), Refusal>
         requires { is_ready self.old [] i ≡ true }
         ensures settles { (answer : Answer T)

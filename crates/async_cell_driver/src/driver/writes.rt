@@ -1,5 +1,5 @@
 //! Calls on the cell of a driver. Each makes one call of the core, and wakes the tasks whose names
-//! it hands out.
+//! it returns.
 ghost use Rattle.std.specs.Prelude.{◌≡◌, ◌↔◌, ◌+◌, ◌-◌, true, false, Some, None, Err, IsOk, IfOk, IfErr, OnOk, OnErr};
 ghost use Rattle.async_cell_model.specs.Cell.{is_closed, is_full, is_vacant, content, owners_of, owners_limit};
 ghost use Rattle.async_cell_model.specs.declared.entry.Kept.TheVariants as kept;
@@ -11,8 +11,8 @@ use crate::event::{Event, Told};
 use async_cell_core::{Edit, Refusal, Reply};
 
 impl<T: Clone> Driver<T> {
-    /// Puts the value in. All that wait are ready then. Refused on a closed cell, and the value
-    /// comes back.
+    /// Sets the value. Every waiting task is then ready. Fails on a closed cell; the value is
+    /// returned in the error.
     pub fn set(&mut self, value: T) -> Result<(), T>
         ensures done { OnOk result
             (Happens T.is_clone self.old (Event.Set value) (Told.Reply Reply.Done) self.new) }
@@ -31,8 +31,8 @@ impl<T: Clone> Driver<T> {
         Ok(())
     }
 
-    /// Puts the value in where there is none; all that wait are ready then. Else the value is
-    /// dropped. Refused on a closed cell, and the value comes back.
+    /// Sets the value if the cell holds none; every waiting task is then ready. Drops `value`
+    /// otherwise. Fails on a closed cell; the value is returned in the error.
     pub fn or_set(&mut self, value: T) -> Result<(), T>
         ensures done { OnOk result
             (Happens T.is_clone self.old (Event.OrSet value)
@@ -44,7 +44,8 @@ impl<T: Clone> Driver<T> {
         ensures if_open { IsOk result ↔ (is_closed self.old.core.cell ≡ false) }
         ensures holds { OnOk result
             (is_vacant self.old.core.cell ≡ true → content self.new.core.cell ≡ Some value) }
-        ensures leaves { is_full self.old.core.cell ≡ true → self.new.core.cell ≡ self.old.core.cell }
+        ensures leaves { is_full self.old.core.cell ≡ true
+            → self.new.core.cell ≡ self.old.core.cell }
         ensures results_stay { KeepsResults self.old self.new }
         ensures unchanged { OnErr result (self.new ≡ self.old) }
         ensures comes_back { IfErr result (λ back. back ≡ value) }
@@ -53,7 +54,7 @@ impl<T: Clone> Driver<T> {
         Ok(())
     }
 
-    /// `or_set`, which gives the value back that it did not use.
+    /// Does what `or_set` does, and returns the value if it was not used.
     pub(crate) fn offer(&mut self, value: T) -> Result<Option<T>, T>
         ensures done { IfOk result (λ unused.
             Happens T.is_clone self.old (Event.OrSet value)
@@ -67,7 +68,8 @@ impl<T: Clone> Driver<T> {
         ensures if_open { IsOk result ↔ (is_closed self.old.core.cell ≡ false) }
         ensures holds { OnOk result
             (is_vacant self.old.core.cell ≡ true → content self.new.core.cell ≡ Some value) }
-        ensures leaves { is_full self.old.core.cell ≡ true → self.new.core.cell ≡ self.old.core.cell }
+        ensures leaves { is_full self.old.core.cell ≡ true
+            → self.new.core.cell ≡ self.old.core.cell }
         ensures results_stay { KeepsResults self.old self.new }
         ensures unchanged { OnErr result (self.new ≡ self.old) }
         ensures comes_back { IfErr result (λ back. back ≡ value) }
@@ -77,8 +79,8 @@ impl<T: Clone> Driver<T> {
         Ok(unused)
     }
 
-    /// Puts the value in, and gives the old one. All that wait are ready then. Refused on a closed
-    /// cell, and the value comes back.
+    /// Sets the value and returns the old one. Every waiting task is then ready. Fails on a closed
+    /// cell; the value is returned in the error.
     pub fn replace(&mut self, value: T) -> Result<Option<T>, T>
         ensures done { IfOk result (λ old.
             Happens T.is_clone self.old (Event.Replace value)
@@ -99,8 +101,8 @@ impl<T: Clone> Driver<T> {
         Ok(old)
     }
 
-    /// Puts in what the edit makes of the content. A value where there was none makes all that wait
-    /// ready. Refused on a closed cell, and then the edit is not called.
+    /// Stores what the edit makes of the content. If that puts a value into an empty cell, every
+    /// waiting task is then ready. Fails with `Closed` on a closed cell, without calling the edit.
     pub fn update<E: Edit<T> + Drop>(&mut self, edit: E) -> Result<(), Refusal>
         ensures done { OnOk result
             (Happens T.is_clone self.old (Event.Update (E.edit edit))
@@ -120,9 +122,10 @@ impl<T: Clone> Driver<T> {
         Ok(())
     }
 
-    /// Takes the value, if there is one. Those that wait stay.
+    /// Takes the value, if there is one. The waiting tasks still wait.
     pub fn try_take(&mut self) -> Option<T>
-        ensures drives { Happens T.is_clone self.old Event.TryTake (Told.Reply (Reply.Value result)) self.new }
+        ensures drives { Happens T.is_clone self.old Event.TryTake
+            (Told.Reply (Reply.Value result)) self.new }
 
         ensures takes { result ≡ content self.old.core.cell }
         ensures leaves_none { content self.new.core.cell ≡ None }
@@ -131,7 +134,8 @@ impl<T: Clone> Driver<T> {
         self.core.try_take()
     }
 
-    /// One owner more. Refused on a closed cell, and beyond 4,294,967,295 owners.
+    /// Adds an owner. Fails with `Closed` on a closed cell, and with `OwnersFull` beyond
+    /// 4,294,967,295 owners.
     pub fn add_owner(&mut self) -> Result<(), Refusal>
         ensures done { OnOk result
             (Happens T.is_clone self.old Event.AddOwner (Told.Reply Reply.Done) self.new) }
@@ -140,7 +144,8 @@ impl<T: Clone> Driver<T> {
             (Told.Reply (Reply.Refused why None)) self.new) }
 
         ensures if_closed { (result ≡ Err Refusal.Closed) ↔ (is_closed self.old.core.cell ≡ true) }
-        ensures if_full { (result ≡ Err Refusal.OwnersFull) ↔ (owners_of self.old.core.cell ≡ owners_limit) }
+        ensures if_full { (result ≡ Err Refusal.OwnersFull)
+            ↔ (owners_of self.old.core.cell ≡ owners_limit) }
         ensures counted { OnOk result
             (owners_of self.new.core.cell ≡ owners_of self.old.core.cell + 1) }
         ensures results_stay { KeepsResults self.old self.new }
@@ -149,8 +154,8 @@ impl<T: Clone> Driver<T> {
         self.core.add_owner()
     }
 
-    /// One owner less. The last one closes the cell: the value is dropped, and all that wait are
-    /// ready. Refused on a closed cell.
+    /// Ends one owner. The last one closes the cell and drops the value, and every waiting task is
+    /// then ready. Fails with `Closed` on a closed cell.
     pub fn end_owner(&mut self) -> Result<(), Refusal>
         ensures done { OnOk result
             (Happens T.is_clone self.old Event.EndOwner
@@ -169,7 +174,7 @@ impl<T: Clone> Driver<T> {
         Ok(())
     }
 
-    /// `end_owner`, which gives the value of a cell that it closes.
+    /// Does what `end_owner` does, and returns the value of a cell that it closes.
     pub(crate) fn end(&mut self) -> Result<Option<T>, Refusal>
         ensures done { IfOk result (λ last.
             Happens T.is_clone self.old Event.EndOwner (Told.Reply (Reply.Value last)) self.new) }

@@ -1,22 +1,24 @@
-//! Polls: a step that answers, or that leaves the task's waker.
-ghost use Rattle.std.specs.Prelude.{◌≡◌, true, IfErr};
+//! Polls: each either returns `Ready`, or registers the task and stores its waker in a place of the
+//! wait list.
+ghost use Rattle.std.specs.Prelude.{◌≡◌, IfOk, IfErr};
 ghost use Rattle.std.specs.Sync.Mutex.{mutex_guard_value};
 ghost use Rattle.futures.specs.Poll.{IfReady, OnPending};
 ghost use Rattle.futures.specs.Task.{Hears, IsArmed, Keeps};
-ghost use Rattle.async_cell_model.specs.Cell.{is_vacant};
 ghost use Rattle.async_cell_sync.specs.Source.{source_of};
 
 use super::AsyncCell;
 use async_cell_core::{Core, Refusal};
-use async_cell_task::TaskWaker;
-use futures::task::{Context, Poll, Source};
+use async_cell_task::{Place, TaskWaker};
+use futures::task::{Context, Poll};
 use std::sync::{MutexGuard, Wait};
 
 impl<T: Drop> AsyncCell<T> {
-    /// Takes the value, or waits for one. Ready with none on a closed cell. Refused with `Memory` where the task's waker or
-    /// the growth of the list was.
+    /// Takes the value, or waits for one in the place. Returns `Ready` with `None` on a closed
+    /// cell. Fails with `Memory` if there is no memory for the task's waker or for the growth of
+    /// the list.
     pub(crate) fn poll_take<R: Wait>(
         &self,
+        place: &mut Place,
         cx: &mut Context<'_>,
         rt: &R,
     ) -> Poll<Result<Option<T>, Refusal>>
@@ -25,16 +27,18 @@ impl<T: Drop> AsyncCell<T> {
         ensures kept { Keeps cx.old cx.new }
         ensures refused { IfReady result (λ answer. IfErr answer (λ why. why ≡ Refusal.Memory)) }
     {
-        let mut core = self.core.lock(rt);
-        if core.is_vacant() {
-            return wait(core, &self.source, cx);
+        match self.lock_or_wait(place, cx, rt) {
+            Poll::Ready(Ok(mut core)) => Poll::Ready(Ok(core.try_take())),
+            Poll::Ready(Err(why)) => Poll::Ready(Err(why)),
+            Poll::Pending => Poll::Pending,
         }
-        Poll::Ready(Ok(core.try_take()))
     }
 
-    /// Clones the value and leaves it, or waits for one as `poll_take` does. Refused with `Memory` where the clone was, too.
+    /// Clones the value and leaves it, or waits for one as `poll_take` does. Also fails with
+    /// `Memory` if the clone of the value fails.
     pub(crate) fn poll_get<R: Wait>(
         &self,
+        place: &mut Place,
         cx: &mut Context<'_>,
         rt: &R,
     ) -> Poll<Result<Option<T>, Refusal>>
@@ -45,40 +49,70 @@ impl<T: Drop> AsyncCell<T> {
         ensures kept { Keeps cx.old cx.new }
         ensures refused { IfReady result (λ answer. IfErr answer (λ why. why ≡ Refusal.Memory)) }
     {
-        let core = self.core.lock(rt);
-        if core.is_vacant() {
-            return wait(core, &self.source, cx);
+        match self.lock_or_wait(place, cx, rt) {
+            Poll::Ready(Ok(core)) => Poll::Ready(core.try_get()),
+            Poll::Ready(Err(why)) => Poll::Ready(Err(why)),
+            Poll::Pending => Poll::Pending,
         }
-        Poll::Ready(core.try_get())
     }
-}
 
-/// Leaves the task's waker in a cell that is vacant. One that finds no place is dropped after the lock is free, and wakes its
-/// task then.
-fn wait<T: Drop>(
-    mut core: MutexGuard<'_, Core<T, TaskWaker>>,
-    source: &Source,
-    cx: &mut Context<'_>,
-) -> Poll<Result<Option<T>, Refusal>>
-    requires { is_vacant (mutex_guard_value core).cell ≡ true }
-    ensures armed { OnPending result (IsArmed cx.new) }
-    ensures heard { OnPending result (Hears cx.new source.now.id) }
-    ensures kept { Keeps cx.old cx.new }
-    ensures refused { IfReady result (λ answer. IfErr answer (λ why. why ≡ Refusal.Memory)) }
-{
-    let Some(waker) = TaskWaker::register(cx, source) else {
-        return Poll::Ready(Err(Refusal::Memory));
-    };
-    let registered = core.register(waker);
-    drop(core);
-    match registered {
-        Ok(unused) => {
-            drop(unused);
-            Poll::Pending
+    /// Frees the place of a future that is dropped.
+    pub(crate) fn leave<R: Wait>(&self, mut place: Place, rt: &R) {
+        if place.is_taken() {
+            place.leave(&mut *self.core.lock(rt));
         }
-        Err(waker) => {
-            drop(waker);
-            Poll::Ready(Err(Refusal::Memory))
+    }
+
+    /// Returns the core, locked, if a poll need not wait. Otherwise waits in the place.
+    fn lock_or_wait<'a, R: Wait>(
+        &'a self,
+        place: &mut Place,
+        cx: &mut Context<'_>,
+        rt: &R,
+    ) -> Poll<Result<MutexGuard<'a, Core<T, TaskWaker>>, Refusal>>
+        ensures armed { OnPending result (IsArmed cx.new) }
+        ensures heard { OnPending result (Hears cx.new (source_of self.now)) }
+        ensures kept { Keeps cx.old cx.new }
+        ensures refused { IfReady result (λ answer. IfErr answer (λ why. why ≡ Refusal.Memory)) }
+    {
+        let mut core = self.core.lock(rt);
+        if core.is_vacant() {
+            core = self.register(core, place, cx, rt);
         }
+        if !core.is_vacant() {
+            place.forget();
+            return Poll::Ready(Ok(core));
+        }
+        let stored = place.store(&mut *core);
+        drop(core); // A waker that is dropped wakes its task: never under the lock.
+        match stored {
+            Ok(replaced) => {
+                drop(replaced);
+                Poll::Pending
+            }
+            Err(why) => Poll::Ready(Err(why)),
+        }
+    }
+
+    /// Registers the task, with the waker of the place if it has one. That may drop another task's
+    /// waker, which wakes that task, so the lock is then released meanwhile.
+    fn register<'a, R: Wait>(
+        &'a self,
+        mut core: MutexGuard<'a, Core<T, TaskWaker>>,
+        place: &mut Place,
+        cx: &mut Context<'_>,
+        rt: &R,
+    ) -> MutexGuard<'a, Core<T, TaskWaker>>
+        ensures armed { IsArmed cx.new }
+        ensures heard { Hears cx.new (source_of self.now) }
+        ensures kept { Keeps cx.old cx.new }
+    {
+        if !place.lift(&mut *core) {
+            place.register(cx, &self.source);
+            return core;
+        }
+        drop(core);
+        place.register(cx, &self.source);
+        self.core.lock(rt)
     }
 }

@@ -1,17 +1,16 @@
-//! The steps on the core: wakers are woken and values dropped after the lock is free.
+//! The steps on the core. Wakers are woken and values are dropped after the lock is released.
 ghost use Rattle.std.specs.Prelude.{◌≡◌, IfErr, ◌⊎◌};
 
 use super::AsyncCell;
-use async_cell_core::{Core, Refusal};
-use async_cell_guard::end;
-use async_cell_locked::LockedCore;
+use crate::locked_core::LockedCore;
+use async_cell_core::{Core, Refusal, end_guard};
 use async_cell_task::TaskWaker;
 use futures::task::Source;
 use std::alloc::Global;
 use std::sync::Wait;
 
 impl<T: Drop> AsyncCell<T> {
-    /// A cell round this core.
+    /// Wraps a core in a cell.
     pub(super) fn of(alloc: Global, core: Core<T, TaskWaker>) -> Self {
         AsyncCell {
             core: LockedCore::new(core),
@@ -20,34 +19,40 @@ impl<T: Drop> AsyncCell<T> {
         }
     }
 
-    /// What the end of a guard does, with its cancel value if it was not released.
+    /// Ends a guard: `cancel` is its cancel value, or `None` if it was released.
     pub(crate) fn end_guard<R: Wait>(&self, cancel: Option<T>, rt: &R) {
-        let (unused, woken) = end(&mut *self.core.lock(rt), cancel);
-        if let Some(woken) = woken {
-            woken.wake_all();
-        }
+        let mut core = self.core.lock(rt);
+        let (unused, woken) = end_guard(&mut *core, cancel);
+        drop(core); // What is woken or dropped may call this cell: never under the lock.
+        woken.wake_all();
         drop(unused);
     }
 
-    /// One owner more. Refused with `Closed` and `OwnersFull`.
+    /// Adds an owner. Fails with `Closed` or `OwnersFull`.
     pub(crate) fn add_owner<R: Wait>(&self, rt: &R) -> Result<(), Refusal>
-        ensures refused { IfErr result (λ why. (why ≡ Refusal.Closed) ⊎ (why ≡ Refusal.OwnersFull)) }
+        ensures refused { IfErr result (λ why.
+            (why ≡ Refusal.Closed) ⊎ (why ≡ Refusal.OwnersFull)) }
     {
         self.core.add_owner(rt)
     }
 
-    /// One owner less. The last one closes the cell: the value is dropped, and all that wait are woken.
+    /// Ends one owner. The last one closes the cell, drops the value and wakes all waiters.
     pub(crate) fn end_owner<R: Wait>(&self, rt: &R) {
         let _ = self.core.end_owner(rt);
     }
 
-    /// Closes the cell of a sole owner and gives its content. All that wait are woken. Refused with `Closed`, and with
-    /// `StillShared` beside other owners.
+    /// Closes the cell and returns its content, if there is one owner. Wakes all waiters. Fails
+    /// with `Closed`, or with `StillShared` if there are other owners.
     pub(crate) fn take_inner<R: Wait>(&self, rt: &R) -> Result<Option<T>, Refusal> {
         self.core.take_inner(rt)
     }
 
-    /// The allocator that the cell was made with.
+    /// Internal: may change without notice. Returns the number of places in the wait list.
+    pub fn waiting<R: Wait>(&self, rt: &R) -> usize {
+        self.core.waiting(rt)
+    }
+
+    /// Returns the allocator that the cell was made with.
     pub(crate) fn allocator(&self) -> Global {
         self.alloc
     }

@@ -1,21 +1,24 @@
-//! Polls: a step that answers, or that leaves the task's waker.
-ghost use Rattle.std.specs.Prelude.{◌≡◌, true, IfErr};
-ghost use Rattle.std.specs.RefCell.{ref_mut_value};
+//! Polls: each either returns `Ready`, or registers the task and stores its waker in a place of the
+//! wait list.
+ghost use Rattle.std.specs.Prelude.{◌≡◌, IfErr};
 ghost use Rattle.futures.specs.Poll.{IfReady, OnPending};
 ghost use Rattle.futures.specs.Task.{Hears, IsArmed, Keeps};
-ghost use Rattle.async_cell_model.specs.Cell.{is_vacant};
 ghost use Rattle.async_cell_unsync.specs.Source.{source_of};
 
 use super::AsyncCell;
-use async_cell_core::{Core, Refusal};
-use async_cell_task::TaskWaker;
-use futures::task::{Context, Poll, Source};
-use std::cell::RefMut;
+use async_cell_core::Refusal;
+use async_cell_task::Place;
+use futures::task::{Context, Poll};
 
 impl<T: Drop> AsyncCell<T> {
-    /// Takes the value, or waits for one. Ready with none on a closed cell. Refused with `Memory` where the task's waker or
-    /// the growth of the list was.
-    pub(crate) fn poll_take(&self, cx: &mut Context<'_>) -> Poll<Result<Option<T>, Refusal>>
+    /// Takes the value, or waits for one in the place. Returns `Ready` with `None` on a closed
+    /// cell. Fails with `Memory` if there is no memory for the task's waker or for the growth of
+    /// the list.
+    pub(crate) fn poll_take(
+        &self,
+        place: &mut Place,
+        cx: &mut Context<'_>,
+    ) -> Poll<Result<Option<T>, Refusal>>
         ensures armed { OnPending result (IsArmed cx.new) }
         ensures heard { OnPending result (Hears cx.new (source_of self.now)) }
         ensures kept { Keeps cx.old cx.new }
@@ -25,13 +28,36 @@ impl<T: Drop> AsyncCell<T> {
             return Poll::Ready(Ok(None));
         };
         if core.is_vacant() {
-            return wait(core, &self.source, cx);
+            place.lift(&mut *core);
+            drop(core);
+            place.register(cx, &self.source);
+            let Some(again) = self.lend() else {
+                return Poll::Ready(Ok(None));
+            };
+            core = again;
         }
-        Poll::Ready(Ok(core.try_take()))
+        if !core.is_vacant() {
+            place.forget();
+            return Poll::Ready(Ok(core.try_take()));
+        }
+        let stored = place.store(&mut *core);
+        drop(core); // A waker that is dropped wakes its task: never while the core is lent.
+        match stored {
+            Ok(replaced) => {
+                drop(replaced);
+                Poll::Pending
+            }
+            Err(why) => Poll::Ready(Err(why)),
+        }
     }
 
-    /// Clones the value and leaves it, or waits for one as `poll_take` does. Refused with `Memory` where the clone was, too.
-    pub(crate) fn poll_get(&self, cx: &mut Context<'_>) -> Poll<Result<Option<T>, Refusal>>
+    /// Clones the value and leaves it, or waits for one as `poll_take` does. Also fails with
+    /// `Memory` if the clone of the value fails.
+    pub(crate) fn poll_get(
+        &self,
+        place: &mut Place,
+        cx: &mut Context<'_>,
+    ) -> Poll<Result<Option<T>, Refusal>>
     where
         T: Clone,
         ensures armed { OnPending result (IsArmed cx.new) }
@@ -39,39 +65,18 @@ impl<T: Drop> AsyncCell<T> {
         ensures kept { Keeps cx.old cx.new }
         ensures refused { IfReady result (λ answer. IfErr answer (λ why. why ≡ Refusal.Memory)) }
     {
-        match self.poll_take(cx) {
+        match self.poll_take(place, cx) {
             Poll::Ready(Ok(taken)) => Poll::Ready(self.copy_back(taken)),
             other => other,
         }
     }
-}
 
-/// Leaves the task's waker in a cell that is vacant. One that finds no place is dropped after the step, and wakes its task
-/// then.
-fn wait<T: Drop>(
-    mut core: RefMut<'_, Core<T, TaskWaker>>,
-    source: &Source,
-    cx: &mut Context<'_>,
-) -> Poll<Result<Option<T>, Refusal>>
-    requires { is_vacant (ref_mut_value core).cell ≡ true }
-    ensures armed { OnPending result (IsArmed cx.new) }
-    ensures heard { OnPending result (Hears cx.new source.now.id) }
-    ensures kept { Keeps cx.old cx.new }
-    ensures refused { IfReady result (λ answer. IfErr answer (λ why. why ≡ Refusal.Memory)) }
-{
-    let Some(waker) = TaskWaker::register(cx, source) else {
-        return Poll::Ready(Err(Refusal::Memory));
-    };
-    let registered = core.register(waker);
-    drop(core);
-    match registered {
-        Ok(unused) => {
-            drop(unused);
-            Poll::Pending
-        }
-        Err(waker) => {
-            drop(waker);
-            Poll::Ready(Err(Refusal::Memory))
+    /// Frees the place of a future that is dropped.
+    pub(crate) fn leave(&self, mut place: Place) {
+        if place.is_taken() {
+            if let Some(mut core) = self.lend() {
+                place.leave(&mut *core);
+            }
         }
     }
 }

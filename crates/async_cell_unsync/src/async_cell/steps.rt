@@ -1,18 +1,18 @@
-//! The steps on the core: between two of them the cell is in order, and only then are wakers woken and values dropped.
+//! The steps on the core. Between two steps the cell is consistent, and only then are wakers woken
+//! and values dropped.
 ghost use Rattle.std.specs.Prelude.{◌≡◌, ◌⊎◌, IsOk, IfSome, IfErr};
 ghost use Rattle.std.specs.RefCell.{ref_mut_value};
-ghost use Rattle.async_cell_model.specs.History.{IsBeginning};
+ghost use Rattle.async_cell_model.specs.History.{IsSound};
 
 use super::AsyncCell;
-use async_cell_core::{Core, Refusal, Wakes};
-use async_cell_guard::end;
+use async_cell_core::{Core, Refusal, Wakes, end_guard};
 use async_cell_task::TaskWaker;
 use futures::task::Source;
 use std::alloc::{AllocError, Global};
 use std::cell::{RefCell, RefMut};
 
 impl<T: Drop> AsyncCell<T> {
-    /// A cell round this core.
+    /// Wraps a core in a cell.
     pub(super) fn of(alloc: Global, core: Core<T, TaskWaker>) -> Self {
         AsyncCell {
             core: RefCell::new(core),
@@ -21,17 +21,18 @@ impl<T: Drop> AsyncCell<T> {
         }
     }
 
-    /// The core, for one step. None while another step is being made, which no caller meets: a step calls nothing that
-    /// could call the cell.
+    /// Borrows the core for one step. Returns `None` during another step, which no caller ever
+    /// sees: a step calls nothing that could call the cell.
     pub(super) fn lend(&self) -> Option<RefMut<'_, Core<T, TaskWaker>>>
-        ensures { IfSome result (λ core. IsBeginning ⟦<TaskWaker as Wakes>⟧.will_wake (ref_mut_value core)) }
+        ensures { IfSome result (λ core.
+            IsSound ⟦<TaskWaker as Wakes>⟧.will_wake (ref_mut_value core)) }
     {
         let core = self.core.try_borrow_mut().ok()?;
-        core.begins();
+        core.soundness();
         Some(core)
     }
 
-    /// Takes the content out of an open cell. None of a closed one.
+    /// Takes the content out of an open cell. Returns `None` if the cell is closed.
     pub(super) fn take_out(&self) -> Option<Option<T>> {
         let mut core = self.lend()?;
         if core.is_closed() {
@@ -40,7 +41,8 @@ impl<T: Drop> AsyncCell<T> {
         Some(core.try_take())
     }
 
-    /// Puts a content that was taken out over whatever came meanwhile. A cell that was closed meanwhile stays closed.
+    /// Stores a content that was taken out, over whatever was stored in the meantime. A cell that
+    /// was closed in the meantime stays closed.
     pub(super) fn put_back(&self, content: Option<T>) {
         let over = match content {
             Some(value) => self.replace(value),
@@ -49,7 +51,8 @@ impl<T: Drop> AsyncCell<T> {
         drop(over);
     }
 
-    /// Clones a value that was taken out, and puts it back.
+    /// Clones a value that was taken out, and stores it again. Fails with `Memory` if the clone
+    /// fails.
     pub(super) fn copy_back(&self, taken: Option<T>) -> Result<Option<T>, Refusal>
     where
         T: Clone,
@@ -64,33 +67,33 @@ impl<T: Drop> AsyncCell<T> {
         Ok(Some(copy?))
     }
 
-    /// What the end of a guard does, with its cancel value if it was not released.
+    /// Ends a guard: `cancel` is its cancel value, or `None` if it was released.
     pub(crate) fn end_guard(&self, cancel: Option<T>) {
         let Some(mut core) = self.lend() else {
             return;
         };
-        let (unused, woken) = end(&mut *core, cancel);
-        drop(core);
-        if let Some(woken) = woken {
-            woken.wake_all();
-        }
+        let (unused, woken) = end_guard(&mut *core, cancel);
+        drop(core); // What is woken or dropped may call this cell: never while the core is lent.
+        woken.wake_all();
         drop(unused);
     }
 
-    /// One owner more. Refused with `Closed` and `OwnersFull`.
+    /// Adds an owner. Fails with `Closed` or `OwnersFull`.
     pub(crate) fn add_owner(&self) -> Result<(), Refusal>
-        ensures refused { IfErr result (λ why. (why ≡ Refusal.Closed) ⊎ (why ≡ Refusal.OwnersFull)) }
+        ensures refused { IfErr result (λ why.
+            (why ≡ Refusal.Closed) ⊎ (why ≡ Refusal.OwnersFull)) }
     {
         let mut core = self.lend().ok_or(Refusal::Closed)?;
         core.add_owner()
     }
 
-    /// One owner less. The last one closes the cell: the value is dropped, and all that wait are woken.
+    /// Ends one owner. The last one closes the cell, drops the value and wakes all waiters.
     pub(crate) fn end_owner(&self) {
         let Some(mut core) = self.lend() else {
             return;
         };
         let ended = core.end_owner();
+        // What is woken or dropped may call this cell: never while the core is lent.
         drop(core);
         if let Ok((last, woken)) = ended {
             woken.wake_all();
@@ -98,18 +101,24 @@ impl<T: Drop> AsyncCell<T> {
         }
     }
 
-    /// Closes the cell of a sole owner and gives its content. All that wait are woken. Refused with `Closed`, and with
-    /// `StillShared` beside other owners.
+    /// Closes the cell and returns its content, if there is one owner. Wakes all waiters. Fails
+    /// with `Closed`, or with `StillShared` if there are other owners.
     pub(crate) fn take_inner(&self) -> Result<Option<T>, Refusal> {
         let mut core = self.lend().ok_or(Refusal::Closed)?;
         let taken = core.take_inner();
+        // What is woken or dropped may call this cell: never while the core is lent.
         drop(core);
         let (content, woken) = taken?;
         woken.wake_all();
         Ok(content)
     }
 
-    /// The allocator that the cell was made with.
+    /// Internal: may change without notice. Returns the number of places in the wait list.
+    pub fn waiting(&self) -> usize {
+        self.lend().map_or(0, |core| core.waiting())
+    }
+
+    /// Returns the allocator that the cell was made with.
     pub(crate) fn allocator(&self) -> Global {
         self.alloc
     }

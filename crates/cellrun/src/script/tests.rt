@@ -85,7 +85,7 @@ fn outcome(rt: &HostRuntime, input: &[u8], most: usize, is_broken: bool) -> (End
         room: usize::MAX,
         lines: &lines,
     };
-    let ended = script(rt.alloc(), reader, writer);
+    let (ended, _) = script(rt.alloc(), reader, writer);
     (ended, lines.get())
 }
 
@@ -189,7 +189,7 @@ fn answers_come_before_the_next_read(rt: HostRuntime) {
         room: usize::MAX,
         lines: &answers,
     };
-    assert_eq!(rt; script(rt.alloc(), asker, writer), Ended::Done);
+    assert_eq!(rt; script(rt.alloc(), asker, writer).0, Ended::Done);
     assert_eq!(rt; answers.get(), 100);
 }
 
@@ -212,7 +212,7 @@ fn failed_write(rt: HostRuntime) {
             lines: &lines,
         };
         let at = input;
-        assert_eq!(rt; script(rt.alloc(), input, writer), ended, "at {at:?}");
+        assert_eq!(rt; script(rt.alloc(), input, writer).0, ended, "at {at:?}");
     }
 }
 
@@ -255,7 +255,7 @@ fn an_interrupted_read_is_tried_again(rt: HostRuntime) {
             room: usize::MAX,
             lines: &lines,
         };
-        assert_eq!(rt; script(rt.alloc(), reader, writer), ended, "at {input:?}");
+        assert_eq!(rt; script(rt.alloc(), reader, writer).0, ended, "at {input:?}");
         assert_eq!(rt; lines.get(), count, "at {input:?}");
     }
 }
@@ -292,10 +292,10 @@ impl Write for Faulty<'_> {
 }
 
 /// Each answer is written and flushed before the next line is read: two calls on the writer a line.
-/// Where one of them fails, it is the last.
+/// Where one of them fails, it is the last, also where the writer says that it found no memory.
 #[test]
 fn nothing_is_written_after_a_failed_write(rt: HostRuntime) {
-    for kind in [ErrorKind::Other] {
+    for kind in [ErrorKind::Other, ErrorKind::OutOfMemory] {
         for fails_at in [2, 3, 4, 5, 6] {
             let calls = Cell::new(0);
             let reader = Trickle {
@@ -308,7 +308,7 @@ fn nothing_is_written_after_a_failed_write(rt: HostRuntime) {
                 kind,
                 calls: &calls,
             };
-            assert_eq!(rt; script(rt.alloc(), reader, writer), Ended::Failed);
+            assert_eq!(rt; script(rt.alloc(), reader, writer).0, Ended::Failed);
             assert_eq!(rt; calls.get(), fails_at);
         }
     }

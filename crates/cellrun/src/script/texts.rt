@@ -29,14 +29,15 @@ impl Write for Expected<'_> {
     }
 }
 
-/// How the script ends, and how many bytes of the expected text it did not print. What is printed otherwise fails it.
+/// How the script ends, and how many bytes of the expected text it did not print. What is printed
+/// otherwise fails it.
 fn printed(rt: &HostRuntime, input: &str, text: &str) -> (Ended, usize) {
     let left = Cell::new(text.len());
     let output = Expected {
         rest: text.as_bytes(),
         left: &left,
     };
-    let ended = script(rt.alloc(), input.as_bytes(), output);
+    let (ended, _) = script(rt.alloc(), input.as_bytes(), output);
     (ended, left.get())
 }
 
@@ -379,11 +380,11 @@ impl Write for Page<'_> {
 
 /// How the script ends that prints on this page.
 fn on_page(alloc: Global, input: &str, written: &RefCell<ArrayVec<u8, 256>>) -> Ended {
-    script(alloc, input.as_bytes(), Page { written })
+    script(alloc, input.as_bytes(), Page { written }).0
 }
 
-/// A line is refused for want of memory where its poll would add a waker, or the script fails with a beginning of its text
-/// written. It is run with each request for memory refused in turn.
+/// A line is refused for want of memory where its poll would add a waker, or the script fails with
+/// a beginning of its text written. It is run with each request for memory refused in turn.
 #[test]
 fn want_of_memory_is_told_or_ends_the_script(rt: HostRuntime) -> Result<(), Fail> {
     let whole = SCRIPTS[7].1;

@@ -1,9 +1,9 @@
-use Rattle.async_cell_model.proofs.Adding.{keep-one}
+use Rattle.async_cell_model.proofs.Adding.{wait_list-one}
 use Rattle.async_cell_model.proofs.Growing.{waiting-one_more}
 use Rattle.async_cell_model.proofs.laws.one_more_waker_is_last_or_skipped.Goals as goal
 
 pub returns : goal.returns
 returns g c = record {
-  list = λ will_wake l w kept. keep-one will_wake l w kept;
-  poll = λ will_wake sure b h e w legal asked. waiting-one_more g.T.Clone.is_clone will_wake sure b h e w legal asked;
+  list = λ will_wake l w kept. wait_list-one will_wake l w kept;
+  poll = λ will_wake sure b h e w legal registrations. waiting-one_more g.T.Clone.is_clone will_wake sure b h e w legal registrations;
 }

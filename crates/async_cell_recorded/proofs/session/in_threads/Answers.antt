@@ -1,10 +1,21 @@
-use Rattle.std.proofs.Common.{◌≡◌, ◌<◌, length, rules, subst}
-use Rattle.async_cell_recorded.specs.Giving.{HasGiven}
+use Rattle.std.proofs.Common.{◌≡◌, ◌<◌, length, rules, ap, sym, ◌∙◌, subst}
+use Rattle.async_cell_recorded.specs.declared.session.Seat.{Seat}
+use Rattle.async_cell_recorded.specs.Counting.{ShareState}
+use Rattle.async_cell_recorded.specs.Outcomes.{HasEnded}
+use Rattle.async_cell_recorded.proofs.Counted.{same_numbers}
 use Rattle.async_cell_recorded.proofs.session.in_threads.Goals as goal
 
-pub returns-clause-given : goal.returns-clause-given
-returns-clause-given g c = λ k d below.
+pub returns-clause-ended : goal.returns-clause-ended
+returns-clause-ended g c = λ k d below.
     let inside : k < length c.args.seats.now = search rules in
     let one = (c.for_each_mut.ensures k d inside).1 in
-    let made : HasGiven g.S.Session.told one.after_call.now = let call = one.call in search rules in
-    subst (λ seat. HasGiven g.S.Session.told seat) one.left made
+    let made : HasEnded g.S.Session.describes one.after_call.now = let call = one.call in search rules in
+    subst (λ seat. HasEnded g.S.Session.describes seat) one.left made
+
+pub returns-clause-numbers : goal.returns-clause-numbers
+returns-clause-numbers g c =
+    let len : length c.for_each_mut.new.s ≡ length c.args.seats.now = search rules in
+    same_numbers c.args.seats.now c.for_each_mut.new.s len (λ k d below.
+    let one = (c.for_each_mut.ensures k d below).1 in
+    let made : one.after_call.now.number ≡ one.argument.now.number = let call = one.call in search rules in
+    ap (λ (s : Seat ShareState g.row.O.Denot). s.number) (sym one.left) ∙ (made ∙ ap (λ (s : Seat ShareState g.row.O.Denot). s.number) one.argument_is))

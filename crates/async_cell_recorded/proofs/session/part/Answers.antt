@@ -1,21 +1,25 @@
-use Rattle.std.proofs.Common.{◌≡◌, arith, Some, length-append}
-use Rattle.async_cell_recorded.proofs.Counted.{given_step, told_more}
+use Rattle.std.proofs.Common.{◌++◌, ◌∷◌, [], arith, sym, ◌∙◌, length-append}
+use Rattle.std.specs.Vec.Iter.{into_iter_items}
+use Rattle.std.proofs.lemmas.List.{map-append}
+use Rattle.async_cell_recorded.specs.declared.session.Seat.{Seat}
+use Rattle.async_cell_recorded.specs.Counting.{ShareState}
+use Rattle.async_cell_recorded.proofs.Counted.{ended_step, described_more}
 use Rattle.async_cell_recorded.proofs.session.part.Goals as goal
 
-pub loop-share-preserved : goal.loop-share-preserved
-loop-share-preserved g c =
-    let kept = c.loop-share.invariant in
+pub loop-seat-preserved : goal.loop-seat-preserved
+loop-seat-preserved g c =
+    let kept = c.loop-seat.invariant in
     let taken = c.in-Some.ensures.steps in
-    let is = c.in-Some-outcome.is in
     let first = c.push_reserved.ensures in
-    let second = c.push_reserved-in-loop-share.ensures in
-    let step = given_step g.S.Session.told c.in-Some.share c.in-Some-outcome.outcome _ _ (rw (← is) taken.0) kept.given in
+    let second = c.push_reserved-in-loop-seat.ensures in
+    let step = ended_step g.S.Session.describes c.in-Some.seat c.in-Some-outcome.outcome (into_iter_items c.loop-seat.seat-iterator) (into_iter_items c.next.new.self) taken.0 c.in-Some-outcome.is kept.ended in
     record {
       outcomes = rw length-append (omega (arith, first.len, kept.outcomes));
-      shares = rw length-append (omega (arith, second.len, kept.shares));
+      made = rw length-append (omega (arith, second.len, kept.made));
+      shares = second.items ∙ ((λ i. kept.shares i ++ c.in-Some.seat.share ∷ []) ∙ sym (map-append (λ (s : Seat ShareState g.row.O.Denot). s.share) c.loop-seat.yielded (c.in-Some.seat ∷ [])));
       room_outcomes = omega (arith, first.len, first.capacity, kept.room_outcomes, taken.1);
       room_shares = omega (arith, second.len, second.capacity, kept.room_shares, taken.1);
-      given = step.1;
-      told = rw (first.items, second.items) (told_more g.S.Session.told _ _ _ _ kept.told step.0);
+      ended = step.1;
+      described = rw first.items (described_more g.S.Session.describes c.loop-seat.outcomes.items c.loop-seat.yielded c.in-Some-outcome.outcome c.in-Some.seat kept.described step.0);
       left = rw length-append (omega (arith, kept.left, taken.1));
     }

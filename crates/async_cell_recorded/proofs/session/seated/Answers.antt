@@ -1,5 +1,10 @@
-use Rattle.std.proofs.Common.{◌≡◌, arith, length-append}
+use Rattle.std.proofs.Common.{◌++◌, ◌∷◌, [], List, arith, ap, sym, ◌∙◌, map, None, length-append}
+use Rattle.std.specs.Vec.Iter.{into_iter_items}
+use Rattle.std.proofs.lemmas.List.{map-append}
 use Rattle.std.proofs.lemmas.List.Elements.{All-push}
+use Rattle.async_cell_recorded.specs.declared.session.Seat.{Seat}
+use Rattle.async_cell_recorded.specs.Counting.{ShareState}
+use Rattle.async_cell_recorded.specs.Outcomes.{IsNew}
 use Rattle.async_cell_recorded.proofs.Counted.{unused_step}
 use Rattle.async_cell_recorded.proofs.session.seated.Goals as goal
 
@@ -8,11 +13,16 @@ loop-share-preserved g c =
     let kept = c.loop-share.invariant in
     let taken = c.in-Some.ensures.steps in
     let pushed = c.push_reserved.ensures in
-    let step = unused_step c.in-Some.share _ _ taken.0 kept.left in
+    let step = unused_step c.in-Some.share (into_iter_items c.loop-share.share-iterator) (into_iter_items c.next.new.self) taken.0 kept.left in
+    let seat : Seat ShareState g.row.O.Denot = record { number = c.number.result; share = c.in-Some.share; outcome = None } in
+    let is_new : IsNew seat = record { number_is = sym c.number.ensures; count_is = step.0.0; picked_is = step.0.1 } in
     record {
-      one_each = rw length-append (omega (arith, pushed.len, kept.one_each));
+      made = rw length-append (omega (arith, pushed.len, kept.made));
       room = omega (arith, pushed.len, pushed.capacity, kept.room, taken.1);
       left = step.1;
-      unused = rw pushed.items (All-push (λ seat. seat.0.count ≡ 0) _ _ kept.unused step.0);
-      taken = rw length-append (omega (arith, kept.taken, taken.1));
+      new = rw pushed.items (All-push (λ (s : Seat ShareState g.row.O.Denot). IsNew s) c.loop-share.seats.items seat kept.new is_new);
+      numbers =
+          ap (λ (l : List (Seat ShareState g.row.O.Denot)). map (λ (s : Seat ShareState g.row.O.Denot). s.number) l) pushed.items
+          ∙ (map-append (λ (s : Seat ShareState g.row.O.Denot). s.number) c.loop-share.seats.items (seat ∷ [])
+          ∙ ((λ i. kept.numbers i ++ c.number.ensures i ∷ []) ∙ sym (map-append (λ (s : ShareState). s.number) c.loop-share.yielded (c.in-Some.share ∷ []))));
     }

@@ -2,4 +2,4 @@ use Rattle.async_cell_recorded_tests.proofs.journals.a_cell_is_not_finished_with
 
 -- the marker names the two blank ledgers
 abbrev pub ghosts-finish_twice-M-Marker : goal.ghosts-finish_twice-M-Marker
-ghosts-finish_twice-M-Marker g a = record { calls = a.blanks.calls.name; answers = a.blanks.answers.name; shares = 2 }
+ghosts-finish_twice-M-Marker g a = record { calls = a.blanks.calls.name; picked = a.blanks.picked.name; shares = 2 }

@@ -2,4 +2,4 @@ use Rattle.async_cell_recorded_tests.proofs.memory.a_step_without_memory_does_no
 
 -- the marker names the two blank ledgers
 abbrev pub ghosts-steps-M-Marker : goal.ghosts-steps-M-Marker
-ghosts-steps-M-Marker g a = record { calls = a.blanks.calls.name; answers = a.blanks.answers.name; shares = 1 }
+ghosts-steps-M-Marker g a = record { calls = a.blanks.calls.name; picked = a.blanks.picked.name; shares = 1 }

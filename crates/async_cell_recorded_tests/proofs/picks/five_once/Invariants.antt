@@ -3,7 +3,7 @@ use Rattle.async_cell_recorded_tests.proofs.picks.five_once.Given as goal
 
 -- the marker names the two blank ledgers
 abbrev pub ghosts-set_five-M-Marker : goal.ghosts-set_five-M-Marker
-ghosts-set_five-M-Marker g a = record { calls = a.blanks.calls.name; answers = a.blanks.answers.name; shares = 1 }
+ghosts-set_five-M-Marker g a = record { calls = a.blanks.calls.name; picked = a.blanks.picked.name; shares = 1 }
 
 -- and its test picks the sets of five
 abbrev pub ghosts-set_five-M-Pick : goal.ghosts-set_five-M-Pick

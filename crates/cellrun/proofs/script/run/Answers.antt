@@ -1,18 +1,16 @@
+use Rattle.std.proofs.Common.{drop}
+use Rattle.std.proofs.KnownBytes.{Keeps-refl}
 use Rattle.cellrun.specs.Lines.{bytes_left}
-use Rattle.cellrun.proofs.Coming.{at_start, after_call, after_blank}
+use Rattle.cellrun.specs.Output.{output_contents}
+use Rattle.cellrun.specs.declared.script.Ended.TheVariants.{Failed}
+use Rattle.cellrun.proofs.Printing.{err_fails, owes_cut}
 use Rattle.cellrun.proofs.script.run.Goals as goal
-use Rattle.cellrun.proofs.script.run.Goals.{in-Call+in_ok-answer-in-Call, in-Blank}
 
-pub loop-number-init : goal.loop-number-init
-loop-number-init g c = at_start (bytes_left c.args.lines.now)
-
-pub loop-number-preserved : goal.loop-number-preserved
-loop-number-preserved g c =
-    elim c.match-branch-2.branch [
-      | in-Call+in_ok-answer-in-Call w ↦
-          after_call (bytes_left c.args.lines.now) (bytes_left c.loop-number.lines) (bytes_left c.next.new.self) c.loop-number.number _
-          c.loop-number.invariant (rw w.in-Call.is at c.in_ok-command.ensures.next)
-      | in-Blank w ↦
-          after_blank (bytes_left c.args.lines.now) (bytes_left c.loop-number.lines) (bytes_left c.next.new.self) c.loop-number.number
-          c.loop-number.invariant (rw w.in-Blank.is at c.in_ok-command.ensures.next)
-    ]
+pub returns-in_err-ended-clause-written : goal.returns-in_err-ended-clause-written
+returns-in_err-ended-clause-written g c =
+    let out = c.answer_all.new.out in
+    err_fails (bytes_left c.args.lines.now) (output_contents g.W.Write.contents c.args.out.now) (g.W.Write.contents out.writer)
+    c.from_residual.result c.from_residual.ensures.0
+    (owes_cut (bytes_left c.args.lines.now) (output_contents g.W.Write.contents c.args.out.now) (output_contents g.W.Write.contents out)
+    (g.W.Write.contents out.writer) (drop out.written out.gathered.items) Failed
+    c.in_err-ended.ensures.written (Keeps-refl (output_contents g.W.Write.contents out)))

@@ -1,5 +1,5 @@
 use Rattle.std.proofs.Common.{rules, ◌≡◌, false, refl}
-use Rattle.async_cell_model.specs.Waiting.{skips}
+use Rattle.async_cell_model.specs.WaitList.{skips}
 use Rattle.async_cell_model.proofs.Polling.{get_added, take_added}
 use Rattle.async_cell_core.proofs.cell_core.Core.register.Goals as goal
 

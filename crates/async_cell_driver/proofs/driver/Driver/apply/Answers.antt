@@ -2,17 +2,17 @@ use Rattle.std.proofs.Common.{◌≡◌, [], rules, arith, refl, sym, ◌∙◌,
 use Rattle.std.proofs.lemmas.List.{nil_from_length}
 use Rattle.std.proofs.lemmas.Grind.{common_steps}
 use Rattle.std.specs.Vec.Iter.{into_iter_items}
-use Rattle.async_cell_driver.specs.State.{State}
+use Rattle.async_cell_driver.specs.DriverState.{DriverState}
 use Rattle.async_cell_driver.proofs.Joining.{drives_nil, happen_more}
 use Rattle.async_cell_driver.proofs.driver.Driver.apply.Goals as goal
 
 pub loop-event-init : goal.loop-event-init
 loop-event-init g c =
-    let at : State g.row.T.Denot = record { core = c.self.inside.core; tasks = c.self.inside.tasks } in record {
+    let at : DriverState g.row.T.Denot = record { core = c.self.inside.core; tasks = c.self.inside.tasks } in record {
       made = search rules;
       left = search rules;
       space = grind (arith, common_steps);
-      drives = ([], refl, rw (← c.self.view_is) (drives_nil g.T.Clone.is_clone at c.begins.ensures c.self.invariant), tt);
+      drives = ([], refl, rw (← c.self.view_is) (drives_nil g.T.Clone.is_clone at c.soundness.ensures c.self.invariant), tt);
       results = λ i. refl;
     }
 

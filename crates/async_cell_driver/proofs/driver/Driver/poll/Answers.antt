@@ -1,6 +1,6 @@
 use Rattle.std.proofs.Common.{◌≡◌, [], false, refl, sym, ap, ◌∙◌}
 use Rattle.async_cell_driver.specs.Mark.{is_ready_mark}
-use Rattle.async_cell_driver.specs.State.{State, mark_at}
+use Rattle.async_cell_driver.specs.DriverState.{DriverState, mark_at}
 use Rattle.async_cell_driver.specs.Log.{is_ready}
 use Rattle.async_cell_driver.specs.Asked.{polled_of}
 use Rattle.async_cell_driver.proofs.Reading.{ready_now}
@@ -10,30 +10,30 @@ use Rattle.async_cell_driver.proofs.driver.Driver.poll.Goals as goal
 
 pub returns-in_default-clause-drives : goal.returns-in_default-clause-drives
 returns-in_default-clause-drives g c =
-    let at : State g.row.T.Denot = record { core = c.self.inside.core; tasks = c.self.inside.tasks } in
+    let at : DriverState g.row.T.Denot = record { core = c.self.inside.core; tasks = c.self.inside.tasks } in
     let not_ready : is_ready_mark (mark_at at.tasks c.args.i) ≡ false = rw c.in_default.is at c.ready.ensures.not_ready in
-    rw (← c.self.view_is) (not_polled at c.args.i g.T.Clone.is_clone c.begins.ensures c.self.invariant (ready_now at c.args.i ∙ not_ready))
+    rw (← c.self.view_is) (not_polled at c.args.i g.T.Clone.is_clone c.soundness.ensures c.self.invariant (ready_now at c.args.i ∙ not_ready))
 
 pub returns-in_default-clause-not_ready : goal.returns-in_default-clause-not_ready
 returns-in_default-clause-not_ready g c =
-    let at : State g.row.T.Denot = record { core = c.self.inside.core; tasks = c.self.inside.tasks } in
+    let at : DriverState g.row.T.Denot = record { core = c.self.inside.core; tasks = c.self.inside.tasks } in
     let not_ready : is_ready_mark (mark_at at.tasks c.args.i) ≡ false = rw c.in_default.is at c.ready.ensures.not_ready in
     rw (← c.self.view_is) ((λ same. ready_now at c.args.i ∙ not_ready), (λ not. refl))
 
 pub invariant_of-self : goal.invariant_of-self
 invariant_of-self g c =
-    let at : State g.row.T.Denot = record { core = c.self.inside.core; tasks = c.self.inside.tasks } in
+    let at : DriverState g.row.T.Denot = record { core = c.self.inside.core; tasks = c.self.inside.tasks } in
     let ready = rw c.in-Some.is at c.ready.ensures.kind in
     rw (c.set_mark.ensures, c.mark_of.ensures) (covered_polled at c.ask-asked.new.core c.args.i c.ask-asked.result c.self.invariant (started_kind c.args.i at.tasks c.in-Some.kind ready.0) c.ask-asked.ensures.refused c.ask-asked.ensures.waiting)
 
 pub returns-clause-drives : goal.returns-clause-drives
 returns-clause-drives g c =
-    let at : State g.row.T.Denot = record { core = c.self.inside.core; tasks = c.self.inside.tasks } in
+    let at : DriverState g.row.T.Denot = record { core = c.self.inside.core; tasks = c.self.inside.tasks } in
     let asked = c.ask-asked.ensures in
     let ready = rw c.in-Some.is at c.ready.ensures.kind in
     let E = g.T.Clone.is_clone in
     poll_drives_as E at c.args.self.now c.self.view_is c.ask-asked.new.core c.set_mark.new.self c.args.i c.in-Some.kind c.ask-asked.result c.polled.result
-    c.begins-2.ensures c.self.invariant ready.0 ready.1
+    c.soundness-2.ensures c.self.invariant ready.0 ready.1
     asked.model asked.refused asked.waiting (rw c.mark_of.ensures at c.set_mark.ensures) c.polled.ensures
 
 pub returns-clause-results_stay : goal.returns-clause-results_stay
@@ -61,19 +61,19 @@ returns-clause-taker_sure g c =
 
 pub returns-in_default-clause-taker_takes : goal.returns-in_default-clause-taker_takes
 returns-in_default-clause-taker_takes g c =
-    let at : State g.row.T.Denot = record { core = c.self.inside.core; tasks = c.self.inside.tasks } in
+    let at : DriverState g.row.T.Denot = record { core = c.self.inside.core; tasks = c.self.inside.tasks } in
     let not_ready : is_ready at [] c.args.i ≡ false = ready_now at c.args.i ∙ (rw c.in_default.is at c.ready.ensures.not_ready) in
     rw (← c.self.view_is) (λ is_kind ready not_vacant. absurd (not_both _ not_ready ready))
 
 pub returns-in_default-clause-taker_leaves_none : goal.returns-in_default-clause-taker_leaves_none
 returns-in_default-clause-taker_leaves_none g c =
-    let at : State g.row.T.Denot = record { core = c.self.inside.core; tasks = c.self.inside.tasks } in
+    let at : DriverState g.row.T.Denot = record { core = c.self.inside.core; tasks = c.self.inside.tasks } in
     let not_ready : is_ready at [] c.args.i ≡ false = ready_now at c.args.i ∙ (rw c.in_default.is at c.ready.ensures.not_ready) in
     rw (← c.self.view_is) (λ is_kind ready. absurd (not_both _ not_ready ready))
 
 pub returns-in_default-clause-getter_clones : goal.returns-in_default-clause-getter_clones
 returns-in_default-clause-getter_clones g c =
-    let at : State g.row.T.Denot = record { core = c.self.inside.core; tasks = c.self.inside.tasks } in
+    let at : DriverState g.row.T.Denot = record { core = c.self.inside.core; tasks = c.self.inside.tasks } in
     let not_ready : is_ready at [] c.args.i ≡ false = ready_now at c.args.i ∙ (rw c.in_default.is at c.ready.ensures.not_ready) in
     rw (← c.self.view_is) (λ is_kind ready not_vacant. absurd (not_both _ not_ready ready))
 

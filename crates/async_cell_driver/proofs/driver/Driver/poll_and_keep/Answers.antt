@@ -1,6 +1,6 @@
 use Rattle.std.proofs.Common.{[], ◌∷◌, Some, map, refl, ap, sym, subst, ◌∙◌}
 use Rattle.std.proofs.lemmas.Result.{err_from_is_err_and}
-use Rattle.async_cell_driver.specs.State.{State, result_at}
+use Rattle.async_cell_driver.specs.DriverState.{DriverState, result_at}
 use Rattle.async_cell_driver.specs.Log.{is_ready}
 use Rattle.async_cell_driver.specs.History.{line_of}
 use Rattle.async_cell_driver.specs.Drives.{Drives}
@@ -14,39 +14,39 @@ use Rattle.async_cell_driver.proofs.driver.Driver.poll_and_keep.Goals as goal
 
 pub invariant_of-self : goal.invariant_of-self
 invariant_of-self g c =
-    let at : State g.row.T.Denot = record { core = c.self.inside.core; tasks = c.self.inside.tasks } in
+    let at : DriverState g.row.T.Denot = record { core = c.self.inside.core; tasks = c.self.inside.tasks } in
     rw c.keep.ensures (covered_keeping c.args.i (Some c.in-Ready.content) at c.self.invariant)
 
 pub returns-in-Ready-clause-settles : goal.returns-in-Ready-clause-settles
 returns-in-Ready-clause-settles g c =
-    let at : State g.row.T.Denot = record { core = c.self.inside.core; tasks = c.self.inside.tasks } in
+    let at : DriverState g.row.T.Denot = record { core = c.self.inside.core; tasks = c.self.inside.tasks } in
     let E = g.T.Clone.is_clone in
     let answer = told.Polled (Ready c.in-Ready.content) in
     let polled : Drives E c.args.self.now (line_of c.args.self.now (Poll c.args.i) answer ∷ []) at =
-    subst (λ (s : State g.row.T.Denot). Drives E c.args.self.now (line_of c.args.self.now (Poll c.args.i) answer ∷ []) s) (sym c.self.view_is)
+    subst (λ (s : DriverState g.row.T.Denot). Drives E c.args.self.now (line_of c.args.self.now (Poll c.args.i) answer ∷ []) s) (sym c.self.view_is)
     ((rw c.in-Ready.is at c.in_ok-content.ensures.drives)) in (
       answer,
       record {
         drives = rw c.keep.ensures (drives_keeping E c.args.i (Some c.in-Ready.content) c.args.self.now at _ polled);
         told = refl;
-        keeps = rw c.keep.ensures (keeps_one c.args.self.now at c.args.i c.in-Ready.content c.requires polled.kinds_are (λ j. ap (λ (s : State g.row.T.Denot). result_at s.tasks j) c.self.view_is ∙ c.in_ok-content.ensures.results_stay j));
+        keeps = rw c.keep.ensures (keeps_one c.args.self.now at c.args.i c.in-Ready.content c.requires polled.kinds_are (λ j. ap (λ (s : DriverState g.row.T.Denot). result_at s.tasks j) c.self.view_is ∙ c.in_ok-content.ensures.results_stay j));
       },
     )
 
 pub returns-in-Ready-clause-ready_no_more : goal.returns-in-Ready-clause-ready_no_more
 returns-in-Ready-clause-ready_no_more g c =
-    let at : State g.row.T.Denot = record { core = c.self.inside.core; tasks = c.self.inside.tasks } in
-    rw c.keep.ensures (ready-keeping c.args.i c.args.i (Some c.in-Ready.content) at ∙ (ap (λ (s : State g.row.T.Denot). is_ready s [] c.args.i) c.self.view_is ∙ c.in_ok-content.ensures.ready_no_more))
+    let at : DriverState g.row.T.Denot = record { core = c.self.inside.core; tasks = c.self.inside.tasks } in
+    rw c.keep.ensures (ready-keeping c.args.i c.args.i (Some c.in-Ready.content) at ∙ (ap (λ (s : DriverState g.row.T.Denot). is_ready s [] c.args.i) c.self.view_is ∙ c.in_ok-content.ensures.ready_no_more))
 
 pub returns-in-Ready-clause-others_stay : goal.returns-in-Ready-clause-others_stay
 returns-in-Ready-clause-others_stay g c j other =
-    let at : State g.row.T.Denot = record { core = c.self.inside.core; tasks = c.self.inside.tasks } in
-    rw c.keep.ensures (ready-keeping c.args.i j (Some c.in-Ready.content) at ∙ (ap (λ (s : State g.row.T.Denot). is_ready s [] j) c.self.view_is ∙ c.in_ok-content.ensures.others_stay j other))
+    let at : DriverState g.row.T.Denot = record { core = c.self.inside.core; tasks = c.self.inside.tasks } in
+    rw c.keep.ensures (ready-keeping c.args.i j (Some c.in-Ready.content) at ∙ (ap (λ (s : DriverState g.row.T.Denot). is_ready s [] j) c.self.view_is ∙ c.in_ok-content.ensures.others_stay j other))
 
 pub returns-in-Ready-clause-size : goal.returns-in-Ready-clause-size
 returns-in-Ready-clause-size g c =
-    let at : State g.row.T.Denot = record { core = c.self.inside.core; tasks = c.self.inside.tasks } in
-    rw c.keep.ensures (size_kept c.args.self.now at c.args.i (Some c.in-Ready.content) (ap (λ (s : State g.row.T.Denot). map (λ task. task.kind) s.tasks) c.self.view_is ∙ c.in_ok-content.ensures.drives.kinds_are))
+    let at : DriverState g.row.T.Denot = record { core = c.self.inside.core; tasks = c.self.inside.tasks } in
+    rw c.keep.ensures (size_kept c.args.self.now at c.args.i (Some c.in-Ready.content) (ap (λ (s : DriverState g.row.T.Denot). map (λ task. task.kind) s.tasks) c.self.view_is ∙ c.in_ok-content.ensures.drives.kinds_are))
 
 pub returns-in_err-content-clause-settles : goal.returns-in_err-content-clause-settles
 returns-in_err-content-clause-settles g c =

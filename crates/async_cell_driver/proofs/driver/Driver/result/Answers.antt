@@ -1,12 +1,12 @@
 use Rattle.std.proofs.Common.{None, sym, []}
-use Rattle.async_cell_driver.specs.State.{State}
+use Rattle.async_cell_driver.specs.DriverState.{DriverState}
 use Rattle.async_cell_driver.proofs.Joining.{drives_nil}
 use Rattle.async_cell_driver.proofs.Keeping.{covered_keeping, drives_keeping, result-forgotten, result-keeping_other}
 use Rattle.async_cell_driver.proofs.driver.Driver.result.Goals as goal
 
 pub invariant_of-self : goal.invariant_of-self
 invariant_of-self g c =
-    let at : State g.row.T.Denot = record { core = c.self.inside.core; tasks = c.self.inside.tasks } in
+    let at : DriverState g.row.T.Denot = record { core = c.self.inside.core; tasks = c.self.inside.tasks } in
     rw c.take_result.ensures.once (covered_keeping c.args.i None at c.self.invariant)
 
 pub returns-clause-once : goal.returns-clause-once
@@ -17,5 +17,5 @@ returns-clause-others g c j other = rw (c.take_result.ensures.once, ← c.self.v
 
 pub returns-clause-nothing_else : goal.returns-clause-nothing_else
 returns-clause-nothing_else g c =
-    let at : State g.row.T.Denot = record { core = c.self.inside.core; tasks = c.self.inside.tasks } in
-    rw (c.take_result.ensures.once, ← c.self.view_is) (drives_keeping g.T.Clone.is_clone c.args.i None at at [] (drives_nil g.T.Clone.is_clone at c.begins.ensures c.self.invariant))
+    let at : DriverState g.row.T.Denot = record { core = c.self.inside.core; tasks = c.self.inside.tasks } in
+    rw (c.take_result.ensures.once, ← c.self.view_is) (drives_keeping g.T.Clone.is_clone c.args.i None at at [] (drives_nil g.T.Clone.is_clone at c.soundness.ensures c.self.invariant))

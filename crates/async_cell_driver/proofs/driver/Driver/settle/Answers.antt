@@ -1,6 +1,6 @@
 use Rattle.std.proofs.Common.{◌≡◌, [], true, false, arith, rules, refl, sym, ◌∙◌, below_more}
 use Rattle.std.proofs.lemmas.Result.{err_from_is_err_and}
-use Rattle.async_cell_driver.specs.State.{State}
+use Rattle.async_cell_driver.specs.DriverState.{DriverState}
 use Rattle.async_cell_driver.specs.Log.{is_ready}
 use Rattle.async_cell_driver.proofs.Joining.{drives_nil}
 use Rattle.async_cell_driver.proofs.Polling.{sure_anyway}
@@ -9,11 +9,11 @@ use Rattle.async_cell_driver.proofs.driver.Driver.settle.Goals as goal
 
 pub loop-i-init : goal.loop-i-init
 loop-i-init g c =
-    let at : State g.row.T.Denot = record { core = c.self.inside.core; tasks = c.self.inside.tasks } in record {
+    let at : DriverState g.row.T.Denot = record { core = c.self.inside.core; tasks = c.self.inside.tasks } in record {
       within = search rules;
       ends = search rules;
       size = refl;
-      settled = ([], rw (← c.self.view_is) (so_far_nil g.T.Clone.is_clone at (drives_nil g.T.Clone.is_clone at c.begins.ensures c.self.invariant)));
+      settled = ([], rw (← c.self.view_is) (so_far_nil g.T.Clone.is_clone at (drives_nil g.T.Clone.is_clone at c.soundness.ensures c.self.invariant)));
       passed = λ j below. absurd (omega arith);
       left = λ j above. refl;
     }

@@ -6,8 +6,8 @@ use Rattle.async_cell_model.proofs.laws.exact.a_fill_or_close_ends_all_waiting.G
 pub returns : goal.returns
 returns ctx c = record {
   nobody_waits = λ will_wake b h e ends. waiting-ended will_wake b h e ends;
-  all_are_handed_out = λ will_wake sure from to e handed_out leads ends.
-      handed_all NoClone will_wake sure from to e handed_out (leads_of_exact will_wake sure from to _ handed_out leads) ends;
-  others_hand_out_none = λ will_wake sure from to e handed_out leads quiet.
-      handed_none NoClone will_wake sure from to e handed_out (leads_of_exact will_wake sure from to _ handed_out leads) quiet;
+  all_are_handed_out = λ will_wake sure from to e woken leads ends.
+      handed_all NoClone will_wake sure from to e woken (leads_of_exact will_wake sure from to _ woken leads) ends;
+  others_hand_out_none = λ will_wake sure from to e woken leads quiet.
+      handed_none NoClone will_wake sure from to e woken (leads_of_exact will_wake sure from to _ woken leads) quiet;
 }

@@ -1,7 +1,7 @@
 use Rattle.async_cell_model.proofs.Exact.{NoClone, leads_of_exact}
-use Rattle.async_cell_model.proofs.Refusing.{Leads-begins}
+use Rattle.async_cell_model.proofs.Refusing.{Runs-sound}
 use Rattle.async_cell_model.proofs.laws.exact.a_history_leads_to_a_beginning.Goals as goal
 
 pub returns : goal.returns
-returns ctx c = λ will_wake sure from to h handed_out leads.
-    Leads-begins NoClone will_wake sure from to h handed_out (leads_of_exact will_wake sure from to h handed_out leads)
+returns ctx c = λ will_wake sure from to h woken leads.
+    Runs-sound NoClone will_wake sure from to h woken (leads_of_exact will_wake sure from to h woken leads)

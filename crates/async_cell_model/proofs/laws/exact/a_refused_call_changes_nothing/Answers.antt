@@ -5,10 +5,10 @@ use Rattle.async_cell_model.proofs.laws.exact.a_refused_call_changes_nothing.Goa
 
 pub returns : goal.returns
 returns ctx c = record {
-  cell = λ will_wake sure from to e handed_out leads is.
-      leads.cell_is ∙ refused_cell NoClone will_wake sure from to e handed_out (leads_of_exact will_wake sure from to _ handed_out leads) is;
-  waiting = λ will_wake sure from to e handed_out leads is.
-      refused_waiting NoClone will_wake sure from to e handed_out (leads_of_exact will_wake sure from to _ handed_out leads) is;
-  handed_out = λ will_wake sure from to e handed_out leads is.
-      refused_handed NoClone will_wake sure from to e handed_out (leads_of_exact will_wake sure from to _ handed_out leads) is;
+  cell = λ will_wake sure from to e woken leads is.
+      leads.cell_is ∙ refused_cell NoClone will_wake sure from to e woken (leads_of_exact will_wake sure from to _ woken leads) is;
+  waiting = λ will_wake sure from to e woken leads is.
+      refused_waiting NoClone will_wake sure from to e woken (leads_of_exact will_wake sure from to _ woken leads) is;
+  woken = λ will_wake sure from to e woken leads is.
+      refused_handed NoClone will_wake sure from to e woken (leads_of_exact will_wake sure from to _ woken leads) is;
 }

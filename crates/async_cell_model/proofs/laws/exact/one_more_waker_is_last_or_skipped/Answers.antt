@@ -1,11 +1,11 @@
-use Rattle.async_cell_model.proofs.Adding.{keep-one}
+use Rattle.async_cell_model.proofs.Adding.{wait_list-one}
 use Rattle.async_cell_model.proofs.Exact.{NoClone, legal_of_exact}
 use Rattle.async_cell_model.proofs.Growing.{waiting-one_more}
 use Rattle.async_cell_model.proofs.laws.exact.one_more_waker_is_last_or_skipped.Goals as goal
 
 pub returns : goal.returns
 returns ctx c = record {
-  list = λ will_wake l w kept. keep-one will_wake l w kept;
-  poll = λ will_wake sure b h e w legal asked.
-      waiting-one_more NoClone will_wake sure b h e w (legal_of_exact will_wake sure b _ legal) asked;
+  list = λ will_wake l w kept. wait_list-one will_wake l w kept;
+  poll = λ will_wake sure b h e w legal registrations.
+      waiting-one_more NoClone will_wake sure b h e w (legal_of_exact will_wake sure b _ legal) registrations;
 }

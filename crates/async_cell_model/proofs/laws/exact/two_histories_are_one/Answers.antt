@@ -1,5 +1,5 @@
-use Rattle.async_cell_model.proofs.Leading.{Leads-join}
+use Rattle.async_cell_model.proofs.Leading.{Runs-join}
 use Rattle.async_cell_model.proofs.laws.exact.two_histories_are_one.Goals as goal
 
 pub returns : goal.returns
-returns ctx c = λ will_wake sure. Leads-join will_wake sure
+returns ctx c = λ will_wake sure. Runs-join will_wake sure

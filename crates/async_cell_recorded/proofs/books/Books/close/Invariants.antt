@@ -6,7 +6,7 @@ use Rattle.async_cell_recorded.proofs.books.Books.close.Given as goal
 abbrev pub invariant-loop-share : goal.invariant-loop-share
 invariant-loop-share g l = record {
   calls : l.calls_left.parts ≡ length l.yielded;
-  answers : l.answers_left.parts ≡ length l.yielded;
+  parts : l.picked_left.parts ≡ length l.yielded;
   counted : l.calls_left.amount ≡ sum_by (λ s. s.count) l.yielded;
-  picked : l.answers_left.amount ≡ sum_by (λ s. s.picked) l.yielded;
+  picked : l.picked_left.amount ≡ sum_by (λ s. s.picked) l.yielded;
 }

@@ -1,6 +1,6 @@
-use Rattle.std.proofs.Common.{◌≡◌, ℕ, ◌+◌, ◌<◌, ◌≤◌, ◌==◌, true, false, None, length, take, Result, Ok, Err, OnOk, IsOk, is_err, refl, sym, arith}
+use Rattle.std.proofs.Common.{◌≡◌, ℕ, ◌+◌, ◌<◌, ◌≤◌, ◌==◌, true, false, None, length, take, Result, Ok, Err, OnOk, IsOk, is_err, refl, sym, arith, rules}
 use Rattle.std.specs.Io.Buffered.{reader_remaining, reader_buffer, reader_capacity}
-use Rattle.cellrun.proofs.LineFeed.{place_none, place_found, place_joined, bad_next, line_next}
+use Rattle.cellrun.proofs.LineFeed.{place_none, place_found, place_joined, bad_next, line_next, end_next}
 use Rattle.cellrun.proofs.lines.Lines.look.Goals as goal
 
 when_ok : {T E P : Type 0} (r : Result T E) → false ≡ is_err r → OnOk r P → P
@@ -18,6 +18,13 @@ invariant_of-self-in_default g c =
     let front = take c.min.result c.buffer-buffered.result.now in
     let items = when_ok c.try_extend_from_slice.result c.if-is_err.ensures.value c.try_extend_from_slice.ensures.ok in
     record { one_line = rw items (place_joined c.args.self.now.held.items front c.args.self.now.one_line (place_none front (sym c.in_default.ensures))) }
+
+pub returns-then-is_empty-clause-next : goal.returns-then-is_empty-clause-next
+returns-then-is_empty-clause-next g c =
+    let none : length (reader_buffer c.refill.new.input) ≡ 0 = search rules in
+    rw c.if-self.false
+    (end_next c.args.self.now.held.items (reader_remaining g.R.Read.remaining c.args.self.now.input) c.last.result
+    c.args.self.now.one_line (c.in_ok-refill.ensures.end none) c.last.ensures.line c.last.ensures.end)
 
 pub returns-then-is_err-clause-next : goal.returns-then-is_err-clause-next
 returns-then-is_err-clause-next g c =

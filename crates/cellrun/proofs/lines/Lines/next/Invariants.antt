@@ -2,13 +2,14 @@ use Rattle.std.proofs.Common.{◌-◌}
 use Rattle.std.specs.Io.KnownBytes.{Keeps}
 use Rattle.arrayvec.specs.ArrayVec.{array_vec_len}
 use Rattle.cellrun.specs.Lines.{bytes_left}
+use Rattle.cellrun.specs.Output.{output_contents}
 use Rattle.cellrun.proofs.lines.Lines.next.Given as goal
 
 -- nothing is lost
 abbrev pub invariant-loop-next : goal.invariant-loop-next
 invariant-loop-next g l = record {
   left : Keeps (bytes_left l.initial.self) (bytes_left l.self);
-  out : Keeps (g.W.Write.contents l.initial.out) (g.W.Write.contents l.out);
+  out : Keeps (output_contents g.W.Write.contents l.initial.out) (output_contents g.W.Write.contents l.out);
 }
 
 -- the room for more of the line

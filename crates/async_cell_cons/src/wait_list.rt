@@ -1,0 +1,196 @@
+ghost use Rattle.std.specs.Prelude.{◌≡◌, ◌<◌, ◌≤◌, ◌-◌, [], ◌∷◌, ◌++◌, length, IsTrue, IsOk, IfErr, OnOk, OnErr, ◌↔◌};
+ghost use Rattle.async_cell_model.specs.WaitList.{skips};
+
+use crate::wakers::Wakers;
+use crate::wakes::Wakes;
+use std::alloc::{AllocError, Global};
+use std::marker::Model;
+use std::mem;
+
+/// The wakers that wait on a cell, in order of registration. The first is stored inline, the others
+/// in a vector. Dropping the list drops its wakers without waking them.
+#[derive(Drop)]
+pub struct WaitList<W> {
+    first: Option<W>,
+    rest: Vec<W>,
+    /// How often the list was handed out. Wraps.
+    round: u64,
+    /// A number that the crates above store: 0 again after each `hand_out`.
+    note: usize,
+}
+
+/// Contracts see the wakers in order of registration, and the room for more.
+impl<W> Model for WaitList<W> {
+    ghost use Rattle.std.specs.Prelude.{◌≡◌, ◌-◌, [], None};
+    ghost use Rattle.std.specs.Vec.{vec_capacity, vec_len};
+    ghost use Rattle.async_cell_cons.specs.WaitList.{ListState, first_then};
+
+    ghost Value = { ListState W };
+
+    ghost view = { λ s. record
+        { wakers = first_then s.first s.rest.items; room = vec_capacity s.rest - vec_len s.rest } };
+
+    ghost invariant = { λ s. s.first ≡ None → s.rest.items ≡ [] };
+}
+
+impl<W: Drop> WaitList<W> {
+    /// Creates an empty list. Allocates nothing; later growth takes its memory from `alloc`.
+    pub fn new(alloc: Global) -> Self
+        ensures { result ≡ record { wakers = []; room = 0 } }
+    {
+        WaitList {
+            first: None,
+            rest: Vec::new(alloc),
+            round: 0,
+            note: 0,
+        }
+    }
+
+    /// Returns the number of waiting wakers, in constant time.
+    pub fn len(&self) -> usize
+        ensures { result ≡ length self.now.wakers }
+    {
+        match &self.first {
+            Some(_) => 1 + self.rest.len(),
+            None => 0,
+        }
+    }
+
+    /// Returns whether no waker waits.
+    pub fn is_empty(&self) -> bool
+        ensures { IsTrue result ↔ (self.now.wakers ≡ []) }
+    {
+        self.first.is_none()
+    }
+
+    /// Makes room: the next `additional` wakers need no memory beyond their clones, until
+    /// `hand_out` empties the list. Fails if there is no memory for them; the list is then
+    /// unchanged.
+    pub fn reserve(&mut self, additional: usize) -> Result<(), AllocError>
+        ensures wakers_stay { self.new.wakers ≡ self.old.wakers }
+        ensures makes_room { OnOk result (additional ≤ self.new.room) }
+        ensures keeps_room { self.old.room ≤ self.new.room }
+        ensures room_suffices { additional ≤ self.old.room → IsOk result }
+    {
+        self.rest.reserve(additional)
+    }
+
+    /// Adds a waker, by value, as the last. Needs no memory if the list is empty or has room. If
+    /// there is no memory, the list is unchanged and the waker is returned in the error.
+    pub fn push_owned(&mut self, waker: W) -> Result<(), W>
+        ensures added { OnOk result (self.new.wakers ≡ self.old.wakers ++ waker ∷ []) }
+        ensures takes_room { OnOk result (self.old.room - 1 ≤ self.new.room) }
+        ensures unchanged { OnErr result (self.new ≡ self.old) }
+        ensures comes_back { IfErr result (λ back. back ≡ waker) }
+        ensures first_is_added { self.old.wakers ≡ [] → IsOk result }
+        ensures room_suffices { 0 < self.old.room → IsOk result }
+    {
+        if self.is_empty() {
+            self.first = Some(waker);
+            return Ok(());
+        }
+        if self.rest.reserve(1).is_err() {
+            return Err(waker);
+        }
+        self.rest.push_reserved(waker);
+        Ok(())
+    }
+
+    /// Returns an empty list of wakers, for a call that wakes nobody. Allocates nothing.
+    pub fn no_wakers(&self) -> Wakers<W>
+        ensures { result ≡ [] }
+    {
+        Wakers::of(None, Vec::new(*self.rest.allocator()))
+    }
+
+    /// Removes all wakers and returns them, in order of registration. Leaves neither wakers nor
+    /// room. Takes constant time and allocates nothing.
+    pub fn hand_out(&mut self) -> Wakers<W>
+        ensures hands_out_all { result ≡ self.old.wakers }
+        ensures leaves_none { self.new ≡ record { wakers = []; room = 0 } }
+    {
+        self.round = self.round.wrapping_add(1);
+        self.note = 0;
+        let first = self.first.take();
+        let none = Vec::new(*self.rest.allocator());
+        if self.rest.capacity() == 0 {
+            return Wakers::of(first, none);
+        }
+        let rest = mem::replace(&mut self.rest, none);
+        Wakers::of(first, rest)
+    }
+
+    /// Stores a waker in place of the one at `index`, which is returned. If there is none, the
+    /// waker is returned in the error. For types of wakers that contracts do not tell apart.
+    pub fn exchange(&mut self, index: usize, waker: W) -> Result<W, W>
+        requires { (a b : W) → a ≡ b }
+        ensures unchanged { self.new ≡ self.old }
+    {
+        match (index.checked_sub(1), &mut self.first) {
+            (None, Some(first)) => Ok(mem::replace(first, waker)),
+            (Some(index), _) if index < self.rest.len() => {
+                Ok(mem::replace(&mut self.rest[index], waker))
+            }
+            _ => Err(waker),
+        }
+    }
+
+    /// Returns how often the list was handed out, and the note. The first number wraps.
+    pub fn round_and_note(&self) -> (u64, usize) {
+        (self.round, self.note)
+    }
+
+    /// Stores a note, which lasts until the next `hand_out`.
+    pub fn set_note(&mut self, note: usize)
+        ensures unchanged { self.new ≡ self.old }
+    {
+        self.note = note;
+    }
+}
+
+impl<W: Wakes> WaitList<W> {
+    /// Returns whether a waker need not be registered: some waiting waker would wake it. This is
+    /// the one rule that leaves a waker out of the list.
+    ///
+    /// The waiting wakers are tested with `will_wake`, in order, up to the first that would wake
+    /// it.
+    pub fn skips(&self, waker: &W) -> bool
+        ensures { result ≡ skips W.will_wake self.now.wakers waker.now }
+    {
+        match &self.first {
+            Some(first) => first.will_wake(waker) || any_wakes(&self.rest, waker),
+            None => false,
+        }
+    }
+
+    /// Adds a clone of the waker as the last. Fails if there is no memory or the clone fails; the
+    /// wakers are then unchanged. Room is made before the clone, so a clone is made only if it will
+    /// be stored. If the list is empty or has room, only the clone can fail.
+    pub fn push(&mut self, waker: &W) -> Result<(), AllocError>
+        ensures added { OnOk result (self.new.wakers ≡ self.old.wakers ++ waker.now ∷ []) }
+        ensures takes_room { OnOk result (self.old.room - 1 ≤ self.new.room) }
+        ensures unchanged { OnErr result (self.new.wakers ≡ self.old.wakers) }
+        ensures keeps_room { OnErr result (self.old.room ≤ self.new.room) }
+        ensures first_is_added { self.old.wakers ≡ [] → IsTrue W.SURE_CLONE → IsOk result }
+        ensures room_suffices { 0 < self.old.room → IsTrue W.SURE_CLONE → IsOk result }
+        ensures first_cloned { self.old.wakers ≡ [] → W.is_infallible waker.now → IsOk result }
+        ensures room_for_clone { 0 < self.old.room → W.is_infallible waker.now → IsOk result }
+    {
+        if self.is_empty() {
+            let clone: W = waker.clone()?;
+            self.first = Some(clone);
+            return Ok(());
+        }
+        self.rest.reserve(1)?;
+        let clone: W = waker.clone()?;
+        self.rest.push_reserved(clone);
+        Ok(())
+    }
+}
+
+/// Returns whether any of these wakers would wake `waker`.
+fn any_wakes<W: Wakes>(waiting: &[W], waker: &W) -> bool
+    ensures { result ≡ skips W.will_wake waiting.now waker.now }
+{
+    waiting.iter().any(|earlier| earlier.will_wake(waker))
+}

@@ -1,0 +1,173 @@
+//! Polls and gets: what waits, and what copies the value.
+ghost use Rattle.std.specs.Prelude.{◌≡◌, ◌≤◌, ◌<◌, [], ◌∷◌, ◌++◌, None, Ok, length, true, false, IsOk, IfOk, IfErr, OnOk, OnErr, MatchOption};
+ghost use Rattle.async_cell_model.specs.Cell.{content, is_closed, is_full, is_vacant};
+ghost use Rattle.async_cell_model.specs.History.{IsSound};
+ghost use Rattle.async_cell_model.specs.WaitList.{wait_list};
+ghost use Rattle.async_cell_model.specs.Legal.{needs_no_memory};
+ghost use Rattle.async_cell_core.specs.IsStep.{IsStep, IsStepUpTo, get_answer, poll_answer, wait_answer};
+ghost use Rattle.async_cell_core.specs.Polled.{IsExact, IsCloneOf, IsReadyWith};
+
+use super::Core;
+use async_cell_cons::Wakes;
+use async_cell_model::{Kept, Refusal};
+use futures::task::Poll;
+use std::alloc::AllocError;
+
+impl<T: Drop, W: Wakes> Core<T, W> {
+    /// Takes the value. If there is none yet, returns `Pending` and registers the waker: a clone of
+    /// it is added as the last, unless it is skipped (see `WaitList::skips`). Returns `Ready(None)`
+    /// if the cell is closed. Fails with `Memory` if there is no memory for the clone or to grow
+    /// the wait list.
+    pub fn poll_take(&mut self, waker: &W) -> Result<Poll<Option<T>>, Refusal>
+        ensures model { IsStep W.Wakes
+            self.old (Kept.PollTake waker.now) (poll_answer result) self.new }
+        ensures ready { is_vacant self.old.cell ≡ false
+            → result ≡ Ok (Poll.Ready (content self.old.cell)) }
+        ensures leaves_none { OnOk result (content self.new.cell ≡ None) }
+        ensures pending { is_vacant self.old.cell ≡ true
+            → IfOk result (λ polled. polled ≡ Poll.Pending) }
+        ensures waits { result ≡ Ok Poll.Pending
+            → self.new.waiting ≡ wait_list W.will_wake (self.old.waiting ++ waker.now ∷ []) }
+        ensures spared { needs_no_memory W.will_wake W.SURE_CLONE self.old waker.now ≡ true
+            → IsOk result }
+        ensures first_waits { self.old.waiting ≡ [] → W.is_infallible waker.now → IsOk result }
+        ensures room_suffices { 0 < self.old.room → W.is_infallible waker.now → IsOk result }
+        ensures unchanged { OnErr result
+            ((self.new.cell ≡ self.old.cell) × (self.new.waiting ≡ self.old.waiting)) }
+        ensures keeps_room { OnErr result (self.old.room ≤ self.new.room) }
+    {
+        if self.is_vacant() {
+            self.wait(waker)?;
+            return Ok(Poll::Pending);
+        }
+        Ok(Poll::Ready(self.value.take()))
+    }
+
+    /// Makes room: the next `additional` wakers that are added need no memory beyond their clones,
+    /// until a fill or a close gives the room up. A poll that adds no waker uses up none. Fails
+    /// with `Memory` if there is no memory for so many. Does nothing if the cell is closed.
+    pub fn reserve(&mut self, additional: usize) -> Result<(), Refusal>
+        ensures cell_stays { self.new.cell ≡ self.old.cell }
+        ensures waiting_stay { self.new.waiting ≡ self.old.waiting }
+        ensures makes_room { is_closed self.old.cell ≡ false
+            → OnOk result (additional ≤ self.new.room) }
+        ensures keeps_room { self.old.room ≤ self.new.room }
+        ensures refused { IfErr result (λ why. why ≡ Refusal.Memory) }
+        ensures closed { is_closed self.old.cell ≡ true → IsOk result × (self.new ≡ self.old) }
+        ensures enough { additional ≤ self.old.room → IsOk result }
+        ensures sound { IsSound W.will_wake self.new }
+    {
+        if self.is_closed() {
+            return Ok(());
+        }
+        self.waiting.reserve(additional)?;
+        Ok(())
+    }
+
+    /// Returns the number of waiting wakers.
+    pub fn waiting(&self) -> usize
+        ensures { result ≡ length self.now.waiting }
+    {
+        self.waiting.len()
+    }
+
+    /// Registers the waker, unless `skips` says that it need not be. The cell must be vacant. Fails
+    /// with `Memory` if there is no memory for a clone of the waker or to grow the list.
+    #[tactic(auto, using(async_cell_model::proofs::Adding::keep_added, async_cell_model::proofs::Adding::keep_skipped, async_cell_model::proofs::Polling::get_added, async_cell_model::proofs::Polling::get_skipped, async_cell_model::proofs::Polling::get_refused, async_cell_model::proofs::Polling::take_added, async_cell_model::proofs::Polling::take_skipped, async_cell_model::proofs::Polling::take_refused))]
+    pub(super) fn wait(&mut self, waker: &W) -> Result<(), Refusal>
+        requires { is_vacant self.old.cell ≡ true }
+        ensures waits { OnOk result ((self.new.cell ≡ self.old.cell)
+            × (self.new.waiting ≡ wait_list W.will_wake (self.old.waiting ++ waker.now ∷ []))) }
+        ensures refused { IfErr result (λ why. why ≡ Refusal.Memory) }
+        ensures unchanged { OnErr result
+            ((self.new.cell ≡ self.old.cell) × (self.new.waiting ≡ self.old.waiting)) }
+        ensures keeps_room { OnErr result (self.old.room ≤ self.new.room) }
+        ensures take { IsStep W.Wakes
+            self.old (Kept.PollTake waker.now) (wait_answer result) self.new }
+        ensures get { IsStep W.Wakes
+            self.old (Kept.PollGet waker.now) (wait_answer result) self.new }
+        ensures spared { needs_no_memory W.will_wake W.SURE_CLONE self.old waker.now ≡ true
+            → IsOk result }
+        ensures first_waits { self.old.waiting ≡ [] → W.is_infallible waker.now → IsOk result }
+        ensures room_suffices { 0 < self.old.room → W.is_infallible waker.now → IsOk result }
+    {
+        if !self.waiting.skips(waker) {
+            self.waiting.push(waker)?;
+        }
+        Ok(())
+    }
+}
+
+impl<T: Clone, W: Wakes> Core<T, W> {
+    /// Returns a clone of the value, if there is one. Fails with `Memory` if there is no memory for
+    /// the clone. The reply is the model's up to clones, and exactly the model's if the type's
+    /// clones are exact.
+    #[tactic(auto, using(crate::proofs::UpTo::get_cloned))]
+    pub fn try_get(&self) -> Result<Option<T>, Refusal>
+        ensures up_to_clones { IsStepUpTo T.is_clone W.Wakes
+            self.now Kept.TryGet (get_answer result) self.now }
+        ensures model { IsExact T.is_clone
+            → IsStep W.Wakes self.now Kept.TryGet (get_answer result) self.now }
+        ensures refused { OnErr result
+            (IsStep W.Wakes self.now Kept.TryGet (get_answer result) self.now) }
+
+        ensures gives { IsExact T.is_clone → IfOk result (λ copy. copy ≡ content self.now.cell) }
+        ensures clones { IfOk result (IsCloneOf T.is_clone (content self.now.cell)) }
+        ensures gives_none { is_full self.now.cell ≡ false → result ≡ Ok None }
+        ensures sure { MatchOption (content self.now.cell)
+            (IsOk result) (λ value. T.is_infallible value → IsOk result) }
+    {
+        match &self.value {
+            None => Ok(None),
+            Some(value) => {
+                let copy: Result<T, AllocError> = value.clone();
+                Ok(Some(copy?))
+            }
+        }
+    }
+
+    /// Returns a clone of the value and leaves the value in place. If there is none yet, waits for
+    /// one as `poll_take` does. Returns `Ready(None)` if the cell is closed. Fails with `Memory` if
+    /// there is no memory for the clone of the value or of the waker, or to grow the wait list.
+    ///
+    /// The reply is the model's up to clones. It is exactly the model's if the type's clones are
+    /// exact or there is no value.
+    #[tactic(auto, using(crate::proofs::UpTo::poll_cloned, async_cell_model::proofs::UpTo::up_to_clones))]
+    pub fn poll_get(&mut self, waker: &W) -> Result<Poll<Option<T>>, Refusal>
+        ensures up_to_clones { IsStepUpTo T.is_clone W.Wakes
+            self.old (Kept.PollGet waker.now) (poll_answer result) self.new }
+        ensures model { IsExact T.is_clone
+            → IsStep W.Wakes self.old (Kept.PollGet waker.now) (poll_answer result) self.new }
+        ensures if_not_full { is_full self.old.cell ≡ false
+            → IsStep W.Wakes self.old (Kept.PollGet waker.now) (poll_answer result) self.new }
+        ensures refused { OnErr result
+            (IsStep W.Wakes self.old (Kept.PollGet waker.now) (poll_answer result) self.new) }
+
+        ensures gives { IsExact T.is_clone → is_vacant self.old.cell ≡ false
+            → IfOk result (λ polled. polled ≡ Poll.Ready (content self.old.cell)) }
+        ensures clones { is_vacant self.old.cell ≡ false
+            → IfOk result (IsReadyWith (IsCloneOf T.is_clone (content self.old.cell))) }
+        ensures sure { is_vacant self.old.cell ≡ false → MatchOption (content self.old.cell)
+            (IsOk result) (λ value. T.is_infallible value → IsOk result) }
+        ensures stays { is_vacant self.old.cell ≡ false → self.new ≡ self.old }
+        ensures pending { is_vacant self.old.cell ≡ true
+            → IfOk result (λ polled. polled ≡ Poll.Pending) }
+        ensures waits { result ≡ Ok Poll.Pending
+            → self.new.waiting ≡ wait_list W.will_wake (self.old.waiting ++ waker.now ∷ []) }
+        ensures spared { is_vacant self.old.cell ≡ true
+            → needs_no_memory W.will_wake W.SURE_CLONE self.old waker.now ≡ true → IsOk result }
+        ensures first_waits { is_vacant self.old.cell ≡ true → self.old.waiting ≡ []
+            → W.is_infallible waker.now → IsOk result }
+        ensures room_suffices { is_vacant self.old.cell ≡ true → 0 < self.old.room
+            → W.is_infallible waker.now → IsOk result }
+        ensures unchanged { OnErr result
+            ((self.new.cell ≡ self.old.cell) × (self.new.waiting ≡ self.old.waiting)) }
+        ensures keeps_room { OnErr result (self.old.room ≤ self.new.room) }
+    {
+        if self.is_vacant() {
+            self.wait(waker)?;
+            return Ok(Poll::Pending);
+        }
+        Ok(Poll::Ready(self.try_get()?))
+    }
+}

@@ -1,0 +1,34 @@
+//! What the tests share. None of it has a contract, so that the proof of a test carries neither its
+//! branches nor the clauses of what it calls.
+use async_cell_core::{Named, Wakers};
+use std::fmt::Debug;
+use std::process::Abort;
+
+pub const ONE: Named = Named(1);
+
+pub const TWO: Named = Named(2);
+
+pub const THREE: Named = Named(3);
+
+pub const FOUR: Named = Named(4);
+
+pub const FIVE: Named = Named(5);
+
+/// Asserts that the two are equal.
+pub fn same<T: Debug + PartialEq + Drop>(rt: &impl Abort, name: &str, is: T, want: T) {
+    assert_eq!(rt; is, want, "{name}");
+}
+
+/// Asserts that these are the wakers, in order. It takes no memory.
+pub fn assert_wakers<W: Debug + PartialEq + Drop>(
+    rt: &impl Abort,
+    name: &str,
+    mut wakers: Wakers<W>,
+    want: &[W],
+) {
+    assert_eq!(rt; wakers.len(), want.len(), "{name}");
+    for waker in want {
+        assert_eq!(rt; wakers.next().as_ref(), Some(waker), "{name}");
+    }
+    assert_eq!(rt; wakers.next(), None, "{name}");
+}

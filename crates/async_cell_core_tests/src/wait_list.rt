@@ -1,0 +1,178 @@
+//! The list of those that wait, and what it hands out.
+ghost use Rattle.std.specs.Prelude.{◌≡◌, nat_eq, true};
+ghost use Rattle.std.proofs.Common.{rules};
+
+use crate::count::Count;
+use async_cell_cons::{Named, WaitList, Wakes};
+use std::alloc::{AllocError, Global};
+use std::cell::Cell;
+use std::test::Fail;
+
+/// A waker that notes whether it was woken in its turn: right after those of all lower numbers.
+#[derive(Clone, Copy)]
+struct InTurn<C> {
+    number: u64,
+    woken: C,
+}
+
+impl<C: Count> Wakes for InTurn<C> {
+    ghost will_wake = { λ a b. nat_eq a.number b.number };
+
+    ghost SURE_CLONE = { true };
+
+    const SURE_CLONE: bool = true;
+
+    fn will_wake(&self, other: &Self) -> bool {
+        self.number == other.number
+    }
+
+    fn wake(self) {
+        if self.woken.count() == self.number && self.number < u64::MAX {
+            self.woken.set_count(self.number + 1);
+        }
+    }
+
+    ghost clone_is_source = { Prim.search rules };
+
+    ghost clone_is_sure = { Prim.search rules };
+}
+
+const MANY: u64 = 1_000_000;
+
+/// A list with the wakers of the numbers below `MANY`, in order.
+fn many(alloc: Global, woken: &Cell<u64>) -> Result<WaitList<InTurn<&Cell<u64>>>, AllocError> {
+    let mut waiting = WaitList::new(alloc);
+    for number in 0..MANY {
+        waiting.push(&InTurn { number, woken })?;
+    }
+    Ok(waiting)
+}
+
+#[test]
+fn many_wakers_are_woken_in_order(rt: HostRuntime) -> Result<(), Fail> {
+    let woken = Cell::new(0);
+    let mut waiting = many(rt.alloc(), &woken)?;
+    let wakers = waiting.hand_out();
+    assert!(rt; waiting.is_empty());
+    wakers.wake_all();
+    assert_eq!(rt; woken.get(), MANY);
+    Ok(())
+}
+
+#[test]
+fn many_wakers_are_given_one_by_one_in_order(rt: HostRuntime) -> Result<(), Fail> {
+    let woken = Cell::new(0);
+    let mut wakers = many(rt.alloc(), &woken)?.hand_out();
+    for number in 0..MANY {
+        assert_eq!(rt; wakers.next().map(|waker| waker.number), Some(number));
+    }
+    assert!(rt; wakers.is_empty());
+    assert_eq!(rt; woken.get(), 0);
+    Ok(())
+}
+
+/// A value that notes whether it was dropped in its turn: right after those of all lower numbers.
+struct DroppedInTurn<'a> {
+    number: u64,
+    dropped: &'a Cell<u64>,
+}
+
+impl Drop for DroppedInTurn<'_> {
+    fn drop(self) {
+        if self.dropped.get() == self.number && self.number < u64::MAX {
+            self.dropped.set(self.number + 1);
+        }
+        let DroppedInTurn {
+            number: _,
+            dropped: _,
+        } = self;
+    }
+}
+
+/// A list with the values of the numbers below `MANY`, in order.
+fn many_to_drop(
+    alloc: Global,
+    dropped: &Cell<u64>,
+) -> Result<WaitList<DroppedInTurn<'_>>, AllocError> {
+    let mut waiting = WaitList::new(alloc);
+    for number in 0..MANY {
+        let waker = DroppedInTurn { number, dropped };
+        waiting.push_owned(waker).map_err(|_| AllocError)?;
+    }
+    Ok(waiting)
+}
+
+#[test]
+fn many_wakers_are_dropped_in_order(rt: HostRuntime) -> Result<(), Fail> {
+    let dropped = Cell::new(0);
+    drop(many_to_drop(rt.alloc(), &dropped)?);
+    assert_eq!(rt; dropped.get(), MANY, "while they wait");
+    dropped.set(0);
+    let mut wakers = many_to_drop(rt.alloc(), &dropped)?.hand_out();
+    let _ = wakers.next();
+    assert_eq!(rt; dropped.get(), 1);
+    drop(wakers);
+    assert_eq!(rt; dropped.get(), MANY, "once they were handed out");
+    Ok(())
+}
+
+#[test]
+fn each_waiting_waker_skips_its_own_name(rt: HostRuntime) -> Result<(), Fail> {
+    let mut waiting = WaitList::new(rt.alloc());
+    assert!(rt; !waiting.skips(&Named(1)), "nobody waits");
+    for name in 1..4 {
+        assert!(rt; !waiting.skips(&Named(name)));
+        waiting.push(&Named(name))?;
+        for earlier in 1..name + 1 {
+            assert!(rt; waiting.skips(&Named(earlier)));
+        }
+    }
+    assert_eq!(rt; waiting.len(), 3);
+    Ok(())
+}
+
+#[test]
+fn a_refused_waker_comes_back_and_the_list_stays(rt: HostRuntime) {
+    let mut waiting = WaitList::new(rt.alloc());
+    assert_eq!(rt;
+        waiting.push_owned(Named(1)),
+        Ok(()),
+        "an empty list needs no memory"
+    );
+    let added = match waiting.push_owned(Named(2)) {
+        Ok(()) => 2,
+        Err(back) => {
+            assert_eq!(rt; back, Named(2));
+            1
+        }
+    };
+    assert_eq!(rt; waiting.len(), added);
+    let added = match waiting.push(&Named(3)) {
+        Ok(()) => added + 1,
+        Err(_) => added,
+    };
+    let mut wakers = waiting.hand_out();
+    assert_eq!(rt; wakers.len(), added);
+    assert_eq!(rt; wakers.next(), Some(Named(1)));
+}
+
+#[test]
+fn no_wakers_give_none(rt: HostRuntime) {
+    let waiting: WaitList<Named> = WaitList::new(rt.alloc());
+    let mut none = waiting.no_wakers();
+    assert!(rt; none.is_empty());
+    assert_eq!(rt; none.next(), None);
+}
+
+#[test]
+fn the_debug_text_counts_the_wakers_that_are_left(rt: HostRuntime) -> Result<(), Fail> {
+    let mut waiting = WaitList::new(rt.alloc());
+    waiting.push(&Named(1))?;
+    waiting.push(&Named(2))?;
+    let mut wakers = waiting.hand_out();
+    for text in ["Wakers(2)", "Wakers(1)", "Wakers(0)"] {
+        assert_eq!(rt; format!(in rt.alloc(); "{wakers:?}")?.as_str(), text);
+        let _ = wakers.next();
+    }
+    Ok(())
+}

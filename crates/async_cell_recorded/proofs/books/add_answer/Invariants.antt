@@ -1,4 +1,0 @@
-use Rattle.async_cell_recorded.proofs.books.add_answer.Given as goal
-
-abbrev pub ghost-add_unseen : goal.ghost-add_unseen
-ghost-add_unseen g a = g.amount

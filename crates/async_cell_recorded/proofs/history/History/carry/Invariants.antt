@@ -1,0 +1,13 @@
+use Rattle.std.proofs.Common.{◌≡◌, ◌≤◌, ◌+◌, length, vec_len, vec_capacity}
+use Rattle.std.specs.Vec.Iter.{into_iter_len}
+use Rattle.async_cell_recorded.specs.Recording.{of_one_share}
+use Rattle.async_cell_recorded.proofs.history.History.carry.Given as goal
+
+-- the entries so far, and room for the others
+abbrev pub invariant-loop-plain : goal.invariant-loop-plain
+invariant-loop-plain g l = record {
+  carried : l.entries.items ≡ of_one_share 0 l.yielded;
+  made : vec_len l.entries ≡ length l.yielded;
+  serial : l.serial ≡ length l.yielded;
+  room : vec_len l.entries + into_iter_len l.plain-iterator ≤ vec_capacity l.entries;
+}

@@ -1,0 +1,29 @@
+use super::AsyncCell;
+use std::fmt;
+
+/// Prints `AsyncCell::Empty`, `AsyncCell::Pending` if a task waits, `AsyncCell::Full(..)` with the
+/// value's own text, or `AsyncCell::Closed`. Makes no clone: the value is taken out while it
+/// prints.
+impl<T: fmt::Debug + Drop> fmt::Debug for AsyncCell<T> {
+    fn fmt<F: fmt::Write>(&self, f: &mut fmt::Formatter<F>) -> fmt::Result {
+        let Some(value) = self.try_take() else {
+            return f.write_str(self.text_without_value());
+        };
+        let printed = write!(f, "AsyncCell::Full({value:?})");
+        self.put_back(Some(value));
+        printed
+    }
+}
+
+impl<T: Drop> AsyncCell<T> {
+    /// Returns how a cell that holds no value prints.
+    fn text_without_value(&self) -> &'static str {
+        match self.lend() {
+            Some(core) if core.is_vacant() => match core.waiting() {
+                0 => "AsyncCell::Empty",
+                _ => "AsyncCell::Pending",
+            },
+            _ => "AsyncCell::Closed",
+        }
+    }
+}

@@ -1,0 +1,110 @@
+//! Futures made by `in_place` each hold one place in the wait list.
+use crate::checks::{holds, same};
+use crate::ticks::{task, tick_future};
+use async_cell_unsync::{AsyncCell, InPlace, Shared, Take};
+use futures::task::Poll;
+use futures::test::MockTask;
+use std::alloc::Global;
+use std::process::Abort;
+
+/// Polls the future a hundred times: it waits.
+fn waits_often(future: &mut InPlace<Take<&AsyncCell<u32>>>, flag: &MockTask, rt: &impl Abort) {
+    for _ in 0..100u32 {
+        holds(rt, tick_future(future, flag).is_pending());
+    }
+}
+
+#[test]
+fn a_future_holds_one_place_whatever_its_polls(rt: HostRuntime) {
+    let cell: AsyncCell<u32> = AsyncCell::new(rt.alloc());
+    let flag = task(&rt);
+    let mut taker = cell.take().in_place();
+    for value in 0..2u32 {
+        waits_often(&mut taker, &flag, &rt);
+        same(&rt, cell.waiting(), 1);
+        holds(&rt, !flag.is_woken());
+        cell.set(value);
+        holds(&rt, flag.is_woken());
+        same(&rt, tick_future(&mut taker, &flag), Poll::Ready(Ok(value)));
+    }
+    same(&rt, cell.waiting(), 0);
+}
+
+#[test]
+fn places_of_dropped_futures_are_taken_over(rt: HostRuntime) {
+    let cell: AsyncCell<u32> = AsyncCell::new(rt.alloc());
+    let (first, second) = (task(&rt), task(&rt));
+    let mut getter = cell.get().in_place();
+    holds(&rt, tick_future(&mut getter, &first).is_pending());
+    for _ in 0..100u32 {
+        let mut taker = cell.take().in_place();
+        let mut other = cell.get().in_place();
+        holds(&rt, tick_future(&mut taker, &second).is_pending());
+        holds(&rt, tick_future(&mut other, &second).is_pending());
+    }
+    same(&rt, cell.waiting(), 3);
+    holds(&rt, !first.is_woken());
+    holds(&rt, !second.is_woken()); // a drop wakes nobody
+    cell.set(7);
+    holds(&rt, first.is_woken());
+}
+
+#[test]
+fn two_futures_never_share_a_free_place(rt: HostRuntime) {
+    let cell: AsyncCell<u32> = AsyncCell::new(rt.alloc());
+    let (gone, first, second) = (task(&rt), task(&rt), task(&rt));
+    holds(
+        &rt,
+        tick_future(&mut cell.take().in_place(), &gone).is_pending(),
+    );
+    let mut taker = cell.take().in_place();
+    let mut getter = cell.get().in_place();
+    holds(&rt, tick_future(&mut taker, &first).is_pending());
+    holds(&rt, tick_future(&mut getter, &second).is_pending());
+    holds(&rt, gone.is_woken()); // its waker was dropped
+    same(&rt, cell.waiting(), 2);
+    cell.set(7);
+    holds(&rt, first.is_woken());
+    holds(&rt, second.is_woken());
+}
+
+/// The first owner of a new cell.
+fn first_owner<R: Abort + Alloc<A = Global>>(rt: &R) -> Shared<u32> {
+    AsyncCell::shared(rt.alloc()).expect(rt, "there is memory")
+}
+
+#[test]
+fn the_task_that_polled_last_is_woken(rt: HostRuntime) {
+    let shared = first_owner(&rt);
+    let (first, last, other) = (task(&rt), task(&rt), task(&rt));
+    let mut taker = shared.take_weak().in_place();
+    let mut getter = shared.get_weak().in_place();
+    holds(&rt, tick_future(&mut taker, &first).is_pending());
+    holds(&rt, tick_future(&mut taker, &last).is_pending());
+    holds(&rt, tick_future(&mut getter, &other).is_pending());
+    same(&rt, shared.cell().waiting(), 2);
+    holds(&rt, !last.is_woken());
+    drop(shared);
+    holds(&rt, last.is_woken());
+    same(&rt, tick_future(&mut taker, &last), Poll::Ready(Ok(None)));
+    same(&rt, tick_future(&mut getter, &other), Poll::Ready(Ok(None)));
+}
+
+#[test]
+fn a_place_of_a_past_round_is_left_alone(rt: HostRuntime) {
+    let cell: AsyncCell<u32> = AsyncCell::new(rt.alloc());
+    let (past, now) = (task(&rt), task(&rt));
+    let mut old = cell.get().in_place();
+    holds(&rt, tick_future(&mut old, &past).is_pending());
+    cell.set(7);
+    same(&rt, cell.try_take(), Some(7));
+    let mut taker = cell.take().in_place();
+    holds(&rt, tick_future(&mut taker, &now).is_pending());
+    drop(old);
+    let mut getter = cell.get().in_place();
+    holds(&rt, tick_future(&mut getter, &past).is_pending());
+    same(&rt, cell.waiting(), 2);
+    cell.set(8);
+    holds(&rt, now.is_woken());
+    holds(&rt, past.is_woken());
+}

@@ -1,0 +1,125 @@
+-- What a call prints.
+use Rattle.std.specs.Prelude.{◌≡◌, ◌+ℤ◌, ℕ, ℤ, Bool, true, List, [], ◌∷◌, ◌++◌, Option, Some, None, Result, Ok, Err, codes, decimal, if◌then◌else◌, nat_eq}
+use Rattle.std.specs.Int.{w64, saturate_signed}
+use Rattle.std.specs.Fmt.{signed_decimal}
+use Rattle.std.specs.Option.{option_map}
+use Rattle.async_cell_cons.specs.declared.named.Named.{Named}
+use Rattle.async_cell_model.specs.declared.cell.Cell.{Cell}
+use Rattle.async_cell_model.specs.declared.entry.Kept.{Kept}
+use Rattle.async_cell_model.specs.declared.entry.Kept.TheVariants as kept
+use Rattle.async_cell_model.specs.declared.reply.Reply.{Reply}
+use Rattle.async_cell_model.specs.declared.reply.Reply.TheVariants.{Done, Value, Is, Pending, Ready, Refused}
+use Rattle.async_cell_model.specs.declared.refusal.Refusal.{Refusal}
+use Rattle.async_cell_model.specs.declared.refusal.Refusal.TheVariants as why
+use Rattle.async_cell_model.specs.Cell.{content, is_closed, owners_of}
+use Rattle.async_cell_model.specs.History.{State}
+use Rattle.async_cell_model.specs.Legal.{Steps}
+use Rattle.futures.specs.declared.task.Poll.{Poll}
+use Rattle.futures.specs.declared.task.Poll.TheVariants as poll
+use Rattle.cellrun.specs.declared.command.Command.{Command}
+use Rattle.cellrun.specs.declared.command.Command.TheVariants.{Set, OrSet, Replace, UpdatePut, UpdateNone, UpdateKeep, UpdateSomeAdd, Take, Get, TryTake, TryGet, Own, End, Inner, Debug}
+
+-- a name wakes the wakers of its own name
+abbrev pub names_wake : Named → Named → Bool
+names_wake a b = nat_eq a.0 b.0
+
+-- an update of this cell as a history stores it: with what its closure saw and what it returned,
+-- both `None` if it was not called
+abbrev pub kept_update : Cell ℤ → Option ℤ → Kept ℤ Named
+kept_update cell put =
+    if is_closed cell then kept.Update None None else kept.Update (content cell) put
+
+-- the same of an update of its value
+abbrev pub kept_update_some : Cell ℤ → (ℤ → ℤ) → Kept ℤ Named
+kept_update_some cell change = kept.UpdateSome (content cell) (option_map change (content cell))
+
+-- the call of a line, on this cell, as a history keeps it
+abbrev pub kept_call : Cell ℤ → Command → Kept ℤ Named
+kept_call cell (Set v) = kept.Set v
+kept_call cell (OrSet v) = kept.OrSet v
+kept_call cell (Replace v) = kept.Replace v
+kept_call cell (UpdatePut v) = kept_update cell (Some v)
+kept_call cell UpdateNone = kept_update cell None
+kept_call cell UpdateKeep = kept_update cell (content cell)
+kept_call cell (UpdateSomeAdd more) = kept_update_some cell (λ v. saturate_signed w64 (v +ℤ more))
+kept_call cell (Take w) = kept.PollTake (record { 0 = w })
+kept_call cell (Get w) = kept.PollGet (record { 0 = w })
+kept_call cell TryTake = kept.TryTake
+kept_call cell TryGet = kept.TryGet
+kept_call cell Own = kept.AddOwner
+kept_call cell End = kept.EndOwner
+kept_call cell Inner = kept.TakeInner
+kept_call cell _ = kept.IsSet
+
+-- why a call was refused
+abbrev pub refusal_text : Refusal → List ℕ
+refusal_text why.Closed = codes "refused closed"
+refusal_text why.OwnersFull = codes "refused owners"
+refusal_text why.StillShared = codes "refused shared"
+refusal_text _ = codes "refused memory"
+
+-- the old value that `replace` answers
+abbrev pub old_text : Option ℤ → List ℕ
+old_text None = codes "old none"
+old_text (Some v) = codes "old " ++ signed_decimal v
+
+-- the value that was found, if there was one
+abbrev pub found_text : Option ℤ → List ℕ
+found_text None = codes "none"
+found_text (Some v) = codes "some " ++ signed_decimal v
+
+-- the value with which a poll is ready
+abbrev pub ready_text : Option ℤ → List ℕ
+ready_text None = codes "closed"
+ready_text (Some v) = codes "ready " ++ signed_decimal v
+
+-- how many owners there are
+abbrev pub owners_text : ℕ → List ℕ
+owners_text owners = codes "owners " ++ decimal owners
+
+-- the names of wakers, each after a space
+abbrev pub names_text : List Named → List ℕ
+names_text [] = []
+names_text (name ∷ names) = codes " " ++ decimal name.0 ++ names_text names
+
+-- the wakers that a call hands out, if there are any, and the line feed
+abbrev pub end_text : List Named → List ℕ
+end_text [] = codes "\n"
+end_text (name ∷ names) = codes " woke" ++ names_text (name ∷ names) ++ codes "\n"
+
+-- what a write that returns nothing prints, by the wakers it hands out; `None` if it is refused
+abbrev pub done_text : Option (List Named) → List ℕ
+done_text None = refusal_text why.Closed ++ codes "\n"
+done_text (Some woken) = codes "done" ++ end_text woken
+
+-- what `replace` prints, by the old value and the wakers it hands out; `None` if it is refused
+abbrev pub replaced_text : Option (Option ℤ × List Named) → List ℕ
+replaced_text None = refusal_text why.Closed ++ codes "\n"
+replaced_text (Some answer) = old_text answer.0 ++ end_text answer.1
+
+-- what a poll prints
+abbrev pub polled_text : Result (Poll (Option ℤ)) Refusal → List ℕ
+polled_text (Ok (poll.Ready value)) = ready_text value ++ codes "\n"
+polled_text (Ok poll.Pending) = codes "pending\n"
+polled_text (Err why) = refusal_text why ++ codes "\n"
+
+-- what the call is answered, where the cell has so many owners after it
+abbrev pub reply_text : Command → Reply ℤ → ℕ → List ℕ
+reply_text (Replace v) (Value old) owners = old_text old
+reply_text (OrSet v) (Value unused) owners = codes "done"
+reply_text Own Done owners = owners_text owners
+reply_text End (Value last) owners = owners_text owners
+reply_text call Done owners = codes "done"
+reply_text call (Value found) owners = found_text found
+reply_text call (Is answer) owners = if answer then codes "true" else codes "false"
+reply_text call Pending owners = codes "pending"
+reply_text call (Ready value) owners = ready_text value
+reply_text call (Refused why back) owners = refusal_text why
+
+-- The call leads the cell from there to here, as the model says, and the line is what it is
+-- answered and whom it wakes. Of `debug` this says only that the cell stays.
+abbrev pub Answered : State ℤ Named → Command → List ℕ → State ℤ Named → Type 0
+Answered from Debug line to = to ≡ from
+Answered from call line to = (reply : Reply ℤ) × (woken : List Named)
+    × Steps names_wake true from (kept_call from.cell call) reply woken to
+    × (line ≡ reply_text call reply (owners_of to.cell) ++ end_text woken)

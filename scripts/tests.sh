@@ -1,0 +1,43 @@
+#!/usr/bin/env bash
+# Runs all tests without a proof: what one runs while writing. Prints a line for each crate, and what the crate printed
+# where a test failed; the status is 0 if none did. It takes some three minutes. JOBS says how many crates run side by
+# side, and words say which crates (none: all that have tests).
+set -euo pipefail
+top=$(cd "$(dirname "$0")/.." && pwd)
+work=$(mktemp -d)
+trap 'rm -rf "$work"' EXIT
+cd "$top/crates"
+
+if [ $# -gt 0 ]; then
+    crates=("$@")
+else
+    mapfile -t crates < <(grep -rl --include='*.rt' '#\[cfg(test)\]' ./*/src | cut -d / -f 2 | sort -u)
+fi
+
+# Tries a crate's tests, and keeps what they print.
+try() {
+    (cd "$1" && rt try --test) >"$work/$1" 2>&1 </dev/null || true
+}
+export work
+export -f try
+
+printf '%s\n' "${crates[@]}" | xargs -P "${JOBS:-$(nproc)}" -I '{}' bash -c 'try {}'
+
+failed=0
+for crate in "${crates[@]}"; do
+    result=$(grep '^test result: ' "$work/$crate" || true)
+    case $result in
+        'test result: ok. 0 passed'* | '')
+            failed=1
+            echo "$crate: no test ran"
+            cat "$work/$crate"
+            ;;
+        'test result: ok.'*) echo "$crate: ${result#test result: }" ;;
+        *)
+            failed=1
+            echo "$crate: ${result#test result: }"
+            cat "$work/$crate"
+            ;;
+    esac
+done
+exit "$failed"
