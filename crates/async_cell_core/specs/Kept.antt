@@ -45,7 +45,8 @@ module _ {T W E : Type 0} (edit : E → Option T → Option T) (edit_some : E �
   -- the history of these calls from this cell on, with these replies
   abbrev pub history_of : Cell T → List (Call T W E) → List (Reply T) → History T W
   history_of c (call ∷ calls) (reply ∷ replies) =
-      let e : Entry T W = record { call = kept_call c call; reply = reply } in e ∷ history_of (next c e) calls replies
+      let e : Entry T W = record { call = kept_call c call; reply = reply } in
+      e ∷ history_of (next c e) calls replies
   history_of c _ _ = []
 
 -- Each get of a full cell returns a clone of its value, or fails with `Memory`. It fails only if

@@ -11,4 +11,5 @@ cell_of value owners = if nat_eq owners 0 then Closed else Open value owners
 
 -- the state of a core: the cell, the wait list, and the room for more wakers
 abbrev pub state_of : {T W : Type 0} → Option T → ℕ → ListState W → State T W
-state_of value owners list = record { cell = cell_of value owners; waiting = list.wakers; room = list.room }
+state_of value owners list =
+    record { cell = cell_of value owners; waiting = list.wakers; room = list.room }

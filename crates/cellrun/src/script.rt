@@ -14,6 +14,8 @@ use std::io;
 use std::io::{Read, Write};
 
 #[cfg(test)]
+mod refused;
+#[cfg(test)]
 mod tests;
 #[cfg(test)]
 mod texts;
