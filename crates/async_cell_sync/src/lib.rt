@@ -3,6 +3,7 @@
 
 mod async_cell;
 mod cell_ref;
+mod debug;
 mod get;
 mod guard;
 mod guarded_cell;
@@ -10,6 +11,7 @@ mod locked_core;
 mod owner;
 mod shared;
 mod take;
+mod values;
 mod weak;
 mod weak_owner;
 mod with;
@@ -25,6 +27,7 @@ pub use locked_core::LockedCore;
 pub use owner::Owner;
 pub use shared::Shared;
 pub use take::Take;
+pub use values::Values;
 pub use weak::{GetWeak, TakeWeak, Weak};
 pub use weak_owner::WeakOwner;
 pub use with::{Waits, With};
