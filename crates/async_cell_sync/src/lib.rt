@@ -3,12 +3,17 @@
 
 mod async_cell;
 mod cell_ref;
+mod debug;
 mod get;
+mod guard;
 mod guarded_cell;
 mod locked_core;
+mod owner;
 mod shared;
 mod take;
+mod values;
 mod weak;
+mod weak_owner;
 mod with;
 
 pub use async_cell::AsyncCell;
@@ -16,9 +21,13 @@ pub use async_cell_core::{Core, Poll, Refusal, Wakers, Wakes};
 pub use async_cell_task::TaskWaker;
 pub use cell_ref::CellRef;
 pub use get::Get;
+pub use guard::Guard;
 pub use guarded_cell::GuardedCell;
 pub use locked_core::LockedCore;
+pub use owner::Owner;
 pub use shared::Shared;
 pub use take::Take;
+pub use values::Values;
 pub use weak::{GetWeak, TakeWeak, Weak};
+pub use weak_owner::WeakOwner;
 pub use with::{Waits, With};

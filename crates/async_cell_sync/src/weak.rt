@@ -2,7 +2,13 @@ ghost use Rattle.std.specs.Prelude.{◌≡◌, ◌⊎◌, ℕ, Err, IfOk, IfErr,
 ghost use Rattle.std.specs.Arc.{arc_value};
 ghost use Rattle.futures.specs.Poll.{IfReady, OnPending};
 ghost use Rattle.futures.specs.Task.{Covers, Keeps};
-ghost use Rattle.async_cell_sync.specs.Names.{IsLost, NamesAtMost, NameTheSame, OwnsNamed};
+ghost use Rattle.async_cell_sync.specs.Names.{
+  IsLost,
+  NameAtMostTheSame,
+  NamesAtMost,
+  NameTheSame,
+  OwnsNamed,
+};
 ghost use Rattle.async_cell_sync.specs.Source.{source_of, IsSourceOf};
 
 use crate::async_cell::AsyncCell;
@@ -16,7 +22,7 @@ use futures::task::{Context, Poll};
 use std::alloc::AllocError;
 use std::sync::{Arc, Wait};
 
-/// A weak pointer to a cell. It does not count as an owner.
+/// A weak pointer to a cell. It does not count as an owner. `Shared::downgrade` makes one.
 #[derive(Drop)]
 pub struct Weak<T> {
     /// `None` if the pointer could not be counted when it was made.
@@ -44,9 +50,19 @@ impl<T: Drop> Weak<T> {
         }
     }
 
+    /// Returns a pointer to the same cell, or to none if it cannot be counted.
+    pub(crate) fn again(&self) -> Self
+        ensures of_this { NameAtMostTheSame self.now result }
+    {
+        match &self.cell {
+            Some(cell) => Weak::of(cell),
+            None => Weak { cell: None },
+        }
+    }
+
     /// Makes a new owner; `Ok(None)` if the cell is closed. Fails with `Memory` (checked first) or
     /// `OwnersFull`.
-    fn upgrade<R: Wait>(&self, rt: &R) -> Result<Option<Shared<T>>, Refusal>
+    pub fn upgrade<R: Wait>(&self, rt: &R) -> Result<Option<Shared<T>>, Refusal>
         ensures of_this { IfOk result (λ found. IfSome found (OwnsNamed self.now)) }
         ensures lost { IsLost self.now → result ≡ Err Refusal.Memory }
         ensures refused { IfErr result (λ why.

@@ -1,4 +1,5 @@
 ghost use Rattle.std.specs.Prelude.{◌≡◌};
+ghost use Rattle.async_cell_sync.specs.Refused.{FailsWithMemoryOrClosed, GivesWeakly};
 ghost use Rattle.async_cell_sync.specs.Source.{IsSourceOf};
 
 use crate::async_cell::AsyncCell;
@@ -94,6 +95,8 @@ impl<C: CellRef + Drop, R: Wait + Drop> Future for With<Take<C>, R> {
 
     ghost needs = { λ future. C.waits_for future.polled.0 };
 
+    ghost gives = { λ _. FailsWithMemoryOrClosed };
+
     fn poll(&mut self, cx: &mut Context<'_>) -> Poll<Result<C::Value, Refusal>> {
         self.polled.poll_at(&mut self.place, cx, &self.rt)
     }
@@ -107,6 +110,8 @@ where
 
     ghost needs = { λ future. C.waits_for future.polled.0 };
 
+    ghost gives = { λ _. FailsWithMemoryOrClosed };
+
     fn poll(&mut self, cx: &mut Context<'_>) -> Poll<Result<C::Value, Refusal>> {
         self.polled.poll_at(&mut self.place, cx, &self.rt)
     }
@@ -117,6 +122,8 @@ impl<T: Drop, R: Wait + Drop> Future for With<TakeWeak<T>, R> {
 
     ghost needs = { λ future. IsSourceOf future.polled.0 };
 
+    ghost gives = { λ future. GivesWeakly future.polled.0 };
+
     fn poll(&mut self, cx: &mut Context<'_>) -> Poll<Result<Option<T>, Refusal>> {
         self.polled.poll_at(&mut self.place, cx, &self.rt)
     }
@@ -126,6 +133,8 @@ impl<T: Clone, R: Wait + Drop> Future for With<GetWeak<T>, R> {
     type Output = Result<Option<T>, Refusal>;
 
     ghost needs = { λ future. IsSourceOf future.polled.0 };
+
+    ghost gives = { λ future. GivesWeakly future.polled.0 };
 
     fn poll(&mut self, cx: &mut Context<'_>) -> Poll<Result<Option<T>, Refusal>> {
         self.polled.poll_at(&mut self.place, cx, &self.rt)

@@ -1,4 +1,5 @@
 ghost use Rattle.std.specs.Prelude.{◌≡◌};
+ghost use Rattle.async_cell_unsync.specs.Refused.{FailsWithMemory};
 ghost use Rattle.async_cell_unsync.specs.Source.{IsSourceOf};
 
 use crate::async_cell::AsyncCell;
@@ -113,6 +114,8 @@ impl<T: Drop> Future for InPlace<TakeWeak<T>> {
 
     ghost needs = { λ future. IsSourceOf future.polled.0 };
 
+    ghost gives = { λ _. FailsWithMemory };
+
     fn poll(&mut self, cx: &mut Context<'_>) -> Poll<Result<Option<T>, Refusal>> {
         self.polled.poll_at(&mut self.place, cx)
     }
@@ -122,6 +125,8 @@ impl<T: Clone> Future for InPlace<GetWeak<T>> {
     type Output = Result<Option<T>, Refusal>;
 
     ghost needs = { λ future. IsSourceOf future.polled.0 };
+
+    ghost gives = { λ _. FailsWithMemory };
 
     fn poll(&mut self, cx: &mut Context<'_>) -> Poll<Result<Option<T>, Refusal>> {
         self.polled.poll_at(&mut self.place, cx)

@@ -3,11 +3,13 @@
 
 mod async_cell;
 mod cell_ref;
+mod debug;
 mod get;
 mod guarded_cell;
 mod in_place;
 mod shared;
 mod take;
+mod values;
 mod weak;
 
 pub use async_cell::AsyncCell;
@@ -19,4 +21,5 @@ pub use guarded_cell::GuardedCell;
 pub use in_place::{InPlace, Waits};
 pub use shared::Shared;
 pub use take::Take;
+pub use values::Values;
 pub use weak::{GetWeak, TakeWeak, Weak};

@@ -85,6 +85,14 @@ impl<T: Drop> Shared<T> {
         }
     }
 
+    /// Returns a weak pointer to the cell. Nothing is refused here: if the pointer cannot be
+    /// counted, the calls of the weak pointer fail with `Memory`.
+    pub fn downgrade(&self) -> Weak<T>
+        ensures of_this { NamesAtMost result (cell_of self.now) }
+    {
+        Weak::of(&self.cell)
+    }
+
     /// Returns a future that takes the value and is not an owner.
     pub fn take_weak(&self) -> TakeWeak<T>
         ensures of_this { NamesAtMost result.0 (cell_of self.now) }

@@ -17,7 +17,8 @@ use futures::task::{Context, Poll};
 use std::alloc::AllocError;
 use std::rc::Rc;
 
-/// A weak pointer to a cell. It does not count as an owner.
+/// A weak pointer to a cell. It does not count as an owner. `Shared::downgrade` makes one, and
+/// `TakeWeak` and `GetWeak` make a future of it.
 #[derive(Drop)]
 pub struct Weak<T> {
     /// `None` if the pointer could not be counted when it was made.
@@ -46,7 +47,7 @@ impl<T: Drop> Weak<T> {
 
     /// Makes a new owner; `Ok(None)` if the cell is closed. Fails with `Memory` (checked first) or
     /// `OwnersFull`.
-    fn upgrade(&self) -> Result<Option<Shared<T>>, Refusal>
+    pub fn upgrade(&self) -> Result<Option<Shared<T>>, Refusal>
         ensures of_this { IfOk result (λ found. IfSome found (OwnsNamed self.now)) }
         ensures lost { IsLost self.now → result ≡ Err Refusal.Memory }
         ensures refused { IfErr result (λ why.

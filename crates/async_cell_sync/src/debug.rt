@@ -1,0 +1,87 @@
+//! How owners, weak ones, guards and futures print: by their names. None shows its cell, for which
+//! it would need the lock; `debug_text` does.
+use crate::cell_ref::CellRef;
+use crate::get::Get;
+use crate::guard::Guard;
+use crate::guarded_cell::GuardedCell;
+use crate::owner::Owner;
+use crate::shared::Shared;
+use crate::take::Take;
+use crate::values::Values;
+use crate::weak::{GetWeak, TakeWeak, Weak};
+use crate::weak_owner::WeakOwner;
+use crate::with::{Waits, With};
+use std::fmt;
+use std::sync::Wait;
+
+impl<T> fmt::Debug for Shared<T> {
+    fn fmt<F: fmt::Write>(&self, f: &mut fmt::Formatter<F>) -> fmt::Result {
+        f.debug_struct("Shared").finish_non_exhaustive()
+    }
+}
+
+impl<T> fmt::Debug for Weak<T> {
+    fn fmt<F: fmt::Write>(&self, f: &mut fmt::Formatter<F>) -> fmt::Result {
+        f.debug_struct("Weak").finish_non_exhaustive()
+    }
+}
+
+impl<T, C: CellRef<Value = T>> fmt::Debug for GuardedCell<T, C> {
+    fn fmt<F: fmt::Write>(&self, f: &mut fmt::Formatter<F>) -> fmt::Result {
+        f.debug_struct("GuardedCell").finish_non_exhaustive()
+    }
+}
+
+impl<C> fmt::Debug for Take<C> {
+    fn fmt<F: fmt::Write>(&self, f: &mut fmt::Formatter<F>) -> fmt::Result {
+        f.debug_struct("Take").finish_non_exhaustive()
+    }
+}
+
+impl<C> fmt::Debug for Get<C> {
+    fn fmt<F: fmt::Write>(&self, f: &mut fmt::Formatter<F>) -> fmt::Result {
+        f.debug_struct("Get").finish_non_exhaustive()
+    }
+}
+
+impl<T> fmt::Debug for TakeWeak<T> {
+    fn fmt<F: fmt::Write>(&self, f: &mut fmt::Formatter<F>) -> fmt::Result {
+        f.debug_struct("TakeWeak").finish_non_exhaustive()
+    }
+}
+
+impl<T> fmt::Debug for GetWeak<T> {
+    fn fmt<F: fmt::Write>(&self, f: &mut fmt::Formatter<F>) -> fmt::Result {
+        f.debug_struct("GetWeak").finish_non_exhaustive()
+    }
+}
+
+impl<P: Waits, R: Wait> fmt::Debug for With<P, R> {
+    fn fmt<F: fmt::Write>(&self, f: &mut fmt::Formatter<F>) -> fmt::Result {
+        f.debug_struct("With").finish_non_exhaustive()
+    }
+}
+
+impl<T: Drop, R: Wait + Drop> fmt::Debug for Owner<T, R> {
+    fn fmt<F: fmt::Write>(&self, f: &mut fmt::Formatter<F>) -> fmt::Result {
+        f.debug_struct("Owner").finish_non_exhaustive()
+    }
+}
+
+impl<T, R> fmt::Debug for WeakOwner<T, R> {
+    fn fmt<F: fmt::Write>(&self, f: &mut fmt::Formatter<F>) -> fmt::Result {
+        f.debug_struct("WeakOwner").finish_non_exhaustive()
+    }
+}
+
+impl<T: Drop, C: CellRef<Value = T>, R: Wait + Drop> fmt::Debug for Guard<T, C, R> {
+    fn fmt<F: fmt::Write>(&self, f: &mut fmt::Formatter<F>) -> fmt::Result {
+        f.debug_struct("Guard").finish_non_exhaustive()
+    }
+}
+
+impl<T: Drop, R: Wait + Drop> fmt::Debug for Values<T, R> {
+    fn fmt<F: fmt::Write>(&self, f: &mut fmt::Formatter<F>) -> fmt::Result {
+        f.debug_struct("Values").finish_non_exhaustive()
+    }
+}

@@ -1,0 +1,69 @@
+ghost use Rattle.std.specs.Prelude.{◌≡◌, ℕ};
+ghost use Rattle.async_cell_sync.specs.Source.{source_of};
+
+use crate::async_cell::AsyncCell;
+use crate::cell_ref::CellRef;
+use crate::guarded_cell::GuardedCell;
+use std::sync::Wait;
+
+/// A guard of a cell, with the right to wait for the lock. Its drop sets its cancel value, if the
+/// cell holds no value, unless the guard was ended by `release`, `set` or `or_set`. So `?` and an
+/// early `return` leave the cancel value in the cell. Each of these ends calls `leave` on the
+/// pointer: a guard that is an owner ends its owner.
+///
+/// **Letting one go may wait for the lock**, as its other calls may. `GuardedCell` is the guard that
+/// must be consumed by a call, so that each end stands in the program.
+pub struct Guard<T: Drop, C: CellRef<Value = T>, R: Wait + Drop> {
+    guarded: GuardedCell<T, C>,
+    rt: R,
+}
+
+impl<T: Drop, C: CellRef<Value = T>> GuardedCell<T, C> {
+    /// Keeps the right to wait beside this guard, which then ends by its drop.
+    pub fn with<R: Wait + Drop>(self, rt: R) -> Guard<T, C, R>
+        ensures guards { result.guarded ≡ self }
+    {
+        Guard { guarded: self, rt }
+    }
+}
+
+impl<T: Drop, C: CellRef<Value = T>, R: Wait + Drop> Guard<T, C, R> {
+    /// Returns the cell that it guards.
+    pub fn cell(&self) -> &AsyncCell<T>
+        ensures { (s : ℕ) → C.waits_for self.now.guarded.pointer s → s ≡ source_of result.now }
+    {
+        self.guarded.cell()
+    }
+
+    /// Returns whether the cell holds a value.
+    pub fn is_set(&self) -> bool {
+        self.cell().is_set(&self.rt)
+    }
+
+    /// Ends the guard without a write. Drops its cancel value.
+    pub fn release(self) {
+        let Guard { guarded, rt } = self;
+        guarded.release(&rt);
+    }
+
+    /// Sets the value, and releases the guard.
+    pub fn set(self, value: T) {
+        let Guard { guarded, rt } = self;
+        guarded.set(value, &rt);
+    }
+
+    /// Sets the value if the cell holds none, and releases the guard.
+    pub fn or_set(self, value: T) {
+        let Guard { guarded, rt } = self;
+        guarded.or_set(value, &rt);
+    }
+}
+
+/// Ends the guard unreleased: sets its cancel value and wakes all waiters, if the cell holds no
+/// value. May wait for the lock.
+impl<T: Drop, C: CellRef<Value = T>, R: Wait + Drop> Drop for Guard<T, C, R> {
+    fn drop(self) {
+        let Guard { guarded, rt } = self;
+        guarded.cancel(&rt);
+    }
+}

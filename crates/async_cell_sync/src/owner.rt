@@ -1,0 +1,108 @@
+ghost use Rattle.std.specs.Prelude.{◌≡◌, ℕ, IfOk, IfErr};
+ghost use Rattle.async_cell_sync.specs.Names.{NamesAtMost};
+ghost use Rattle.async_cell_sync.specs.Owned.{cell_owned};
+ghost use Rattle.async_cell_sync.specs.Refused.{IsOwnerRefusal};
+ghost use Rattle.async_cell_sync.specs.Source.{source_of};
+
+mod calls;
+mod polled;
+
+use crate::async_cell::AsyncCell;
+use crate::cell_ref::CellRef;
+use crate::shared::Shared;
+use crate::weak_owner::WeakOwner;
+use async_cell_core::Refusal;
+use std::alloc::Global;
+use std::sync::Wait;
+
+/// One counted owner of a cell, with the right to wait for the lock. It ends by its drop, so it can
+/// move into a thread, and `?` and an early `return` may stand beside it. Its calls and its futures
+/// take no `rt`. The end of the last owner closes the cell: the value is dropped, all waiters are
+/// woken, and weak futures are ready with `None`.
+///
+/// **Letting one go may wait for the lock**, as its other calls may. `Shared` is the owner that
+/// must be consumed by a call, so that each end stands in the program.
+pub struct Owner<T: Drop, R: Wait + Drop> {
+    shared: Shared<T>,
+    rt: R,
+}
+
+impl<T: Drop> Shared<T> {
+    /// Keeps the right to wait beside this owner, which then ends by its drop.
+    pub fn with<R: Wait + Drop>(self, rt: R) -> Owner<T, R>
+        ensures keeps { result.shared ≡ self }
+    {
+        Owner { shared: self, rt }
+    }
+}
+
+impl<T: Drop, R: Wait + Copy> Owner<T, R> {
+    /// Makes a cell without a value, and its first owner. Fails with `Memory`.
+    ///
+    /// For a cell that holds a value, or that you have already, call
+    /// `AsyncCell::into_shared(cell)` and then `with(rt)`.
+    pub fn new(alloc: Global, rt: R) -> Result<Self, Refusal>
+        ensures refused { IfErr result (λ why. why ≡ Refusal.Memory) }
+    {
+        Ok(Shared::shared(alloc)?.with(rt))
+    }
+
+    /// Adds an owner, in place of a clone. Fails with `Memory` if the pointer cannot be counted, or
+    /// with `OwnersFull`. The contract also allows `Closed`, which does not happen while this owner
+    /// lives.
+    pub fn another(&self) -> Result<Self, Refusal>
+        ensures of_this { IfOk result (λ owner. cell_owned owner ≡ cell_owned self.now) }
+        ensures refused { IfErr result IsOwnerRefusal }
+    {
+        Ok(self.shared.another(&self.rt)?.with(self.rt))
+    }
+
+    /// Returns a weak owner: it points to the cell and does not count. Nothing is refused here: if
+    /// the pointer cannot be counted, the calls of the weak owner fail with `Memory`.
+    pub fn downgrade(&self) -> WeakOwner<T, R>
+        ensures of_this { NamesAtMost result.weak (cell_owned self.now) }
+    {
+        self.shared.downgrade().with(self.rt)
+    }
+
+    /// Closes the cell and returns its content, if this is the only owner. Wakes all waiters.
+    /// Otherwise this owner is returned in the error.
+    pub fn try_into_inner(self) -> Result<Option<T>, Self>
+        ensures comes_back { IfErr result (λ back. back ≡ self) }
+    {
+        let Owner { shared, rt } = self;
+        match shared.try_into_inner(&rt) {
+            Ok(content) => Ok(content),
+            Err(shared) => Err(Owner { shared, rt }),
+        }
+    }
+}
+
+impl<T: Drop, R: Wait + Drop> Owner<T, R> {
+    /// Returns the cell, to call it with another right to wait.
+    pub fn cell(&self) -> &AsyncCell<T>
+        ensures held { result.now ≡ cell_owned self.now }
+    {
+        self.shared.cell()
+    }
+}
+
+/// Ends the owner. May wait for the lock.
+impl<T: Drop, R: Wait + Drop> Drop for Owner<T, R> {
+    fn drop(self) {
+        let Owner { shared, rt } = self;
+        shared.end(&rt);
+    }
+}
+
+impl<T: Drop, R: Wait + Drop> CellRef for Owner<T, R> {
+    type Value = T;
+
+    ghost waits_for = { λ p s. s ≡ source_of (cell_owned p) };
+
+    fn cell(&self) -> &AsyncCell<T> {
+        Owner::cell(self)
+    }
+
+    fn leave<S: Wait>(self, _: &S) {}
+}

@@ -1,0 +1,106 @@
+//! The futures and guards of an owner that keeps its right to wait. Each keeps a copy of that right.
+ghost use Rattle.std.specs.Prelude.{◌≡◌, IfOk, IfErr};
+ghost use Rattle.async_cell_sync.specs.Names.{NamesAtMost};
+ghost use Rattle.async_cell_sync.specs.Owned.{cell_owned};
+ghost use Rattle.async_cell_sync.specs.Refused.{IsOwnerRefusal};
+
+use super::Owner;
+use crate::async_cell::AsyncCell;
+use crate::get::Get;
+use crate::guard::Guard;
+use crate::guarded_cell::GuardedCell;
+use crate::take::Take;
+use crate::weak::{GetWeak, TakeWeak};
+use crate::with::With;
+use async_cell_core::Refusal;
+use std::sync::Wait;
+
+impl<T: Drop, R: Wait + Copy> Owner<T, R> {
+    /// Returns a future that takes the value.
+    pub fn take(&self) -> With<Take<&AsyncCell<T>>, R>
+        ensures of_this { result.polled.0.now ≡ cell_owned self.now }
+    {
+        self.cell().take().with(self.rt)
+    }
+
+    /// Returns a future that clones the value and leaves it.
+    pub fn get(&self) -> With<Get<&AsyncCell<T>>, R>
+        ensures of_this { result.polled.0.now ≡ cell_owned self.now }
+    {
+        self.cell().get().with(self.rt)
+    }
+
+    /// Returns a future that takes the value and is a new owner. Fails as `another` does.
+    pub fn take_shared(&self) -> Result<With<Take<Self>, R>, Refusal>
+        ensures of_this { IfOk result (λ future.
+            cell_owned future.polled.0 ≡ cell_owned self.now) }
+        ensures refused { IfErr result IsOwnerRefusal }
+    {
+        Ok(Take(self.another()?).with(self.rt))
+    }
+
+    /// Returns a future that clones the value, leaves it, and is a new owner. Fails as `another`
+    /// does.
+    pub fn get_shared(&self) -> Result<With<Get<Self>, R>, Refusal>
+        ensures of_this { IfOk result (λ future.
+            cell_owned future.polled.0 ≡ cell_owned self.now) }
+        ensures refused { IfErr result IsOwnerRefusal }
+    {
+        Ok(Get(self.another()?).with(self.rt))
+    }
+
+    /// Returns a future that takes the value and is not an owner.
+    pub fn take_weak(&self) -> With<TakeWeak<T>, R>
+        ensures of_this { NamesAtMost result.polled.0 (cell_owned self.now) }
+    {
+        self.shared.take_weak().with(self.rt)
+    }
+
+    /// Returns a future that clones the value, leaves it, and is not an owner.
+    pub fn get_weak(&self) -> With<GetWeak<T>, R>
+        ensures of_this { NamesAtMost result.polled.0 (cell_owned self.now) }
+    {
+        self.shared.get_weak().with(self.rt)
+    }
+
+    /// Returns a guard that sets this value when it is dropped, unless the cell then holds one.
+    pub fn guard(&self, cancel: T) -> Guard<T, &AsyncCell<T>, R>
+        ensures of_this { result.guarded.pointer.now ≡ cell_owned self.now }
+        ensures keeps { result.guarded.cancel ≡ cancel }
+    {
+        self.cell().guard(cancel).with(self.rt)
+    }
+
+    /// Returns a guard that is a new owner. Fails as `another` does; the value is then returned in
+    /// the error.
+    pub fn guard_shared(&self, cancel: T) -> Result<Guard<T, Self, R>, (Refusal, T)>
+        ensures of_this { IfOk result (λ guard.
+            cell_owned guard.guarded.pointer ≡ cell_owned self.now) }
+        ensures keeps { IfOk result (λ guard. guard.guarded.cancel ≡ cancel) }
+        ensures refused { IfErr result (λ back. IsOwnerRefusal back.0) }
+        ensures comes_back { IfErr result (λ back. back.1 ≡ cancel) }
+    {
+        match self.another() {
+            Ok(owner) => Ok(GuardedCell::new(owner, cancel).with(self.rt)),
+            Err(why) => Err((why, cancel)),
+        }
+    }
+}
+
+impl<R: Wait + Copy> Owner<(), R> {
+    /// Returns a future that waits for `notify`.
+    pub fn wait(&self) -> With<Take<&AsyncCell<()>>, R>
+        ensures of_this { result.polled.0.now ≡ cell_owned self.now }
+    {
+        self.take()
+    }
+
+    /// Returns a future that waits for `notify` and is a new owner. Fails as `another` does.
+    pub fn wait_shared(&self) -> Result<With<Take<Self>, R>, Refusal>
+        ensures of_this { IfOk result (λ future.
+            cell_owned future.polled.0 ≡ cell_owned self.now) }
+        ensures refused { IfErr result IsOwnerRefusal }
+    {
+        self.take_shared()
+    }
+}

@@ -1,0 +1,94 @@
+ghost use Rattle.std.specs.Prelude.{◌≡◌, ◌⊎◌, Err, IfOk, IfErr, IfSome};
+ghost use Rattle.async_cell_sync.specs.Names.{
+  cell_of,
+  IsLost,
+  NameAtMostTheSame,
+  Names,
+  NamesAtMost,
+  NameTheSame,
+};
+ghost use Rattle.async_cell_sync.specs.Owned.{cell_owned};
+
+use crate::owner::Owner;
+use crate::shared::Shared;
+use crate::weak::{GetWeak, TakeWeak, Weak};
+use crate::with::With;
+use async_cell_core::Refusal;
+use std::alloc::AllocError;
+use std::sync::Wait;
+
+/// A weak pointer to a cell, with the right to wait for its lock. It does not count as an owner, and
+/// keeps the cell's memory alive, not its value. `Owner::downgrade` makes one.
+///
+/// Its drop takes no lock. Dropping a future that it made may wait for the lock (see `With`).
+#[derive(Drop)]
+pub struct WeakOwner<T, R> {
+    weak: Weak<T>,
+    rt: R,
+}
+
+impl<T: Drop> Shared<T> {
+    /// Returns a weak pointer to the cell. Nothing is refused here: if the pointer cannot be
+    /// counted, the calls of the weak pointer fail with `Memory`.
+    pub fn downgrade(&self) -> Weak<T>
+        ensures of_this { NamesAtMost result (cell_of self.now) }
+    {
+        self.take_weak().0
+    }
+}
+
+impl<T: Drop> Weak<T> {
+    /// Keeps the right to wait beside this pointer, so that its calls take no `rt`.
+    pub fn with<R: Wait>(self, rt: R) -> WeakOwner<T, R>
+        ensures points { result.weak ≡ self }
+    {
+        WeakOwner { weak: self, rt }
+    }
+}
+
+impl<T: Drop, R: Wait + Copy> WeakOwner<T, R> {
+    /// Makes a new owner; `Ok(None)` if the cell is closed. Fails with `Memory` (checked first) or
+    /// `OwnersFull`.
+    pub fn upgrade(&self) -> Result<Option<Owner<T, R>>, Refusal>
+        ensures of_this { IfOk result (λ found. IfSome found (λ owner.
+            Names self.now.weak (cell_owned owner))) }
+        ensures lost { IsLost self.now.weak → result ≡ Err Refusal.Memory }
+        ensures refused { IfErr result (λ why.
+            (why ≡ Refusal.Memory) ⊎ (why ≡ Refusal.OwnersFull)) }
+    {
+        Ok(
+            self.weak
+                .upgrade(&self.rt)?
+                .map(|owner| owner.with(self.rt)),
+        )
+    }
+
+    /// Returns a future that takes the value and is not an owner; it is ready with `None` once the
+    /// last owner has ended. If the pointer cannot be counted, the future fails with `Memory`.
+    pub fn take(&self) -> With<TakeWeak<T>, R>
+        ensures of_this { NameAtMostTheSame self.now.weak result.polled.0 }
+    {
+        TakeWeak(self.weak.again()).with(self.rt)
+    }
+
+    /// Returns a future that clones the value, leaves it, and is not an owner; it is ready with
+    /// `None` once the last owner has ended. If the pointer cannot be counted, the future fails
+    /// with `Memory`.
+    pub fn get(&self) -> With<GetWeak<T>, R>
+        ensures of_this { NameAtMostTheSame self.now.weak result.polled.0 }
+    {
+        GetWeak(self.weak.again()).with(self.rt)
+    }
+}
+
+/// A clone points to the same cell.
+impl<T: Drop, R: Copy> Clone for WeakOwner<T, R> {
+    ghost is_clone = { λ weak copy. NameTheSame weak.weak copy.weak };
+
+    fn clone(&self) -> Result<WeakOwner<T, R>, AllocError> {
+        Ok(WeakOwner {
+            weak: self.weak.clone()?,
+            rt: self.rt,
+        })
+    }
+}
