@@ -4,10 +4,10 @@
 #
 #     scripts/vendor.sh [--edits] CRATE.. FOLDER
 #
-# FOLDER is the folder `crates` of the other project; it is made if it is not there. With --edits the
-# deliberate bugs (must-fail/) are copied too, so that the other project's gate tries them; without,
-# its gate is faster. What an earlier check kept (out/) is never copied. Nothing is written if a
-# crate is there already. Prints the lines for crates.txt, and the line for HANDLES.
+# FOLDER is the folder `crates` of the other project; it is made if it is not there. With --edits
+# the deliberate bugs (must-fail/) are copied too, so that the other project's gate tries them;
+# without, its gate is faster. What an earlier check kept (out/) is never copied. Nothing is written
+# if a crate is there already. Prints the lines for crates.txt, and the line for HANDLES.
 set -euo pipefail
 top=$(cd "$(dirname "$0")/.." && pwd)
 

@@ -11,8 +11,8 @@ use std::sync::Wait;
 /// early `return` leave the cancel value in the cell. Each of these ends calls `leave` on the
 /// pointer: a guard that is an owner ends its owner.
 ///
-/// **Letting one go may wait for the lock**, as its other calls may. `GuardedCell` is the guard that
-/// must be consumed by a call, so that each end stands in the program.
+/// **Letting one go may wait for the lock**, as its other calls may. `GuardedCell` is the guard
+/// that must be consumed by a call, so that each end stands in the program.
 pub struct Guard<T: Drop, C: CellRef<Value = T>, R: Wait + Drop> {
     guarded: GuardedCell<T, C>,
     rt: R,

@@ -7,7 +7,8 @@ use std::sync::Wait;
 
 /// A guard of a cell. It is not `Drop` and must be consumed: by `cancel`, which sets its cancel
 /// value if the cell holds no value, or by `release`, `set` or `or_set`. Each of these then calls
-/// `leave` on the pointer: a guard that is an owner ends its owner.
+/// `leave` on the pointer: a guard that is an owner ends its owner. `with` makes it a `Guard`,
+/// which ends by its drop.
 pub struct GuardedCell<T, C: CellRef<Value = T>> {
     pointer: C,
     cancel: T,

@@ -15,7 +15,8 @@ use std::sync::{Arc, Wait};
 /// One counted owner of a cell. The end of the last one closes the cell: the value is dropped, all
 /// waiters are woken, and weak futures are ready with `None`.
 ///
-/// It is not `Drop` and must be consumed: by `end`, `leave` or `try_into_inner`.
+/// It is not `Drop` and must be consumed: by `end`, `leave` or `try_into_inner`, or by `with`,
+/// which makes it an `Owner`, and that ends by its drop.
 pub struct Shared<T> {
     cell: Arc<AsyncCell<T>>,
 }

@@ -23,6 +23,8 @@ use std::alloc::AllocError;
 use std::sync::{Arc, Wait};
 
 /// A weak pointer to a cell. It does not count as an owner. `Shared::downgrade` makes one.
+/// `TakeWeak` and `GetWeak` make a future of it, and `with` a `WeakOwner`, whose calls take no
+/// `rt`.
 #[derive(Drop)]
 pub struct Weak<T> {
     /// `None` if the pointer could not be counted when it was made.

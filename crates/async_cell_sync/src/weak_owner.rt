@@ -17,8 +17,8 @@ use async_cell_core::Refusal;
 use std::alloc::AllocError;
 use std::sync::Wait;
 
-/// A weak pointer to a cell, with the right to wait for its lock. It does not count as an owner, and
-/// keeps the cell's memory alive, not its value. `Owner::downgrade` makes one.
+/// A weak pointer to a cell, with the right to wait for its lock. It does not count as an owner,
+/// and keeps the cell's memory alive, not its value. `Owner::downgrade` makes one.
 ///
 /// Its drop takes no lock. Dropping a future that it made may wait for the lock (see `With`).
 #[derive(Drop)]

@@ -17,11 +17,15 @@ mod meeting;
 #[cfg(test)]
 mod memory;
 #[cfg(test)]
+mod owner;
+#[cfg(test)]
 mod owners;
 #[cfg(test)]
 mod owning;
 #[cfg(test)]
 mod places;
+#[cfg(test)]
+mod stream;
 #[cfg(test)]
 mod texts;
 #[cfg(test)]

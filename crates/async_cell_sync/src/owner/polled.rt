@@ -1,4 +1,4 @@
-//! The futures and guards of an owner that keeps its right to wait. Each keeps a copy of that right.
+//! The futures and guards of an owner that keeps its right to wait. Each keeps a copy of it.
 ghost use Rattle.std.specs.Prelude.{◌≡◌, IfOk, IfErr};
 ghost use Rattle.async_cell_sync.specs.Names.{NamesAtMost};
 ghost use Rattle.async_cell_sync.specs.Owned.{cell_owned};

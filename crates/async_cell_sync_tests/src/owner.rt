@@ -1,0 +1,172 @@
+//! Owners, weak owners and guards that keep their right to wait, and end by their drop.
+use crate::checks::{holds, same};
+use crate::ticks::{task, tick_future, tick_mut};
+use async_cell_sync::{Guard, Owner, Refusal};
+use futures::task::Poll;
+use std::alloc::Global;
+use std::fmt::Debug;
+use std::process::Abort;
+use std::sync::Wait;
+
+/// The first owner of a new cell.
+pub fn first<T: Drop, R>(rt: R) -> Owner<T, R>
+where
+    R: Abort + Alloc<A = Global> + Copy + Wait,
+{
+    Owner::new(rt.alloc(), rt).expect(&rt, "there is memory")
+}
+
+/// One owner more.
+fn more<T: Drop, R: Abort + Copy + Wait>(owner: &Owner<T, R>, rt: R) -> Owner<T, R> {
+    owner.another().expect(&rt, "an owner")
+}
+
+/// A guard that is a new owner.
+fn guard_of<T: Drop, R: Abort + Copy + Wait>(
+    owner: &Owner<T, R>,
+    cancel: T,
+    rt: R,
+) -> Guard<T, Owner<T, R>, R> {
+    owner
+        .guard_shared(cancel)
+        .map_err(|(why, _)| why)
+        .expect(&rt, "a guard")
+}
+
+#[test]
+fn the_last_drop_closes_the_cell(rt: HostRuntime) {
+    let flag = task(&rt);
+    let owner: Owner<u32, _> = first(rt);
+    let second = more(&owner, rt);
+    let weak = owner.downgrade();
+    let mut taker = weak.take();
+    drop(owner);
+    holds(&rt, tick_mut(&mut taker, &flag).is_pending());
+    holds(&rt, matches!(weak.upgrade(), Ok(Some(_))));
+    holds(&rt, !flag.is_woken());
+    drop(second);
+    holds(&rt, flag.is_woken());
+    same(&rt, tick_mut(&mut taker, &flag), Poll::Ready(Ok(None)));
+    same(&rt, tick_future(weak.get(), &flag), Poll::Ready(Ok(None)));
+    holds(&rt, matches!(weak.upgrade(), Ok(None)));
+}
+
+#[test]
+fn each_call_of_an_owner(rt: HostRuntime) {
+    let owner: Owner<u32, _> = first(rt);
+    owner.set(1);
+    owner.or_set(2);
+    same(&rt, owner.replace(3), Some(1));
+    owner.update(|content| content.map(|value| value.wrapping_add(4)));
+    owner.update_some(|value| value.wrapping_mul(2));
+    same(&rt, owner.try_get(), Ok(Some(14)));
+    same(&rt, owner.try_take(), Some(14));
+    holds(&rt, !owner.is_set());
+    owner.or_set(5);
+    holds(&rt, owner.is_set());
+}
+
+/// The future of a new owner.
+fn future_of<P: Drop>(made: Result<P, Refusal>, rt: &impl Abort) -> P {
+    made.ok().expect(rt, "an owner")
+}
+
+#[test]
+fn a_future_that_is_an_owner_keeps_the_cell_open(rt: HostRuntime) {
+    let flag = task(&rt);
+    let owner: Owner<u32, _> = first(rt);
+    let getter = future_of(owner.get_shared(), &rt);
+    let taker = future_of(owner.take_shared(), &rt);
+    owner.set(4);
+    drop(owner);
+    same(&rt, tick_future(getter, &flag), Poll::Ready(Ok(4)));
+    same(&rt, tick_future(taker, &flag), Poll::Ready(Ok(4)));
+}
+
+#[test]
+fn futures_of_an_owner_wait_for_its_values(rt: HostRuntime) {
+    let flag = task(&rt);
+    let owner: Owner<(), _> = first(rt);
+    let mut waits = owner.wait();
+    holds(&rt, tick_mut(&mut waits, &flag).is_pending());
+    owner.notify();
+    holds(&rt, flag.is_woken());
+    same(&rt, tick_future(owner.get(), &flag), Poll::Ready(Ok(())));
+    same(&rt, tick_mut(&mut waits, &flag), Poll::Ready(Ok(())));
+    let last = future_of(owner.wait_shared(), &rt);
+    owner.notify();
+    same(&rt, tick_future(last, &flag), Poll::Ready(Ok(())));
+}
+
+#[test]
+fn a_sole_owner_takes_the_content(rt: HostRuntime) {
+    let owner: Owner<u32, _> = first(rt);
+    owner.set(3);
+    let second = more(&owner, rt);
+    let owner = owner.try_into_inner().err().expect(&rt, "another lives");
+    drop(second);
+    same(&rt, owner.try_into_inner().ok(), Some(Some(3)));
+}
+
+/// Reads a number into the cell. An early return leaves 0 there.
+fn read<R: Copy + Wait>(owner: &Owner<u32, R>, text: &str) -> Option<()> {
+    let guard = owner.guard(0);
+    let number = text.parse::<u32>().ok()?;
+    guard.set(number);
+    Some(())
+}
+
+#[test]
+fn a_guard_cancels_at_an_early_return(rt: HostRuntime) {
+    let owner: Owner<u32, _> = first(rt);
+    same(&rt, read(&owner, "x"), None);
+    same(&rt, owner.try_take(), Some(0));
+    same(&rt, read(&owner, "7"), Some(()));
+    same(&rt, owner.try_take(), Some(7));
+}
+
+#[test]
+fn a_guard_writes_over_no_value(rt: HostRuntime) {
+    let owner: Owner<u32, _> = first(rt);
+    owner.guard(1).release();
+    holds(&rt, !owner.is_set());
+    owner.guard(1).or_set(2);
+    same(&rt, owner.try_take(), Some(2));
+    let guard = owner.guard(1);
+    owner.set(3);
+    holds(&rt, guard.is_set());
+    drop(guard);
+    same(&rt, owner.try_take(), Some(3));
+}
+
+#[test]
+fn a_guard_that_is_an_owner_ends_its_owner(rt: HostRuntime) {
+    let flag = task(&rt);
+    let owner: Owner<u32, _> = first(rt);
+    let guard = guard_of(&owner, 5, rt);
+    let mut taker = owner.take_weak();
+    drop(owner);
+    holds(&rt, tick_mut(&mut taker, &flag).is_pending());
+    drop(guard);
+    holds(&rt, flag.is_woken());
+    same(&rt, tick_mut(&mut taker, &flag), Poll::Ready(Ok(None)));
+}
+
+/// Asserts how this prints.
+fn prints<P: Debug, R: Abort + Alloc<A = Global>>(rt: &R, shown: &P, expected: &str) {
+    let text = format!(in rt.alloc(); "{shown:?}").expect(rt, "there is memory");
+    assert_eq!(rt; text.as_str(), expected);
+}
+
+#[test]
+fn handles_print_by_their_names(rt: HostRuntime) {
+    let owner: Owner<u32, _> = first(rt);
+    owner.set(7);
+    prints(&rt, &owner, "Owner { .. }");
+    prints(&rt, &owner.downgrade(), "WeakOwner { .. }");
+    prints(&rt, &owner.guard(1), "Guard { .. }");
+    prints(&rt, &owner.take(), "With { .. }");
+    prints(&rt, &owner.cell().take(), "Take { .. }");
+    let text = owner.debug_text().expect(&rt, "there is memory");
+    assert_eq!(rt; text.as_str(), "AsyncCell::Full(7)");
+}
