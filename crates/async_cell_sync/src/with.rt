@@ -95,7 +95,7 @@ impl<C: CellRef + Drop, R: Wait + Drop> Future for With<Take<C>, R> {
     ghost needs = { λ future. C.waits_for future.polled.0 };
 
     fn poll(&mut self, cx: &mut Context<'_>) -> Poll<Result<C::Value, Refusal>> {
-        self.polled.poll_at(&mut self.place, cx, &self.rt)
+        self.polled.poll_at(Some(&mut self.place), cx, &self.rt)
     }
 }
 
@@ -108,7 +108,7 @@ where
     ghost needs = { λ future. C.waits_for future.polled.0 };
 
     fn poll(&mut self, cx: &mut Context<'_>) -> Poll<Result<C::Value, Refusal>> {
-        self.polled.poll_at(&mut self.place, cx, &self.rt)
+        self.polled.poll_at(Some(&mut self.place), cx, &self.rt)
     }
 }
 
@@ -118,7 +118,7 @@ impl<T: Drop, R: Wait + Drop> Future for With<TakeWeak<T>, R> {
     ghost needs = { λ future. IsSourceOf future.polled.0 };
 
     fn poll(&mut self, cx: &mut Context<'_>) -> Poll<Result<Option<T>, Refusal>> {
-        self.polled.poll_at(&mut self.place, cx, &self.rt)
+        self.polled.poll_at(Some(&mut self.place), cx, &self.rt)
     }
 }
 
@@ -128,6 +128,6 @@ impl<T: Clone, R: Wait + Drop> Future for With<GetWeak<T>, R> {
     ghost needs = { λ future. IsSourceOf future.polled.0 };
 
     fn poll(&mut self, cx: &mut Context<'_>) -> Poll<Result<Option<T>, Refusal>> {
-        self.polled.poll_at(&mut self.place, cx, &self.rt)
+        self.polled.poll_at(Some(&mut self.place), cx, &self.rt)
     }
 }
