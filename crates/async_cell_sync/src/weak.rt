@@ -112,13 +112,13 @@ impl<T: Drop> TakeWeak<T> {
         ensures kept { Keeps cx.old cx.new }
         ensures refused { IfReady result (λ answer. IfErr answer (λ why. why ≡ Refusal.Memory)) }
     {
-        self.poll_at(&mut Place::new(), cx, rt)
+        self.poll_at(None, cx, rt)
     }
 
-    /// `poll_shared`, for a future that waits in this place.
+    /// `poll_shared`, for a future that waits in this place, if any.
     pub(crate) fn poll_at<R: Wait>(
         &self,
-        place: &mut Place,
+        place: Option<&mut Place>,
         cx: &mut Context<'_>,
         rt: &R,
     ) -> Poll<Result<Option<T>, Refusal>>
@@ -183,13 +183,13 @@ impl<T: Clone> GetWeak<T> {
         ensures kept { Keeps cx.old cx.new }
         ensures refused { IfReady result (λ answer. IfErr answer (λ why. why ≡ Refusal.Memory)) }
     {
-        self.poll_at(&mut Place::new(), cx, rt)
+        self.poll_at(None, cx, rt)
     }
 
-    /// `poll_shared`, for a future that waits in this place.
+    /// `poll_shared`, for a future that waits in this place, if any.
     pub(crate) fn poll_at<R: Wait>(
         &self,
-        place: &mut Place,
+        place: Option<&mut Place>,
         cx: &mut Context<'_>,
         rt: &R,
     ) -> Poll<Result<Option<T>, Refusal>>

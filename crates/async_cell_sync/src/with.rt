@@ -98,7 +98,7 @@ impl<C: CellRef + Drop, R: Wait + Drop> Future for With<Take<C>, R> {
     ghost gives = { λ _. FailsWithMemoryOrClosed };
 
     fn poll(&mut self, cx: &mut Context<'_>) -> Poll<Result<C::Value, Refusal>> {
-        self.polled.poll_at(&mut self.place, cx, &self.rt)
+        self.polled.poll_at(Some(&mut self.place), cx, &self.rt)
     }
 }
 
@@ -113,7 +113,7 @@ where
     ghost gives = { λ _. FailsWithMemoryOrClosed };
 
     fn poll(&mut self, cx: &mut Context<'_>) -> Poll<Result<C::Value, Refusal>> {
-        self.polled.poll_at(&mut self.place, cx, &self.rt)
+        self.polled.poll_at(Some(&mut self.place), cx, &self.rt)
     }
 }
 
@@ -125,7 +125,7 @@ impl<T: Drop, R: Wait + Drop> Future for With<TakeWeak<T>, R> {
     ghost gives = { λ future. GivesWeakly future.polled.0 };
 
     fn poll(&mut self, cx: &mut Context<'_>) -> Poll<Result<Option<T>, Refusal>> {
-        self.polled.poll_at(&mut self.place, cx, &self.rt)
+        self.polled.poll_at(Some(&mut self.place), cx, &self.rt)
     }
 }
 
@@ -137,6 +137,6 @@ impl<T: Clone, R: Wait + Drop> Future for With<GetWeak<T>, R> {
     ghost gives = { λ future. GivesWeakly future.polled.0 };
 
     fn poll(&mut self, cx: &mut Context<'_>) -> Poll<Result<Option<T>, Refusal>> {
-        self.polled.poll_at(&mut self.place, cx, &self.rt)
+        self.polled.poll_at(Some(&mut self.place), cx, &self.rt)
     }
 }

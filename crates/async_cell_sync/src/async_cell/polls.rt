@@ -1,9 +1,10 @@
 //! Polls: each either returns `Ready`, or registers the task and stores its waker in a place of the
 //! wait list.
-ghost use Rattle.std.specs.Prelude.{◌≡◌, IfOk, IfErr};
+ghost use Rattle.std.specs.Prelude.{◌≡◌, true, IfErr};
 ghost use Rattle.std.specs.Sync.Mutex.{mutex_guard_value};
 ghost use Rattle.futures.specs.Poll.{IfReady, OnPending};
 ghost use Rattle.futures.specs.Task.{Hears, IsArmed, Keeps};
+ghost use Rattle.async_cell_model.specs.Cell.{is_vacant};
 ghost use Rattle.async_cell_sync.specs.Source.{source_of};
 
 use super::AsyncCell;
@@ -18,7 +19,7 @@ impl<T: Drop> AsyncCell<T> {
     /// the list.
     pub(crate) fn poll_take<R: Wait>(
         &self,
-        place: &mut Place,
+        place: Option<&mut Place>,
         cx: &mut Context<'_>,
         rt: &R,
     ) -> Poll<Result<Option<T>, Refusal>>
@@ -38,7 +39,7 @@ impl<T: Drop> AsyncCell<T> {
     /// `Memory` if the clone of the value fails.
     pub(crate) fn poll_get<R: Wait>(
         &self,
-        place: &mut Place,
+        place: Option<&mut Place>,
         cx: &mut Context<'_>,
         rt: &R,
     ) -> Poll<Result<Option<T>, Refusal>>
@@ -63,9 +64,56 @@ impl<T: Drop> AsyncCell<T> {
         }
     }
 
-    /// Returns the core, locked, if a poll need not wait. Otherwise waits in the place.
+    /// Returns the core, locked, if a poll need not wait. Otherwise waits in the place, or adds a
+    /// waker if there is no place.
+    #[inline(always)]
     fn lock_or_wait<'a, R: Wait>(
         &'a self,
+        place: Option<&mut Place>,
+        cx: &mut Context<'_>,
+        rt: &R,
+    ) -> Poll<Result<MutexGuard<'a, Core<T, TaskWaker>>, Refusal>>
+        ensures armed { OnPending result (IsArmed cx.new) }
+        ensures heard { OnPending result (Hears cx.new (source_of self.now)) }
+        ensures kept { Keeps cx.old cx.new }
+        ensures refused { IfReady result (λ answer. IfErr answer (λ why. why ≡ Refusal.Memory)) }
+    {
+        let core = self.core.lock(rt);
+        match place {
+            Some(place) => self.wait_at(core, place, cx, rt),
+            None if core.is_vacant() => match self.add(core, cx) {
+                Ok(()) => Poll::Pending,
+                Err(why) => Poll::Ready(Err(why)),
+            },
+            None => Poll::Ready(Ok(core)),
+        }
+    }
+
+    /// Adds a waker of the task to the wait list of the core, which must be vacant.
+    fn add(
+        &self,
+        mut core: MutexGuard<'_, Core<T, TaskWaker>>,
+        cx: &mut Context<'_>,
+    ) -> Result<(), Refusal>
+        requires { is_vacant (mutex_guard_value core).cell ≡ true }
+        ensures armed { IsArmed cx.new }
+        ensures heard { Hears cx.new (source_of self.now) }
+        ensures kept { Keeps cx.old cx.new }
+        ensures refused { IfErr result (λ why. why ≡ Refusal.Memory) }
+    {
+        let waker = TaskWaker::register(cx, &self.source).ok_or(Refusal::Memory)?;
+        let added = core.register(waker);
+        drop(core); // A waker that is dropped wakes its task: never under the lock.
+        match added {
+            Ok(_) => Ok(()),
+            Err(_) => Err(Refusal::Memory),
+        }
+    }
+
+    /// Returns the core if a poll need not wait. Otherwise waits in the place.
+    fn wait_at<'a, R: Wait>(
+        &'a self,
+        mut core: MutexGuard<'a, Core<T, TaskWaker>>,
         place: &mut Place,
         cx: &mut Context<'_>,
         rt: &R,
@@ -75,7 +123,6 @@ impl<T: Drop> AsyncCell<T> {
         ensures kept { Keeps cx.old cx.new }
         ensures refused { IfReady result (λ answer. IfErr answer (λ why. why ≡ Refusal.Memory)) }
     {
-        let mut core = self.core.lock(rt);
         if core.is_vacant() {
             core = self.register(core, place, cx, rt);
         }
