@@ -17,6 +17,8 @@ mod places;
 #[cfg(test)]
 mod reentry;
 #[cfg(test)]
+mod stream;
+#[cfg(test)]
 mod task_waker;
 #[cfg(test)]
 mod texts;
