@@ -8,6 +8,8 @@ mod bytes;
 mod calls;
 pub mod change;
 #[cfg(test)]
+mod cloned;
+#[cfg(test)]
 mod clones;
 #[cfg(test)]
 mod compared;
@@ -16,9 +18,13 @@ mod count;
 #[cfg(test)]
 mod guard;
 #[cfg(test)]
+mod in_turn;
+#[cfg(test)]
 mod laws;
 #[cfg(test)]
 mod oracle;
+#[cfg(test)]
+mod order;
 #[cfg(test)]
 mod owners;
 #[cfg(test)]

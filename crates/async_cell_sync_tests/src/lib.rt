@@ -17,6 +17,8 @@ mod meeting;
 #[cfg(test)]
 mod memory;
 #[cfg(test)]
+mod one_step;
+#[cfg(test)]
 mod owners;
 #[cfg(test)]
 mod owning;
