@@ -16,6 +16,10 @@ mod compared;
 #[cfg(test)]
 mod count;
 #[cfg(test)]
+mod drops;
+#[cfg(test)]
+mod edits;
+#[cfg(test)]
 mod guard;
 #[cfg(test)]
 mod in_turn;
