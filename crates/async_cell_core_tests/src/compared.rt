@@ -32,6 +32,11 @@ impl<'a, R: Abort, T, W: Wakes> Compared<'a, R, T, W> {
     pub fn new(rt: &'a R, core: Core<T, W>) -> Self {
         Compared { rt, core }
     }
+
+    pub fn into_core(self) -> Core<T, W> {
+        let Compared { rt: _, core } = self;
+        core
+    }
 }
 
 impl<R: Abort, T: Clone + Debug + PartialEq, W: Wakes + Debug + PartialEq> Compared<'_, R, T, W> {

@@ -8,17 +8,27 @@ mod bytes;
 mod calls;
 pub mod change;
 #[cfg(test)]
+mod cloned;
+#[cfg(test)]
 mod clones;
 #[cfg(test)]
 mod compared;
 #[cfg(test)]
 mod count;
 #[cfg(test)]
+mod drops;
+#[cfg(test)]
+mod edits;
+#[cfg(test)]
 mod guard;
+#[cfg(test)]
+mod in_turn;
 #[cfg(test)]
 mod laws;
 #[cfg(test)]
 mod oracle;
+#[cfg(test)]
+mod order;
 #[cfg(test)]
 mod owners;
 #[cfg(test)]

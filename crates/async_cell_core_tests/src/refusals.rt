@@ -187,3 +187,10 @@ fn a_refused_print_is_told(rt: HostRuntime) {
     assert!(rt; write!(Refuses, "{:?}", core.core).is_err());
     core.try_take(Some(5));
 }
+
+#[test]
+fn a_refused_print_of_wakers_is_told_and_leaves_them(rt: HostRuntime) {
+    let (_, mut wakers) = polled_by(&rt, rt.alloc(), &[ONE]).into_core().into_inner();
+    assert!(rt; write!(Refuses, "{wakers:?}").is_err());
+    same(&rt, "next", wakers.next(), Some(ONE));
+}

@@ -9,9 +9,9 @@ use std::cell::Cell;
 
 /// A waker with a name that counts its wakes.
 #[derive(Clone, Copy)]
-struct Counted<C> {
-    name: u64,
-    woken: C,
+pub struct Counted<C> {
+    pub name: u64,
+    pub woken: C,
 }
 
 impl<C: Count> Wakes for Counted<C> {

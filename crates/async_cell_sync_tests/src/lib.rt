@@ -17,6 +17,8 @@ mod meeting;
 #[cfg(test)]
 mod memory;
 #[cfg(test)]
+mod one_step;
+#[cfg(test)]
 mod owner;
 #[cfg(test)]
 mod owners;

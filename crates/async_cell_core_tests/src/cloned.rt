@@ -1,0 +1,131 @@
+//! How often a call clones its waker, or the value of its cell. A clone may take memory, and that
+//! of a waker may wake a task when it is dropped.
+ghost use Rattle.std.specs.Prelude.{◌≡◌, nat_eq, false};
+ghost use Rattle.std.proofs.Common.{rules};
+
+use crate::count::Count;
+use crate::shared::same;
+use async_cell_core::{Core, Named, Wakes};
+use std::alloc::{AllocError, Global};
+use std::cell::Cell;
+
+/// A waker that counts its clones. It would wake those of its own name.
+#[derive(Drop)]
+struct CountsClones<C> {
+    name: u64,
+    clones: C,
+}
+
+impl<C: Count + Copy> Clone for CountsClones<C> {
+    ghost is_clone = { λ a b. b ≡ a };
+
+    fn clone(&self) -> Result<Self, AllocError> {
+        let CountsClones { name, clones } = *self;
+        clones.set_count(clones.count().wrapping_add(1));
+        Ok(CountsClones { name, clones })
+    }
+}
+
+impl<C: Count + Copy> Wakes for CountsClones<C> {
+    ghost will_wake = { λ a b. nat_eq a.name b.name };
+
+    ghost SURE_CLONE = { false };
+
+    const SURE_CLONE: bool = false;
+
+    fn will_wake(&self, other: &Self) -> bool {
+        self.name == other.name
+    }
+
+    fn wake(self) {}
+
+    ghost clone_is_source = { Prim.search rules };
+
+    ghost clone_is_sure = { Prim.search rules };
+}
+
+/// The cell that is polled.
+#[derive(Clone, Copy, Debug)]
+enum At {
+    Vacant,
+    /// Waker 1 waits.
+    Awaited,
+    Full,
+    Closed,
+}
+
+type Waiting<'a> = Core<u64, CountsClones<&'a Cell<u64>>>;
+
+fn core_at(at: At, alloc: Global, clones: &Cell<u64>) -> Waiting<'_> {
+    let mut core = Core::new(alloc);
+    match at {
+        At::Vacant => {}
+        At::Awaited => drop(core.poll_take(&CountsClones { name: 1, clones })),
+        At::Full => drop(core.set(7)),
+        At::Closed => drop(core.end_owner()),
+    }
+    clones.set(0);
+    core
+}
+
+#[test]
+fn a_poll_clones_its_waker_once_if_it_is_added_and_else_never(rt: HostRuntime) {
+    let clones = Cell::new(0);
+    for (at, name, expected) in [
+        (At::Vacant, 1, 1),
+        (At::Awaited, 1, 0),
+        (At::Awaited, 2, 1),
+        (At::Full, 1, 0),
+        (At::Closed, 1, 0),
+    ] {
+        let waker = CountsClones {
+            name,
+            clones: &clones,
+        };
+        let mut core = core_at(at, rt.alloc(), &clones);
+        drop(core.poll_take(&waker));
+        same(&rt, "take", (clones.get(), name), (expected, name));
+        let mut core = core_at(at, rt.alloc(), &clones);
+        drop(core.poll_get(&waker));
+        same(&rt, "get", (clones.get(), name), (expected, name));
+    }
+}
+
+/// It holds whichever request for memory is refused.
+#[test]
+fn a_waker_is_cloned_only_where_there_is_a_place_for_it(rt: HostRuntime) {
+    let clones = Cell::new(0);
+    let mut core = core_at(At::Vacant, rt.alloc(), &clones);
+    for name in 0..20 {
+        let _ = core.poll_take(&CountsClones {
+            name,
+            clones: &clones,
+        });
+    }
+    same(&rt, "clones", clones.get(), core.waiting() as u64);
+}
+
+/// A value that counts its clones.
+#[derive(Drop)]
+struct CountsOwn<'a>(&'a Cell<u64>);
+
+impl Clone for CountsOwn<'_> {
+    fn clone(&self) -> Result<Self, AllocError> {
+        self.0.set(self.0.get().wrapping_add(1));
+        Ok(CountsOwn(self.0))
+    }
+}
+
+#[test]
+fn a_get_clones_the_value_once_and_a_take_never(rt: HostRuntime) {
+    let clones = Cell::new(0);
+    let mut core: Core<CountsOwn<'_>, Named> = Core::new_with(rt.alloc(), CountsOwn(&clones));
+    drop(core.try_get());
+    same(&rt, "try_get", clones.get(), 1);
+    drop(core.poll_get(&Named(1)));
+    same(&rt, "poll_get", clones.get(), 2);
+    drop(core.poll_take(&Named(1)));
+    drop(core.poll_get(&Named(1)));
+    drop(core.try_get());
+    same(&rt, "without a value", clones.get(), 2);
+}
