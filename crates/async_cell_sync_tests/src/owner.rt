@@ -1,8 +1,10 @@
 //! Owners, weak owners and guards that keep their right to wait, and end by their drop.
 use crate::checks::{holds, same};
 use crate::ticks::{task, tick_future, tick_mut};
-use async_cell_sync::{Guard, Owner, Refusal};
+use async_cell_sync::{Guard, Owner, Refusal, WeakOwner};
+use futures::future::Future;
 use futures::task::Poll;
+use futures::test::MockTask;
 use std::alloc::Global;
 use std::fmt::Debug;
 use std::process::Abort;
@@ -15,6 +17,22 @@ where
 {
     Owner::new(rt.alloc(), rt).expect(&rt, "there is memory")
 }
+
+/// Polls the future, which has to wait.
+fn waits<F: Future<Output: Drop>>(rt: &impl Abort, future: &mut F, flag: &MockTask)
+    requires { F.can_poll future.old }
+{
+    assert!(rt; matches!(flag.poll(future), Poll::Pending));
+}
+
+/// Asserts whether a weak owner makes an owner.
+fn is_open<R: Abort + Copy + Wait>(rt: &R, weak: &WeakOwner<u32, R>, expected: bool) {
+    let made = weak.upgrade().expect(rt, "no refusal");
+    assert_eq!(rt; made.is_some(), expected);
+}
+
+/// Drops an owner, a guard or a future.
+fn end<P: Drop>(_: P) {}
 
 /// One owner more.
 fn more<T: Drop, R: Abort + Copy + Wait>(owner: &Owner<T, R>, rt: R) -> Owner<T, R> {
@@ -40,15 +58,15 @@ fn the_last_drop_closes_the_cell(rt: HostRuntime) {
     let second = more(&owner, rt);
     let weak = owner.downgrade();
     let mut taker = weak.take();
-    drop(owner);
-    holds(&rt, tick_mut(&mut taker, &flag).is_pending());
-    holds(&rt, matches!(weak.upgrade(), Ok(Some(_))));
+    end(owner);
+    waits(&rt, &mut taker, &flag);
+    is_open(&rt, &weak, true);
     holds(&rt, !flag.is_woken());
-    drop(second);
+    end(second);
     holds(&rt, flag.is_woken());
     same(&rt, tick_mut(&mut taker, &flag), Poll::Ready(Ok(None)));
     same(&rt, tick_future(weak.get(), &flag), Poll::Ready(Ok(None)));
-    holds(&rt, matches!(weak.upgrade(), Ok(None)));
+    is_open(&rt, &weak, false);
 }
 
 #[test]
@@ -78,7 +96,7 @@ fn a_future_that_is_an_owner_keeps_the_cell_open(rt: HostRuntime) {
     let getter = future_of(owner.get_shared(), &rt);
     let taker = future_of(owner.take_shared(), &rt);
     owner.set(4);
-    drop(owner);
+    end(owner);
     same(&rt, tick_future(getter, &flag), Poll::Ready(Ok(4)));
     same(&rt, tick_future(taker, &flag), Poll::Ready(Ok(4)));
 }
@@ -87,12 +105,12 @@ fn a_future_that_is_an_owner_keeps_the_cell_open(rt: HostRuntime) {
 fn futures_of_an_owner_wait_for_its_values(rt: HostRuntime) {
     let flag = task(&rt);
     let owner: Owner<(), _> = first(rt);
-    let mut waits = owner.wait();
-    holds(&rt, tick_mut(&mut waits, &flag).is_pending());
+    let mut signal = owner.wait();
+    waits(&rt, &mut signal, &flag);
     owner.notify();
     holds(&rt, flag.is_woken());
     same(&rt, tick_future(owner.get(), &flag), Poll::Ready(Ok(())));
-    same(&rt, tick_mut(&mut waits, &flag), Poll::Ready(Ok(())));
+    same(&rt, tick_mut(&mut signal, &flag), Poll::Ready(Ok(())));
     let last = future_of(owner.wait_shared(), &rt);
     owner.notify();
     same(&rt, tick_future(last, &flag), Poll::Ready(Ok(())));
@@ -104,7 +122,7 @@ fn a_sole_owner_takes_the_content(rt: HostRuntime) {
     owner.set(3);
     let second = more(&owner, rt);
     let owner = owner.try_into_inner().err().expect(&rt, "another lives");
-    drop(second);
+    end(second);
     same(&rt, owner.try_into_inner().ok(), Some(Some(3)));
 }
 
@@ -135,7 +153,7 @@ fn a_guard_writes_over_no_value(rt: HostRuntime) {
     let guard = owner.guard(1);
     owner.set(3);
     holds(&rt, guard.is_set());
-    drop(guard);
+    end(guard);
     same(&rt, owner.try_take(), Some(3));
 }
 
@@ -145,9 +163,9 @@ fn a_guard_that_is_an_owner_ends_its_owner(rt: HostRuntime) {
     let owner: Owner<u32, _> = first(rt);
     let guard = guard_of(&owner, 5, rt);
     let mut taker = owner.take_weak();
-    drop(owner);
-    holds(&rt, tick_mut(&mut taker, &flag).is_pending());
-    drop(guard);
+    end(owner);
+    waits(&rt, &mut taker, &flag);
+    end(guard);
     holds(&rt, flag.is_woken());
     same(&rt, tick_mut(&mut taker, &flag), Poll::Ready(Ok(None)));
 }
