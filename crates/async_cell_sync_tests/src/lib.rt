@@ -5,6 +5,10 @@
 #[cfg(test)]
 mod checks;
 #[cfg(test)]
+mod cloned;
+#[cfg(test)]
+mod drops;
+#[cfg(test)]
 mod first;
 #[cfg(test)]
 mod guards;
