@@ -59,9 +59,9 @@ impl<T: Drop> Waits for GetWeak<T> {
 ///
 /// While it waits it holds one place in the cell's wait list, and each poll renews the waker there:
 /// the task that polled it last is woken. Dropping it wakes nobody, and may wait for the lock. The
-/// place is then free for the next future, and the task that polled the dropped one may be woken
-/// once more. So keep a future that you poll again: two tasks that each make, poll and drop one
-/// within every poll wake each other each time.
+/// place is then free for the next such future, and the task that polled the dropped one may be
+/// woken once more. So keep a future that you poll again: two tasks that each make, poll and drop
+/// one within every poll wake each other each time.
 pub struct With<P: Waits, R: Wait> {
     polled: P,
     rt: R,

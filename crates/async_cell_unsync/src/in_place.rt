@@ -57,9 +57,9 @@ impl<T: Drop> Waits for GetWeak<T> {
 /// wait list. Their `in_place` makes it.
 ///
 /// While it waits it holds one place, and each poll renews the waker there: the task that polled it
-/// last is woken. Dropping it wakes nobody. The place is then free for the next future, and the
-/// task that polled the dropped one may be woken once more. So keep a future that you poll again:
-/// two tasks that each make, poll and drop one within every poll wake each other each time.
+/// last is woken. Dropping it wakes nobody. The place is then free for the next such future, and
+/// the task that polled the dropped one may be woken once more. So keep a future that you poll
+/// again: two tasks that each make, poll and drop one within every poll wake each other each time.
 pub struct InPlace<P: Waits> {
     polled: P,
     place: Place,
@@ -92,7 +92,7 @@ impl<C: CellRef> Future for InPlace<Take<C>> {
     ghost needs = { λ future. C.waits_for future.polled.0 };
 
     fn poll(&mut self, cx: &mut Context<'_>) -> Poll<Result<C::Value, Refusal>> {
-        self.polled.poll_at(&mut self.place, cx)
+        self.polled.poll_at(Some(&mut self.place), cx)
     }
 }
 
@@ -105,7 +105,7 @@ where
     ghost needs = { λ future. C.waits_for future.polled.0 };
 
     fn poll(&mut self, cx: &mut Context<'_>) -> Poll<Result<C::Value, Refusal>> {
-        self.polled.poll_at(&mut self.place, cx)
+        self.polled.poll_at(Some(&mut self.place), cx)
     }
 }
 
@@ -117,7 +117,7 @@ impl<T: Drop> Future for InPlace<TakeWeak<T>> {
     ghost gives = { λ _. FailsWithMemory };
 
     fn poll(&mut self, cx: &mut Context<'_>) -> Poll<Result<Option<T>, Refusal>> {
-        self.polled.poll_at(&mut self.place, cx)
+        self.polled.poll_at(Some(&mut self.place), cx)
     }
 }
 
@@ -129,6 +129,6 @@ impl<T: Clone> Future for InPlace<GetWeak<T>> {
     ghost gives = { λ _. FailsWithMemory };
 
     fn poll(&mut self, cx: &mut Context<'_>) -> Poll<Result<Option<T>, Refusal>> {
-        self.polled.poll_at(&mut self.place, cx)
+        self.polled.poll_at(Some(&mut self.place), cx)
     }
 }

@@ -25,13 +25,13 @@ impl<C: CellRef> Take<C> {
         ensures refused { IfReady result (λ answer. IfErr answer (λ why.
             (why ≡ Refusal.Memory) ⊎ (why ≡ Refusal.Closed))) }
     {
-        self.poll_at(&mut Place::new(), cx)
+        self.poll_at(None, cx)
     }
 
-    /// `poll_shared`, for a future that waits in this place.
+    /// `poll_shared`, for a future that waits in this place, if any.
     pub(crate) fn poll_at(
         &self,
-        place: &mut Place,
+        place: Option<&mut Place>,
         cx: &mut Context<'_>,
     ) -> Poll<Result<C::Value, Refusal>>
         ensures registered { OnPending result (Covers cx.new (C.waits_for self.now.0)) }

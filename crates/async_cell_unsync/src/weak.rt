@@ -92,13 +92,13 @@ impl<T: Drop> TakeWeak<T> {
         ensures kept { Keeps cx.old cx.new }
         ensures refused { IfReady result (λ answer. IfErr answer (λ why. why ≡ Refusal.Memory)) }
     {
-        self.poll_at(&mut Place::new(), cx)
+        self.poll_at(None, cx)
     }
 
-    /// `poll_shared`, for a future that waits in this place.
+    /// `poll_shared`, for a future that waits in this place, if any.
     pub(crate) fn poll_at(
         &self,
-        place: &mut Place,
+        place: Option<&mut Place>,
         cx: &mut Context<'_>,
     ) -> Poll<Result<Option<T>, Refusal>>
         ensures lost { IsLost self.now.0 → result ≡ Poll.Ready (Err Refusal.Memory) }
@@ -167,13 +167,13 @@ impl<T: Clone> GetWeak<T> {
         ensures kept { Keeps cx.old cx.new }
         ensures refused { IfReady result (λ answer. IfErr answer (λ why. why ≡ Refusal.Memory)) }
     {
-        self.poll_at(&mut Place::new(), cx)
+        self.poll_at(None, cx)
     }
 
-    /// `poll_shared`, for a future that waits in this place.
+    /// `poll_shared`, for a future that waits in this place, if any.
     pub(crate) fn poll_at(
         &self,
-        place: &mut Place,
+        place: Option<&mut Place>,
         cx: &mut Context<'_>,
     ) -> Poll<Result<Option<T>, Refusal>>
         ensures lost { IsLost self.now.0 → result ≡ Poll.Ready (Err Refusal.Memory) }

@@ -1,14 +1,17 @@
 //! Polls: each either returns `Ready`, or registers the task and stores its waker in a place of the
 //! wait list.
-ghost use Rattle.std.specs.Prelude.{◌≡◌, IfErr};
+ghost use Rattle.std.specs.Prelude.{◌≡◌, true, IfErr};
+ghost use Rattle.std.specs.RefCell.{ref_mut_value};
 ghost use Rattle.futures.specs.Poll.{IfReady, OnPending};
 ghost use Rattle.futures.specs.Task.{Hears, IsArmed, Keeps};
+ghost use Rattle.async_cell_model.specs.Cell.{is_vacant};
 ghost use Rattle.async_cell_unsync.specs.Source.{source_of};
 
 use super::AsyncCell;
-use async_cell_core::Refusal;
-use async_cell_task::Place;
+use async_cell_core::{Core, Refusal};
+use async_cell_task::{Place, TaskWaker};
 use futures::task::{Context, Poll};
+use std::cell::RefMut;
 
 impl<T: Drop> AsyncCell<T> {
     /// Takes the value, or waits for one in the place. Returns `Ready` with `None` on a closed
@@ -16,7 +19,7 @@ impl<T: Drop> AsyncCell<T> {
     /// the list.
     pub(crate) fn poll_take(
         &self,
-        place: &mut Place,
+        place: Option<&mut Place>,
         cx: &mut Context<'_>,
     ) -> Poll<Result<Option<T>, Refusal>>
         ensures armed { OnPending result (IsArmed cx.new) }
@@ -27,6 +30,49 @@ impl<T: Drop> AsyncCell<T> {
         let Some(mut core) = self.lend() else {
             return Poll::Ready(Ok(None));
         };
+        match place {
+            Some(place) => self.take_at(core, place, cx),
+            None if core.is_vacant() => match self.add(core, cx) {
+                Ok(()) => Poll::Pending,
+                Err(why) => Poll::Ready(Err(why)),
+            },
+            None => Poll::Ready(Ok(core.try_take())),
+        }
+    }
+
+    /// Adds a waker of the task to the wait list of the core, which must be vacant.
+    fn add(
+        &self,
+        mut core: RefMut<'_, Core<T, TaskWaker>>,
+        cx: &mut Context<'_>,
+    ) -> Result<(), Refusal>
+        requires { is_vacant (ref_mut_value core).cell ≡ true }
+        ensures armed { IsArmed cx.new }
+        ensures heard { Hears cx.new (source_of self.now) }
+        ensures kept { Keeps cx.old cx.new }
+        ensures refused { IfErr result (λ why. why ≡ Refusal.Memory) }
+    {
+        let waker = TaskWaker::register(cx, &self.source).ok_or(Refusal::Memory)?;
+        let added = core.register(waker);
+        drop(core); // A waker that is dropped wakes its task: never while the core is lent.
+        match added {
+            Ok(_) => Ok(()),
+            Err(_) => Err(Refusal::Memory),
+        }
+    }
+
+    /// Takes the value, or waits for one in the place.
+    fn take_at<'a>(
+        &'a self,
+        mut core: RefMut<'a, Core<T, TaskWaker>>,
+        place: &mut Place,
+        cx: &mut Context<'_>,
+    ) -> Poll<Result<Option<T>, Refusal>>
+        ensures armed { OnPending result (IsArmed cx.new) }
+        ensures heard { OnPending result (Hears cx.new (source_of self.now)) }
+        ensures kept { Keeps cx.old cx.new }
+        ensures refused { IfReady result (λ answer. IfErr answer (λ why. why ≡ Refusal.Memory)) }
+    {
         if core.is_vacant() {
             place.lift(&mut *core);
             drop(core);
@@ -55,7 +101,7 @@ impl<T: Drop> AsyncCell<T> {
     /// `Memory` if the clone of the value fails.
     pub(crate) fn poll_get(
         &self,
-        place: &mut Place,
+        place: Option<&mut Place>,
         cx: &mut Context<'_>,
     ) -> Poll<Result<Option<T>, Refusal>>
     where
