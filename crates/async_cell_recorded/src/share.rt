@@ -1,4 +1,4 @@
-ghost use Rattle.std.specs.Prelude.{◌≡◌};
+ghost use Rattle.std.specs.Prelude.{◌≡◌, ◌<◌};
 
 use crate::marker::{CallsLedger, Marker, PickedLedger};
 use std::marker::Model;
@@ -29,9 +29,10 @@ impl<M: Marker> Model for Share<M> {
 }
 
 impl<M: Marker> Share<M> {
-    /// Returns the number of the share, from 0.
+    /// Returns the number of the share. The shares of a cell are numbered from 0.
     pub fn number(&self) -> u32
-        ensures { result ≡ self.now.number }
+        ensures same { result ≡ self.now.number }
+        ensures below { result < M.shares }
     {
         self.number
     }

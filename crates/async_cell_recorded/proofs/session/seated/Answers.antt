@@ -15,7 +15,7 @@ loop-share-preserved g c =
     let pushed = c.push_reserved.ensures in
     let step = unused_step c.in-Some.share (into_iter_items c.loop-share.share-iterator) (into_iter_items c.next.new.self) taken.0 kept.left in
     let seat : Seat ShareState g.row.O.Denot = record { number = c.number.result; share = c.in-Some.share; outcome = None } in
-    let is_new : IsNew seat = record { number_is = sym c.number.ensures; count_is = step.0.0; picked_is = step.0.1 } in
+    let is_new : IsNew seat = record { number_is = sym c.number.ensures.same; count_is = step.0.0; picked_is = step.0.1 } in
     record {
       made = rw length-append (omega (arith, pushed.len, kept.made));
       room = omega (arith, pushed.len, pushed.capacity, kept.room, taken.1);
@@ -24,5 +24,5 @@ loop-share-preserved g c =
       numbers =
           ap (λ (l : List (Seat ShareState g.row.O.Denot)). map (λ (s : Seat ShareState g.row.O.Denot). s.number) l) pushed.items
           ∙ (map-append (λ (s : Seat ShareState g.row.O.Denot). s.number) c.loop-share.seats.items (seat ∷ [])
-          ∙ ((λ i. kept.numbers i ++ c.number.ensures i ∷ []) ∙ sym (map-append (λ (s : ShareState). s.number) c.loop-share.yielded (c.in-Some.share ∷ []))));
+          ∙ ((λ i. kept.numbers i ++ c.number.ensures.same i ∷ []) ∙ sym (map-append (λ (s : ShareState). s.number) c.loop-share.yielded (c.in-Some.share ∷ []))));
     }

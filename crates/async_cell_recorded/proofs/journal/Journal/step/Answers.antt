@@ -13,7 +13,7 @@ invariant_of-self-2 g c =
     let made = c.in_ok-made.ensures in
     let history : Recording g.row.T.Denot = record { begin = c.self.inside.count.shares; entries = c.self.inside.entries.items } in
     let entry : Entry g.row.T.Denot = record { share = c.number.result; serial = c.count-2.result; call = c.in_ok-made.made.call; reply = c.in_ok-made.made.reply } in
-    let share_is = c.number.ensures in
+    let share_is = c.number.ensures.same in
     let serial_is = c.count-2.ensures in
     let within : c.args.share.now.number < c.self.inside.count.shares = omega (arith, c.next_serial.ensures.of_shares, c.self.inside.count.all) in
     let counted : slice_index c.self.inside.books.next_serials c.args.share.now.number ≡ made_by c.args.share.now.number c.self.inside.entries.items = c.self.invariant.counts_each c.args.share.now.number within in
