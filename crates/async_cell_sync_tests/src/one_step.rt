@@ -6,7 +6,7 @@ use std::sync::Wait;
 use std::thread;
 
 /// How often each of two threads makes its calls.
-const ROUNDS: u64 = 20_000;
+const ROUNDS: u64 = 10_000;
 
 /// Writes the numbers from `first` on, and returns the sum of those that it wrote over.
 fn replace_all(cell: &AsyncCell<u64>, first: u64, rt: &impl Wait) -> u64 {
@@ -67,7 +67,7 @@ enum Careful {
 }
 
 fn write_twos(write: Careful, cell: &AsyncCell<u64>, rt: &impl Wait) {
-    for _ in 0..4 * ROUNDS {
+    for _ in 0..ROUNDS {
         match write {
             Careful::OrSet => cell.or_set(2, rt),
             Careful::CancelOfAGuard => cell.guard(2).cancel(rt),
@@ -80,7 +80,7 @@ fn write_twos(write: Careful, cell: &AsyncCell<u64>, rt: &impl Wait) {
 /// it then held the same one.
 fn keeps_its_value(cell: &AsyncCell<u64>, rt: &impl Wait) -> bool {
     let mut keeps = true;
-    for _ in 0..2 * ROUNDS {
+    for _ in 0..ROUNDS / 2 {
         let _ = cell.try_take(rt);
         cell.or_set(1, rt);
         let held = cell.try_get(rt);
@@ -145,7 +145,7 @@ enum Filled {
 }
 
 fn call_often(call: Filled, cell: &AsyncCell<u64>, rt: &impl Wait) {
-    for _ in 0..ROUNDS / 2 {
+    for _ in 0..ROUNDS / 4 {
         match call {
             Filled::Prints => drop(cell.debug_text(rt)),
             Filled::Sets => cell.set(7, rt),
@@ -160,7 +160,7 @@ fn call_often(call: Filled, cell: &AsyncCell<u64>, rt: &impl Wait) {
 /// Whether the cell holds a 7 whenever it is looked at.
 fn stays_full(cell: &AsyncCell<u64>, rt: &impl Wait) -> bool {
     let mut full = true;
-    for _ in 0..ROUNDS / 2 {
+    for _ in 0..ROUNDS / 4 {
         full = full && cell.is_set(rt) && cell.try_get(rt) == Ok(Some(7));
     }
     full
