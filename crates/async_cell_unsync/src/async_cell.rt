@@ -82,6 +82,7 @@ impl<T: Drop> AsyncCell<T> {
     }
 
     /// Sets the value and returns the old one. Wakes all waiters.
+    #[inline]
     pub fn replace(&self, value: T) -> Option<T> {
         let mut core = self.lend()?;
         let replaced = core.replace(value);

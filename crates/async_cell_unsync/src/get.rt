@@ -22,6 +22,7 @@ where
     /// Polls by a shared reference. Returns `Ready` with a clone of the value. Fails with `Memory`
     /// if the clone fails, or if the poll would have to wait and there is no memory for that. Fails
     /// with `Closed` on a closed cell.
+    #[inline]
     pub fn poll_shared(&self, cx: &mut Context<'_>) -> Poll<Result<C::Value, Refusal>>
         ensures registered { OnPending result (Covers cx.new (C.waits_for self.now.0)) }
         ensures kept { Keeps cx.old cx.new }
@@ -32,6 +33,7 @@ where
     }
 
     /// `poll_shared`, for a future that waits in this place, if any.
+    #[inline(always)]
     pub(crate) fn poll_at(
         &self,
         place: Option<&mut Place>,

@@ -17,6 +17,7 @@ impl<T: Drop> AsyncCell<T> {
     /// Takes the value, or waits for one in the place. Returns `Ready` with `None` on a closed
     /// cell. Fails with `Memory` if there is no memory for the task's waker or for the growth of
     /// the list.
+    #[inline(always)]
     pub(crate) fn poll_take(
         &self,
         place: Option<&mut Place>,
@@ -99,6 +100,7 @@ impl<T: Drop> AsyncCell<T> {
 
     /// Clones the value and leaves it, or waits for one as `poll_take` does. Also fails with
     /// `Memory` if the clone of the value fails.
+    #[inline]
     pub(crate) fn poll_get(
         &self,
         place: Option<&mut Place>,

@@ -23,6 +23,7 @@ impl<T: Drop> AsyncCell<T> {
 
     /// Borrows the core for one step. Returns `None` during another step, which no caller ever
     /// sees: a step calls nothing that could call the cell.
+    #[inline(always)]
     pub(super) fn lend(&self) -> Option<RefMut<'_, Core<T, TaskWaker>>>
         ensures { IfSome result (λ core.
             IsSound ⟦<TaskWaker as Wakes>⟧.will_wake (ref_mut_value core)) }
@@ -53,6 +54,7 @@ impl<T: Drop> AsyncCell<T> {
 
     /// Clones a value that was taken out, and stores it again. Fails with `Memory` if the clone
     /// fails.
+    #[inline]
     pub(super) fn copy_back(&self, taken: Option<T>) -> Result<Option<T>, Refusal>
     where
         T: Clone,
