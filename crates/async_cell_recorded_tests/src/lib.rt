@@ -1,5 +1,6 @@
 //! Tests of the recorded cell, in a crate of their own so that the library is not proved twice, and
-//! two callers: an audit of a cell that four threads share, and a count of one kind of answers.
+//! three callers: an audit of a cell that four threads share, a count of one kind of answers, and a
+//! value that was handed to one caller alone.
 #![tactic(auto)]
 
 pub mod audit;
@@ -14,6 +15,7 @@ mod memory;
 #[cfg(test)]
 mod once;
 pub mod picks;
+pub mod taken;
 #[cfg(test)]
 mod text;
 #[cfg(test)]

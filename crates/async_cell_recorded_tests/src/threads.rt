@@ -8,28 +8,28 @@ use std::sync::atomic::{AtomicBool, Ordering};
 use std::test::Fail;
 use std::thread;
 
-/// Each of two threads replaces the value 100 times, and keeps what it was given.
+/// Each of two threads replaces the value 100 times, and keeps the entries that it was told.
 #[derive(Drop)]
 struct Replaces(Global);
 
 impl Session for Replaces {
     type Value = u32;
 
-    type Outcome = Result<Vec<Reply<u32>>, Refusal>;
+    type Outcome = Result<Vec<Entry<u32>>, Refusal>;
 
     fn run<M: Pick<u32>, R: Wait>(
         &self,
         rt: &R,
         cell: &Recorded<u32, M>,
         share: &mut Share<M>,
-    ) -> Result<Vec<Reply<u32>>, Refusal> {
-        let mut given = Vec::new(self.0);
+    ) -> Result<Vec<Entry<u32>>, Refusal> {
+        let mut told = Vec::new(self.0);
         let first = if share.number() == 0 { 0 } else { 100 };
         for value in first..first + 100 {
             let (entry, _) = cell.replace(share, value, rt)?;
-            given.push(entry.reply).map_err(|_| Refusal::Memory)?;
+            told.push(entry).map_err(|_| Refusal::Memory)?;
         }
-        Ok(given)
+        Ok(told)
     }
 }
 
@@ -41,16 +41,16 @@ fn last_put(history: &History<u32>) -> Option<u32> {
     }
 }
 
-/// Whether each share's entries have the serials 0 to 99 in order, and each replies what the thread
-/// was told by that call.
-fn is_as_told(told: &[Vec<Reply<u32>>], history: &History<u32>) -> bool {
+/// Whether each share's entries have the serials 0 to 99 in order, and each is the whole entry that
+/// the thread was told by that call: its share, its serial, the call and the reply.
+fn is_as_told(told: &[Vec<Entry<u32>>], history: &History<u32>) -> bool {
     let mut next_serials = [0u64; 2];
     for entry in history.entries() {
         let share = entry.share as usize;
-        let (Some(next), Some(replies)) = (next_serials.get_mut(share), told.get(share)) else {
+        let (Some(next), Some(entries)) = (next_serials.get_mut(share), told.get(share)) else {
             return false;
         };
-        if entry.serial != *next || replies.get(entry.serial as usize) != Some(&entry.reply) {
+        if entry.serial != *next || entries.get(entry.serial as usize) != Some(entry) {
             return false;
         }
         *next = next.wrapping_add(1);
@@ -65,14 +65,14 @@ fn each_value_that_was_put_in_is_given_once(rt: HostRuntime) -> Result<(), Fail>
     assert_eq!(rt; history.len(), 200);
     let mut values = Vec::new(alloc);
     let mut told = Vec::new(alloc);
-    for replies in given {
-        let replies = replies?;
-        for reply in &replies {
-            if let Reply::Value(Some(value)) = reply {
-                values.push(*value)?;
+    for entries in given {
+        let entries = entries?;
+        for entry in &entries {
+            if let Reply::Value(Some(value)) = entry.reply {
+                values.push(value)?;
             }
         }
-        told.push(replies)?;
+        told.push(entries)?;
     }
     assert!(rt; is_as_told(told.as_slice(), &history));
     if let Some(last) = last_put(&history) {
