@@ -59,8 +59,8 @@ where
 
 impl<C: CellRef + Drop> Get<C> {
     /// Returns the future. It stores `rt`, the right to wait for the lock, because a poll of
-    /// `futures` is not passed one. Do not use it for a `Get` of an owner, which must be consumed:
-    /// poll that by `poll_shared`.
+    /// `futures` is not passed one. A `Get` of a `Shared` must be consumed, so it has no such
+    /// future: poll it by `poll_shared`.
     pub fn with<R: Wait>(self, rt: R) -> With<Self, R>
         ensures polls { result.polled ≡ self }
     {

@@ -1,9 +1,8 @@
-//! The first example of the README.
+//! One thread waits for a value, and another sets it.
 use async_cell_sync::AsyncCell;
 use futures::executor::block_on;
 use std::{io, thread};
 
-// One thread waits for a value, and another sets it.
 #[test]
 fn one_thread_waits_and_another_sets(rt: HostRuntime) -> io::Result<()> {
     let cell = AsyncCell::new(rt.alloc());
