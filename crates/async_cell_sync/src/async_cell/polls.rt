@@ -1,5 +1,5 @@
-//! Polls: each either returns `Ready`, or registers the task and adds its waker to the wait list. The
-//! waker of a future that keeps a place is stored in that place.
+//! Polls: each either returns `Ready`, or registers the task and adds its waker to the wait list.
+//! The waker of a future that keeps a place is stored in that place.
 ghost use Rattle.std.specs.Prelude.{◌≡◌, true, IfErr};
 ghost use Rattle.std.specs.Sync.Mutex.{mutex_guard_value};
 ghost use Rattle.futures.specs.Poll.{IfReady, OnPending};
@@ -14,9 +14,9 @@ use futures::task::{Context, Poll};
 use std::sync::{MutexGuard, Wait};
 
 impl<T: Drop> AsyncCell<T> {
-    /// Takes the value, or waits for one, in the place if any. Returns `Ready` with `None` on a closed
-    /// cell. Fails with `Memory` if there is no memory for the task's waker or for the growth of
-    /// the list.
+    /// Takes the value, or waits for one, in the place if any. Returns `Ready` with `None` on a
+    /// closed cell. Fails with `Memory` if there is no memory for the task's waker or for the growth
+    /// of the list.
     pub(crate) fn poll_take<R: Wait>(
         &self,
         place: Option<&mut Place>,
