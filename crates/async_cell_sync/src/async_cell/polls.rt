@@ -15,8 +15,8 @@ use std::sync::{MutexGuard, Wait};
 
 impl<T: Drop> AsyncCell<T> {
     /// Takes the value, or waits for one, in the place if any. Returns `Ready` with `None` on a
-    /// closed cell. Fails with `Memory` if there is no memory for the task's waker or for the growth
-    /// of the list.
+    /// closed cell. Fails with `Memory` if there is no memory for the task's waker or for the
+    /// growth of the list.
     pub(crate) fn poll_take<R: Wait>(
         &self,
         place: Option<&mut Place>,

@@ -15,8 +15,8 @@ use std::cell::RefMut;
 
 impl<T: Drop> AsyncCell<T> {
     /// Takes the value, or waits for one, in the place if any. Returns `Ready` with `None` on a
-    /// closed cell. Fails with `Memory` if there is no memory for the task's waker or for the growth
-    /// of the list.
+    /// closed cell. Fails with `Memory` if there is no memory for the task's waker or for the
+    /// growth of the list.
     #[inline(always)]
     pub(crate) fn poll_take(
         &self,
