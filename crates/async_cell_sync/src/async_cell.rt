@@ -20,8 +20,8 @@ use std::sync::Wait;
 ///
 /// Wakers are woken and values are dropped after the lock is released, so whatever runs then may
 /// call the cell. The closure of an update, the clone of the value and the value's own printing run
-/// while the lock is held: one that calls its own cell waits forever. Dropping a cell takes no
-/// lock, and wakes all waiters.
+/// while the lock is held: one that calls its own cell waits forever. Dropping a cell does not take
+/// the lock, and wakes all waiters.
 ///
 /// A future made by `with` holds one place in the wait list while it waits (see `With`), so the
 /// list is no longer than the number of such futures that were alive at once. Each `poll_shared`
@@ -119,7 +119,7 @@ impl<T: Drop> AsyncCell<T> {
         self.core.is_set(rt)
     }
 
-    /// Returns the content. Wakes all waiters. Takes no lock.
+    /// Returns the content. Wakes all waiters. Does not take the lock.
     pub fn into_inner(self) -> Option<T> {
         let AsyncCell {
             core,

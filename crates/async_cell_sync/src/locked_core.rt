@@ -28,7 +28,7 @@ impl<T: Drop, W: Wakes> LockedCore<T, W> {
     pub fn lock<R: Wait>(&self, rt: &R) -> MutexGuard<'_, Core<T, W>>
         ensures kept { IsSound W.will_wake (mutex_guard_value result) }
     {
-        // A free lock is taken without waiting.
+        // To try first costs less while nobody holds the lock.
         let core = match self.core.try_lock() {
             Some(core) => core,
             None => self.core.lock(rt),
@@ -212,7 +212,7 @@ impl<T: Drop, W: Wakes> LockedCore<T, W> {
         self.lock(rt).waiting()
     }
 
-    /// Returns the content, whatever the number of owners. Wakes all waiters. Takes no lock.
+    /// Returns the content, whatever the number of owners. Wakes all waiters. Does not take the lock.
     pub fn into_inner(self) -> Option<T> {
         let LockedCore { core } = self;
         let (value, woken) = core.into_inner().into_inner();

@@ -36,11 +36,22 @@ impl<T: Drop> Shared<T> {
     }
 }
 
+impl<T: Drop> AsyncCell<T> {
+    /// Makes the first owner of this cell, as `into_shared` does, with the right to wait. Fails with
+    /// `Memory`, and then the cell is returned in the error.
+    pub fn into_owner<R: Wait + Drop>(self, rt: R) -> Result<Owner<T, R>, (Refusal, AsyncCell<T>)>
+        ensures owns { IfOk result (λ owner. cell_owned owner ≡ self) }
+        ensures comes_back { IfErr result (λ back. back ≡ (Refusal.Memory, self)) }
+    {
+        Ok(self.into_shared()?.with(rt))
+    }
+}
+
 impl<T: Drop, R: Wait + Copy> Owner<T, R> {
     /// Makes a cell without a value, and its first owner. Fails with `Memory`.
     ///
-    /// For a cell that holds a value, or that you have already, call
-    /// `AsyncCell::into_shared(cell)` and then `with(rt)`.
+    /// For a cell that you have already, as one that `AsyncCell::new_with` made, call
+    /// `AsyncCell::into_owner`.
     pub fn new(alloc: Global, rt: R) -> Result<Self, Refusal>
         ensures refused { IfErr result (λ why. why ≡ Refusal.Memory) }
     {

@@ -17,6 +17,8 @@ use std::sync::Wait;
 ///
 /// **The last value may be lost**: the end of the last owner drops a value that was not yet taken.
 /// An item is an error (`Memory`) if a poll was refused; the stream may be polled on.
+///
+/// **Dropping it may wait for the lock**, as dropping the future does that it polls (see `With`).
 #[derive(Drop)]
 pub struct Values<T: Drop, R: Wait + Drop> {
     taker: With<TakeWeak<T>, R>,

@@ -20,7 +20,7 @@ use std::sync::Wait;
 /// A weak pointer to a cell, with the right to wait for its lock. It does not count as an owner,
 /// and keeps the cell's memory alive, not its value. `Owner::downgrade` makes one.
 ///
-/// Its drop takes no lock. Dropping a future that it made may wait for the lock (see `With`).
+/// Its drop does not take the lock. Dropping a future that it made may wait for it (see `With`).
 #[derive(Drop)]
 pub struct WeakOwner<T, R> {
     weak: Weak<T>,

@@ -1,10 +1,13 @@
-ghost use Rattle.std.specs.Prelude.{◌≡◌};
+ghost use Rattle.std.specs.Prelude.{◌≡◌, ◌⊎◌, Err, IfOk, IfErr, IfSome};
+ghost use Rattle.async_cell_sync.specs.Names.{IsLost, Names};
+ghost use Rattle.async_cell_sync.specs.Owned.{cell_owned};
 ghost use Rattle.async_cell_sync.specs.Refused.{FailsWithMemoryOrClosed, GivesWeakly};
 ghost use Rattle.async_cell_sync.specs.Source.{IsSourceOf};
 
 use crate::async_cell::AsyncCell;
 use crate::cell_ref::CellRef;
 use crate::get::Get;
+use crate::owner::Owner;
 use crate::take::Take;
 use crate::weak::{GetWeak, TakeWeak};
 use async_cell_core::Refusal;
@@ -58,8 +61,8 @@ impl<T: Drop> Waits for GetWeak<T> {
 /// lock. Their `with` makes it.
 ///
 /// While it waits it holds one place in the cell's wait list, and each poll renews the waker there:
-/// the task that polled it last is woken. Dropping it wakes nobody, and may wait for the lock. The
-/// place is then free for the next such future, and the task that polled the dropped one may be
+/// the task that polled it last is woken. **Dropping it may wait for the lock**, and wakes nobody.
+/// The place is then free for the next such future, and the task that polled the dropped one may be
 /// woken once more. So keep a future that you poll again: two tasks that each make, poll and drop
 /// one within every poll wake each other each time.
 pub struct With<P: Waits, R: Wait> {
@@ -77,6 +80,38 @@ impl<P: Waits, R: Wait> With<P, R> {
             rt,
             place: Place::new(),
         }
+    }
+}
+
+impl<T: Drop, R: Wait + Copy> With<TakeWeak<T>, R> {
+    /// Makes a future that takes the value and is a new owner; `Ok(None)` if the cell is closed.
+    /// This future stays as it is. Fails with `Memory` (checked first) or `OwnersFull`.
+    pub fn upgrade(&self) -> Result<Option<With<Take<Owner<T, R>>, R>>, Refusal>
+        ensures of_this { IfOk result (λ found. IfSome found (λ future.
+            Names self.now.polled.0 (cell_owned future.polled.0))) }
+        ensures lost { IsLost self.now.polled.0 → result ≡ Err Refusal.Memory }
+        ensures refused { IfErr result (λ why.
+            (why ≡ Refusal.Memory) ⊎ (why ≡ Refusal.OwnersFull)) }
+    {
+        let rt = self.rt;
+        let owner = self.polled.0.upgrade(&rt)?;
+        Ok(owner.map(|owner| Take(owner.with(rt)).with(rt)))
+    }
+}
+
+impl<T: Drop, R: Wait + Copy> With<GetWeak<T>, R> {
+    /// Makes a future that clones the value, leaves it, and is a new owner; `Ok(None)` if the cell
+    /// is closed. This future stays as it is. Fails with `Memory` (checked first) or `OwnersFull`.
+    pub fn upgrade(&self) -> Result<Option<With<Get<Owner<T, R>>, R>>, Refusal>
+        ensures of_this { IfOk result (λ found. IfSome found (λ future.
+            Names self.now.polled.0 (cell_owned future.polled.0))) }
+        ensures lost { IsLost self.now.polled.0 → result ≡ Err Refusal.Memory }
+        ensures refused { IfErr result (λ why.
+            (why ≡ Refusal.Memory) ⊎ (why ≡ Refusal.OwnersFull)) }
+    {
+        let rt = self.rt;
+        let owner = self.polled.0.upgrade(&rt)?;
+        Ok(owner.map(|owner| Get(owner.with(rt)).with(rt)))
     }
 }
 

@@ -1,7 +1,8 @@
 //! Owners, weak owners and guards that keep their right to wait, and end by their drop.
 use crate::checks::{holds, same};
 use crate::ticks::{task, tick_future, tick_mut};
-use async_cell_sync::{Guard, Owner, Refusal, WeakOwner};
+use crate::owning::{first_owner, weak_getter, weak_taker};
+use async_cell_sync::{AsyncCell, Guard, Owner, Refusal, WeakOwner};
 use futures::future::Future;
 use futures::task::Poll;
 use futures::test::MockTask;
@@ -87,6 +88,47 @@ fn each_call_of_an_owner(rt: HostRuntime) {
 /// The future of a new owner.
 fn future_of<P: Drop>(made: Result<P, Refusal>, rt: &impl Abort) -> P {
     made.ok().expect(rt, "an owner")
+}
+
+/// The first owner of a cell that holds this value.
+fn owner_of<T: Drop, R>(value: T, rt: R) -> Owner<T, R>
+where
+    R: Abort + Alloc<A = Global> + Copy + Wait,
+{
+    AsyncCell::new_with(rt.alloc(), value)
+        .into_owner(rt)
+        .map_err(|(why, _)| why)
+        .expect(&rt, "there is memory")
+}
+
+#[test]
+fn a_cell_with_a_value_gets_its_first_owner(rt: HostRuntime) {
+    let owner = owner_of(6u32, rt);
+    let weak = owner.downgrade();
+    same(&rt, owner.try_get(), Ok(Some(6)));
+    end(owner);
+    is_open(&rt, &weak, false);
+}
+
+/// What an upgrade made, which is none on a closed cell.
+fn found<P: Drop>(made: Result<Option<P>, Refusal>, rt: &impl Abort) -> Option<P> {
+    made.ok().expect(rt, "no refusal")
+}
+
+#[test]
+fn a_weak_future_becomes_a_future_that_is_an_owner(rt: HostRuntime) {
+    let flag = task(&rt);
+    let owner = owner_of(4u32, rt);
+    let (taker, getter) = (owner.take_weak(), owner.get_weak());
+    let late = found(taker.upgrade(), &rt).expect(&rt, "the cell is open");
+    let last = found(getter.upgrade(), &rt).expect(&rt, "the cell is open");
+    end(owner);
+    same(&rt, tick_future(last, &flag), Poll::Ready(Ok(4)));
+    same(&rt, tick_future(late, &flag), Poll::Ready(Ok(4)));
+    holds(&rt, found(taker.upgrade(), &rt).is_none());
+    holds(&rt, found(getter.upgrade(), &rt).is_none());
+    same(&rt, tick_future(taker, &flag), Poll::Ready(Ok(None)));
+    same(&rt, tick_future(getter, &flag), Poll::Ready(Ok(None)));
 }
 
 #[test]
@@ -187,4 +229,19 @@ fn handles_print_by_their_names(rt: HostRuntime) {
     prints(&rt, &owner.cell().take(), "Take { .. }");
     let text = owner.debug_text().expect(&rt, "there is memory");
     assert_eq!(rt; text.as_str(), "AsyncCell::Full(7)");
+}
+
+#[test]
+fn handles_that_take_the_right_to_wait_print_by_their_names(rt: HostRuntime) {
+    let shared = first_owner::<u32, _>(&rt);
+    let guard = shared.cell().guard(1);
+    prints(&rt, &shared, "Shared { .. }");
+    prints(&rt, &guard, "GuardedCell { .. }");
+    guard.release(&rt);
+    prints(&rt, &shared.cell().get(), "Get { .. }");
+    prints(&rt, &weak_taker(&shared), "TakeWeak { .. }");
+    prints(&rt, &weak_getter(&shared), "GetWeak { .. }");
+    prints(&rt, &weak_taker(&shared).0, "Weak { .. }");
+    prints(&rt, &weak_taker(&shared).with(&rt).values(), "Values { .. }");
+    shared.end(&rt);
 }
