@@ -1,7 +1,7 @@
 //! Owners, weak owners and guards that keep their right to wait, and end by their drop.
 use crate::checks::{holds, same};
-use crate::ticks::{task, tick_future, tick_mut};
 use crate::owning::{first_owner, weak_getter, weak_taker};
+use crate::ticks::{task, tick_future, tick_mut};
 use async_cell_sync::{AsyncCell, Guard, Owner, Refusal, WeakOwner};
 use futures::future::Future;
 use futures::task::Poll;
