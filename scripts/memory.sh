@@ -41,6 +41,7 @@ async_cell_sync_tests      locked_core::polls_find_the_room_that_was_made
 async_cell_recorded_tests  memory::a_recorded_call_without_memory_leaves_no_entry
 async_cell_recorded_tests  memory::a_recorded_wait_without_memory_is_not_handed_out
 async_cell_recorded_tests  memory::a_step_without_memory_does_not_count
+async_cell_recorded_tests  memory::a_session_that_finds_no_memory_has_not_begun
 cellrun                    script::refused::want_of_memory_is_told_or_ends_the_script
 '
 

@@ -4,6 +4,8 @@
 #[cfg(test)]
 mod clones;
 #[cfg(test)]
+mod drops;
+#[cfg(test)]
 mod edits;
 mod executor;
 #[cfg(test)]
@@ -14,5 +16,7 @@ mod many;
 mod refusals;
 #[cfg(test)]
 mod takers;
+#[cfg(test)]
+mod texts;
 
 pub use executor::Executor;

@@ -121,6 +121,18 @@ fn takers_find_the_room_that_was_made(rt: HostRuntime) -> Result<(), Fail> {
     Ok(())
 }
 
+/// Calls that have memory are not refused it.
+#[test]
+fn room_is_made_whatever_the_cell_holds(rt: HostRuntime) -> Result<(), Fail> {
+    let mut driver = Driver::new(rt.alloc(), Some(1u32));
+    assert_eq!(rt; driver.reserve(3), Ok(()));
+    assert_eq!(rt; driver.try_take(), Some(1));
+    assert_eq!(rt; driver.reserve(3), Ok(()));
+    assert_eq!(rt; driver.end_owner(), Ok(()));
+    assert_eq!(rt; driver.reserve(3), Ok(()));
+    Ok(())
+}
+
 /// Three takers that poll, a value, and three polls.
 fn events() -> [Event<u32, Put>; 10] {
     [

@@ -99,6 +99,18 @@ fn a_closed_cell_is_told_once(rt: HostRuntime) -> Result<(), Fail> {
 }
 
 #[test]
+fn a_task_that_is_started_on_a_closed_cell_is_told_so(rt: HostRuntime) -> Result<(), Fail> {
+    let mut driver: Driver<u32> = Driver::new(rt.alloc(), Some(1));
+    assert_eq!(rt; driver.end_owner(), Ok(()));
+    assert_eq!(rt; driver.start(Kind::Take)?, 0);
+    assert_eq!(rt; driver.start(Kind::Get)?, 1);
+    assert_eq!(rt; driver.poll(0)?, Polled::Ready(None));
+    assert_eq!(rt; driver.settle()?, 1);
+    assert_eq!(rt; driver.result(1), Some(None));
+    Ok(())
+}
+
+#[test]
 fn a_task_that_is_not_there_is_not_ready(rt: HostRuntime) -> Result<(), Fail> {
     let mut driver: Driver<u32> = Driver::new(rt.alloc(), None);
     assert_eq!(rt; driver.poll(7)?, Polled::NotReady);

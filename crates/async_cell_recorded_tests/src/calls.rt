@@ -134,6 +134,16 @@ fn a_cell_without_calls_has_an_empty_history(rt: HostRuntime) -> Result<(), Fail
 }
 
 #[test]
+fn an_empty_history_is_carried(rt: HostRuntime) -> Result<(), Fail> {
+    let (_, history) = answers_and_history(Calls::None, rt.alloc(), &rt)?;
+    let plain = history.plain()?;
+    assert!(rt; plain.is_empty());
+    let carried = History::carry(plain).map_err(|(why, _)| why)?;
+    assert!(rt; carried.is_empty());
+    Ok(())
+}
+
+#[test]
 fn a_value_that_was_set_is_got(rt: HostRuntime) -> Result<(), Fail> {
     let (answers, history) = answers_and_history(Calls::SetAndGet, rt.alloc(), &rt)?;
     let wanted = "0 0 Set(5): Done\n\

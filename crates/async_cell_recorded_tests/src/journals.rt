@@ -78,6 +78,84 @@ fn steps_answer_as_the_calls(rt: HostRuntime) -> Result<(), Fail> {
     Ok(())
 }
 
+/// Calls on a vacant cell, on a full one and on a closed one.
+fn on_each_cell() -> [Made<Put>; 23] {
+    [
+        Made::TryTake,
+        Made::TryGet,
+        Made::IsSet,
+        Made::PollGet(Named(1)),
+        Made::PollTake(Named(2)),
+        Made::Set(2),
+        Made::Set(3),
+        Made::OrSet(4),
+        Made::Replace(5),
+        Made::AddOwner,
+        Made::EndOwner,
+        Made::TakeInner,
+        Made::Set(6),
+        Made::OrSet(6),
+        Made::Replace(6),
+        Made::UpdateSome(Put(6)),
+        Made::TryTake,
+        Made::TryGet,
+        Made::IsSet,
+        Made::PollTake(Named(1)),
+        Made::PollGet(Named(1)),
+        Made::AddOwner,
+        Made::TakeInner,
+    ]
+}
+
+/// What they answer. None lacks memory.
+const ON_EACH_CELL: &str = "0 0 TryTake: Value(None)\n\
+    0 1 TryGet: Value(None)\n\
+    0 2 IsSet: Is(false)\n\
+    0 3 PollGet(Named(1)): Pending\n\
+    0 4 PollTake(Named(2)): Pending\n\
+    0 5 Set(2): Done woke 1 woke 2\n\
+    0 6 Set(3): Done\n\
+    0 7 OrSet(4): Value(Some(4))\n\
+    0 8 Replace(5): Value(Some(3))\n\
+    0 9 AddOwner: Done\n\
+    0 10 EndOwner: Value(None)\n\
+    0 11 TakeInner: Value(Some(5))\n\
+    0 12 Set(6): Refused(Closed, Some(6))\n\
+    0 13 OrSet(6): Refused(Closed, Some(6))\n\
+    0 14 Replace(6): Refused(Closed, Some(6))\n\
+    0 15 UpdateSome { saw: None, put: None }: Refused(Closed, None)\n\
+    0 16 TryTake: Value(None)\n\
+    0 17 TryGet: Value(None)\n\
+    0 18 IsSet: Is(false)\n\
+    0 19 PollTake(Named(1)): Ready(None)\n\
+    0 20 PollGet(Named(1)): Ready(None)\n\
+    0 21 AddOwner: Refused(Closed, None)\n\
+    0 22 TakeInner: Refused(Closed, None)\n";
+
+/// Makes the steps on a new journal with one share, and notes what they answer.
+fn steps_on_each_cell<M: Pick<u32>>(alloc: Global, blanks: Blanks) -> Result<String, Refusal>
+    requires calls { (blanks.calls.name ≡ M.calls) × (blanks.calls.parts ≡ 1) }
+    requires picked { (blanks.picked.name ≡ M.picked) × (blanks.picked.parts ≡ 1) }
+    requires shares { M.shares ≡ 1 }
+{
+    let (mut journal, mut shares) = Journal::<u32, M>::new(alloc, 1, blanks)?;
+    let mut text = String::new(alloc);
+    let Some(share) = shares.first_mut() else {
+        return Err(Refusal::ShareMissing);
+    };
+    for call in on_each_cell() {
+        note(&mut text, journal.step(share, call))?;
+    }
+    Ok(text)
+}
+
+#[test]
+fn each_step_answers_on_each_cell(rt: HostRuntime) -> Result<(), Fail> {
+    let text = steps_on_each_cell::<Brand>(rt.alloc(), Blanks::new(1))?;
+    assert_eq!(rt; text.as_str(), ON_EACH_CELL);
+    Ok(())
+}
+
 /// Finishes a cell without one of its two shares, and then with both.
 fn finish_twice<M: Pick<u32>>(
     alloc: Global,

@@ -5,12 +5,13 @@ ghost use Rattle.std.specs.Prelude.{◌≡◌};
 use crate::edits::{Leave, Put};
 use async_cell_recorded::{
     Blanks, Call, CallResult, Entry, History, Journal, Kept, Named, Pick, Plain, Recorded, Refusal,
-    Reply, Share,
+    Reply, Session, Share, with_recorded,
 };
 use std::alloc::Global;
 use std::marker::Brand;
 use std::process::Abort;
 use std::sync::Wait;
+use std::sync::atomic::{AtomicBool, Ordering};
 use std::test::Fail;
 
 type Step<E> = Call<u32, Named, E>;
@@ -213,6 +214,39 @@ fn a_recorded_wait_without_memory_is_not_handed_out(rt: HostRuntime) -> Result<(
             assert_eq!(rt; count, history.len() as u64);
         }
         Err(why) => assert_eq!(rt; why, Refusal::Memory),
+    }
+    Ok(())
+}
+
+/// Notes that a thread has begun.
+#[derive(Drop)]
+struct Begins(AtomicBool);
+
+impl Session for Begins {
+    type Value = u32;
+
+    type Outcome = u32;
+
+    fn run<M: Pick<u32>, R: Wait>(
+        &self,
+        _rt: &R,
+        _cell: &Recorded<u32, M>,
+        share: &mut Share<M>,
+    ) -> u32 {
+        self.0.store(true, Ordering::SeqCst);
+        share.number()
+    }
+}
+
+#[test]
+fn a_session_that_finds_no_memory_has_not_begun(rt: HostRuntime) -> Result<(), Fail> {
+    let session = Begins(AtomicBool::new(false));
+    match with_recorded(&rt, rt.alloc(), 2, &session) {
+        Ok((numbers, _)) => assert_eq!(rt; numbers.as_slice(), [0, 1].as_slice()),
+        Err(why) => {
+            assert_eq!(rt; why, Refusal::Memory);
+            assert!(rt; !session.0.load(Ordering::SeqCst));
+        }
     }
     Ok(())
 }

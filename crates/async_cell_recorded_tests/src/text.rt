@@ -1,6 +1,7 @@
-//! What was answered, as text.
-use async_cell_recorded::{CallResult, History, Named, Refusal};
+//! What was answered, as text, and how entries are printed and compared.
+use async_cell_recorded::{CallResult, Entry, History, Kept, Named, Refusal, Reply};
 use std::fmt::Write;
+use std::test::Fail;
 
 /// Adds the entry that a call answered: its share, its serial, the call and the reply. Adds the
 /// names that it handed out.
@@ -31,4 +32,34 @@ pub fn text_of(history: &History<u32>, mut text: String) -> Result<String, Refus
         .map_err(|_| Refusal::Memory)?;
     }
     Ok(text)
+}
+
+const GOT: Entry<u32> = Entry {
+    share: 2,
+    serial: 3,
+    call: Kept::TryGet,
+    reply: Reply::Value(None),
+};
+
+#[test]
+fn entries_are_printed_and_compared_by_all_that_they_hold(rt: HostRuntime) -> Result<(), Fail> {
+    let text = format!(in rt.alloc(); "{GOT:?}")?;
+    let wanted = "Entry { share: 2, serial: 3, call: TryGet, reply: Value(None) }";
+    assert_eq!(rt; text.as_str(), wanted);
+    assert!(rt; GOT == GOT);
+    assert!(rt; GOT != Entry { share: 1, ..GOT });
+    assert!(rt; GOT != Entry { serial: 2, ..GOT });
+    assert!(rt;
+        GOT != Entry {
+            call: Kept::TryTake,
+            ..GOT
+        }
+    );
+    assert!(rt;
+        GOT != Entry {
+            reply: Reply::Pending,
+            ..GOT
+        }
+    );
+    Ok(())
 }

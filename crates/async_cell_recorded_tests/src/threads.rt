@@ -4,7 +4,7 @@ use async_cell_recorded::{
 };
 use std::alloc::Global;
 use std::sync::Wait;
-use std::sync::atomic::{AtomicBool, Ordering};
+use std::sync::atomic::{AtomicBool, AtomicU32, Ordering};
 use std::test::Fail;
 use std::thread;
 
@@ -155,6 +155,39 @@ fn no_call_waits_for_the_others_to_end(rt: HostRuntime) -> Result<(), Fail> {
         assert!(rt; met);
         assert_eq!(rt; got, Reply::Value(second));
     }
+    Ok(())
+}
+
+/// Each of four threads comes, and looks for the other three.
+#[derive(Drop)]
+struct Gathering(AtomicU32);
+
+impl Session for Gathering {
+    type Value = u32;
+
+    type Outcome = bool;
+
+    fn run<M: Pick<u32>, R: Wait>(
+        &self,
+        _rt: &R,
+        _cell: &Recorded<u32, M>,
+        _share: &mut Share<M>,
+    ) -> bool {
+        let _ = self.0.fetch_add(1, Ordering::SeqCst);
+        for _ in 0..TURNS {
+            if self.0.load(Ordering::SeqCst) == 4 {
+                return true;
+            }
+            thread::yield_now();
+        }
+        false
+    }
+}
+
+#[test]
+fn each_of_four_shares_has_a_thread_of_its_own(rt: HostRuntime) -> Result<(), Fail> {
+    let (met, _) = with_recorded(&rt, rt.alloc(), 4, &Gathering(AtomicU32::new(0)))?;
+    assert_eq!(rt; met.as_slice(), [true; 4].as_slice());
     Ok(())
 }
 

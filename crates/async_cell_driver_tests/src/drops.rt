@@ -1,0 +1,169 @@
+//! Every call drops each value and each edit once, and keeps none that the cell does not hold.
+ghost use Rattle.std.specs.Prelude.{◌≡◌, None};
+
+use async_cell_driver::{Driver, Edit, Event, Kind, Polled};
+use std::alloc::{AllocError, Global};
+use std::cell::Cell;
+use std::test::Fail;
+
+/// A value. The number of those that are alive is counted.
+struct Counted<'a>(&'a Cell<u64>);
+
+impl<'a> Counted<'a> {
+    fn new(alive: &'a Cell<u64>) -> Self {
+        alive.set(alive.get().wrapping_add(1));
+        Counted(alive)
+    }
+}
+
+impl Clone for Counted<'_> {
+    fn clone(&self) -> Result<Self, AllocError> {
+        Ok(Counted::new(self.0))
+    }
+}
+
+impl Drop for Counted<'_> {
+    fn drop(self) {
+        let Counted(alive) = self;
+        alive.set(alive.get().wrapping_sub(1));
+    }
+}
+
+/// An edit that empties a cell. It is counted as a value is, as long as it is alive.
+#[derive(Drop)]
+struct Empties<'a>(Counted<'a>);
+
+impl<'a> Edit<Counted<'a>> for Empties<'a> {
+    ghost edit = { λ empties content. None };
+
+    ghost edit_some = { λ empties value. value };
+
+    fn edit(&self, _content: Option<Counted<'a>>) -> Option<Counted<'a>>
+        ensures { result ≡ None }
+    {
+        let _ = &self.0;
+        None
+    }
+
+    fn edit_some(&self, value: Counted<'a>) -> Counted<'a>
+        ensures { result ≡ value.entry }
+    {
+        value
+    }
+}
+
+/// The event, with counted values and edits in place of none.
+fn with_values<'a>(event: Event<(), ()>, alive: &'a Cell<u64>) -> Event<Counted<'a>, Empties<'a>> {
+    match event {
+        Event::Start(kind) => Event::Start(kind),
+        Event::Poll(i) => Event::Poll(i),
+        Event::Set(()) => Event::Set(Counted::new(alive)),
+        Event::OrSet(()) => Event::OrSet(Counted::new(alive)),
+        Event::Replace(()) => Event::Replace(Counted::new(alive)),
+        Event::Update(()) => Event::Update(Empties(Counted::new(alive))),
+        Event::TryTake => Event::TryTake,
+        Event::AddOwner => Event::AddOwner,
+        Event::EndOwner => Event::EndOwner,
+    }
+}
+
+/// Makes the event happen by the call of its name.
+fn call<'a>(driver: &mut Driver<Counted<'a>>, event: Event<Counted<'a>, Empties<'a>>) {
+    match event {
+        Event::Start(kind) => drop(driver.start(kind)),
+        Event::Poll(i) => drop(driver.poll(i)),
+        Event::Set(value) => drop(driver.set(value)),
+        Event::OrSet(value) => drop(driver.or_set(value)),
+        Event::Replace(value) => drop(driver.replace(value)),
+        Event::Update(edit) => drop(driver.update(edit)),
+        Event::TryTake => drop(driver.try_take()),
+        Event::AddOwner => drop(driver.add_owner()),
+        Event::EndOwner => drop(driver.end_owner()),
+    }
+}
+
+/// Each event, and how many values are alive after it on a vacant cell, on a full one and on a
+/// closed one, once what it returned is dropped. Task 0 is a taker, and task 1 a getter.
+const TABLE: [(Event<(), ()>, [u64; 3]); 9] = [
+    (Event::Poll(0), [0, 0, 0]),
+    (Event::Poll(1), [0, 1, 0]),
+    (Event::Set(()), [1, 1, 0]),
+    (Event::OrSet(()), [1, 1, 0]),
+    (Event::Replace(()), [1, 1, 0]),
+    (Event::Update(()), [0, 0, 0]),
+    (Event::TryTake, [0, 0, 0]),
+    (Event::AddOwner, [0, 1, 0]),
+    (Event::EndOwner, [0, 0, 0]),
+];
+
+/// The driver of a vacant cell, of a full one or of a closed one, with a taker and a getter.
+fn driver_at(place: usize, alloc: Global, alive: &Cell<u64>) -> Result<Driver<Counted<'_>>, Fail> {
+    let value = if place == 1 {
+        Some(Counted::new(alive))
+    } else {
+        None
+    };
+    let mut driver = Driver::new(alloc, value);
+    driver.start(Kind::Take)?;
+    driver.start(Kind::Get)?;
+    if place == 2 {
+        driver.end_owner()?;
+    }
+    Ok(driver)
+}
+
+#[test]
+fn each_call_keeps_the_value_that_the_cell_holds_and_no_other(rt: HostRuntime) -> Result<(), Fail> {
+    let alive = Cell::new(0);
+    for (event, after) in TABLE {
+        for place in 0..3usize {
+            let mut driver = driver_at(place, rt.alloc(), &alive)?;
+            call(&mut driver, with_values(event, &alive));
+            assert_eq!(rt; alive.get(), after[place], "{event:?}, {place}");
+            drop(driver);
+            assert_eq!(rt; alive.get(), 0, "{event:?}, {place}, dropped");
+        }
+    }
+    Ok(())
+}
+
+/// A list of one event is no different, and is not refused where there is memory.
+#[test]
+fn a_list_of_one_event_keeps_the_value_that_the_cell_holds(rt: HostRuntime) -> Result<(), Fail> {
+    let alive = Cell::new(0);
+    for (event, after) in TABLE {
+        for place in 0..3usize {
+            let mut driver = driver_at(place, rt.alloc(), &alive)?;
+            let mut events = Vec::new(rt.alloc());
+            events.push(with_values(event, &alive))?;
+            assert!(rt; driver.apply(events).is_ok(), "{event:?}, {place}");
+            assert_eq!(rt; alive.get(), after[place], "{event:?}, {place}");
+        }
+    }
+    Ok(())
+}
+
+/// A value whose clones are counted.
+#[derive(Debug, Drop)]
+struct Cloned<'a>(&'a Cell<u64>);
+
+impl Clone for Cloned<'_> {
+    fn clone(&self) -> Result<Self, AllocError> {
+        self.0.set(self.0.get().wrapping_add(1));
+        Ok(Cloned(self.0))
+    }
+}
+
+#[test]
+fn a_getter_clones_the_value_once_and_a_taker_never(rt: HostRuntime) -> Result<(), Fail> {
+    let clones = Cell::new(0);
+    let mut driver = Driver::new(rt.alloc(), Some(Cloned(&clones)));
+    for kind in [Kind::Get, Kind::Get, Kind::Take] {
+        driver.start(kind)?;
+    }
+    assert!(rt; matches!(driver.poll(0)?, Polled::Ready(Some(_))));
+    assert_eq!(rt; clones.get(), 1);
+    assert_eq!(rt; driver.settle()?, 2);
+    assert_eq!(rt; clones.get(), 2);
+    Ok(())
+}
