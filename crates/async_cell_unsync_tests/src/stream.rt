@@ -69,3 +69,13 @@ fn handles_print_by_their_names(rt: HostRuntime) {
     prints(&rt, &owner.cell().guard(1), "GuardedCell { .. }");
     prints(&rt, &owner.take_weak().in_place(), "InPlace { .. }");
 }
+
+#[test]
+fn futures_and_streams_print_by_their_names(rt: HostRuntime) {
+    let owner: Shared<u32> = first_owner(&rt);
+    prints(&rt, &owner.cell().take(), "Take { .. }");
+    prints(&rt, &owner.cell().get(), "Get { .. }");
+    prints(&rt, &owner.take_weak(), "TakeWeak { .. }");
+    prints(&rt, &owner.get_weak(), "GetWeak { .. }");
+    prints(&rt, &owner.take_weak().in_place().values(), "Values { .. }");
+}
