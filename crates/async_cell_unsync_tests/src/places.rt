@@ -150,6 +150,10 @@ fn a_weak_getter_in_its_place_leaves_the_value(rt: HostRuntime) {
     let flag = task(&rt);
     let mut getter = shared.get_weak().in_place();
     shared.cell().set(4);
-    same(&rt, tick_future(&mut getter, &flag), Poll::Ready(Ok(Some(4))));
+    same(
+        &rt,
+        tick_future(&mut getter, &flag),
+        Poll::Ready(Ok(Some(4))),
+    );
     same(&rt, shared.cell().try_take(), Some(4));
 }
