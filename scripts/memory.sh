@@ -1,8 +1,9 @@
 #!/usr/bin/env bash
-# Runs the tests of want of memory with each request for memory refused in turn: with the first,
-# then with the second, and on until a run asks for no more. Prints a line a test, and at the end
-# how many passed and failed; the status is 0 if none failed. Words say which crates (none: all).
-# It proves nothing: the gate, or `rt test` in a crate, builds the tests.
+# Runs the tests of want of memory, and the program, with each request for memory refused in turn:
+# with the first, then with the second, and on until a run asks for no more. Prints a line a test,
+# and at the end how many passed and failed; the status is 0 if none failed. Words say which crates
+# (none: all). It proves nothing: the gate, or `rt test` in a crate, builds the tests, and the gate,
+# or `rt run`, the program.
 #
 # A request that is refused is one of the test's own, as for a list that it makes, and then the test
 # is to end with that error; or it is one of the calls that the test is of, and then the test is to
@@ -63,7 +64,7 @@ built() {
     local program=$top/crates/$1/out/${2:-$1_tests}
     local newer=(-path '*/out' -prune -o -name '*.rt' -newer "$program" -print -quit)
     if [ ! -x "$program" ] || [ -n "$(find "$top/crates" "${newer[@]}")" ]; then
-        echo "memory: build the tests first, by rt ci, or by rt test in crates/$1" >&2
+        echo "memory: build ${2:-the tests} first, by rt ci, or in crates/$1" >&2
         exit 1
     fi
 }
