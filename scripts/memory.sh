@@ -1,8 +1,9 @@
 #!/usr/bin/env bash
-# Runs the tests of want of memory with each request for memory refused in turn: with the first,
-# then with the second, and on until a run asks for no more. Prints a line a test, and at the end
-# how many passed and failed; the status is 0 if none failed. Words say which crates (none: all).
-# It proves nothing: the gate, or `rt test` in a crate, builds the tests.
+# Runs the tests of want of memory, and the program, with each request for memory refused in turn:
+# with the first, then with the second, and on until a run asks for no more. Prints a line a test,
+# and at the end how many passed and failed; the status is 0 if none failed. Words say which crates
+# (none: all). It proves nothing: the gate, or `rt test` in a crate, builds the tests, and the gate,
+# or `rt run`, the program.
 #
 # A request that is refused is one of the test's own, as for a list that it makes, and then the test
 # is to end with that error; or it is one of the calls that the test is of, and then the test is to
@@ -33,6 +34,8 @@ async_cell_unsync_tests    memory::a_refused_clone_leaves_the_value
 async_cell_unsync_tests    memory::a_refused_clone_for_a_weak_one_leaves_the_value
 async_cell_unsync_tests    memory::a_refused_poll_leaves_those_that_wait
 async_cell_unsync_tests    memory::a_refused_poll_may_be_made_again
+async_cell_unsync_tests    memory::a_future_that_waits_holds_a_place
+async_cell_unsync_tests    memory::a_stream_without_memory_tells_it_and_goes_on
 async_cell_unsync_tests    memory::a_text_without_memory_leaves_the_value
 async_cell_sync_tests      memory::each_refused_request_leaves_the_owners_as_they_were
 async_cell_sync_tests      memory::a_refused_poll_may_be_made_again
@@ -56,12 +59,13 @@ kit=$(dirname "$(dirname "$(readlink -f "$(command -v rt)")")")
     -fPIC -shared -nostdlib -fuse-ld=lld -o "$work/refuse.so" "$top/scripts/refuse.c"
 ulimit -c 0
 
-# Stops where the crate's tests are not built, or are older than what they were built of.
+# Stops where what is built of the crate, its tests or the program that is named, is not there or
+# older than what it is built of.
 built() {
-    local program=$top/crates/$1/out/$1_tests
+    local program=$top/crates/$1/out/${2:-$1_tests}
     local newer=(-path '*/out' -prune -o -name '*.rt' -newer "$program" -print -quit)
     if [ ! -x "$program" ] || [ -n "$(find "$top/crates" "${newer[@]}")" ]; then
-        echo "memory: build the tests first, by rt ci, or by rt test in crates/$1" >&2
+        echo "memory: build ${2:-the tests} first, by rt ci, or in crates/$1" >&2
         exit 1
     fi
 }
@@ -134,7 +138,31 @@ count_all() {
     done
 }
 
+# Runs the program with each request refused in turn. Where its third answer finds no memory, it
+# has written the two before it, and its status is 1.
+program_writes_what_came_before() {
+    local name='cellrun: the answers before one that finds no memory' number=0 status seen=''
+    built cellrun cellrun
+    while [ "$number" -eq 0 ] || [ -s "$work/refused" ]; do
+        number=$((number + 1))
+        status=0
+        printf 'own\nget 18446744073709551615\nset 7\n' |
+            timeout 20 env REFUSE="$number" LD_PRELOAD="$work/refuse.so" \
+                "$top/crates/cellrun/out/cellrun" >"$work/out" 2>&1 3>"$work/refused" ||
+            status=${PIPESTATUS[1]}
+        seen+="$status $(tr '\n' '/' <"$work/out")"$'\n'
+    done
+    if grep -qxF '1 owners 2/pending/' <<<"$seen"; then
+        passed=$((passed + 1))
+        echo "passed $name"
+    else
+        failed=$((failed + 1))
+        printf 'failed %s. Each status and text:\n%s' "$name" "$seen"
+    fi
+}
+
 count_all refused "$@" <<<"$tests"
 count_all spared "$@" <<<"$spared"
+case " ${*:-cellrun} " in *' cellrun '*) program_writes_what_came_before ;; esac
 echo "memory: $passed passed, $failed failed"
 [ "$failed" -eq 0 ] && [ "$passed" -gt 0 ]

@@ -4,6 +4,7 @@
 use crate::checks::{holds, same};
 use crate::ticks::tick_future;
 use async_cell_unsync::{AsyncCell, Refusal, Shared};
+use futures::StreamExt;
 use futures::task::Poll;
 use futures::test::MockTask;
 use std::alloc::AllocError;
@@ -179,6 +180,34 @@ fn a_refused_poll_may_be_made_again(rt: HostRuntime) -> Result<(), Fail> {
     holds(&rt, first.is_woken());
     holds(&rt, second.is_woken());
     same(&rt, tick_future(&mut taker, &first), Poll::Ready(Ok(6)));
+    Ok(())
+}
+
+#[test]
+fn a_future_that_waits_holds_a_place(rt: HostRuntime) -> Result<(), Fail> {
+    let flag = MockTask::new(&rt)?;
+    let cell: AsyncCell<u32> = AsyncCell::new(rt.alloc());
+    let mut taker = cell.take().in_place();
+    let waits = tick_future(&mut taker, &flag).is_pending();
+    holds(&rt, !waits || cell.waiting() == 1);
+    cell.set(6);
+    holds(&rt, !waits || flag.is_woken());
+    same(&rt, tick_future(&mut taker, &flag), Poll::Ready(Ok(6)));
+    Ok(())
+}
+
+#[test]
+fn a_stream_without_memory_tells_it_and_goes_on(rt: HostRuntime) -> Result<(), Fail> {
+    let flag = MockTask::new(&rt)?;
+    let owner = AsyncCell::<u32>::shared(rt.alloc()).map_err(|_| AllocError)?;
+    let mut values = owner.take_weak().in_place().values();
+    match tick_future(&mut values.next(), &flag) {
+        Poll::Ready(item) => same(&rt, item, Some(Err(Refusal::Memory))),
+        Poll::Pending => {}
+    }
+    owner.cell().set(1);
+    let next = tick_future(&mut values.next(), &flag);
+    same(&rt, next, Poll::Ready(Some(Ok(1))));
     Ok(())
 }
 

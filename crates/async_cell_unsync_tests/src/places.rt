@@ -108,3 +108,52 @@ fn a_place_of_a_past_round_is_left_alone(rt: HostRuntime) {
     holds(&rt, now.is_woken());
     holds(&rt, past.is_woken());
 }
+
+#[test]
+fn a_place_of_a_past_round_is_not_taken_again(rt: HostRuntime) {
+    let cell: AsyncCell<u32> = AsyncCell::new(rt.alloc());
+    let (past, now) = (task(&rt), task(&rt));
+    let mut getter = cell.get().in_place();
+    holds(&rt, tick_future(&mut getter, &past).is_pending());
+    cell.set(7);
+    same(&rt, cell.try_take(), Some(7));
+    let mut taker = cell.take().in_place();
+    holds(&rt, tick_future(&mut taker, &now).is_pending());
+    holds(&rt, tick_future(&mut getter, &past).is_pending());
+    same(&rt, cell.waiting(), 2);
+    holds(&rt, !now.is_woken()); // its waker stays in its place
+}
+
+/// Polls both futures of the owner's cell twice: they wait. Then they are dropped.
+fn wait_and_leave(shared: &Shared<u32>, flag: &MockTask, rt: &impl Abort) {
+    let mut taker = shared.take_weak().in_place();
+    let mut getter = shared.get_weak().in_place();
+    for _ in 0..2u32 {
+        holds(rt, tick_future(&mut taker, flag).is_pending());
+        holds(rt, tick_future(&mut getter, flag).is_pending());
+    }
+}
+
+#[test]
+fn weak_futures_hold_one_place_each_and_leave_it_free(rt: HostRuntime) {
+    let shared = first_owner(&rt);
+    let flag = task(&rt);
+    for _ in 0..3u32 {
+        wait_and_leave(&shared, &flag, &rt);
+        same(&rt, shared.cell().waiting(), 2);
+    }
+}
+
+#[test]
+fn a_weak_getter_in_its_place_leaves_the_value(rt: HostRuntime) {
+    let shared = first_owner(&rt);
+    let flag = task(&rt);
+    let mut getter = shared.get_weak().in_place();
+    shared.cell().set(4);
+    same(
+        &rt,
+        tick_future(&mut getter, &flag),
+        Poll::Ready(Ok(Some(4))),
+    );
+    same(&rt, shared.cell().try_take(), Some(4));
+}

@@ -71,7 +71,7 @@ fn handles_print_by_their_names(rt: HostRuntime) {
 }
 
 #[test]
-fn futures_print_by_their_names(rt: HostRuntime) {
+fn futures_and_streams_print_by_their_names(rt: HostRuntime) {
     let owner: Shared<u32> = first_owner(&rt);
     prints(&rt, &owner.cell().take(), "Take { .. }");
     prints(&rt, &owner.cell().get(), "Get { .. }");

@@ -313,3 +313,51 @@ fn nothing_is_written_after_a_failed_write(rt: HostRuntime) {
         }
     }
 }
+
+/// Takes no byte of what it is to write, and does not fail.
+#[derive(Drop)]
+struct Stuck;
+
+impl Write for Stuck {
+    fn write(&mut self, _: &[u8]) -> io::Result<usize> {
+        Ok(0)
+    }
+
+    fn flush(&mut self) -> io::Result<()> {
+        Ok(())
+    }
+}
+
+#[test]
+fn a_writer_that_takes_nothing_fails_the_script(rt: HostRuntime) {
+    let (ended, _) = script(rt.alloc(), "own\n".as_bytes(), Stuck);
+    assert_eq!(rt; ended, Ended::Failed);
+}
+
+/// Gives a line that lacks its line feed, then its end, and then further bytes, as a terminal can.
+#[derive(Drop)]
+struct Resumed {
+    reads: u64,
+}
+
+impl Read for Resumed {
+    fn read(&mut self, buf: &mut [u8]) -> io::Result<usize> {
+        self.reads = self.reads.saturating_add(1);
+        if self.reads == 2 || buf.len() < 3 {
+            return Ok(0);
+        }
+        buf[..3].copy_from_slice(b"own");
+        Ok(3)
+    }
+}
+
+#[test]
+fn nothing_is_read_after_the_end(rt: HostRuntime) {
+    let lines = Cell::new(0);
+    let writer = Narrow {
+        room: usize::MAX,
+        lines: &lines,
+    };
+    let (ended, _) = script(rt.alloc(), Resumed { reads: 0 }, writer);
+    assert_eq!(rt; (ended, lines.get()), (Ended::Done, 1));
+}
