@@ -1,7 +1,8 @@
 //! Each write is one step: no call of another thread comes in between. Every result is the same
 //! whatever the schedule.
 use crate::checks::{holds, holds_at, same};
-use async_cell_sync::AsyncCell;
+use crate::owner::first;
+use async_cell_sync::{AsyncCell, Owner};
 use std::sync::Wait;
 use std::thread;
 
@@ -184,4 +185,36 @@ fn a_full_cell_never_looks_empty_meanwhile(rt: HostRuntime) {
         );
         holds_at(&rt, &call, full);
     }
+}
+
+fn or_set_twos<R: Drop + Wait>(owner: &Owner<u64, R>) {
+    for _ in 0..ROUNDS {
+        owner.or_set(2);
+    }
+}
+
+#[test]
+fn an_or_set_of_an_owner_never_writes_over_a_value(rt: HostRuntime) {
+    let owner: Owner<u64, _> = first(rt);
+    let (keeps, ()) = thread::join(
+        &rt,
+        || keeps_its_value(owner.cell(), &rt),
+        || or_set_twos(&owner),
+    );
+    holds(&rt, keeps);
+}
+
+fn count_up<R: Drop + Wait>(owner: &Owner<u64, R>) {
+    for _ in 0..ROUNDS {
+        owner.update(|content| content.map(|count| count.saturating_add(1)));
+        owner.update_some(|count| count.saturating_add(1));
+    }
+}
+
+#[test]
+fn updates_of_an_owner_by_two_threads_lose_none(rt: HostRuntime) {
+    let owner: Owner<u64, _> = first(rt);
+    owner.set(0);
+    thread::join(&rt, || count_up(&owner), || count_up(&owner));
+    same(&rt, owner.try_take(), Some(4 * ROUNDS));
 }
