@@ -39,6 +39,8 @@ async_cell_unsync_tests    memory::a_stream_without_memory_tells_it_and_goes_on
 async_cell_unsync_tests    memory::a_text_without_memory_leaves_the_value
 async_cell_sync_tests      memory::each_refused_request_leaves_the_owners_as_they_were
 async_cell_sync_tests      memory::a_refused_poll_may_be_made_again
+async_cell_sync_tests      memory::each_future_that_waits_holds_a_place
+async_cell_sync_tests      memory::a_stream_without_memory_tells_it_and_goes_on
 async_cell_sync_tests      memory::a_refused_new_owner_is_none
 async_cell_sync_tests      locked_core::polls_find_the_room_that_was_made
 async_cell_recorded_tests  memory::a_recorded_call_without_memory_leaves_no_entry

@@ -255,13 +255,13 @@ fn a_value_whose_clone_is_refused_stays_in_the_core(rt: HostRuntime) {
 #[test]
 fn polls_find_the_room_that_was_made(rt: HostRuntime) {
     let cell: Locked = LockedCore::new(Core::new(rt.alloc()));
-    if reserve(&cell, 3, &rt).is_err() {
-        same(&rt, reserve(&cell, 3, &rt), Ok(()));
+    if reserve(&cell, 9, &rt).is_err() {
+        same(&rt, reserve(&cell, 9, &rt), Ok(()));
     }
-    for name in 1..4 {
+    for name in 1..10 {
         same(&rt, poll_take(&cell, name, &rt), Ok(Poll::Pending));
     }
-    same(&rt, cell.waiting(&rt), 3);
+    same(&rt, cell.waiting(&rt), 9);
     same(&rt, set(&cell, 5, &rt), Ok(()));
     same(&rt, cell.waiting(&rt), 0);
     same(&rt, reserve(&cell, usize::MAX, &rt), Err(Refusal::Memory));

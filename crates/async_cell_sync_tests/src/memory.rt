@@ -2,8 +2,9 @@
 //! whichever request is refused, and scripts/memory.sh refuses each in turn. Where that is one of
 //! what is made first, the test ends with that error.
 use crate::checks::{holds, same};
+use crate::stream::next;
 use crate::ticks::{Tick, tick_mut};
-use async_cell_sync::{AsyncCell, GetWeak, Refusal, Shared};
+use async_cell_sync::{AsyncCell, GetWeak, Owner, Refusal, Shared};
 use futures::task::Poll;
 use futures::test::MockTask;
 use std::alloc::{AllocError, Global};
@@ -228,6 +229,41 @@ fn a_refused_poll_may_be_made_again(rt: HostRuntime) -> Result<(), Fail> {
     holds(&rt, first.is_woken());
     holds(&rt, second.is_woken());
     same(&rt, tick_mut(&mut taker, &first), Poll::Ready(Ok(6)));
+    Ok(())
+}
+
+#[test]
+fn each_future_that_waits_holds_a_place(rt: HostRuntime) -> Result<(), Fail> {
+    let first = MockTask::new(&rt)?;
+    let second = MockTask::new(&rt)?;
+    let cell: AsyncCell<u32> = AsyncCell::new(rt.alloc());
+    let mut taker = cell.take().with(&rt);
+    let mut getter = cell.get().with(&rt);
+    let takes = tick_mut(&mut taker, &first).is_pending();
+    let gets = tick_mut(&mut getter, &second).is_pending();
+    let places = usize::from(takes).saturating_add(usize::from(gets));
+    same(&rt, cell.waiting(&rt), places);
+    cell.set(6, &rt);
+    holds(&rt, !takes || first.is_woken());
+    holds(&rt, !gets || second.is_woken());
+    same(&rt, tick_mut(&mut taker, &first), Poll::Ready(Ok(6)));
+    Ok(())
+}
+
+#[test]
+fn a_stream_without_memory_tells_it_and_goes_on(rt: HostRuntime) -> Result<(), Fail> {
+    let flag = MockTask::new(&rt)?;
+    let owner: Owner<u32, _> = Owner::new(rt.alloc(), rt).map_err(|_| AllocError)?;
+    let mut values = owner.take_weak().values();
+    holds(
+        &rt,
+        matches!(
+            next(&mut values, &flag),
+            Poll::Pending | Poll::Ready(Some(Err(Refusal::Memory)))
+        ),
+    );
+    owner.set(1);
+    same(&rt, next(&mut values, &flag), Poll::Ready(Some(Ok(1))));
     Ok(())
 }
 

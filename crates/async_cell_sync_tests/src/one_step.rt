@@ -1,7 +1,8 @@
 //! Each write is one step: no call of another thread comes in between. Every result is the same
 //! whatever the schedule.
 use crate::checks::{holds, holds_at, same};
-use async_cell_sync::AsyncCell;
+use crate::owner::first;
+use async_cell_sync::{AsyncCell, Owner};
 use std::sync::Wait;
 use std::thread;
 
@@ -76,15 +77,12 @@ fn write_twos(write: Careful, cell: &AsyncCell<u64>, rt: &impl Wait) {
     }
 }
 
-/// Empties the cell again and again, and looks at it twice once it holds a value. Returns whether
-/// it then held the same one.
+/// Puts a value in again and again, and takes it. Returns whether it was there each time.
 fn keeps_its_value(cell: &AsyncCell<u64>, rt: &impl Wait) -> bool {
     let mut keeps = true;
-    for _ in 0..ROUNDS / 2 {
-        let _ = cell.try_take(rt);
-        cell.or_set(1, rt);
-        let held = cell.try_get(rt);
-        keeps = keeps && held != Ok(None) && cell.try_get(rt) == held;
+    for _ in 0..ROUNDS {
+        let _ = cell.replace(1, rt);
+        keeps = keeps && cell.try_take(rt) == Some(1);
     }
     keeps
 }
@@ -184,4 +182,40 @@ fn a_full_cell_never_looks_empty_meanwhile(rt: HostRuntime) {
         );
         holds_at(&rt, &call, full);
     }
+}
+
+fn or_set_twos<R: Drop + Wait>(owner: &Owner<u64, R>) {
+    for _ in 0..ROUNDS {
+        owner.or_set(2);
+    }
+}
+
+#[test]
+fn an_or_set_of_an_owner_never_writes_over_a_value(rt: HostRuntime) {
+    let owner: Owner<u64, _> = first(rt);
+    let (keeps, ()) = thread::join(
+        &rt,
+        || keeps_its_value(owner.cell(), &rt),
+        || or_set_twos(&owner),
+    );
+    holds(&rt, keeps);
+}
+
+/// Counts up, and returns the sum of the counts that it replaced by 0.
+fn count_up<R: Drop + Wait>(owner: &Owner<u64, R>) -> u64 {
+    let mut counted = 0u64;
+    for _ in 0..ROUNDS {
+        owner.update(|content| content.map(|count| count.saturating_add(1)));
+        owner.update_some(|count| count.saturating_add(1));
+        counted = counted.saturating_add(owner.replace(0).unwrap_or(0));
+    }
+    counted
+}
+
+#[test]
+fn updates_of_an_owner_by_two_threads_lose_none(rt: HostRuntime) {
+    let owner: Owner<u64, _> = first(rt);
+    owner.set(0);
+    let (counted, other) = thread::join(&rt, || count_up(&owner), || count_up(&owner));
+    same(&rt, counted.saturating_add(other), 4 * ROUNDS);
 }

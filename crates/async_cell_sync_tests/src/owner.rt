@@ -1,5 +1,6 @@
 //! Owners, weak owners and guards that keep their right to wait, and end by their drop.
 use crate::checks::{holds, same};
+use crate::owners::cloned;
 use crate::owning::{first_owner, weak_getter, weak_taker};
 use crate::ticks::{task, tick_future, tick_mut};
 use async_cell_sync::{AsyncCell, Guard, Owner, Refusal, WeakOwner};
@@ -91,7 +92,7 @@ fn future_of<P: Drop>(made: Result<P, Refusal>, rt: &impl Abort) -> P {
 }
 
 /// The first owner of a cell that holds this value.
-fn owner_of<T: Drop, R>(value: T, rt: R) -> Owner<T, R>
+pub fn owner_of<T: Drop, R>(value: T, rt: R) -> Owner<T, R>
 where
     R: Abort + Alloc<A = Global> + Copy + Wait,
 {
@@ -141,6 +142,37 @@ fn a_future_that_is_an_owner_keeps_the_cell_open(rt: HostRuntime) {
     end(owner);
     same(&rt, tick_future(getter, &flag), Poll::Ready(Ok(4)));
     same(&rt, tick_future(taker, &flag), Poll::Ready(Ok(4)));
+}
+
+#[test]
+fn a_future_that_is_an_owner_ends_it_by_its_drop(rt: HostRuntime) {
+    let flag = task(&rt);
+    let owner: Owner<(), _> = first(rt);
+    let weak = owner.take_weak();
+    end(future_of(owner.take_shared(), &rt));
+    end(future_of(owner.get_shared(), &rt));
+    end(future_of(owner.wait_shared(), &rt));
+    end(owner);
+    same(&rt, tick_future(weak, &flag), Poll::Ready(Ok(None)));
+}
+
+#[test]
+fn a_clone_of_a_weak_owner_and_its_futures_are_no_owners(rt: HostRuntime) {
+    let flag = task(&rt);
+    let owner = owner_of(4u32, rt);
+    let weak = cloned(&owner.downgrade(), &rt);
+    same(
+        &rt,
+        tick_future(weak.get(), &flag),
+        Poll::Ready(Ok(Some(4))),
+    );
+    same(
+        &rt,
+        tick_future(weak.take(), &flag),
+        Poll::Ready(Ok(Some(4))),
+    );
+    end(owner);
+    is_open(&rt, &weak, false);
 }
 
 #[test]
@@ -200,9 +232,20 @@ fn a_guard_writes_over_no_value(rt: HostRuntime) {
 }
 
 #[test]
+fn a_set_of_a_guard_writes_over_a_value_and_an_or_set_does_not(rt: HostRuntime) {
+    let owner = owner_of(4u32, rt);
+    owner.guard(1).or_set(5);
+    same(&rt, owner.try_get(), Ok(Some(4)));
+    owner.guard(1).set(6);
+    same(&rt, owner.try_take(), Some(6));
+    holds(&rt, !owner.guard(1).is_set());
+}
+
+#[test]
 fn a_guard_that_is_an_owner_ends_its_owner(rt: HostRuntime) {
     let flag = task(&rt);
     let owner: Owner<u32, _> = first(rt);
+    guard_of(&owner, 5, rt).release(); // one owner is left
     let guard = guard_of(&owner, 5, rt);
     let mut taker = owner.take_weak();
     end(owner);
@@ -242,6 +285,10 @@ fn handles_that_take_the_right_to_wait_print_by_their_names(rt: HostRuntime) {
     prints(&rt, &weak_taker(&shared), "TakeWeak { .. }");
     prints(&rt, &weak_getter(&shared), "GetWeak { .. }");
     prints(&rt, &weak_taker(&shared).0, "Weak { .. }");
-    prints(&rt, &weak_taker(&shared).with(&rt).values(), "Values { .. }");
+    prints(
+        &rt,
+        &weak_taker(&shared).with(&rt).values(),
+        "Values { .. }",
+    );
     shared.end(&rt);
 }

@@ -90,7 +90,7 @@ fn try_into_inner_wants_a_sole_owner(rt: HostRuntime) {
 }
 
 /// A clone.
-fn cloned<P: Clone>(one: &P, rt: &impl Abort) -> P {
+pub fn cloned<P: Clone>(one: &P, rt: &impl Abort) -> P {
     let clone: Result<P, AllocError> = one.clone();
     clone.ok().expect(rt, "a clone")
 }

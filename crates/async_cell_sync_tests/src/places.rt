@@ -1,6 +1,6 @@
 //! Futures made by `with` each hold one place in the wait list.
 use crate::checks::{holds, same};
-use crate::owning::{first_owner, weak_taker};
+use crate::owning::{first_owner, weak_getter, weak_taker};
 use crate::ticks::{task, tick_mut, tick_take};
 use async_cell_sync::{AsyncCell, Shared, Take, With};
 use futures::FutureExt;
@@ -106,6 +106,42 @@ fn a_place_of_a_past_round_is_left_alone(rt: HostRuntime) {
     cell.set(8, &rt);
     holds(&rt, now.is_woken());
     holds(&rt, past.is_woken());
+}
+
+#[test]
+fn a_place_of_a_past_round_is_not_taken_again(rt: HostRuntime) {
+    let cell: AsyncCell<u32> = AsyncCell::new(rt.alloc());
+    let (past, now) = (task(&rt), task(&rt));
+    let mut getter = cell.get().with(&rt);
+    holds(&rt, tick_mut(&mut getter, &past).is_pending());
+    cell.set(7, &rt);
+    same(&rt, cell.try_take(&rt), Some(7));
+    let mut taker = cell.take().with(&rt);
+    holds(&rt, tick_mut(&mut taker, &now).is_pending());
+    holds(&rt, tick_mut(&mut getter, &past).is_pending());
+    same(&rt, cell.waiting(&rt), 2);
+    holds(&rt, !now.is_woken()); // its waker stays in its place
+}
+
+/// Polls a taker and a getter of the owner's cell twice: they wait. Then they are dropped.
+fn wait_and_leave(shared: &Shared<u32>, flag: &MockTask, rt: &(impl Abort + Wait)) {
+    let mut taker = weak_taker(shared).with(rt);
+    let mut getter = weak_getter(shared).with(rt);
+    for _ in 0..2u32 {
+        holds(rt, tick_mut(&mut taker, flag).is_pending());
+        holds(rt, tick_mut(&mut getter, flag).is_pending());
+    }
+}
+
+#[test]
+fn weak_futures_hold_one_place_each_and_leave_it_free(rt: HostRuntime) {
+    let shared: Shared<u32> = first_owner(&rt);
+    let flag = task(&rt);
+    for _ in 0..3u32 {
+        wait_and_leave(&shared, &flag, &rt);
+        same(&rt, shared.cell().waiting(&rt), 2);
+    }
+    shared.end(&rt);
 }
 
 /// How many values are set.

@@ -9,7 +9,7 @@ use futures::test::MockTask;
 use std::sync::Wait;
 
 /// Polls the stream once.
-fn next<R: Drop + Wait>(
+pub fn next<R: Drop + Wait>(
     values: &mut Values<u32, R>,
     flag: &MockTask,
 ) -> Poll<Option<Result<u32, Refusal>>> {

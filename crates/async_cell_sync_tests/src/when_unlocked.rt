@@ -1,9 +1,10 @@
 //! Wakers are woken, and values dropped, after the lock is free: the other thread uses the lock
 //! meanwhile.
-use crate::checks::holds_at;
+use crate::checks::{holds, holds_at};
 use crate::meeting::{ComesWhenDropped, ComesWhenWoken, Meeting};
+use crate::owner::owner_of;
 use async_cell_core::{Core, Named, Poll};
-use async_cell_sync::{AsyncCell, LockedCore};
+use async_cell_sync::{AsyncCell, LockedCore, WeakOwner};
 use std::alloc::Global;
 use std::sync::Wait;
 use std::thread;
@@ -135,17 +136,18 @@ enum Letting {
     Set,
     OrSet,
     CancelOfAGuard,
+    SkippedUpdateSome,
 }
 
 type Cell<'a> = AsyncCell<Option<ComesWhenDropped<'a>>>;
 
-/// A full cell, whose value comes when the call drops it.
-fn full_cell_for<'a>(call: Letting, meeting: &'a Meeting, rt: &impl Alloc<A = Global>) -> Cell<'a> {
-    let old = match call {
-        Letting::Set => Some(ComesWhenDropped(meeting)),
-        Letting::OrSet | Letting::CancelOfAGuard => None,
-    };
-    AsyncCell::new_with(rt.alloc(), old)
+/// A cell for the call: full, but for the call whose closure is not called.
+fn cell_of<'a>(call: Letting, meeting: &'a Meeting, rt: &impl Alloc<A = Global>) -> Cell<'a> {
+    match call {
+        Letting::Set => AsyncCell::new_with(rt.alloc(), Some(ComesWhenDropped(meeting))),
+        Letting::OrSet | Letting::CancelOfAGuard => AsyncCell::new_with(rt.alloc(), None),
+        Letting::SkippedUpdateSome => AsyncCell::new(rt.alloc()),
+    }
 }
 
 fn let_go_by<'a>(call: Letting, cell: &Cell<'a>, meeting: &'a Meeting, rt: &impl Wait) {
@@ -153,14 +155,23 @@ fn let_go_by<'a>(call: Letting, cell: &Cell<'a>, meeting: &'a Meeting, rt: &impl
         Letting::Set => cell.set(None, rt),
         Letting::OrSet => cell.or_set(Some(ComesWhenDropped(meeting)), rt),
         Letting::CancelOfAGuard => cell.guard(Some(ComesWhenDropped(meeting))).cancel(rt),
+        Letting::SkippedUpdateSome => {
+            let value = ComesWhenDropped(meeting);
+            cell.update_some(move |_| Some(value), rt);
+        }
     }
 }
 
 #[test]
 fn values_of_a_cell_are_dropped_after_the_lock_is_free(rt: HostRuntime) {
-    for call in [Letting::Set, Letting::OrSet, Letting::CancelOfAGuard] {
+    for call in [
+        Letting::Set,
+        Letting::OrSet,
+        Letting::CancelOfAGuard,
+        Letting::SkippedUpdateSome,
+    ] {
         let meeting = Meeting::new();
-        let cell = full_cell_for(call, &meeting, &rt);
+        let cell = cell_of(call, &meeting, &rt);
         let ((), came) = thread::join(
             &rt,
             || let_go_by(call, &cell, &meeting, &rt),
@@ -174,4 +185,27 @@ fn values_of_a_cell_are_dropped_after_the_lock_is_free(rt: HostRuntime) {
         holds_at(&rt, &call, came);
         holds_at(&rt, &call, meeting.has_met());
     }
+}
+
+/// Whether a weak owner finds the cell closed. It takes the lock to see.
+fn is_closed<T: Drop, R: Copy + Wait>(weak: &WeakOwner<T, R>) -> bool {
+    weak.upgrade().is_ok_and(|found| found.is_none())
+}
+
+#[test]
+fn the_value_of_a_closed_cell_is_dropped_after_the_lock_is_free(rt: HostRuntime) {
+    let meeting = Meeting::new();
+    let owner = owner_of(ComesWhenDropped(&meeting), rt);
+    let weak = owner.downgrade();
+    let ((), seen) = thread::join(
+        &rt,
+        || drop(owner),
+        || {
+            let seen = meeting.await_other() && is_closed(&weak);
+            meeting.answer();
+            seen
+        },
+    );
+    holds(&rt, seen);
+    holds(&rt, meeting.has_met());
 }
