@@ -34,7 +34,7 @@ async_cell_unsync_tests    memory::a_refused_clone_leaves_the_value
 async_cell_unsync_tests    memory::a_refused_clone_for_a_weak_one_leaves_the_value
 async_cell_unsync_tests    memory::a_refused_poll_leaves_those_that_wait
 async_cell_unsync_tests    memory::a_refused_poll_may_be_made_again
-async_cell_unsync_tests    memory::a_future_that_waits_holds_a_place
+async_cell_unsync_tests    memory::each_future_that_waits_holds_a_place
 async_cell_unsync_tests    memory::a_stream_without_memory_tells_it_and_goes_on
 async_cell_unsync_tests    memory::a_text_without_memory_leaves_the_value
 async_cell_sync_tests      memory::each_refused_request_leaves_the_owners_as_they_were

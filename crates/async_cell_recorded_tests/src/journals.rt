@@ -79,7 +79,7 @@ fn steps_answer_as_the_calls(rt: HostRuntime) -> Result<(), Fail> {
 }
 
 /// Calls on a vacant cell, on a full one and on a closed one.
-fn on_each_cell() -> [Made<Put>; 23] {
+fn on_each_cell() -> [Made<Put>; 24] {
     [
         Made::TryTake,
         Made::TryGet,
@@ -104,6 +104,7 @@ fn on_each_cell() -> [Made<Put>; 23] {
         Made::PollGet(Named(1)),
         Made::AddOwner,
         Made::TakeInner,
+        Made::EndOwner,
     ]
 }
 
@@ -130,7 +131,8 @@ const ON_EACH_CELL: &str = "0 0 TryTake: Value(None)\n\
     0 19 PollTake(Named(1)): Ready(None)\n\
     0 20 PollGet(Named(1)): Ready(None)\n\
     0 21 AddOwner: Refused(Closed, None)\n\
-    0 22 TakeInner: Refused(Closed, None)\n";
+    0 22 TakeInner: Refused(Closed, None)\n\
+    0 23 EndOwner: Refused(Closed, None)\n";
 
 /// Makes the steps on a new journal with one share, and notes what they answer.
 fn steps_on_each_cell<M: Pick<u32>>(alloc: Global, blanks: Blanks) -> Result<String, Refusal>

@@ -242,7 +242,7 @@ impl Session for Begins {
 fn a_session_that_finds_no_memory_has_not_begun(rt: HostRuntime) -> Result<(), Fail> {
     let session = Begins(AtomicBool::new(false));
     match with_recorded(&rt, rt.alloc(), 2, &session) {
-        Ok((numbers, _)) => assert_eq!(rt; numbers.as_slice(), [0, 1].as_slice()),
+        Ok((numbers, _history)) => assert_eq!(rt; numbers.as_slice(), [0, 1].as_slice()),
         Err(why) => {
             assert_eq!(rt; why, Refusal::Memory);
             assert!(rt; !session.0.load(Ordering::SeqCst));

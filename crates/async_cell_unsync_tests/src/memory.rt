@@ -184,15 +184,20 @@ fn a_refused_poll_may_be_made_again(rt: HostRuntime) -> Result<(), Fail> {
 }
 
 #[test]
-fn a_future_that_waits_holds_a_place(rt: HostRuntime) -> Result<(), Fail> {
-    let flag = MockTask::new(&rt)?;
+fn each_future_that_waits_holds_a_place(rt: HostRuntime) -> Result<(), Fail> {
+    let first = MockTask::new(&rt)?;
+    let second = MockTask::new(&rt)?;
     let cell: AsyncCell<u32> = AsyncCell::new(rt.alloc());
     let mut taker = cell.take().in_place();
-    let waits = tick_future(&mut taker, &flag).is_pending();
-    holds(&rt, !waits || cell.waiting() == 1);
+    let mut getter = cell.get().in_place();
+    let takes = tick_future(&mut taker, &first).is_pending();
+    let gets = tick_future(&mut getter, &second).is_pending();
+    let places = usize::from(takes).saturating_add(usize::from(gets));
+    same(&rt, cell.waiting(), places);
     cell.set(6);
-    holds(&rt, !waits || flag.is_woken());
-    same(&rt, tick_future(&mut taker, &flag), Poll::Ready(Ok(6)));
+    holds(&rt, !takes || first.is_woken());
+    holds(&rt, !gets || second.is_woken());
+    same(&rt, tick_future(&mut taker, &first), Poll::Ready(Ok(6)));
     Ok(())
 }
 
