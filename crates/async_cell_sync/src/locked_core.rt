@@ -212,7 +212,8 @@ impl<T: Drop, W: Wakes> LockedCore<T, W> {
         self.lock(rt).waiting()
     }
 
-    /// Returns the content, whatever the number of owners. Wakes all waiters. Does not take the lock.
+    /// Returns the content, whatever the number of owners. Wakes all waiters. Does not take the
+    /// lock.
     pub fn into_inner(self) -> Option<T> {
         let LockedCore { core } = self;
         let (value, woken) = core.into_inner().into_inner();
