@@ -252,8 +252,11 @@ fn each_future_that_waits_holds_a_place(rt: HostRuntime) -> Result<(), Fail> {
 
 #[test]
 fn a_stream_without_memory_tells_it_and_goes_on(rt: HostRuntime) -> Result<(), Fail> {
+    let first = MockTask::new(&rt)?;
     let flag = MockTask::new(&rt)?;
     let owner: Owner<u32, _> = Owner::new(rt.alloc(), rt).map_err(|_| AllocError)?;
+    let mut getter = owner.get();
+    let _ = tick_mut(&mut getter, &first);
     let mut values = owner.take_weak().values();
     holds(
         &rt,

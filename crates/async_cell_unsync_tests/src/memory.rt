@@ -203,8 +203,11 @@ fn each_future_that_waits_holds_a_place(rt: HostRuntime) -> Result<(), Fail> {
 
 #[test]
 fn a_stream_without_memory_tells_it_and_goes_on(rt: HostRuntime) -> Result<(), Fail> {
+    let first = MockTask::new(&rt)?;
     let flag = MockTask::new(&rt)?;
     let owner = AsyncCell::<u32>::shared(rt.alloc()).map_err(|_| AllocError)?;
+    let mut getter = owner.cell().get().in_place();
+    let _ = tick_future(&mut getter, &first);
     let mut values = owner.take_weak().in_place().values();
     match tick_future(&mut values.next(), &flag) {
         Poll::Ready(item) => same(&rt, item, Some(Err(Refusal::Memory))),
