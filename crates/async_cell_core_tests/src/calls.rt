@@ -1,6 +1,6 @@
 //! One call at a time.
 use crate::compared::{Compared, polled_by};
-use crate::shared::{ONE, THREE, TWO, assert_wakers};
+use crate::shared::{ONE, THREE, TWO, assert_wakers, same};
 use async_cell_core::{Core, Named, Poll};
 use std::alloc::{AllocError, Global};
 use std::process::Abort;
@@ -119,4 +119,28 @@ fn one_asks_and_another_answers(rt: HostRuntime) {
     }
     assert_eq!(rt; core.poll_take(&Named(1)), Ok(Poll::Ready(Some(7))));
     assert_eq!(rt; core.try_take(), None);
+}
+
+#[test]
+fn the_debug_text_has_that_of_the_value_and_no_owners(rt: HostRuntime) -> Result<(), Fail> {
+    let alloc = rt.alloc();
+    let core: Core<Option<u64>, Named> = Core::new_with(alloc, Some(5));
+    let text = format!(in alloc; "{core:?}")?;
+    assert_eq!(rt; text.as_str(), "AsyncCell::Full(Some(5))");
+    let core: Core<u64, Named> = Core::owned_by(alloc, None, 2);
+    let text = format!(in alloc; "{core:?}")?;
+    assert_eq!(rt; text.as_str(), "AsyncCell::Empty");
+    Ok(())
+}
+
+#[test]
+fn a_note_lasts_until_the_wakers_are_handed_out(rt: HostRuntime) {
+    let mut core = polled_by(&rt, rt.alloc(), &[ONE]).into_core();
+    let (round, note) = core.round_and_note();
+    same(&rt, "new", note, 0);
+    core.set_note(5);
+    same(&rt, "set", core.round_and_note(), (round, 5));
+    drop(core.set(7));
+    let next = (round.wrapping_add(1), 0);
+    same(&rt, "handed out", core.round_and_note(), next);
 }

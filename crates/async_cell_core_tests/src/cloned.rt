@@ -1,11 +1,11 @@
 //! How often a call clones its waker, or the value of its cell. A clone may take memory, and that
 //! of a waker may wake a task when it is dropped.
-ghost use Rattle.std.specs.Prelude.{◌≡◌, nat_eq, false};
+ghost use Rattle.std.specs.Prelude.{◌≡◌, nat_eq, false, None};
 ghost use Rattle.std.proofs.Common.{rules};
 
 use crate::count::Count;
 use crate::shared::same;
-use async_cell_core::{Core, Named, Wakes};
+use async_cell_core::{Call, Core, Edit, Named, Wakes, step};
 use std::alloc::{AllocError, Global};
 use std::cell::Cell;
 
@@ -128,4 +128,77 @@ fn a_get_clones_the_value_once_and_a_take_never(rt: HostRuntime) {
     drop(core.poll_get(&Named(1)));
     drop(core.try_get());
     same(&rt, "without a value", clones.get(), 2);
+}
+
+/// An edit that empties a cell, and keeps a value.
+#[derive(Clone, Copy)]
+struct Empties;
+
+impl<'a> Edit<CountsOwn<'a>> for Empties {
+    ghost edit = { λ empties content. None };
+
+    ghost edit_some = { λ empties value. value };
+
+    fn edit(&self, _content: Option<CountsOwn<'a>>) -> Option<CountsOwn<'a>>
+        ensures { result ≡ None }
+    {
+        None
+    }
+
+    fn edit_some(&self, value: CountsOwn<'a>) -> CountsOwn<'a>
+        ensures { result ≡ value.entry }
+    {
+        value
+    }
+}
+
+#[test]
+fn a_get_by_step_clones_the_value_once(rt: HostRuntime) {
+    let clones = Cell::new(0);
+    let mut core: Core<CountsOwn<'_>, Named> = Core::new_with(rt.alloc(), CountsOwn(&clones));
+    let gets: [Call<CountsOwn<'_>, Named, Empties>; 2] = [Call::TryGet, Call::PollGet(Named(1))];
+    for get in gets {
+        drop(step(&mut core, get));
+        same(&rt, "clones", clones.replace(0), 1);
+    }
+}
+
+/// A value that counts its clones, each of which is refused.
+#[derive(Drop)]
+struct CountsRefused<'a>(&'a Cell<u64>);
+
+impl Clone for CountsRefused<'_> {
+    fn clone(&self) -> Result<Self, AllocError> {
+        self.0.set(self.0.get().wrapping_add(1));
+        Err(AllocError)
+    }
+}
+
+#[test]
+fn a_refused_clone_is_not_tried_again(rt: HostRuntime) {
+    let clones = Cell::new(0);
+    let value = CountsRefused(&clones);
+    let mut core: Core<CountsRefused<'_>, Named> = Core::new_with(rt.alloc(), value);
+    drop(core.try_get());
+    same(&rt, "try_get", clones.replace(0), 1);
+    drop(core.poll_get(&Named(1)));
+    same(&rt, "poll_get", clones.replace(0), 1);
+}
+
+#[test]
+fn a_registered_waker_is_added_or_comes_back_and_is_not_cloned(rt: HostRuntime) {
+    let clones = Cell::new(0);
+    let mut core: Waiting<'_> = Core::new(rt.alloc());
+    for (name, back, waiting) in [(1, None, 1), (2, None, 2), (1, Some(1), 2)] {
+        if core.is_vacant() {
+            let waker = CountsClones {
+                name,
+                clones: &clones,
+            };
+            let unused = core.register(waker).ok().flatten();
+            same(&rt, "unused", unused.map(|waker| waker.name), back);
+        }
+        same(&rt, "waiting", core.waiting(), waiting);
+    }
+    same(&rt, "clones", clones.get(), 0);
 }

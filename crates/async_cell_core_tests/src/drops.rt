@@ -128,3 +128,57 @@ fn the_end_of_a_guard_keeps_the_value_that_the_cell_holds_and_no_other(rt: HostR
         same(&rt, "dropped", alive.get(), 0);
     }
 }
+
+#[test]
+fn a_closure_is_dropped_whether_it_is_called_or_not(rt: HostRuntime) {
+    let (values, alive) = (Cell::new(0), Cell::new(0));
+    for place in 0..3usize {
+        let mut core = core_at(place, rt.alloc(), &values);
+        let held = Counted::new(&alive);
+        let _ = core.update_some(move |value| {
+            drop(held);
+            value
+        });
+        same(&rt, "update_some", (place, alive.get()), (place, 0));
+        let held = Counted::new(&alive);
+        drop(core.update(move |content| {
+            drop(held);
+            content
+        }));
+        same(&rt, "update", (place, alive.get()), (place, 0));
+    }
+}
+
+/// A counted edit, which keeps what it is called with.
+impl Edit<u64> for Counted<'_> {
+    ghost edit = { λ counted content. content };
+
+    ghost edit_some = { λ counted value. value };
+
+    fn edit(&self, content: Option<u64>) -> Option<u64>
+        ensures { result ≡ content }
+    {
+        content
+    }
+
+    fn edit_some(&self, value: u64) -> u64
+        ensures { result ≡ value }
+    {
+        value
+    }
+}
+
+#[test]
+fn an_edit_is_dropped_whether_it_is_called_or_not(rt: HostRuntime) {
+    let alive = Cell::new(0);
+    for (content, owners) in [(None, 1), (Some(5), 1), (None, 0)] {
+        let mut core: Core<u64, Named> = Core::owned_by(rt.alloc(), content, 1);
+        if owners == 0 {
+            drop(core.end_owner());
+        }
+        drop(step(&mut core, Call::Update(Counted::new(&alive))));
+        same(&rt, "update", (content, alive.get()), (content, 0));
+        drop(step(&mut core, Call::UpdateSome(Counted::new(&alive))));
+        same(&rt, "update_some", (content, alive.get()), (content, 0));
+    }
+}

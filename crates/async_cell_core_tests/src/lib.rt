@@ -26,6 +26,8 @@ mod in_turn;
 #[cfg(test)]
 mod laws;
 #[cfg(test)]
+mod noted;
+#[cfg(test)]
 mod oracle;
 #[cfg(test)]
 mod order;

@@ -91,3 +91,20 @@ fn no_call_wakes_and_the_drop_wakes_those_that_stay(rt: HostRuntime) {
         same(&rt, "dropped", woken.replace(0), stay);
     }
 }
+
+#[test]
+fn a_dropped_core_wakes_many_in_order_whatever_its_owners(rt: HostRuntime) {
+    const MANY: u64 = 100;
+    for owners in [1u32, 2, 3, u32::MAX] {
+        let woken = Cell::new(0);
+        let mut core: Turns<'_> = Core::owned_by(rt.alloc(), None, owners.max(1));
+        for number in 0..MANY {
+            let _ = core.poll_take(&InTurn {
+                number,
+                woken: &woken,
+            });
+        }
+        drop(core);
+        same(&rt, "dropped", woken.get(), MANY);
+    }
+}

@@ -105,3 +105,10 @@ fn two_thousand_names_come_out_in_order(rt: HostRuntime) {
     }
     assert_eq!(rt; woken.next(), None);
 }
+
+#[test]
+fn much_room_is_made(rt: HostRuntime) {
+    let mut core = polled_by(&rt, rt.alloc(), &[ONE]);
+    core.reserve(10_000, Ok(()));
+    core.waiting(1);
+}

@@ -1,0 +1,116 @@
+//! What becomes of the wakers: a call drops those that do not wait, and asks each at most once.
+ghost use Rattle.std.specs.Prelude.{◌≡◌, nat_eq, false};
+ghost use Rattle.std.proofs.Common.{rules};
+
+use crate::change::Change;
+use crate::count::Count;
+use crate::shared::same;
+use async_cell_core::{Call, Core, Wakes, step};
+use std::alloc::AllocError;
+use std::cell::Cell;
+use std::process::Abort;
+
+/// A waker. Those that are alive are counted, and how often any is asked whom it would wake.
+struct Noted<C: Count + Copy> {
+    name: u64,
+    alive: C,
+    asked: C,
+}
+
+impl<C: Count + Copy> Clone for Noted<C> {
+    ghost is_clone = { λ a b. b ≡ a };
+
+    fn clone(&self) -> Result<Self, AllocError> {
+        let alive = self.alive;
+        alive.set_count(alive.count().wrapping_add(1));
+        Ok(Noted {
+            name: self.name,
+            alive,
+            asked: self.asked,
+        })
+    }
+}
+
+impl<C: Count + Copy> Drop for Noted<C> {
+    fn drop(self) {
+        let Noted {
+            name: _,
+            alive,
+            asked: _,
+        } = self;
+        alive.set_count(alive.count().wrapping_sub(1));
+    }
+}
+
+impl<C: Count + Copy> Wakes for Noted<C> {
+    ghost will_wake = { λ a b. nat_eq a.name b.name };
+
+    ghost SURE_CLONE = { false };
+
+    const SURE_CLONE: bool = false;
+
+    fn will_wake(&self, other: &Self) -> bool {
+        self.asked.set_count(self.asked.count().wrapping_add(1));
+        self.name == other.name
+    }
+
+    fn wake(self) {}
+
+    ghost clone_is_source = { Prim.search rules };
+
+    ghost clone_is_sure = { Prim.search rules };
+}
+
+type Waiting<'a> = Core<u64, Noted<&'a Cell<u64>>>;
+
+/// Polls by `step`, to take or to get, and asserts that those alone are alive that wait.
+fn polls<'a>(
+    rt: &impl Abort,
+    core: &mut Waiting<'a>,
+    name: u64,
+    alive: &'a Cell<u64>,
+    asked: &'a Cell<u64>,
+) {
+    for takes in [false, true] {
+        alive.set(alive.get().wrapping_add(1));
+        let waker = Noted { name, alive, asked };
+        let call: Call<u64, Noted<&'a Cell<u64>>, Change> = if takes {
+            Call::PollTake(waker)
+        } else {
+            Call::PollGet(waker)
+        };
+        drop(step(core, call));
+        same(rt, "polled", alive.get(), core.waiting() as u64);
+    }
+}
+
+#[test]
+fn no_call_keeps_a_waker_but_of_those_that_wait(rt: HostRuntime) {
+    let (alive, asked) = (Cell::new(0u64), Cell::new(0u64));
+    let mut core: Waiting<'_> = Core::new(rt.alloc());
+    for name in 1..4 {
+        polls(&rt, &mut core, name, &alive, &asked);
+    }
+    drop(core.set(7));
+    same(&rt, "handed out", alive.get(), 0);
+    polls(&rt, &mut core, 1, &alive, &asked);
+    polls(&rt, &mut core, 2, &alive, &asked);
+    drop(core);
+    same(&rt, "dropped", alive.get(), 0);
+}
+
+#[test]
+fn a_poll_asks_in_order_up_to_the_first_that_would_wake_it(rt: HostRuntime) {
+    let (alive, asked) = (Cell::new(0u64), Cell::new(0u64));
+    let mut core: Waiting<'_> = Core::new(rt.alloc());
+    for (name, expected) in [(1, 0), (1, 1), (2, 1), (2, 2), (1, 1)] {
+        alive.set(alive.get().wrapping_add(1));
+        let waker = Noted {
+            name,
+            alive: &alive,
+            asked: &asked,
+        };
+        drop(core.poll_take(&waker));
+        same(&rt, "asked", asked.replace(0), expected);
+    }
+}
