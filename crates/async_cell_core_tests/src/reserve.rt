@@ -38,6 +38,15 @@ fn a_full_cell_is_given_room(rt: HostRuntime) {
     core.set(5, &[TWO, THREE]);
 }
 
+#[test]
+fn room_is_made_beside_those_that_wait(rt: HostRuntime) {
+    let mut core = polled_by(&rt, rt.alloc(), &[ONE]);
+    reserve(&mut core, 8);
+    core.wait(&[TWO, THREE, FOUR]);
+    reserve(&mut core, 20);
+    core.set(5, &[ONE, TWO, THREE, FOUR]);
+}
+
 /// Updates a value that is there to its third and four more.
 fn update<R: Abort>(rt: &R, core: &mut Compared<'_, R, u64, Named>) {
     let updated = core

@@ -152,3 +152,49 @@ fn a_waker_that_wakes_all_keeps_the_others_out(rt: HostRuntime) {
     core.waiting(1);
     core.set(0, &[All(1)]);
 }
+
+/// A waker with a name that counts whom it is compared with.
+#[derive(Clone, Copy)]
+struct Asked<C> {
+    name: u64,
+    asked: C,
+}
+
+impl<C: Count> Wakes for Asked<C> {
+    ghost will_wake = { λ a b. nat_eq a.name b.name };
+
+    ghost SURE_CLONE = { true };
+
+    const SURE_CLONE: bool = true;
+
+    fn will_wake(&self, other: &Self) -> bool {
+        self.asked.set_count(self.asked.count().wrapping_add(1));
+        self.name == other.name
+    }
+
+    fn wake(self) {}
+
+    ghost clone_is_source = { Prim.search rules };
+
+    ghost clone_is_sure = { Prim.search rules };
+}
+
+#[test]
+fn no_waiting_waker_after_the_one_that_skips_it_is_asked(rt: HostRuntime) {
+    let asked = Cell::new(0);
+    let mut core: Core<u64, Asked<&Cell<u64>>> = Core::new(rt.alloc());
+    for name in 1..4u64 {
+        let _ = core.poll_take(&Asked {
+            name,
+            asked: &asked,
+        });
+    }
+    for name in 1..4u64 {
+        asked.set(0);
+        let _ = core.poll_take(&Asked {
+            name,
+            asked: &asked,
+        });
+        assert_eq!(rt; asked.get(), name);
+    }
+}

@@ -4,8 +4,10 @@ use crate::ticks::{task, tick_future};
 use async_cell_unsync::{AsyncCell, InPlace, Shared, Take};
 use futures::task::Poll;
 use futures::test::MockTask;
-use std::alloc::Global;
+use std::alloc::{AllocError, Global};
 use std::process::Abort;
+use std::random::RandomSource;
+use std::test::Fail;
 
 /// Polls the future a hundred times: it waits.
 fn waits_often(future: &mut InPlace<Take<&AsyncCell<u32>>>, flag: &MockTask, rt: &impl Abort) {
@@ -156,4 +158,110 @@ fn a_weak_getter_in_its_place_leaves_the_value(rt: HostRuntime) {
         Poll::Ready(Ok(Some(4))),
     );
     same(&rt, shared.cell().try_take(), Some(4));
+}
+
+/// Makes the cell hand out all that wait, and leaves it empty.
+fn fill_and_empty(cell: &AsyncCell<u32>, rt: &impl Abort) {
+    cell.set(7);
+    same(rt, cell.try_take(), Some(7));
+}
+
+#[test]
+fn a_place_is_given_up_with_its_value(rt: HostRuntime) {
+    let cell: AsyncCell<u32> = AsyncCell::new(rt.alloc());
+    let (first, second) = (task(&rt), task(&rt));
+    let mut early = cell.take().in_place();
+    holds(&rt, tick_future(&mut early, &first).is_pending());
+    cell.set(7);
+    same(&rt, tick_future(&mut early, &first), Poll::Ready(Ok(7)));
+    let mut late = cell.get().in_place();
+    holds(&rt, tick_future(&mut late, &second).is_pending());
+    holds(&rt, tick_future(&mut early, &first).is_pending());
+    same(&rt, cell.waiting(), 2);
+    holds(&rt, !second.is_woken());
+}
+
+#[test]
+fn a_place_of_two_rounds_ago_is_not_taken_again(rt: HostRuntime) {
+    let cell: AsyncCell<u32> = AsyncCell::new(rt.alloc());
+    let (past, now) = (task(&rt), task(&rt));
+    let mut getter = cell.get().in_place();
+    holds(&rt, tick_future(&mut getter, &past).is_pending());
+    fill_and_empty(&cell, &rt);
+    fill_and_empty(&cell, &rt);
+    let mut taker = cell.take().in_place();
+    holds(&rt, tick_future(&mut taker, &now).is_pending());
+    holds(&rt, tick_future(&mut getter, &past).is_pending());
+    same(&rt, cell.waiting(), 2);
+    holds(&rt, !now.is_woken());
+}
+
+#[test]
+fn a_free_place_of_a_past_round_is_not_taken_over(rt: HostRuntime) {
+    let cell: AsyncCell<u32> = AsyncCell::new(rt.alloc());
+    let (first, second) = (task(&rt), task(&rt));
+    holds(
+        &rt,
+        tick_future(&mut cell.take().in_place(), &first).is_pending(),
+    );
+    fill_and_empty(&cell, &rt);
+    let mut taker = cell.take().in_place();
+    let mut getter = cell.get().in_place();
+    holds(&rt, tick_future(&mut taker, &second).is_pending());
+    holds(&rt, tick_future(&mut getter, &first).is_pending());
+    same(&rt, cell.waiting(), 2);
+    holds(&rt, !second.is_woken());
+}
+
+#[test]
+fn a_future_of_a_past_round_takes_a_free_place_over(rt: HostRuntime) {
+    let cell: AsyncCell<u32> = AsyncCell::new(rt.alloc());
+    let flag = task(&rt);
+    let mut getter = cell.get().in_place();
+    holds(&rt, tick_future(&mut getter, &flag).is_pending());
+    fill_and_empty(&cell, &rt);
+    holds(
+        &rt,
+        tick_future(&mut cell.take().in_place(), &flag).is_pending(),
+    );
+    holds(&rt, tick_future(&mut getter, &flag).is_pending());
+    same(&rt, cell.waiting(), 1);
+}
+
+const MANY: usize = 40;
+
+/// A future and the task that polls it.
+type Polled<'a> = (InPlace<Take<&'a AsyncCell<u32>>>, MockTask);
+
+/// So many new futures that wait, each polled by its own task.
+fn many<'a, R>(cell: &'a AsyncCell<u32>, rt: &R) -> Result<Vec<Polled<'a>>, AllocError>
+where
+    R: RandomSource + AllocGlobal + Abort,
+{
+    let mut futures = Vec::new(rt.alloc());
+    for _ in 0..MANY {
+        let mut polled = (cell.take().in_place(), task(rt));
+        holds(rt, tick_future(&mut polled.0, &polled.1).is_pending());
+        futures.push(polled).map_err(|_| AllocError)?;
+    }
+    Ok(futures)
+}
+
+#[test]
+fn each_of_many_futures_holds_its_own_place(rt: HostRuntime) -> Result<(), Fail> {
+    let cell: AsyncCell<u32> = AsyncCell::new(rt.alloc());
+    drop(many(&cell, &rt)?);
+    let mut futures = many(&cell, &rt)?;
+    for polled in &mut futures {
+        holds(&rt, tick_future(&mut polled.0, &polled.1).is_pending());
+    }
+    same(&rt, cell.waiting(), MANY);
+    for polled in &futures {
+        holds(&rt, !polled.1.is_woken());
+    }
+    cell.set(7);
+    for polled in &futures {
+        holds(&rt, polled.1.is_woken());
+    }
+    Ok(())
 }
