@@ -6,7 +6,6 @@ use futures::task::Poll;
 use futures::test::MockTask;
 use std::alloc::{AllocError, Global};
 use std::process::Abort;
-use std::random::RandomSource;
 use std::test::Fail;
 
 /// Polls the future a hundred times: it waits.
@@ -230,19 +229,19 @@ fn a_future_of_a_past_round_takes_a_free_place_over(rt: HostRuntime) {
 
 const MANY: usize = 40;
 
-/// A future and the task that polls it.
-type Polled<'a> = (InPlace<Take<&'a AsyncCell<u32>>>, MockTask);
-
-/// So many new futures that wait, each polled by its own task.
-fn many<'a, R>(cell: &'a AsyncCell<u32>, rt: &R) -> Result<Vec<Polled<'a>>, AllocError>
-where
-    R: RandomSource + AllocGlobal + Abort,
-{
+/// So many new futures, which wait.
+fn many<'a>(
+    cell: &'a AsyncCell<u32>,
+    flag: &MockTask,
+    rt: &(impl AllocGlobal + Abort),
+) -> Result<Vec<InPlace<Take<&'a AsyncCell<u32>>>>, AllocError> {
     let mut futures = Vec::new(rt.alloc());
     for _ in 0..MANY {
-        let mut polled = (cell.take().in_place(), task(rt));
-        holds(rt, tick_future(&mut polled.0, &polled.1).is_pending());
-        futures.push(polled).map_err(|_| AllocError)?;
+        let mut future = cell.take().in_place();
+        holds(rt, tick_future(&mut future, flag).is_pending());
+        if futures.push(future).is_err() {
+            return Err(AllocError);
+        }
     }
     Ok(futures)
 }
@@ -250,18 +249,15 @@ where
 #[test]
 fn each_of_many_futures_holds_its_own_place(rt: HostRuntime) -> Result<(), Fail> {
     let cell: AsyncCell<u32> = AsyncCell::new(rt.alloc());
-    drop(many(&cell, &rt)?);
-    let mut futures = many(&cell, &rt)?;
-    for polled in &mut futures {
-        holds(&rt, tick_future(&mut polled.0, &polled.1).is_pending());
+    let flag = task(&rt);
+    drop(many(&cell, &flag, &rt)?);
+    let mut futures = many(&cell, &flag, &rt)?;
+    for future in &mut futures {
+        holds(&rt, tick_future(future, &flag).is_pending());
     }
     same(&rt, cell.waiting(), MANY);
-    for polled in &futures {
-        holds(&rt, !polled.1.is_woken());
-    }
+    holds(&rt, !flag.is_woken());
     cell.set(7);
-    for polled in &futures {
-        holds(&rt, polled.1.is_woken());
-    }
+    holds(&rt, flag.is_woken());
     Ok(())
 }
