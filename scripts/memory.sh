@@ -141,8 +141,8 @@ count_all() {
     done
 }
 
-# Runs the program with each request refused in turn. Where its third answer finds no memory, it
-# has written the two before it, and its status is 1.
+# Runs the program with each of its allocations refused in turn. If the third line finds no memory,
+# the program has written what the two lines before it print, and its status is 1.
 program_writes_what_came_before() {
     local name='cellrun: the answers before one that finds no memory' number=0 status seen=''
     built cellrun cellrun
