@@ -1,5 +1,5 @@
 -- Wait lists, as contracts see them.
-use Rattle.std.specs.Prelude.{ℕ, List, ◌∷◌, Option, Some, None}
+use Rattle.std.specs.Prelude.{ℕ, List, [], ◌∷◌, Option, Some, None}
 
 -- The wakers in order of registration, and the room: the number of wakers that can still be added
 -- without memory beyond their clones.
@@ -11,3 +11,8 @@ pub record ListState (W : Type 0) : Type 0 where
 abbrev pub first_then : {A : Type 0} → Option A → List A → List A
 first_then None rest = rest
 first_then (Some first) rest = first ∷ rest
+
+-- the items of an iterator, if there is one
+abbrev pub items_left : {I A : Type 0} → (I → List A) → Option I → List A
+items_left items None = []
+items_left items (Some it) = items it

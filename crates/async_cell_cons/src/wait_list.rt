@@ -100,7 +100,7 @@ impl<W: Drop> WaitList<W> {
     pub fn no_wakers(&self) -> Wakers<W>
         ensures { result ≡ [] }
     {
-        Wakers::of(None, Vec::new(*self.rest.allocator()))
+        Wakers::of(None)
     }
 
     /// Removes all wakers and returns them, in order of registration. Leaves neither wakers nor
@@ -112,12 +112,12 @@ impl<W: Drop> WaitList<W> {
         self.round = self.round.wrapping_add(1);
         self.note = 0;
         let first = self.first.take();
-        let none = Vec::new(*self.rest.allocator());
         if self.rest.capacity() == 0 {
-            return Wakers::of(first, none);
+            return Wakers::of(first);
         }
+        let none = Vec::new(*self.rest.allocator());
         let rest = mem::replace(&mut self.rest, none);
-        Wakers::of(first, rest)
+        Wakers::of_all(first, rest)
     }
 
     /// Stores a waker in place of the one at `index`, which is returned. If there is none, the

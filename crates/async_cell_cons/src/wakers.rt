@@ -10,18 +10,19 @@ use std::{fmt, vec};
 #[derive(Drop)]
 pub struct Wakers<W> {
     first: Option<W>,
-    rest: vec::IntoIter<W>,
+    /// The wakers after the first: `None` if the list had no memory for any.
+    rest: Option<vec::IntoIter<W>>,
 }
 
 /// Contracts see the list of the wakers that are left, the next one first.
 impl<W> Model for Wakers<W> {
     ghost use Rattle.std.specs.Prelude.{List};
     ghost use Rattle.std.specs.Vec.Iter.{into_iter_items};
-    ghost use Rattle.async_cell_cons.specs.WaitList.{first_then};
+    ghost use Rattle.async_cell_cons.specs.WaitList.{first_then, items_left};
 
     ghost Value = { List W };
 
-    ghost view = { λ s. first_then s.first (into_iter_items s.rest) };
+    ghost view = { λ s. first_then s.first (items_left into_iter_items s.rest) };
 }
 
 impl<W> Wakers<W> {
@@ -29,9 +30,13 @@ impl<W> Wakers<W> {
     pub fn len(&self) -> usize
         ensures { result ≡ length self.now }
     {
+        let rest = match &self.rest {
+            Some(rest) => rest.len(),
+            None => 0,
+        };
         match &self.first {
-            Some(_) => 1 + self.rest.len(),
-            None => self.rest.len(),
+            Some(_) => 1 + rest,
+            None => rest,
         }
     }
 
@@ -39,7 +44,7 @@ impl<W> Wakers<W> {
     pub fn is_empty(&self) -> bool
         ensures { IsTrue result ↔ (self.now ≡ []) }
     {
-        self.first.is_none() && self.rest.len() == 0
+        self.len() == 0
     }
 }
 
@@ -54,17 +59,27 @@ impl<W: Drop> Wakers<W> {
     {
         match self.first.take() {
             Some(waker) => Some(waker),
-            None => self.rest.next(),
+            None => match &mut self.rest {
+                Some(rest) => rest.next(),
+                None => None,
+            },
         }
     }
 
+    /// Creates a list of at most one waker.
+    pub(crate) fn of(first: Option<W>) -> Self
+        ensures { result ≡ first_then first [] }
+    {
+        Wakers { first, rest: None }
+    }
+
     /// Creates a list of the first waker, if there is one, and then those of the vector.
-    pub(crate) fn of(first: Option<W>, rest: Vec<W>) -> Self
+    pub(crate) fn of_all(first: Option<W>, rest: Vec<W>) -> Self
         ensures { result ≡ first_then first rest.items }
     {
         Wakers {
             first,
-            rest: rest.into_iter(),
+            rest: Some(rest.into_iter()),
         }
     }
 }
@@ -92,8 +107,10 @@ impl<W: Wakes> Wakers<W> {
         if let Some(waker) = first {
             waker.wake();
         }
-        for waker in rest {
-            waker.wake();
+        if let Some(rest) = rest {
+            for waker in rest {
+                waker.wake();
+            }
         }
     }
 }

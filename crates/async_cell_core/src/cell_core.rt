@@ -219,8 +219,22 @@ impl<T: Drop, W: Wakes> Core<T, W> {
 
 /// Dropping a `Core` wakes all waiting wakers, in order.
 impl<T: Drop, W: Wakes> Drop for Core<T, W> {
+    #[inline(always)]
     fn drop(self) {
-        let (_, woken) = self.into_inner();
-        woken.wake_all();
+        let Core {
+            value,
+            owners: _,
+            waiting,
+        } = self;
+        drop(value);
+        if !waiting.is_empty() {
+            wake(waiting);
+        }
     }
+}
+
+/// Wakes all waiting wakers. Apart from `drop`, which is then small where nobody waits.
+#[inline(never)]
+fn wake<W: Wakes>(mut waiting: WaitList<W>) {
+    waiting.hand_out().wake_all();
 }

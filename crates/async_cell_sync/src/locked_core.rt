@@ -53,9 +53,8 @@ impl<T: Drop, W: Wakes> LockedCore<T, W> {
         ensures comes_back { IfErr result (λ back. back ≡ value) }
     {
         let mut core = self.lock(rt);
-        let replaced = core.replace(value);
+        let (old, woken) = core.replace(value)?;
         drop(core); // What is woken or dropped may call this cell: never under the lock.
-        let (old, woken) = replaced?;
         woken.wake_all();
         Ok(old)
     }

@@ -127,9 +127,15 @@ impl<T: Drop> TakeWeak<T> {
         ensures kept { Keeps cx.old cx.new }
         ensures refused { IfReady result (λ answer. IfErr answer (λ why. why ≡ Refusal.Memory)) }
     {
-        match self.0.cell() {
+        let polled = match self.0.cell() {
             Ok(cell) => cell.poll_take(place, cx, rt),
-            Err(why) => Poll::Ready(Err(why)),
+            Err(why) => return Poll::Ready(Err(why)),
+        };
+        match polled {
+            Poll::Ready(Ok(value)) => Poll::Ready(Ok(Some(value))),
+            Poll::Ready(Err(Refusal::Closed)) => Poll::Ready(Ok(None)),
+            Poll::Ready(Err(why)) => Poll::Ready(Err(why)),
+            Poll::Pending => Poll::Pending,
         }
     }
 
@@ -198,9 +204,15 @@ impl<T: Clone> GetWeak<T> {
         ensures kept { Keeps cx.old cx.new }
         ensures refused { IfReady result (λ answer. IfErr answer (λ why. why ≡ Refusal.Memory)) }
     {
-        match self.0.cell() {
+        let polled = match self.0.cell() {
             Ok(cell) => cell.poll_get(place, cx, rt),
-            Err(why) => Poll::Ready(Err(why)),
+            Err(why) => return Poll::Ready(Err(why)),
+        };
+        match polled {
+            Poll::Ready(Ok(value)) => Poll::Ready(Ok(Some(value))),
+            Poll::Ready(Err(Refusal::Closed)) => Poll::Ready(Ok(None)),
+            Poll::Ready(Err(why)) => Poll::Ready(Err(why)),
+            Poll::Pending => Poll::Pending,
         }
     }
 }

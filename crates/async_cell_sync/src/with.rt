@@ -133,7 +133,8 @@ impl<C: CellRef + Drop, R: Wait + Drop> Future for With<Take<C>, R> {
     ghost gives = { λ _. FailsWithMemoryOrClosed };
 
     fn poll(&mut self, cx: &mut Context<'_>) -> Poll<Result<C::Value, Refusal>> {
-        self.polled.poll_at(Some(&mut self.place), cx, &self.rt)
+        let cell = self.polled.0.cell();
+        cell.poll_take(Some(&mut self.place), cx, &self.rt)
     }
 }
 
@@ -148,7 +149,8 @@ where
     ghost gives = { λ _. FailsWithMemoryOrClosed };
 
     fn poll(&mut self, cx: &mut Context<'_>) -> Poll<Result<C::Value, Refusal>> {
-        self.polled.poll_at(Some(&mut self.place), cx, &self.rt)
+        let cell = self.polled.0.cell();
+        cell.poll_get(Some(&mut self.place), cx, &self.rt)
     }
 }
 

@@ -129,7 +129,10 @@ impl<T: Drop> AsyncCell<T> {
         ensures sure { ((value : T) → T.is_infallible value) → IsOk result }
         ensures refused { IfErr result (λ why. why ≡ Refusal.Memory) }
     {
-        self.copy_back(self.try_take())
+        match self.try_take() {
+            Some(value) => Ok(Some(self.copy_back(value)?)),
+            None => Ok(None),
+        }
     }
 
     /// Returns whether the cell holds a value.

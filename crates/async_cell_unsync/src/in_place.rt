@@ -92,7 +92,8 @@ impl<C: CellRef> Future for InPlace<Take<C>> {
     ghost needs = { λ future. C.waits_for future.polled.0 };
 
     fn poll(&mut self, cx: &mut Context<'_>) -> Poll<Result<C::Value, Refusal>> {
-        self.polled.poll_at(Some(&mut self.place), cx)
+        let cell = self.polled.0.cell();
+        cell.poll_take(Some(&mut self.place), cx)
     }
 }
 
@@ -105,7 +106,8 @@ where
     ghost needs = { λ future. C.waits_for future.polled.0 };
 
     fn poll(&mut self, cx: &mut Context<'_>) -> Poll<Result<C::Value, Refusal>> {
-        self.polled.poll_at(Some(&mut self.place), cx)
+        let cell = self.polled.0.cell();
+        cell.poll_get(Some(&mut self.place), cx)
     }
 }
 

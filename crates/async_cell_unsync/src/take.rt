@@ -5,7 +5,6 @@ ghost use Rattle.futures.specs.Task.{Covers, Keeps};
 use crate::cell_ref::CellRef;
 use crate::in_place::InPlace;
 use async_cell_core::Refusal;
-use async_cell_task::Place;
 use futures::future::Future;
 use futures::task::{Context, Poll};
 
@@ -26,26 +25,7 @@ impl<C: CellRef> Take<C> {
         ensures refused { IfReady result (λ answer. IfErr answer (λ why.
             (why ≡ Refusal.Memory) ⊎ (why ≡ Refusal.Closed))) }
     {
-        self.poll_at(None, cx)
-    }
-
-    /// `poll_shared`, for a future that waits in this place, if any.
-    #[inline(always)]
-    pub(crate) fn poll_at(
-        &self,
-        place: Option<&mut Place>,
-        cx: &mut Context<'_>,
-    ) -> Poll<Result<C::Value, Refusal>>
-        ensures registered { OnPending result (Covers cx.new (C.waits_for self.now.0)) }
-        ensures kept { Keeps cx.old cx.new }
-        ensures refused { IfReady result (λ answer. IfErr answer (λ why.
-            (why ≡ Refusal.Memory) ⊎ (why ≡ Refusal.Closed))) }
-    {
-        match self.0.cell().poll_take(place, cx) {
-            Poll::Ready(Ok(taken)) => Poll::Ready(taken.ok_or(Refusal::Closed)),
-            Poll::Ready(Err(why)) => Poll::Ready(Err(why)),
-            Poll::Pending => Poll::Pending,
-        }
+        self.0.cell().poll_take(None, cx)
     }
 }
 

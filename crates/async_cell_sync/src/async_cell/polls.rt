@@ -1,6 +1,6 @@
 //! Polls: each either returns `Ready`, or registers the task and adds its waker to the wait list.
 //! The waker of a future that keeps a place is stored in that place.
-ghost use Rattle.std.specs.Prelude.{◌≡◌, true, IfErr};
+ghost use Rattle.std.specs.Prelude.{◌≡◌, ◌⊎◌, true, IfErr};
 ghost use Rattle.std.specs.Sync.Mutex.{mutex_guard_value};
 ghost use Rattle.futures.specs.Poll.{IfReady, OnPending};
 ghost use Rattle.futures.specs.Task.{Hears, IsArmed, Keeps};
@@ -14,22 +14,23 @@ use futures::task::{Context, Poll};
 use std::sync::{MutexGuard, Wait};
 
 impl<T: Drop> AsyncCell<T> {
-    /// Takes the value, or waits for one, in the place if any. Returns `Ready` with `None` on a
-    /// closed cell. Fails with `Memory` if there is no memory for the task's waker or for the
-    /// growth of the list.
+    /// Takes the value, or waits for one, in the place if any. Fails with `Memory` if there is no
+    /// memory for the task's waker or for the growth of the list. Fails with `Closed` on a closed
+    /// cell.
     pub(crate) fn poll_take<R: Wait>(
         &self,
         place: Option<&mut Place>,
         cx: &mut Context<'_>,
         rt: &R,
-    ) -> Poll<Result<Option<T>, Refusal>>
+    ) -> Poll<Result<T, Refusal>>
         ensures armed { OnPending result (IsArmed cx.new) }
         ensures heard { OnPending result (Hears cx.new (source_of self.now)) }
         ensures kept { Keeps cx.old cx.new }
-        ensures refused { IfReady result (λ answer. IfErr answer (λ why. why ≡ Refusal.Memory)) }
+        ensures refused { IfReady result (λ answer. IfErr answer (λ why.
+            (why ≡ Refusal.Memory) ⊎ (why ≡ Refusal.Closed))) }
     {
         match self.lock_or_wait(place, cx, rt) {
-            Poll::Ready(Ok(mut core)) => Poll::Ready(Ok(core.try_take())),
+            Poll::Ready(Ok(mut core)) => Poll::Ready(core.try_take().ok_or(Refusal::Closed)),
             Poll::Ready(Err(why)) => Poll::Ready(Err(why)),
             Poll::Pending => Poll::Pending,
         }
@@ -42,16 +43,20 @@ impl<T: Drop> AsyncCell<T> {
         place: Option<&mut Place>,
         cx: &mut Context<'_>,
         rt: &R,
-    ) -> Poll<Result<Option<T>, Refusal>>
+    ) -> Poll<Result<T, Refusal>>
     where
         T: Clone,
         ensures armed { OnPending result (IsArmed cx.new) }
         ensures heard { OnPending result (Hears cx.new (source_of self.now)) }
         ensures kept { Keeps cx.old cx.new }
-        ensures refused { IfReady result (λ answer. IfErr answer (λ why. why ≡ Refusal.Memory)) }
+        ensures refused { IfReady result (λ answer. IfErr answer (λ why.
+            (why ≡ Refusal.Memory) ⊎ (why ≡ Refusal.Closed))) }
     {
         match self.lock_or_wait(place, cx, rt) {
-            Poll::Ready(Ok(core)) => Poll::Ready(core.try_get()),
+            Poll::Ready(Ok(core)) => match core.try_get() {
+                Ok(copy) => Poll::Ready(copy.ok_or(Refusal::Closed)),
+                Err(why) => Poll::Ready(Err(why)),
+            },
             Poll::Ready(Err(why)) => Poll::Ready(Err(why)),
             Poll::Pending => Poll::Pending,
         }
@@ -102,11 +107,19 @@ impl<T: Drop> AsyncCell<T> {
         ensures refused { IfErr result (λ why. why ≡ Refusal.Memory) }
     {
         let waker = TaskWaker::register(cx, &self.source).ok_or(Refusal::Memory)?;
-        let added = core.register(waker);
-        drop(core); // A waker that is dropped wakes its task: never under the lock.
-        match added {
-            Ok(_) => Ok(()),
-            Err(_) => Err(Refusal::Memory),
+        // A waker that is dropped wakes its task: never under the lock.
+        match core.register(waker) {
+            Ok(None) => Ok(()),
+            Ok(Some(unused)) => {
+                drop(core);
+                drop(unused);
+                Ok(())
+            }
+            Err(unused) => {
+                drop(core);
+                drop(unused);
+                Err(Refusal::Memory)
+            }
         }
     }
 

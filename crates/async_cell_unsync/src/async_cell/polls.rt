@@ -1,6 +1,6 @@
 //! Polls: each either returns `Ready`, or registers the task and adds its waker to the wait list.
 //! The waker of a future that keeps a place is stored in that place.
-ghost use Rattle.std.specs.Prelude.{◌≡◌, true, IfErr};
+ghost use Rattle.std.specs.Prelude.{◌≡◌, ◌⊎◌, true, IfErr};
 ghost use Rattle.std.specs.RefCell.{ref_mut_value};
 ghost use Rattle.futures.specs.Poll.{IfReady, OnPending};
 ghost use Rattle.futures.specs.Task.{Hears, IsArmed, Keeps};
@@ -14,22 +14,23 @@ use futures::task::{Context, Poll};
 use std::cell::RefMut;
 
 impl<T: Drop> AsyncCell<T> {
-    /// Takes the value, or waits for one, in the place if any. Returns `Ready` with `None` on a
-    /// closed cell. Fails with `Memory` if there is no memory for the task's waker or for the
-    /// growth of the list.
+    /// Takes the value, or waits for one, in the place if any. Fails with `Memory` if there is no
+    /// memory for the task's waker or for the growth of the list. Fails with `Closed` on a closed
+    /// cell.
     #[inline(always)]
     pub(crate) fn poll_take(
         &self,
         place: Option<&mut Place>,
         cx: &mut Context<'_>,
-    ) -> Poll<Result<Option<T>, Refusal>>
+    ) -> Poll<Result<T, Refusal>>
         ensures armed { OnPending result (IsArmed cx.new) }
         ensures heard { OnPending result (Hears cx.new (source_of self.now)) }
         ensures kept { Keeps cx.old cx.new }
-        ensures refused { IfReady result (λ answer. IfErr answer (λ why. why ≡ Refusal.Memory)) }
+        ensures refused { IfReady result (λ answer. IfErr answer (λ why.
+            (why ≡ Refusal.Memory) ⊎ (why ≡ Refusal.Closed))) }
     {
         let Some(mut core) = self.lend() else {
-            return Poll::Ready(Ok(None));
+            return Poll::Ready(Err(Refusal::Closed));
         };
         match place {
             Some(place) => self.take_at(core, place, cx),
@@ -37,7 +38,7 @@ impl<T: Drop> AsyncCell<T> {
                 Ok(()) => Poll::Pending,
                 Err(why) => Poll::Ready(Err(why)),
             },
-            None => Poll::Ready(Ok(core.try_take())),
+            None => Poll::Ready(core.try_take().ok_or(Refusal::Closed)),
         }
     }
 
@@ -54,11 +55,19 @@ impl<T: Drop> AsyncCell<T> {
         ensures refused { IfErr result (λ why. why ≡ Refusal.Memory) }
     {
         let waker = TaskWaker::register(cx, &self.source).ok_or(Refusal::Memory)?;
-        let added = core.register(waker);
-        drop(core); // A waker that is dropped wakes its task: never while the core is lent.
-        match added {
-            Ok(_) => Ok(()),
-            Err(_) => Err(Refusal::Memory),
+        // A waker that is dropped wakes its task: never while the core is lent.
+        match core.register(waker) {
+            Ok(None) => Ok(()),
+            Ok(Some(unused)) => {
+                drop(core);
+                drop(unused);
+                Ok(())
+            }
+            Err(unused) => {
+                drop(core);
+                drop(unused);
+                Err(Refusal::Memory)
+            }
         }
     }
 
@@ -68,24 +77,25 @@ impl<T: Drop> AsyncCell<T> {
         mut core: RefMut<'a, Core<T, TaskWaker>>,
         place: &mut Place,
         cx: &mut Context<'_>,
-    ) -> Poll<Result<Option<T>, Refusal>>
+    ) -> Poll<Result<T, Refusal>>
         ensures armed { OnPending result (IsArmed cx.new) }
         ensures heard { OnPending result (Hears cx.new (source_of self.now)) }
         ensures kept { Keeps cx.old cx.new }
-        ensures refused { IfReady result (λ answer. IfErr answer (λ why. why ≡ Refusal.Memory)) }
+        ensures refused { IfReady result (λ answer. IfErr answer (λ why.
+            (why ≡ Refusal.Memory) ⊎ (why ≡ Refusal.Closed))) }
     {
         if core.is_vacant() {
             place.lift(&mut *core);
             drop(core);
             place.register(cx, &self.source);
             let Some(again) = self.lend() else {
-                return Poll::Ready(Ok(None));
+                return Poll::Ready(Err(Refusal::Closed));
             };
             core = again;
         }
         if !core.is_vacant() {
             place.forget();
-            return Poll::Ready(Ok(core.try_take()));
+            return Poll::Ready(core.try_take().ok_or(Refusal::Closed));
         }
         let stored = place.store(&mut *core);
         drop(core); // A waker that is dropped wakes its task: never while the core is lent.
@@ -105,16 +115,17 @@ impl<T: Drop> AsyncCell<T> {
         &self,
         place: Option<&mut Place>,
         cx: &mut Context<'_>,
-    ) -> Poll<Result<Option<T>, Refusal>>
+    ) -> Poll<Result<T, Refusal>>
     where
         T: Clone,
         ensures armed { OnPending result (IsArmed cx.new) }
         ensures heard { OnPending result (Hears cx.new (source_of self.now)) }
         ensures kept { Keeps cx.old cx.new }
-        ensures refused { IfReady result (λ answer. IfErr answer (λ why. why ≡ Refusal.Memory)) }
+        ensures refused { IfReady result (λ answer. IfErr answer (λ why.
+            (why ≡ Refusal.Memory) ⊎ (why ≡ Refusal.Closed))) }
     {
         match self.poll_take(place, cx) {
-            Poll::Ready(Ok(taken)) => Poll::Ready(self.copy_back(taken)),
+            Poll::Ready(Ok(value)) => Poll::Ready(self.copy_back(value)),
             other => other,
         }
     }

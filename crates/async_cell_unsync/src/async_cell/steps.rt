@@ -55,18 +55,15 @@ impl<T: Drop> AsyncCell<T> {
     /// Clones a value that was taken out, and stores it again. Fails with `Memory` if the clone
     /// fails.
     #[inline]
-    pub(super) fn copy_back(&self, taken: Option<T>) -> Result<Option<T>, Refusal>
+    pub(super) fn copy_back(&self, value: T) -> Result<T, Refusal>
     where
         T: Clone,
         ensures sure { ((value : T) → T.is_infallible value) → IsOk result }
         ensures refused { IfErr result (λ why. why ≡ Refusal.Memory) }
     {
-        let Some(value) = taken else {
-            return Ok(None);
-        };
         let copy: Result<T, AllocError> = value.clone();
         self.set(value);
-        Ok(Some(copy?))
+        Ok(copy?)
     }
 
     /// Ends a guard: `cancel` is its cancel value, or `None` if it was released.
