@@ -1,7 +1,8 @@
 //! The calls that a line can be.
 ghost use Rattle.std.specs.Prelude.{◌≡◌, ◌≤◌, length, IsSome, IfSome, IfNone, codes};
 ghost use Rattle.std.specs.List.{position};
-ghost use Rattle.cellrun.specs.Command.{Spells, SpellsNone, SpellsWord, SpellsParts, SpellsEdit, is_space};
+ghost use Rattle.cellrun.specs.Command.{Spells, SpellsNone, SpellsWord, SpellsParts, SpellsEdit};
+ghost use Rattle.cellrun.specs.Command.{is_space};
 ghost use Rattle.cellrun.specs.declared.command.Command.{Command};
 
 use crate::number::{value, waker};
