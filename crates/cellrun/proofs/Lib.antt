@@ -1,8 +1,9 @@
-pub mod Ascii
 pub mod Coming
+pub mod Digits
 pub mod Gathering
 pub mod Keeping
 pub mod LineFeed
 pub mod Naming
+pub mod Places
 pub mod Printing
 pub mod Spelling

@@ -1,12 +1,11 @@
 -- Where the first line feed of joined bytes is, and what that says of the next line.
-use Rattle.std.proofs.Common.{◌≡◌, ◌≢◌, ℕ, ◌+◌, ◌<◌, ◌≤◌, Bool, true, false, not, cond, nat_lt, List, [], ◌∷◌, ◌++◌, length, take, drop, Option, Some, None, IfSome, if◌then◌else◌, ◌==◌, refl, sym, ap, ◌∙◌, arith, append_assoc, append-nil, take_all, zero-add}
+use Rattle.std.proofs.Common.{◌≡◌, ◌≢◌, ℕ, ◌+◌, ◌<◌, ◌≤◌, Bool, true, false, not, cond, List, [], ◌∷◌, ◌++◌, length, take, drop, Option, Some, None, IfSome, if◌then◌else◌, ◌==◌, refl, sym, ap, ◌∙◌, arith, append_assoc, append-nil, take_all, zero-add}
 use Rattle.std.specs.List.{position, position_or_len}
 use Rattle.std.specs.Io.KnownBytes.{Keeps, IsAtEnd, prepend_known}
 use Rattle.std.specs.Io.BufRead.{DropsConsumable}
 use Rattle.std.proofs.Math.Seq.{take-append-add, drop-append-add}
 use Rattle.std.proofs.lemmas.List.{drop_all, take-append-le, take-append-drop, length-append, length-take}
-use borrow.Author.Tests.{ltb-true, ltb-false}
-use Rattle.std.proofs.lemmas.List.Sums.{prefix_len-le-length}
+use Rattle.cellrun.proofs.Places.{position_found, position_none}
 use Rattle.cellrun.specs.Next.{IsLine, IsNext, is_line_feed, first_line, after_line}
 use Rattle.cellrun.specs.declared.lines.Next.{Next}
 use Rattle.cellrun.specs.declared.lines.Next.TheVariants.{Call, Blank, Bad, End}
@@ -37,24 +36,12 @@ pub place-append_some : (xs ys : List ℕ) → place xs < length xs → place (x
 place-append_some [] ys h = absurd (omega arith)
 place-append_some (x ∷ xs) ys h = some_cons (not (x == 10)) (place xs) (place (xs ++ ys)) (length xs) (place-append_some xs ys) (omega (arith, h))
 
--- what `position` answers
-found_cond : (m : Bool) (a k : ℕ) → cond m (Some a) None ≡ Some k → (m ≡ true) × (k ≡ a)
-found_cond true a k e = (refl, cc)
-found_cond false a k e = absurd (cc e)
-
-none_cond : (m : Bool) (a : ℕ) → cond m (Some a) None ≡ None → m ≡ false
-none_cond true a e = absurd (cc e)
-none_cond false a e = refl
-
+-- what a search for it answers
 pub place_found : (xs : List ℕ) (k : ℕ) → position is_line_feed xs ≡ Some k → (k ≡ place xs) × (place xs < length xs)
-place_found xs k e =
-    let parts : (nat_lt (place xs) (length xs) ≡ true) × (k ≡ place xs) = found_cond (nat_lt (place xs) (length xs)) (place xs) k e in
-    (parts.1, omega (arith, ltb-true (place xs) (length xs) (parts.0)))
+place_found xs k e = position_found is_line_feed xs k e
 
 pub place_none : (xs : List ℕ) → position is_line_feed xs ≡ None → place xs ≡ length xs
-place_none xs e =
-    let test : nat_lt (place xs) (length xs) ≡ false = none_cond (nat_lt (place xs) (length xs)) (place xs) e in
-    omega (arith, ltb-false (place xs) (length xs) test, prefix_len-le-length (λ x. not (is_line_feed x)) xs)
+place_none xs e = position_none is_line_feed xs e
 
 -- bytes h with no line feed, and then bytes that begin with f: the line and what follows it
 pub first_line_found : (h f t : List ℕ) → place h ≡ length h → place f < length f → first_line (h ++ (f ++ t)) ≡ h ++ take (place f) f

@@ -1,7 +1,10 @@
 -- How the parts of a line round its first space tell which call it is.
-use Rattle.std.proofs.Common.{◌≡◌, ℕ, ◌<◌, Bool, List, ◌∷◌, ◌++◌, length, Option, Some, None, IfSome, IfNone, codes, eqb, refl, ap, get_or, arith}
-use Rattle.std.specs.List.{position_or_len, before_first, after_first}
-use Rattle.cellrun.specs.Command.{Spells, SpellsWord, SpellsParts, SpellsEdit}
+use Rattle.std.proofs.Common.{◌≡◌, ℕ, ◌<◌, List, ◌∷◌, ◌++◌, ◌+◌, length, take, drop, Option, Some, None, IfSome, IfNone, codes, refl, ap, get_or, arith}
+use Rattle.std.specs.List.{position, position_or_len, before_first, after_first}
+use Rattle.std.proofs.lemmas.List.Sums.{split_at_first, passes_at_first}
+use Rattle.std.proofs.lemmas.Bool.{eqb-true}
+use Rattle.cellrun.proofs.Places.{position_found}
+use Rattle.cellrun.specs.Command.{Spells, SpellsWord, SpellsParts, SpellsEdit, is_space}
 use Rattle.cellrun.specs.declared.command.Command.{Command}
 use Rattle.cellrun.specs.declared.command.Command.TheVariants.{Set, OrSet, Replace, UpdatePut, UpdateNone, UpdateKeep, UpdateSomeAdd, Take, Get, TryTake, TryGet, IsSet, Own, End, Inner, Debug}
 
@@ -57,9 +60,13 @@ line_of_parts word rest End h = absurd h
 line_of_parts word rest Inner h = absurd h
 line_of_parts word rest Debug h = absurd h
 
--- where a line stands for a space
-abbrev pub is_space : ℕ → Bool
-is_space = λ b. eqb b 32
+-- a line is what stands round its first space
+pub split_line : (line : List ℕ) (k : ℕ) → position is_space line ≡ Some k → line ≡ take k line ++ (32 ∷ drop (k + 1) line)
+split_line line k e =
+    let found = position_found is_space line k e in
+    let space : get_or line (position_or_len is_space line) 0 ≡ 32 = omega (arith, eqb-true _ _ (passes_at_first is_space line 0 (found.1))) in
+    let parts = split_at_first is_space line 0 (found.1) in
+    rw (found.0) (rw space at parts)
 
 -- a line with a space is a call only by the parts round the first one
 pub parts_of_line : (line : List ℕ) → position_or_len is_space line < length line → (call : Command) → Spells line call → SpellsParts (before_first is_space line) (after_first is_space line) call

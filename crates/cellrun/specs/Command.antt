@@ -1,5 +1,5 @@
 -- Which line is which call.
-use Rattle.std.specs.Prelude.{◌≡◌, ℕ, ◌^◌, ◌<◌, List, ◌++◌, drop, ℤ, pos, neg_ℤ, codes, FitsSigned, if◌then◌else◌}
+use Rattle.std.specs.Prelude.{◌≡◌, ℕ, ◌^◌, ◌<◌, List, ◌++◌, drop, Bool, ◌==◌, ℤ, pos, neg_ℤ, codes, FitsSigned, if◌then◌else◌}
 use Rattle.std.specs.Int.{w64}
 use Rattle.std.specs.Str.Parse.{IsNumeral, digits_value, starts_with_minus}
 use Rattle.cellrun.specs.declared.command.Command.{Command}
@@ -68,6 +68,10 @@ SpellsEdit edit (UpdatePut v) = EndsWithValue (codes "put ") edit v
 SpellsEdit edit UpdateNone = edit ≡ codes "none"
 SpellsEdit edit UpdateKeep = edit ≡ codes "keep"
 SpellsEdit edit _ = ⊥
+
+-- the byte separates words
+abbrev pub is_space : ℕ → Bool
+is_space = λ byte. byte == 32
 
 -- a word, a space and the rest are the call
 abbrev pub SpellsParts : List ℕ → List ℕ → Command → Type 0

@@ -1,19 +1,20 @@
 //! The texts of the answers.
 ghost use Rattle.std.specs.Prelude.{◌≡◌, ◌++◌, codes, OnOk, Option, Some, None, Ok, Err};
+ghost use Rattle.std.specs.Fmt.{signed_decimal};
 ghost use Rattle.cellrun.specs.Answered.{done_text, replaced_text, polled_text, found_text};
 ghost use Rattle.cellrun.specs.Answered.{owners_text, refusal_text, end_text};
 
 use async_cell_core::{Named, Poll, Refusal, Wakers};
-use std::io;
-use std::io::Write;
+use itoa::Buffer;
+use std::alloc::AllocError;
 
 /// A write that answers nothing: done, unless the cell is closed.
-pub fn done(out: &mut Vec<u8>, woken: Option<Wakers<Named>>) -> io::Result<()>
+pub fn done(out: &mut Vec<u8>, woken: Option<Wakers<Named>>) -> Result<(), AllocError>
     ensures { OnOk result (out.new.items ≡ out.old.items ++ done_text woken) }
 {
     match woken {
         Some(woken) => {
-            write!(out, "done")?;
+            out.extend_from_slice(b"done")?;
             woke(out, woken)
         }
         None => refused(out, Refusal::Closed),
@@ -21,75 +22,100 @@ pub fn done(out: &mut Vec<u8>, woken: Option<Wakers<Named>>) -> io::Result<()>
 }
 
 /// A write that answers the old value, unless the cell is closed.
-pub fn replaced(out: &mut Vec<u8>, answer: Option<(Option<i64>, Wakers<Named>)>) -> io::Result<()>
+pub fn replaced(
+    out: &mut Vec<u8>,
+    answer: Option<(Option<i64>, Wakers<Named>)>,
+) -> Result<(), AllocError>
     ensures { OnOk result (out.new.items ≡ out.old.items ++ replaced_text answer) }
 {
     let Some((old, woken)) = answer else {
         return refused(out, Refusal::Closed);
     };
     match old {
-        Some(value) => write!(out, "old {value}")?,
-        None => write!(out, "old none")?,
+        Some(value) => labelled(out, b"old ", value)?,
+        None => out.extend_from_slice(b"old none")?,
     }
     woke(out, woken)
 }
 
 /// What a poll answers.
-pub fn polled(out: &mut Vec<u8>, answer: Result<Poll<Option<i64>>, Refusal>) -> io::Result<()>
+pub fn polled(
+    out: &mut Vec<u8>,
+    answer: Result<Poll<Option<i64>>, Refusal>,
+) -> Result<(), AllocError>
     ensures { OnOk result (out.new.items ≡ out.old.items ++ polled_text answer) }
 {
     match answer {
-        Ok(Poll::Ready(Some(value))) => writeln!(out, "ready {value}"),
-        Ok(Poll::Ready(None)) => writeln!(out, "closed"),
-        Ok(Poll::Pending) => writeln!(out, "pending"),
+        Ok(Poll::Ready(Some(value))) => {
+            labelled(out, b"ready ", value)?;
+            out.extend_from_slice(b"\n")
+        }
+        Ok(Poll::Ready(None)) => out.extend_from_slice(b"closed\n"),
+        Ok(Poll::Pending) => out.extend_from_slice(b"pending\n"),
         Err(why) => refused(out, why),
     }
 }
 
 /// The value, if there is one.
-pub fn found(out: &mut Vec<u8>, content: Option<i64>) -> io::Result<()>
+pub fn found(out: &mut Vec<u8>, content: Option<i64>) -> Result<(), AllocError>
     ensures { OnOk result (out.new.items ≡ out.old.items ++ found_text content) }
 {
     match content {
-        Some(value) => write!(out, "some {value}"),
-        None => write!(out, "none"),
+        Some(value) => labelled(out, b"some ", value),
+        None => out.extend_from_slice(b"none"),
     }
 }
 
+/// A value after its label.
+fn labelled(out: &mut Vec<u8>, label: &[u8], value: i64) -> Result<(), AllocError>
+    ensures { OnOk result (out.new.items ≡ out.old.items ++ label.now ++ signed_decimal value) }
+{
+    out.extend_from_slice(label)?;
+    out.extend_from_slice(Buffer::new().format(value).as_bytes())
+}
+
 /// The number of owners.
-pub fn owned(out: &mut Vec<u8>, owners: u32) -> io::Result<()>
+pub fn owned(out: &mut Vec<u8>, owners: u32) -> Result<(), AllocError>
     ensures { OnOk result (out.new.items ≡ out.old.items ++ owners_text owners) }
 {
-    write!(out, "owners {owners}")
+    out.extend_from_slice(b"owners ")?;
+    out.extend_from_slice(Buffer::new().format(owners).as_bytes())
 }
 
 /// Why a call was refused, and the end of the line.
-pub fn refused(out: &mut Vec<u8>, why: Refusal) -> io::Result<()>
+pub fn refused(out: &mut Vec<u8>, why: Refusal) -> Result<(), AllocError>
     ensures { OnOk result (out.new.items ≡ out.old.items ++ refusal_text why ++ codes "\n") }
 {
+    out.extend_from_slice(reason(why))?;
+    out.extend_from_slice(b"\n")
+}
+
+/// Why a call was refused.
+fn reason(why: Refusal) -> &'static [u8]
+    ensures { result.now ≡ refusal_text why }
+{
     match why {
-        Refusal::Closed => writeln!(out, "refused closed"),
-        Refusal::OwnersFull => writeln!(out, "refused owners"),
-        Refusal::StillShared => writeln!(out, "refused shared"),
-        Refusal::Memory | Refusal::OutOfTurn | Refusal::ShareMissing => {
-            writeln!(out, "refused memory")
-        }
+        Refusal::Closed => b"refused closed",
+        Refusal::OwnersFull => b"refused owners",
+        Refusal::StillShared => b"refused shared",
+        Refusal::Memory | Refusal::OutOfTurn | Refusal::ShareMissing => b"refused memory",
     }
 }
 
 /// The names of the wakers that were handed out, if there are any, and the end of the line.
 #[tactic(auto, using(crate::proofs::Naming::some_named))]
-pub fn woke(out: &mut Vec<u8>, woken: Wakers<Named>) -> io::Result<()>
+pub fn woke(out: &mut Vec<u8>, woken: Wakers<Named>) -> Result<(), AllocError>
     ensures { OnOk result (out.new.items ≡ out.old.items ++ end_text woken) }
 {
     if woken.is_empty() {
-        return writeln!(out);
+        return out.extend_from_slice(b"\n");
     }
-    write!(out, " woke")?;
+    out.extend_from_slice(b" woke")?;
     for Named(name) in woken {
-        write!(out, " {name}")?;
+        out.extend_from_slice(b" ")?;
+        out.extend_from_slice(Buffer::new().format(name).as_bytes())?;
     }
-    writeln!(out)
+    out.extend_from_slice(b"\n")
 }
 
 #[cfg(test)]

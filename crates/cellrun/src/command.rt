@@ -1,8 +1,11 @@
 //! The calls that a line can be.
-ghost use Rattle.std.specs.Prelude.{◌≤◌, length, SomeIff, IsSome, IfSome, IfNone, codes};
-ghost use Rattle.std.specs.Str.Parse.{digits_value};
-ghost use Rattle.cellrun.specs.Command.{Spells, SpellsNone, SpellsWord, SpellsParts, SpellsEdit, IsValue, IsWaker, number_of};
+ghost use Rattle.std.specs.Prelude.{◌≡◌, ◌≤◌, length, IsSome, IfSome, IfNone, codes};
+ghost use Rattle.std.specs.List.{position};
+ghost use Rattle.cellrun.specs.Command.{Spells, SpellsNone, SpellsWord, SpellsParts, SpellsEdit};
+ghost use Rattle.cellrun.specs.Command.{is_space};
 ghost use Rattle.cellrun.specs.declared.command.Command.{Command};
+
+use crate::number::{value, waker};
 
 /// How many bytes a line may have, its line feed not counted.
 pub const MAX_LINE: usize = 64;
@@ -53,79 +56,63 @@ pub fn parse(line: &[u8]) -> Option<Command>
     if line.len() > MAX_LINE {
         return None;
     }
-    let Ok(text) = str::from_utf8(line) else {
-        return None;
-    };
-    match text.split_once(' ') {
-        None => bare(text),
-        Some((word, rest)) => with_operand(word, rest),
+    match first_space(line) {
+        None => bare(line),
+        Some(space) => with_operand(&line[..space], &line[space + 1..]),
     }
 }
 
+/// Where the line has its first space.
+fn first_space(line: &[u8]) -> Option<usize>
+    ensures { result ≡ position is_space line.now }
+{
+    line.iter().position(|byte| *byte == b' ')
+}
+
 /// The call that is this word alone.
-fn bare(word: &str) -> Option<Command>
+fn bare(word: &[u8]) -> Option<Command>
     ensures call { IfSome result (SpellsWord word.now) }
     ensures refused { IfNone result ((call : Command) → ¬ (SpellsWord word.now call)) }
 {
     match word {
-        "try_take" => Some(Command::TryTake),
-        "try_get" => Some(Command::TryGet),
-        "is_set" => Some(Command::IsSet),
-        "own" => Some(Command::Own),
-        "end" => Some(Command::End),
-        "inner" => Some(Command::Inner),
-        "debug" => Some(Command::Debug),
+        b"try_take" => Some(Command::TryTake),
+        b"try_get" => Some(Command::TryGet),
+        b"is_set" => Some(Command::IsSet),
+        b"own" => Some(Command::Own),
+        b"end" => Some(Command::End),
+        b"inner" => Some(Command::Inner),
+        b"debug" => Some(Command::Debug),
         _ => None,
     }
 }
 
 /// The call that begins with this word and goes on with `rest`.
-fn with_operand(word: &str, rest: &str) -> Option<Command>
+fn with_operand(word: &[u8], rest: &[u8]) -> Option<Command>
     ensures call { IfSome result (SpellsParts word.now rest.now) }
     ensures refused { IfNone result ((call : Command) → ¬ (SpellsParts word.now rest.now call)) }
 {
     match word {
-        "set" => value(rest).map(Command::Set),
-        "or_set" => value(rest).map(Command::OrSet),
-        "replace" => value(rest).map(Command::Replace),
-        "update" => update(rest),
-        "update_some" => value(rest.strip_prefix("add ")?).map(Command::UpdateSomeAdd),
-        "take" => waker(rest).map(Command::Take),
-        "get" => waker(rest).map(Command::Get),
+        b"set" => value(rest).map(Command::Set),
+        b"or_set" => value(rest).map(Command::OrSet),
+        b"replace" => value(rest).map(Command::Replace),
+        b"update" => update(rest),
+        b"update_some" => value(rest.strip_prefix(b"add ")?).map(Command::UpdateSomeAdd),
+        b"take" => waker(rest).map(Command::Take),
+        b"get" => waker(rest).map(Command::Get),
         _ => None,
     }
 }
 
 /// The update that goes on with `edit`.
-fn update(edit: &str) -> Option<Command>
+fn update(edit: &[u8]) -> Option<Command>
     ensures call { IfSome result (SpellsEdit edit.now) }
     ensures refused { IfNone result ((call : Command) → ¬ (SpellsEdit edit.now call)) }
 {
     match edit {
-        "none" => Some(Command::UpdateNone),
-        "keep" => Some(Command::UpdateKeep),
-        _ => value(edit.strip_prefix("put ")?).map(Command::UpdatePut),
+        b"none" => Some(Command::UpdateNone),
+        b"keep" => Some(Command::UpdateKeep),
+        _ => value(edit.strip_prefix(b"put ")?).map(Command::UpdatePut),
     }
-}
-
-/// The number that the text writes: digits, or a minus and digits.
-fn value(text: &str) -> Option<i64>
-    ensures { SomeIff result (IsValue text.now) (number_of text.now) }
-{
-    if text.starts_with('+') {
-        return None;
-    }
-    text.parse().ok()
-}
-
-/// The name of a waker that the text writes: digits alone.
-fn waker(text: &str) -> Option<u64>
-    ensures { SomeIff result (IsWaker text.now) (digits_value 10 text.now) }
-{
-    if text.starts_with('+') {
-        return None;
-    }
-    text.parse().ok()
 }
 
 #[cfg(test)]

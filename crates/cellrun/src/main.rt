@@ -5,6 +5,7 @@
 mod answer;
 mod command;
 mod lines;
+mod number;
 mod output;
 mod script;
 mod session;

@@ -6,8 +6,7 @@ ghost use Rattle.cellrun.specs.Written.{new_cell};
 use crate::answer::{done, found, owned, polled, refused, replaced, woke};
 use crate::command::Command;
 use async_cell_core::{Core, Named};
-use std::alloc::Global;
-use std::io;
+use std::alloc::{AllocError, Global};
 use std::io::Write;
 
 /// The cell between two calls.
@@ -27,7 +26,7 @@ impl Session {
     }
 
     /// Makes the call, and puts what it prints into `out`, which is to be empty.
-    pub fn answer(&mut self, command: Command, out: &mut Vec<u8>) -> io::Result<()>
+    pub fn answer(&mut self, command: Command, out: &mut Vec<u8>) -> Result<(), AllocError>
         requires { out.old.items ≡ [] }
         ensures { OnOk result (Answered self.old.core command out.new.items self.new.core) }
     {
@@ -42,27 +41,30 @@ impl Session {
                 .core
                 .update_some(|value| value.saturating_add(more))
             {
-                Ok(()) => writeln!(out, "done"),
+                Ok(()) => out.extend_from_slice(b"done\n"),
                 Err(why) => refused(out, why),
             },
             Command::Take(name) => polled(out, self.core.poll_take(&Named(name))),
             Command::Get(name) => polled(out, self.core.poll_get(&Named(name))),
             Command::TryTake => {
                 found(out, self.core.try_take())?;
-                writeln!(out)
+                out.extend_from_slice(b"\n")
             }
             Command::TryGet => match self.core.try_get() {
                 Ok(content) => {
                     found(out, content)?;
-                    writeln!(out)
+                    out.extend_from_slice(b"\n")
                 }
                 Err(why) => refused(out, why),
             },
-            Command::IsSet => writeln!(out, "{}", self.core.is_set()),
+            Command::IsSet => match self.core.is_set() {
+                true => out.extend_from_slice(b"true\n"),
+                false => out.extend_from_slice(b"false\n"),
+            },
             Command::Own => match self.core.add_owner() {
                 Ok(()) => {
                     owned(out, self.core.owners())?;
-                    writeln!(out)
+                    out.extend_from_slice(b"\n")
                 }
                 Err(why) => refused(out, why),
             },
@@ -80,7 +82,7 @@ impl Session {
                 }
                 Err(why) => refused(out, why),
             },
-            Command::Debug => writeln!(out, "{:?}", self.core),
+            Command::Debug => writeln!(out, "{:?}", self.core).map_err(|_| AllocError),
         }
     }
 }
