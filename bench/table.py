@@ -1,19 +1,62 @@
 #!/usr/bin/env python3
-"""Prints what the operations of the cells cost: table.py PROGRAM [REPEATS]
+"""Prints what the operations of the cells cost: table.py PROGRAMS [REPEATS]
+
+PROGRAMS is the folder of the programs.
 
 A row is a kind of cell, a column an operation. A field has the instructions for one operation, and
-in brackets the nanoseconds, the median of REPEATS runs. In a fan-out both are for one waiter.
-Instructions are counted by callgrind, if it is installed: the difference of two runs, one of twice
-as many rounds, so they depend neither on load nor on the machine. The last row is what the wakers
-of `futures` cost without a cell; take it off those of `unsync` and `sync`.
+in brackets the nanoseconds, the median of REPEATS runs (5 if none are given). Instructions are
+counted by callgrind, if it is installed: the difference of two runs, one of twice as many rounds,
+so they depend neither on load nor on the machine. A field is `-` where the operation does not
+apply.
+
+The operations:
+
+- reply slot: a new cell, a take that waits, a set, the take that is ready, and the end of the cell.
+- watcher: a set, and a get that is ready.
+- fan-out: what each of so many waiters costs, of gets that wait, a set that wakes all, and a
+  try_take. It is `-` at 100,000 for the wakers of the first two rows: each has a name, and a poll
+  looks for its own among those that wait, so a fan-out takes the square of its size. The test of
+  the wakers of `futures` is constantly false, so there the cost for a waiter does not rise.
+- poll again: a poll of one future, which waits each time.
+- stream: what a server does for one message: it looks for a message that is not there, which then
+  is set, and takes it. Each of its two looks polls the future of a shutdown signal first, which is
+  kept and holds one place. At the end the signal comes, and has to be found.
+- two threads: one sets a question and takes the reply, and the other takes the question and sets
+  the reply. Both sleep while they wait: in `block_on` of one take, or, over a core, until its waker
+  unparks them, which are two ways to sleep. Only the time is given, for a question and its reply:
+  callgrind runs one thread at a time.
+
+The rows:
+
+- Core, LockedCore: wakers of the bench's own.
+- unsync, sync: cells, and futures polled by `poll_shared`; `in_place` and `with` for those that are
+  polled again, and for the signal.
+- Shared: the same for futures that are owners, of `take_shared` and `get_shared`. In a reply slot
+  one future is polled twice. In the others the futures are made before the first round.
+- weak: the same as Shared for the weak futures of `take_weak` and `get_weak`.
+- Owner: the same as Shared, and each future holds a place, as those of an Owner do.
+- bare: what the wakers of `futures` cost without a cell; take it off the rows between.
 """
+import os
 import re
 import shutil
 import statistics
 import subprocess
 import sys
 
-KINDS = ["Core", "LockedCore", "unsync", "sync", "bare"]
+# The rows, and which program runs each.
+KINDS = {
+    "Core": "cells",
+    "LockedCore": "cells",
+    "unsync": "cells",
+    "unsync Shared": "shared",
+    "unsync weak": "weak",
+    "sync": "cells",
+    "sync Shared": "shared",
+    "sync weak": "weak",
+    "sync Owner": "owner",
+    "bare": "cells",
+}
 # Title, workload, waiters, rounds of a timed run.
 COLUMNS = [
     ("reply slot", "reply", 1, 200_000),
@@ -22,9 +65,21 @@ COLUMNS = [
     ("fan-out 8", "fan", 8, 30_000),
     ("fan-out 64", "fan", 64, 4_000),
     ("fan-out 1024", "fan", 1024, 200),
+    ("fan-out 100,000", "fan", 100_000, 10),
     ("poll again", "again", 1, 200_000),
+    ("stream", "stream", 1, 100_000),
+    ("two threads", "threads", 1, 5_000),
 ]
 COUNTED_POLLS = 4096
+IN_THREADS = ["LockedCore", "sync", "sync Owner"]
+NAMED_WAKERS = ["Core", "LockedCore"]
+
+
+def applies(kind, workload, waiters):
+    """Returns whether the operation is one of this kind of cell."""
+    if workload == "threads":
+        return kind in IN_THREADS
+    return waiters <= 1024 or kind not in NAMED_WAKERS
 
 
 def output_of(*command):
@@ -32,24 +87,35 @@ def output_of(*command):
     return subprocess.run(command, capture_output=True, text=True, check=True)
 
 
-def instructions(program, kind, workload, waiters):
+def command(programs, kind, workload, rounds, waiters):
+    """Returns the command that runs a workload."""
+    program = KINDS[kind]
+    if workload == "threads":
+        program = "threads"
+    elif workload == "stream" and program == "cells":
+        program = "servers"
+    return [os.path.join(programs, program), kind.replace(" ", "-"), workload, str(rounds),
+            str(waiters)]
+
+
+def instructions(programs, kind, workload, waiters):
     """Counts the instructions for one operation."""
-    few = max(COUNTED_POLLS // waiters, 4)
+    few = max(COUNTED_POLLS // waiters, 2)
     collected = []
     for rounds in (few, 2 * few):
         run = output_of("valgrind", "--tool=callgrind", "--callgrind-out-file=/dev/null",
-                        program, kind, workload, str(rounds), str(waiters))
+                        *command(programs, kind, workload, rounds, waiters))
         collected.append(int(re.search(r"Collected : (\d+)", run.stderr).group(1)))
     return round((collected[1] - collected[0]) / few / waiters)
 
 
-def nanoseconds(program, kind, workload, waiters, rounds, repeats):
+def nanoseconds(programs, kind, workload, waiters, rounds, repeats):
     """Measures the time of one operation, and checks what the program counted."""
-    sums = {"reply", "watch"}
+    sums = {"reply", "watch", "stream", "threads"}
     expected = rounds * (rounds - 1) // 2 if workload in sums else rounds * waiters
     times = []
     for _ in range(repeats):
-        run = output_of(program, kind, workload, str(rounds), str(waiters))
+        run = output_of(*command(programs, kind, workload, rounds, waiters))
         counted, taken = run.stdout.split()
         if int(counted) != expected:
             raise SystemExit(f"bench: {kind} {workload} {waiters}: counted {counted}")
@@ -57,17 +123,24 @@ def nanoseconds(program, kind, workload, waiters, rounds, repeats):
     return statistics.median(times)
 
 
+def field(programs, kind, column, repeats, is_counted):
+    """Returns what is printed of one kind and one operation."""
+    _, workload, waiters, rounds = column
+    if not applies(kind, workload, waiters):
+        return "-"
+    time = nanoseconds(programs, kind, workload, waiters, rounds, repeats)
+    if not is_counted or workload == "threads":
+        return f"({time:.0f} ns)"
+    return f"{instructions(programs, kind, workload, waiters)} ({time:.0f} ns)"
+
+
 def main():
-    program, repeats = sys.argv[1], int((sys.argv[2:] or ["5"])[0])
+    programs, repeats = sys.argv[1], int((sys.argv[2:] or ["5"])[0])
     has_callgrind = shutil.which("valgrind") is not None
     print("| | " + " | ".join(title for title, _, _, _ in COLUMNS) + " |")
     print("|---" * (len(COLUMNS) + 1) + "|")
     for kind in KINDS:
-        fields = []
-        for _, workload, waiters, rounds in COLUMNS:
-            time = nanoseconds(program, kind, workload, waiters, rounds, repeats)
-            count = f"{instructions(program, kind, workload, waiters)} " if has_callgrind else ""
-            fields.append(f"{count}({time:.0f} ns)")
+        fields = [field(programs, kind, column, repeats, has_callgrind) for column in COLUMNS]
         print(f"| {kind} | " + " | ".join(fields) + " |", flush=True)
 
 
