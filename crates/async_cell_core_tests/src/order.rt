@@ -12,13 +12,18 @@ const FOUR: u64 = 4;
 
 type Turns<'a> = Core<u64, InTurn<&'a Cell<u64>>>;
 
-/// A core on which the wakers of the numbers below four wait, in order.
-fn awaited_in_turn(alloc: Global, woken: &Cell<u64>) -> Turns<'_> {
+/// A core on which the wakers of the numbers below `count` wait, in order.
+fn awaited_by(alloc: Global, count: u64, woken: &Cell<u64>) -> Turns<'_> {
     let mut core = Core::new(alloc);
-    for number in 0..FOUR {
+    for number in 0..count {
         let _ = core.poll_take(&InTurn { number, woken });
     }
     core
+}
+
+/// A core on which the wakers of the numbers below four wait, in order.
+fn awaited_in_turn(alloc: Global, woken: &Cell<u64>) -> Turns<'_> {
+    awaited_by(alloc, FOUR, woken)
 }
 
 #[test]
@@ -26,6 +31,18 @@ fn a_dropped_core_wakes_in_order(rt: HostRuntime) {
     let woken = Cell::new(0);
     drop(awaited_in_turn(rt.alloc(), &woken));
     same(&rt, "dropped", woken.get(), FOUR);
+}
+
+#[test]
+fn all_are_woken_however_few_wait(rt: HostRuntime) {
+    for count in 0..FOUR {
+        let woken = Cell::new(0);
+        drop(awaited_by(rt.alloc(), count, &woken));
+        same(&rt, "by the drop", woken.replace(0), count);
+        let (_, wakers) = awaited_by(rt.alloc(), count, &woken).into_inner();
+        wakers.wake_all();
+        same(&rt, "by wake_all", woken.get(), count);
+    }
 }
 
 /// Takes so many wakers out of the list and does not wake them.

@@ -38,6 +38,18 @@ fn a_value_whose_clone_is_refused_stays(rt: HostRuntime) -> Result<(), Fail> {
     Ok(())
 }
 
+#[test]
+fn a_weak_getter_whose_clone_is_refused_lacks_memory(rt: HostRuntime) -> Result<(), Fail> {
+    let flag = MockTask::new(&rt)?;
+    let owner: Owner<Single, _> = Owner::new(rt.alloc(), rt).map_err(|_| AllocError)?;
+    owner.set(Single(8));
+    let mut getter = owner.get_weak();
+    let got = tick_mut(&mut getter, &flag);
+    same(&rt, got, Poll::Ready(Err(Refusal::Memory)));
+    same(&rt, owner.try_take(), Some(Single(8)));
+    Ok(())
+}
+
 /// The answer, or one refusal more.
 fn counted<O>(answer: Result<O, Refusal>, refused: &mut u32, rt: &impl Abort) -> Option<O> {
     match answer {

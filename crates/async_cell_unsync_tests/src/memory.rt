@@ -128,6 +128,22 @@ fn a_value_that_cannot_be_cloned_stays(rt: HostRuntime) -> Result<(), Fail> {
 }
 
 #[test]
+fn a_weak_getter_of_a_value_that_cannot_be_cloned_lacks_memory(
+    rt: HostRuntime,
+) -> Result<(), Fail> {
+    let flag = MockTask::new(&rt)?;
+    let owner = AsyncCell::<Single>::shared(rt.alloc()).map_err(|_| AllocError)?;
+    owner.cell().set(Single(8));
+    same(
+        &rt,
+        tick_future(&mut owner.get_weak(), &flag),
+        Poll::Ready(Err(Refusal::Memory)),
+    );
+    same(&rt, owner.cell().try_take(), Some(Single(8)));
+    Ok(())
+}
+
+#[test]
 fn a_refused_poll_leaves_those_that_wait(rt: HostRuntime) -> Result<(), Fail> {
     let flag = MockTask::new(&rt)?;
     let other = MockTask::new(&rt)?;

@@ -159,6 +159,15 @@ fn a_weak_getter_in_its_place_leaves_the_value(rt: HostRuntime) {
     same(&rt, shared.cell().try_take(), Some(4));
 }
 
+#[test]
+fn a_getter_in_its_place_leaves_the_value(rt: HostRuntime) {
+    let cell: AsyncCell<u32> = AsyncCell::new_with(rt.alloc(), 4);
+    let flag = task(&rt);
+    let mut getter = cell.get().in_place();
+    same(&rt, tick_future(&mut getter, &flag), Poll::Ready(Ok(4)));
+    same(&rt, cell.try_take(), Some(4));
+}
+
 /// Makes the cell hand out all that wait, and leaves it empty.
 fn fill_and_empty(cell: &AsyncCell<u32>, rt: &impl Abort) {
     cell.set(7);
@@ -189,6 +198,41 @@ fn a_place_of_two_rounds_ago_is_not_taken_again(rt: HostRuntime) {
     fill_and_empty(&cell, &rt);
     fill_and_empty(&cell, &rt);
     let mut taker = cell.take().in_place();
+    holds(&rt, tick_future(&mut taker, &now).is_pending());
+    holds(&rt, tick_future(&mut getter, &past).is_pending());
+    same(&rt, cell.waiting(), 2);
+    holds(&rt, !now.is_woken());
+}
+
+#[test]
+fn a_place_of_a_round_in_which_two_waited_is_not_taken_again(rt: HostRuntime) {
+    let cell: AsyncCell<u32> = AsyncCell::new(rt.alloc());
+    let (past, now) = (task(&rt), task(&rt));
+    let mut early = cell.get().in_place();
+    let mut other = cell.get().in_place();
+    holds(&rt, tick_future(&mut early, &past).is_pending());
+    holds(&rt, tick_future(&mut other, &past).is_pending());
+    fill_and_empty(&cell, &rt);
+    let mut taker = cell.take().in_place();
+    holds(&rt, tick_future(&mut taker, &now).is_pending());
+    holds(&rt, tick_future(&mut early, &past).is_pending());
+    same(&rt, cell.waiting(), 2);
+    holds(&rt, !now.is_woken());
+}
+
+#[test]
+fn a_free_place_of_a_round_in_which_two_waited_is_not_taken_over(rt: HostRuntime) {
+    let cell: AsyncCell<u32> = AsyncCell::new(rt.alloc());
+    let (past, now) = (task(&rt), task(&rt));
+    let mut early = cell.take().in_place();
+    let mut other = cell.get().in_place();
+    holds(&rt, tick_future(&mut early, &past).is_pending());
+    holds(&rt, tick_future(&mut other, &past).is_pending());
+    drop(other);
+    drop(early);
+    fill_and_empty(&cell, &rt);
+    let mut taker = cell.take().in_place();
+    let mut getter = cell.get().in_place();
     holds(&rt, tick_future(&mut taker, &now).is_pending());
     holds(&rt, tick_future(&mut getter, &past).is_pending());
     same(&rt, cell.waiting(), 2);
