@@ -1,8 +1,9 @@
 #!/usr/bin/env bash
-# Runs two programs whose futures wait on a `sync` cell again and again: looks.txt looks for a signal by `now_or_never`, and
-# messages.txt takes messages until a signal comes. Each is to stay under 2 MB, however often it polls. They are proved and
-# built in a copy of the crates that they need, with what earlier checks kept of these. Prints a line a program; the status
-# is 0 if both held.
+# Runs two programs whose futures wait on a `sync` cell again and again: looks.txt looks for a
+# signal by `now_or_never`, and messages.txt takes messages until a signal comes. Each is to stay
+# under 2 MB, however often it polls. They are proved and built in a copy of the crates that they
+# need, with what earlier checks kept of these. Prints a line a program; the status is 0 if both
+# held.
 set -euo pipefail
 top=$(cd "$(dirname "$0")/.." && pwd)
 work=$(mktemp -d)

@@ -1,7 +1,8 @@
 #!/usr/bin/env bash
-# Runs all tests without a proof: what one runs while writing. Prints a line for each crate, and what the crate printed
-# where a test failed; the status is 0 if none did. It takes some three minutes. JOBS says how many crates run side by
-# side, and words say which crates (none: all that have tests).
+# Runs all tests without a proof: what one runs while writing. Prints a line for each crate, and
+# what the crate printed where a test failed; the status is 0 if none did. It takes some three
+# minutes. JOBS says how many crates run side by side, and words say which crates (none: all that
+# have tests).
 set -euo pipefail
 top=$(cd "$(dirname "$0")/.." && pwd)
 work=$(mktemp -d)
@@ -11,7 +12,8 @@ cd "$top/crates"
 if [ $# -gt 0 ]; then
     crates=("$@")
 else
-    mapfile -t crates < <(grep -rl --include='*.rt' '#\[cfg(test)\]' ./*/src | cut -d / -f 2 | sort -u)
+    marked=$(grep -rl --include='*.rt' '#\[cfg(test)\]' ./*/src | cut -d / -f 2 | sort -u)
+    mapfile -t crates <<<"$marked"
 fi
 
 # Tries a crate's tests, and keeps what they print.
