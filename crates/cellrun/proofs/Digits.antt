@@ -12,6 +12,7 @@ one_more text k n within digit so_far =
     let value = digit_value_digit (get_or text k 0) digit in
     omega (arith, value, so_far, digits_value_more 10 text k within)
 
+-- and the bytes so far are digits
 pub more_digits : (text : List ℕ) (k : ℕ) → k < length text → IsInRange 48 57 (get_or text k 0) → AllDigits 10 (take k text) → AllDigits 10 (take (k + 1) text)
 more_digits text k within digit so_far =
     let value = digit_value_digit (get_or text k 0) digit in

@@ -1,11 +1,10 @@
 -- Where the first line feed of joined bytes is, and what that says of the next line.
 use Rattle.std.proofs.Common.{◌≡◌, ◌≢◌, ℕ, ◌+◌, ◌<◌, ◌≤◌, Bool, true, false, not, cond, List, [], ◌∷◌, ◌++◌, length, take, drop, Option, Some, None, IfSome, if◌then◌else◌, ◌==◌, refl, sym, ap, ◌∙◌, arith, append_assoc, append-nil, take_all, zero-add}
-use Rattle.std.specs.List.{position, position_or_len}
+use Rattle.std.specs.List.{position_or_len}
 use Rattle.std.specs.Io.KnownBytes.{Keeps, IsAtEnd, prepend_known}
 use Rattle.std.specs.Io.BufRead.{DropsConsumable}
 use Rattle.std.proofs.Math.Seq.{take-append-add, drop-append-add}
 use Rattle.std.proofs.lemmas.List.{drop_all, take-append-le, take-append-drop, length-append, length-take}
-use Rattle.cellrun.proofs.Places.{position_found, position_none}
 use Rattle.cellrun.specs.Next.{IsLine, IsNext, is_line_feed, first_line, after_line}
 use Rattle.cellrun.specs.declared.lines.Next.{Next}
 use Rattle.cellrun.specs.declared.lines.Next.TheVariants.{Call, Blank, Bad, End}
@@ -35,13 +34,6 @@ place-append_none (x ∷ xs) ys e =
 pub place-append_some : (xs ys : List ℕ) → place xs < length xs → place (xs ++ ys) ≡ place xs
 place-append_some [] ys h = absurd (omega arith)
 place-append_some (x ∷ xs) ys h = some_cons (not (x == 10)) (place xs) (place (xs ++ ys)) (length xs) (place-append_some xs ys) (omega (arith, h))
-
--- what a search for it answers
-pub place_found : (xs : List ℕ) (k : ℕ) → position is_line_feed xs ≡ Some k → (k ≡ place xs) × (place xs < length xs)
-place_found xs k e = position_found is_line_feed xs k e
-
-pub place_none : (xs : List ℕ) → position is_line_feed xs ≡ None → place xs ≡ length xs
-place_none xs e = position_none is_line_feed xs e
 
 -- bytes h with no line feed, and then bytes that begin with f: the line and what follows it
 pub first_line_found : (h f t : List ℕ) → place h ≡ length h → place f < length f → first_line (h ++ (f ++ t)) ≡ h ++ take (place f) f

@@ -3,7 +3,8 @@ ghost use Rattle.std.specs.Prelude.{SomeIff};
 ghost use Rattle.std.specs.Str.Parse.{digits_value};
 ghost use Rattle.cellrun.specs.Command.{IsValue, IsWaker, number_of};
 
-/// The number that the text writes: digits, or a minus and digits.
+/// The number that the text writes: digits, or a minus and digits. `None` for any other text, and
+/// for a number that an `i64` cannot hold.
 pub fn value(text: &[u8]) -> Option<i64>
     ensures { SomeIff result (IsValue text.now) (number_of text.now) }
 {
@@ -13,7 +14,8 @@ pub fn value(text: &[u8]) -> Option<i64>
     }
 }
 
-/// The name of a waker that the text writes: digits alone.
+/// The name of a waker that the text writes: digits alone. `None` for any other text, and for a
+/// number that a `u64` cannot hold.
 pub fn waker(text: &[u8]) -> Option<u64>
     ensures { SomeIff result (IsWaker text.now) (digits_value 10 text.now) }
 {

@@ -1,6 +1,8 @@
 use Rattle.std.proofs.Common.{◌≡◌, ℕ, ◌+◌, ◌<◌, ◌≤◌, ◌==◌, true, false, None, length, take, Result, Ok, Err, OnOk, IsOk, is_err, refl, sym, arith, rules}
 use Rattle.std.specs.Io.Buffered.{reader_remaining, reader_buffer, reader_capacity}
-use Rattle.cellrun.proofs.LineFeed.{place_none, place_found, place_joined, bad_next, line_next, end_next}
+use Rattle.cellrun.proofs.LineFeed.{place_joined, bad_next, line_next, end_next}
+use Rattle.cellrun.proofs.Places.{position_found, position_none}
+use Rattle.cellrun.specs.Next.{is_line_feed}
 use Rattle.cellrun.proofs.lines.Lines.look.Goals as goal
 
 when_ok : {T E P : Type 0} (r : Result T E) → false ≡ is_err r → OnOk r P → P
@@ -17,7 +19,7 @@ pub invariant_of-self-in_default : goal.invariant_of-self-in_default
 invariant_of-self-in_default g c =
     let front = take c.min.result c.buffer-buffered.result.now in
     let items = when_ok c.try_extend_from_slice.result c.if-is_err.ensures.value c.try_extend_from_slice.ensures.ok in
-    record { one_line = rw items (place_joined c.args.self.now.held.items front c.args.self.now.one_line (place_none front (sym c.in_default.ensures))) }
+    record { one_line = rw items (place_joined c.args.self.now.held.items front c.args.self.now.one_line (position_none is_line_feed front (sym c.in_default.ensures))) }
 
 pub returns-then-is_empty-clause-next : goal.returns-then-is_empty-clause-next
 returns-then-is_empty-clause-next g c =
@@ -34,12 +36,12 @@ returns-then-is_err-clause-next g c =
     (bad_next c.args.self.now.held.items (reader_buffer c.refill.new.input) front c.min.result
     (reader_capacity c.refill.new.input == 0) (reader_remaining g.R.Read.remaining c.args.self.now.input) _ None
     (rw c.buffer-buffered.ensures refl) c.refill.ensures.bytes c.args.self.now.one_line
-    (place_none front (sym c.in_default.ensures)) long)
+    (position_none is_line_feed front (sym c.in_default.ensures)) long)
 
 pub returns-clause-next : goal.returns-clause-next
 returns-clause-next g c =
     let front = take c.min.result c.buffer-buffered.result.now in
-    let found = place_found front c.in-Some.end (sym c.in-Some.ensures) in
+    let found = position_found is_line_feed front c.in-Some.end (sym c.in-Some.ensures) in
     rw (c.if-self.false, c.complete-next.ensures.emptied)
     (line_next c.args.self.now.held.items (reader_buffer c.refill.new.input) front c.min.result c.in-Some.end
     (reader_capacity c.refill.new.input == 0) (reader_remaining g.R.Read.remaining c.args.self.now.input) _
