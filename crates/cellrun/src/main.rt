@@ -1,12 +1,11 @@
-// Steps one cell by the calls that it reads from standard input, a line each, and prints what each
-// call answers.
+//! Steps one cell by the calls on standard input, one a line, and prints the result of each call.
 #![tactic(auto)]
 
-mod answer;
 mod command;
 mod lines;
 mod number;
 mod output;
+mod reply;
 mod script;
 mod session;
 
@@ -14,7 +13,7 @@ use script::Ended;
 use std::env::{Env, FillError};
 use std::process::ExitCode;
 
-/// What is printed where there are arguments: it takes none.
+/// Printed on standard error if there is an argument.
 const USAGE: &str = "usage: cellrun < SCRIPT\n\
     Steps one cell by the calls on standard input, one a line, and prints what each call answers.\n\
     It takes no arguments. CALLING.md lists the calls.\n";
@@ -35,7 +34,7 @@ fn main(rt: HostRuntime) -> ExitCode {
     }
 }
 
-/// Whether the program was given an argument, of whatever bytes.
+/// Returns whether the program was given an argument, even one that is empty or not UTF-8.
 fn has_arguments<R: Env>(rt: &R) -> bool {
     !matches!(rt.arg(1, &mut []), Err(FillError::NotPresent))
 }
