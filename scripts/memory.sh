@@ -48,7 +48,7 @@ async_cell_recorded_tests  memory::a_recorded_call_without_memory_leaves_no_entr
 async_cell_recorded_tests  memory::a_recorded_wait_without_memory_is_not_handed_out
 async_cell_recorded_tests  memory::a_step_without_memory_does_not_count
 async_cell_recorded_tests  memory::a_session_that_finds_no_memory_has_not_begun
-cellrun                    script::refused::want_of_memory_is_told_or_ends_the_script
+cellrun                    script::refused::a_refused_request_is_printed_or_ends_the_script
 '
 
 # The tests of calls that take no memory: each request is to be one of the test's own.

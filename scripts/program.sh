@@ -99,11 +99,7 @@ usage_on_closed_error() { timeout 20 "$program" --help 2>&-; }
 usage_on_full_error() { timeout 20 "$program" --help 2>/dev/full; }
 folder_input() { timeout 20 "$program" </; }
 
-usage='usage: cellrun < SCRIPT
-Steps one cell by the calls on standard input, one a line, and prints what each call answers.
-It takes no arguments. CALLING.md lists the calls.'
-
-# Runs the program with arguments: NAME ARGUMENT.. It is to print the usage on standard error and
+# Runs the program with arguments: NAME ARGUMENT.. It is to print usage.txt on standard error and
 # nothing else, and to leave its input unread.
 refuses_arguments() {
     local name=$1 status=0 left
@@ -116,7 +112,7 @@ refuses_arguments() {
     } <"$work/in")
     compare "$name" \
         "$(cat "$work/out" "$work/err")|$(wc -l <"$work/err")|$(cat "$work/status")|$left" \
-        "$usage|3|2|own"$'\n'sett
+        "$(cat "$top/scripts/usage.txt")|28|2|own"$'\n'sett
 }
 
 # So many times the character.
@@ -383,6 +379,8 @@ refuses_arguments 'an argument' scripts/first.txt
 refuses_arguments 'an argument that is empty' ''
 refuses_arguments 'an argument that is not UTF-8' $'\xff'
 refuses_arguments 'two arguments' - -
+compare 'the calls of the usage, and what each prints' \
+    "$(python3 "$top/scripts/usage.py" "$program" "$top/scripts/usage.txt" 2>&1 || true)" '16 calls'
 
 talked=$(line_by_line 'own' 'get 1' 'get 2' 'set 7' 'take 1' 'end' 'end' 'debug')
 compare 'each answer comes before more is sent' "$talked" 'own: owners 2

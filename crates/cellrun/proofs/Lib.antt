@@ -1,9 +1,9 @@
-pub mod Coming
 pub mod Digits
-pub mod Gathering
-pub mod Keeping
+pub mod EndText
 pub mod LineFeed
-pub mod Naming
+pub mod LineNumber
+pub mod LineParts
+pub mod OutputContents
 pub mod Places
-pub mod Printing
-pub mod Spelling
+pub mod UpdateReply
+pub mod Written

@@ -1,4 +1,4 @@
--- Where the first line feed of joined bytes is, and what that says of the next line.
+-- The index of the first line feed in joined bytes, and the next line that follows from it.
 use Rattle.std.proofs.Common.{◌≡◌, ◌≢◌, ℕ, ◌+◌, ◌<◌, ◌≤◌, Bool, true, false, not, cond, List, [], ◌∷◌, ◌++◌, length, take, drop, Option, Some, None, IfSome, if◌then◌else◌, ◌==◌, refl, sym, ap, ◌∙◌, arith, append_assoc, append-nil, take_all, zero-add}
 use Rattle.std.specs.List.{position_or_len}
 use Rattle.std.specs.Io.KnownBytes.{Keeps, IsAtEnd, prepend_known}
@@ -90,7 +90,7 @@ line_next h buffer f n end none (Some xs) inner after next e k held is in_bounds
 pub place_joined : (h f : List ℕ) → place h ≡ length h → place f ≡ length f → place (h ++ f) ≡ length (h ++ f)
 place_joined h f held also = omega (arith, place-append_none h f held, length-append h f)
 
--- what is next where nothing was lost before
+-- the next line is the same if nothing was lost before
 pub kept_next : (old now left : Option (List ℕ)) (next : Next) → Keeps old now → IfSome now (λ bytes. IsNext bytes left next) → IfSome old (λ bytes. IsNext bytes left next)
 kept_next None now left next k h = tt
 kept_next (Some xs) None left next k h = absurd k
@@ -103,7 +103,7 @@ whole_line bytes held = rw held (take_all (length bytes) bytes (omega arith))
 none_after : (bytes : List ℕ) → place bytes ≡ length bytes → after_line bytes ≡ []
 none_after bytes held = rw held (drop_all (length bytes + 1) bytes (omega arith))
 
--- at the end of the bytes what is held is the last line, if there is one
+-- at the end of the bytes, what is held is the last line, if there is one
 pub end_next : (h : List ℕ) (old : Option (List ℕ)) (next : Next) → place h ≡ length h → IsAtEnd old → (h ≢ [] → IsLine h next) → (h ≡ [] → next ≡ End) → IfSome (prepend_known h old) (λ bytes. IsNext bytes (Some []) next)
 end_next h None next held at line end = tt
 end_next [] (Some xs) next held at line end = rw (end refl) at

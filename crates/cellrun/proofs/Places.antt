@@ -1,4 +1,4 @@
--- What `position` answers.
+-- What `position` returns.
 use Rattle.std.proofs.Common.{◌≡◌, ℕ, ◌<◌, Bool, true, false, not, cond, nat_lt, List, length, take, drop, ◌-◌, take_all, length-drop, Some, None, refl, arith}
 use Rattle.std.specs.List.{position, position_or_len}
 use Rattle.std.proofs.lemmas.List.Sums.{prefix_len-le-length}
@@ -22,7 +22,7 @@ position_none p xs e =
     let test : nat_lt (position_or_len p xs) (length xs) ≡ false = none_cond (nat_lt (position_or_len p xs) (length xs)) (position_or_len p xs) e in
     omega (arith, ltb-false (position_or_len p xs) (length xs) test, prefix_len-le-length (λ x. not (p x)) xs)
 
--- what stands from a place on
+-- the elements from an index on
 pub from_place : (xs : List ℕ) (k : ℕ) → take (length xs - k) (drop k xs) ≡ drop k xs
 from_place xs k =
     let len = length-drop k xs in

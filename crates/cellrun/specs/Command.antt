@@ -15,13 +15,13 @@ number_of text =
     if starts_with_minus text then neg_ℤ (pos (digits_value 10 (without_minus text)))
     else pos (digits_value 10 (without_minus text))
 
--- one decimal digit or more, which a minus may precede, and a number of 64 bits with a sign
+-- one decimal digit or more, after a minus or none, and a number of 64 bits with a sign
 abbrev pub IsValue : List ℕ → Type 0
 IsValue text = IsNumeral 10 (without_minus text) × FitsSigned w64 (number_of text)
 
 -- one decimal digit or more, and a number of 64 bits
-abbrev pub IsWaker : List ℕ → Type 0
-IsWaker text = IsNumeral 10 text × (digits_value 10 text < 2 ^ 64)
+abbrev pub IsDigits : List ℕ → Type 0
+IsDigits text = IsNumeral 10 text × (digits_value 10 text < 2 ^ 64)
 
 -- the text writes the value
 abbrev pub WritesValue : List ℕ → ℤ → Type 0
@@ -29,7 +29,7 @@ WritesValue text v = IsValue text × (v ≡ number_of text)
 
 -- the text writes the waker's name
 abbrev pub WritesWaker : List ℕ → ℕ → Type 0
-WritesWaker text w = IsWaker text × (w ≡ digits_value 10 text)
+WritesWaker text w = IsDigits text × (w ≡ digits_value 10 text)
 
 -- the line is these words and then a value
 abbrev pub EndsWithValue : List ℕ → List ℕ → ℤ → Type 0

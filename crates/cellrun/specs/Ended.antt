@@ -6,7 +6,7 @@ use Rattle.cellrun.specs.declared.lines.Next.TheVariants.{Bad}
 use Rattle.cellrun.specs.declared.script.Ended.{Ended}
 use Rattle.cellrun.specs.declared.script.Ended.TheVariants.{Done, BadLine, Failed}
 
--- line n of the bytes begins with rest, and each line before it is a call or empty
+-- rest begins with line n of the bytes, and each line before it is a call or empty
 pub data ComesTo (bytes : List ℕ) : ℕ → List ℕ → Type 0 where
   start : ComesTo bytes 1 bytes
   past : {n : ℕ} {rest : List ℕ} (next : Next) → ComesTo bytes n rest

@@ -1,4 +1,4 @@
-pub mod Answered
+pub mod CallPrints
 pub mod Command
 pub mod Ended
 pub mod Lines

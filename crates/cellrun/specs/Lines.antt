@@ -1,4 +1,4 @@
--- What an input that is read a line at a time still has.
+-- The bytes of an input that are not returned as lines yet.
 use Rattle.std.specs.Prelude.{ℕ, List, [], Option, Some, if◌then◌else◌}
 use Rattle.std.specs.Io.KnownBytes.{prepend_known}
 use Rattle.std.specs.Io.Buffered.{reader_remaining}

@@ -1,4 +1,4 @@
--- What an input has next.
+-- The next line of an input, or its end.
 use Rattle.std.specs.Prelude.{◌≡◌, ◌≢◌, ℕ, ◌≤◌, Bool, List, [], length, ◌==◌, Option, Some}
 use Rattle.std.specs.List.{before_first, after_first}
 use Rattle.cellrun.specs.Command.{Spells, SpellsNone}
@@ -24,7 +24,7 @@ IsLine line Blank = line ≡ []
 IsLine line Bad = (line ≢ []) × (length line ≤ 64 → SpellsNone line)
 IsLine line End = ⊥
 
--- what the bytes have next, and what they leave: after a bad line that is open
+-- the next line or the end of the bytes, and the bytes after it, which are open after a bad line
 abbrev pub IsNext : List ℕ → Option (List ℕ) → Next → Type 0
 IsNext bytes left (Call call) =
     (bytes ≢ []) × IsLine (first_line bytes) (Call call) × (left ≡ Some (after_line bytes))

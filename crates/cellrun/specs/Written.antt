@@ -4,7 +4,7 @@ use Rattle.std.specs.Io.KnownBytes.{append_known}
 use Rattle.async_cell_cons.specs.declared.named.Named.{Named}
 use Rattle.async_cell_model.specs.declared.cell.Cell.TheVariants.{Open}
 use Rattle.async_cell_model.specs.History.{State}
-use Rattle.cellrun.specs.Answered.{Answered}
+use Rattle.cellrun.specs.CallPrints.{CallPrints}
 use Rattle.cellrun.specs.Next.{IsLine, first_line, after_line}
 use Rattle.cellrun.specs.declared.command.Command.{Command}
 use Rattle.cellrun.specs.declared.lines.Next.TheVariants.{Call, Blank, Bad}
@@ -15,8 +15,8 @@ use Rattle.cellrun.specs.declared.script.Ended.TheVariants.{Done, BadLine, Faile
 abbrev pub new_cell : State ℤ Named
 new_cell = record { cell = Open None 1; waiting = []; room = 0 }
 
--- line n of the bytes begins with rest, the calls of the lines before it lead to the cell, and they
--- are answered the text
+-- rest begins with line n of the bytes, the calls of the lines before it lead to the cell, and they
+-- print the text
 pub data Prints (bytes : List ℕ) : ℕ → List ℕ → State ℤ Named → List ℕ → Type 0 where
   start : Prints bytes 1 bytes new_cell []
   blank : {n : ℕ} {rest text : List ℕ} {cell : State ℤ Named} → Prints bytes n rest cell text
@@ -24,12 +24,11 @@ pub data Prints (bytes : List ℕ) : ℕ → List ℕ → State ℤ Named → Li
       → Prints bytes (n + 1) (after_line rest) cell text
   called : {n : ℕ} {rest text : List ℕ} {cell next : State ℤ Named}
       (call : Command) (line : List ℕ) → Prints bytes n rest cell text
-      → rest ≢ [] → IsLine (first_line rest) (Call call) → Answered cell call line next
+      → rest ≢ [] → IsLine (first_line rest) (Call call) → CallPrints cell call line next
       → Prints bytes (n + 1) (after_line rest) next (text ++ line)
 
--- How it ends where line n begins with rest, the writer is to hold the whole, and holds the bytes
--- after: all of the whole where the input ended or line n is bad, and its beginning where it
--- failed.
+-- How the script ends if rest begins with line n, the whole is to be written, and the writer has
+-- `after`: all of the whole if the input ended or line n is bad, and a prefix of it if it failed.
 abbrev pub StopsAt : ℕ → List ℕ → List ℕ → Option (List ℕ) → Ended → Type 0
 StopsAt n rest whole after Done = (rest ≡ []) × (after ≡ Some whole)
 StopsAt n rest whole after (BadLine number) =
@@ -37,8 +36,8 @@ StopsAt n rest whole after (BadLine number) =
 StopsAt n rest whole after Failed =
     (unwritten : List ℕ) × (append_known after unwritten ≡ Some whole)
 
--- The writer, which held the bytes before and then those after, was written what the lines before
--- some line are answered.
+-- What was written to a writer that had `before` and then has `after` is what the calls before some
+-- line print.
 abbrev pub Writes : List ℕ → List ℕ → Option (List ℕ) → Ended → Type 0
 Writes bytes before after ended =
     (n : ℕ) × (rest : List ℕ) × (cell : State ℤ Named) × (text : List ℕ)

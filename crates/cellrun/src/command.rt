@@ -1,13 +1,13 @@
-//! The calls that a line can be.
+//! Parses a line into a call.
 ghost use Rattle.std.specs.Prelude.{◌≡◌, ◌≤◌, length, IsSome, IfSome, IfNone, codes};
 ghost use Rattle.std.specs.List.{position};
 ghost use Rattle.cellrun.specs.Command.{Spells, SpellsNone, SpellsWord, SpellsParts, SpellsEdit};
 ghost use Rattle.cellrun.specs.Command.{is_space};
 ghost use Rattle.cellrun.specs.declared.command.Command.{Command};
 
-use crate::number::{value, waker};
+use crate::number::{digits, value};
 
-/// How many bytes a line may have, its line feed not counted.
+/// The greatest number of bytes in a line, not counting its line feed.
 pub const MAX_LINE: usize = 64;
 
 /// One call on the cell.
@@ -47,7 +47,7 @@ pub enum Command {
     Debug,
 }
 
-/// The call that the line is, if it is one.
+/// Parses a line. Returns `None` if it is not a call.
 pub fn parse(line: &[u8]) -> Option<Command>
     ensures call { IfSome result (Spells line.now) }
     ensures not_too_long { IsSome result → length line.now ≤ MAX_LINE }
@@ -62,14 +62,14 @@ pub fn parse(line: &[u8]) -> Option<Command>
     }
 }
 
-/// Where the line has its first space.
+/// Returns the index of the first space.
 fn first_space(line: &[u8]) -> Option<usize>
     ensures { result ≡ position is_space line.now }
 {
     line.iter().position(|byte| *byte == b' ')
 }
 
-/// The call that is this word alone.
+/// Parses a line of one word.
 fn bare(word: &[u8]) -> Option<Command>
     ensures call { IfSome result (SpellsWord word.now) }
     ensures refused { IfNone result ((call : Command) → ¬ (SpellsWord word.now call)) }
@@ -86,7 +86,7 @@ fn bare(word: &[u8]) -> Option<Command>
     }
 }
 
-/// The call that begins with this word and goes on with `rest`.
+/// Parses a line from its first word and the `rest` after the space.
 fn with_operand(word: &[u8], rest: &[u8]) -> Option<Command>
     ensures call { IfSome result (SpellsParts word.now rest.now) }
     ensures refused { IfNone result ((call : Command) → ¬ (SpellsParts word.now rest.now call)) }
@@ -97,13 +97,13 @@ fn with_operand(word: &[u8], rest: &[u8]) -> Option<Command>
         b"replace" => value(rest).map(Command::Replace),
         b"update" => update(rest),
         b"update_some" => value(rest.strip_prefix(b"add ")?).map(Command::UpdateSomeAdd),
-        b"take" => waker(rest).map(Command::Take),
-        b"get" => waker(rest).map(Command::Get),
+        b"take" => digits(rest).map(Command::Take),
+        b"get" => digits(rest).map(Command::Get),
         _ => None,
     }
 }
 
-/// The update that goes on with `edit`.
+/// Parses what follows the word `update`.
 fn update(edit: &[u8]) -> Option<Command>
     ensures call { IfSome result (SpellsEdit edit.now) }
     ensures refused { IfNone result ((call : Command) → ¬ (SpellsEdit edit.now call)) }

@@ -1,4 +1,4 @@
-//! The lines of an input, of which the reader's buffer and one line are held and no more.
+//! Reads an input a line at a time. Only the reader's buffer and one line are in memory.
 ghost use Rattle.std.specs.Prelude.{◌≡◌, ◌<◌, ◌≤◌, ℕ, List, ◌≢◌, [], ◌++◌, length, true, Option, Some, IfSome, IfNone, OnOk, IfOk, IfErr, IsOk, OnErr};
 ghost use Rattle.std.specs.IoError.{error_kind};
 ghost use Rattle.std.specs.List.{position, position_or_len};
@@ -16,16 +16,16 @@ use std::alloc::Global;
 use std::io;
 use std::io::{BufRead, BufReader, ErrorKind, Read, Write};
 
-/// What an input has next.
+/// The next thing in an input.
 #[derive(Clone, Copy, Debug, PartialEq, Eq)]
 pub enum Next {
     /// A line that is a call.
     Call(Command),
     /// An empty line.
     Blank,
-    /// A line that is no call. Where it is too long, its rest is not read.
+    /// A line that is neither empty nor a call. If it is too long, its rest is not read.
     Bad,
-    /// No further line.
+    /// The end of the input.
     End,
 }
 
@@ -33,7 +33,7 @@ pub enum Next {
 #[derive(Drop)]
 pub struct Lines<R: Read> {
     input: BufReader<R>,
-    /// The part of a line that was read before the rest of it.
+    /// The bytes of a line whose end is not read yet.
     held: ArrayVec<u8, MAX_LINE>,
     is_done: bool,
     ghost one_line: { position_or_len is_line_feed held.items ≡ length held.items },
@@ -42,7 +42,7 @@ pub struct Lines<R: Read> {
 impl<R: Read + Drop> Lines<R> {
     ghost use Rattle.cellrun.specs.Lines.{bytes_left};
 
-    /// The lines of the reader. It fails where there is no memory for a buffer.
+    /// Reads lines from `reader`. Fails if there is no memory for a buffer.
     pub fn new(alloc: Global, reader: R) -> io::Result<Lines<R>>
         ensures bytes { IfOk result (λ lines. Keeps (R.remaining reader) (bytes_left lines)) }
         ensures err { IfErr result (λ e. error_kind e ≡ ErrorKind.OutOfMemory) }
@@ -54,7 +54,7 @@ impl<R: Read + Drop> Lines<R> {
         })
     }
 
-    /// What the input has next. Before it is read from, `out` is flushed.
+    /// Returns the next line or the end. Flushes `out` before it reads more input.
     pub fn next<W: Write + Drop>(&mut self, out: &mut Output<W>) -> io::Result<Next>
         ensures next { IfOk result (λ next. IfSome (bytes_left self.old)
             (λ bytes. IsNext bytes (bytes_left self.new) next)) }
@@ -69,8 +69,8 @@ impl<R: Read + Drop> Lines<R> {
         }
     }
 
-    /// What the input has next by the bytes that its buffer shows, or nothing where they are a part
-    /// of a line, which is then held.
+    /// Returns the next line if the buffer has the end of it. If not, stores its bytes in `held`
+    /// and returns `None`.
     fn look<W: Write + Drop>(&mut self, out: &mut Output<W>) -> io::Result<Option<Next>>
         ensures next { IfOk result (λ found. IfSome found (λ next. IfSome (bytes_left self.old)
             (λ bytes. IsNext bytes (bytes_left self.new) next))) }
@@ -108,8 +108,8 @@ impl<R: Read + Drop> Lines<R> {
     }
 }
 
-/// Shows bytes in the buffer, if the reader has further ones. Before it is read from, `out` is
-/// flushed.
+/// Fills the buffer if it is empty. Flushes `out` before it reads. The buffer is empty afterwards
+/// only at the end of the input.
 fn refill<R: Read, W: Write + Drop>(input: &mut BufReader<R>, out: &mut Output<W>) -> io::Result<()>
     ensures bytes { Keeps (reader_remaining R.remaining input.old)
         (reader_remaining R.remaining input.new) }
@@ -122,6 +122,7 @@ fn refill<R: Read, W: Write + Drop>(input: &mut BufReader<R>, out: &mut Output<W
         return Ok(());
     }
     out.flush()?;
+    // Bounded, so that it is proved to end. Only interrupted reads are tried again.
     for _ in 0..u64::MAX {
         match input.fill_buf() {
             Ok(_) => return Ok(()),
@@ -135,14 +136,14 @@ fn refill<R: Read, W: Write + Drop>(input: &mut BufReader<R>, out: &mut Output<W
     Err(io::Error::from(ErrorKind::TimedOut))
 }
 
-/// Where the bytes have their first line feed.
+/// Returns the index of the first line feed.
 fn line_feed(bytes: &[u8]) -> Option<usize>
     ensures { result ≡ position is_line_feed bytes.now }
 {
     bytes.iter().position(|byte| *byte == b'\n')
 }
 
-/// What the input has next at its end. Nothing is held then.
+/// Returns the last line if it lacks its line feed, or else the end. Empties `held`.
 fn last(held: &mut ArrayVec<u8, MAX_LINE>) -> Next
     ensures line { held.old.items ≢ [] → IsLine held.old.items result }
     ensures end { held.old.items ≡ [] → result ≡ Next.End }
@@ -154,7 +155,7 @@ fn last(held: &mut ArrayVec<u8, MAX_LINE>) -> Next
     complete(held, &[])
 }
 
-/// What the line is that begins with `held` and ends with `rest`. Nothing is held then.
+/// Judges the line that begins with `held` and ends with `rest`. Empties `held`.
 fn complete(held: &mut ArrayVec<u8, MAX_LINE>, rest: &[u8]) -> Next
     ensures line { IsLine (held.old.items ++ rest.now) result }
     ensures emptied { held.new.items ≡ [] }
@@ -170,7 +171,7 @@ fn complete(held: &mut ArrayVec<u8, MAX_LINE>, rest: &[u8]) -> Next
     next
 }
 
-/// What the line is.
+/// Returns whether the line is a call, empty or bad.
 fn judge(line: &[u8]) -> Next
     ensures { IsLine line.now result }
 {

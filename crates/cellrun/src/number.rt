@@ -1,23 +1,23 @@
-//! The numbers in a line.
+//! Reads the numbers in a line.
 ghost use Rattle.std.specs.Prelude.{SomeIff};
 ghost use Rattle.std.specs.Str.Parse.{digits_value};
-ghost use Rattle.cellrun.specs.Command.{IsValue, IsWaker, number_of};
+ghost use Rattle.cellrun.specs.Command.{IsValue, IsDigits, number_of};
 
-/// The number that the text writes: digits, or a minus and digits. `None` for any other text, and
-/// for a number that an `i64` cannot hold.
+/// Reads a value: one or more decimal digits, and a minus before them if it is negative. Returns
+/// `None` for any other text, and for a number that does not fit an `i64`.
 pub fn value(text: &[u8]) -> Option<i64>
     ensures { SomeIff result (IsValue text.now) (number_of text.now) }
 {
     match text {
-        [b'-', digits @ ..] => 0_i64.checked_sub_unsigned(waker(digits)?),
-        _ => i64::try_from(waker(text)?).ok(),
+        [b'-', rest @ ..] => 0_i64.checked_sub_unsigned(digits(rest)?),
+        _ => i64::try_from(digits(text)?).ok(),
     }
 }
 
-/// The name of a waker that the text writes: digits alone. `None` for any other text, and for a
-/// number that a `u64` cannot hold.
-pub fn waker(text: &[u8]) -> Option<u64>
-    ensures { SomeIff result (IsWaker text.now) (digits_value 10 text.now) }
+/// Reads one or more decimal digits, which also name a waker. Returns `None` for any other text,
+/// and for a number that does not fit a `u64`.
+pub fn digits(text: &[u8]) -> Option<u64>
+    ensures { SomeIff result (IsDigits text.now) (digits_value 10 text.now) }
 {
     if text.is_empty() {
         return None;

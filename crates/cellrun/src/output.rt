@@ -1,4 +1,4 @@
-//! Answers on their way to a writer.
+//! Buffers what is printed.
 ghost use Rattle.std.specs.Prelude.{◌≡◌, ◌≤◌, length, OnOk, OnErr};
 ghost use Rattle.std.specs.Io.KnownBytes.{Keeps, Appends};
 
@@ -6,12 +6,12 @@ use std::alloc::AllocError;
 use std::io;
 use std::io::{ErrorKind, Write};
 
-/// Gathers answers, and writes them to `writer` together.
+/// A writer with a buffer before it.
 #[derive(Drop)]
 pub struct Output<W> {
     writer: W,
     gathered: Vec<u8>,
-    /// How many of the gathered bytes are written.
+    /// The number of gathered bytes that are written.
     written: usize,
     ghost within: { written ≤ length gathered.items },
 }
@@ -19,7 +19,7 @@ pub struct Output<W> {
 impl<W: Write + Drop> Output<W> {
     ghost use Rattle.cellrun.specs.Output.{output_contents};
 
-    /// Answers are gathered in `room`, whose bytes are dropped.
+    /// Makes an output that buffers in `room`, after clearing it.
     pub fn new(mut room: Vec<u8>, writer: W) -> Self
         ensures writer { result.writer ≡ writer }
         ensures bytes { Keeps (W.contents writer) (output_contents W.contents result) }
@@ -32,26 +32,28 @@ impl<W: Write + Drop> Output<W> {
         }
     }
 
-    /// Gathers a further answer. Refused where there is no memory for it.
-    #[tactic(auto, using(crate::proofs::Gathering::gathered_more))]
-    pub fn gather(&mut self, answer: &[u8]) -> Result<(), AllocError>
+    /// Appends the text to the buffer. Fails if there is no memory for it.
+    #[tactic(auto, using(crate::proofs::OutputContents::gathered_more))]
+    pub fn gather(&mut self, text: &[u8]) -> Result<(), AllocError>
         ensures bytes { OnOk result
             (Appends (output_contents W.contents self.old) (output_contents W.contents self.new)
-            answer.now) }
+            text.now) }
         ensures unchanged { OnErr result
             (Keeps (output_contents W.contents self.old) (output_contents W.contents self.new)) }
     {
-        self.gathered.extend_from_slice(answer)?;
+        self.gathered.extend_from_slice(text)?;
         Ok(())
     }
 
-    /// Writes what is gathered. What a failed write leaves unwritten stays.
+    /// Writes the buffer to the writer. If a write fails, the bytes that are not written yet stay
+    /// in the buffer.
     pub fn flush(&mut self) -> io::Result<()>
         ensures bytes { Keeps (output_contents W.contents self.old)
             (output_contents W.contents self.new) }
         ensures all { OnOk result
             (Keeps (output_contents W.contents self.new) (W.contents self.new.writer)) }
     {
+        // Bounded, so that it is proved to end. Each turn writes bytes or was interrupted.
         for _ in 0..u64::MAX {
             if self.written >= self.gathered.len() {
                 self.gathered.clear();
@@ -71,7 +73,7 @@ impl<W: Write + Drop> Output<W> {
         Err(io::Error::from(ErrorKind::TimedOut))
     }
 
-    /// The writer. What is gathered and not yet written is let go.
+    /// Returns the writer. Bytes that are not written yet are dropped.
     pub fn into_writer(self) -> W
         ensures { result ≡ self.writer }
     {

@@ -1,4 +1,4 @@
-//! A run of calls on one cell.
+//! Runs a script of calls on one cell.
 ghost use Rattle.std.specs.Prelude.{IfSome, IfOk};
 ghost use Rattle.std.specs.Result.{result_unwrap_or};
 ghost use Rattle.cellrun.specs.Ended.{EndsAs};
@@ -20,7 +20,7 @@ mod tests;
 #[cfg(test)]
 mod texts;
 
-/// How many bytes of answers are gathered before there is need of more memory.
+/// The number of bytes of output that are buffered before more memory is needed.
 const ROOM: usize = 8_192;
 
 /// How a script ended.
@@ -28,23 +28,22 @@ const ROOM: usize = 8_192;
 pub enum Ended {
     /// At the end of its input.
     Done,
-    /// At the line of this number, counted from 1, which is no call.
+    /// At the line of this number, counted from 1, which is neither empty nor a call.
     BadLine(u64),
-    /// At a read or a write that failed, or for want of memory.
+    /// Because a read or a write failed, or there was no memory.
     Failed,
 }
 
-/// Makes the calls that the lines of `input` are on a new cell, and writes their answers to
-/// `output`, which it gives back. What is written is what it would be if each answer were written
-/// before the next line is read: answers are gathered only while the lines that follow are here
-/// already.
+/// Makes the calls in the lines of `input` on a new cell, writes the result of each to `output`,
+/// and returns `output`. All output is written before more input is read, so a program at the other
+/// end sees the same as if each result were written before the next line is read.
 ///
-/// The clauses speak of a reader whose bytes contracts know, as a slice, and say nothing of one
-/// whose bytes are not known, as standard input. Of a writer whose bytes contracts know, as a
-/// `Vec`, they say what it holds at the end: what it held, and then what the model answers the
-/// calls of the lines before the end or before the bad line. Where the script failed, it holds the
-/// beginning of such a text: of what it held, and then what the calls of some first lines are
-/// answered. Of `debug` they say that the cell stays, and not what is printed.
+/// The contract is about readers whose bytes contracts know, such as a slice. It promises nothing
+/// for any other reader, such as standard input. If contracts also know the bytes of the writer, as
+/// they do for a `Vec`, it holds at the end what it held before, and then the text that the model
+/// gives for the calls before the end or before the bad line. If the script failed, the writer
+/// holds a prefix of what it held before and then the text of some first lines. `debug` leaves the
+/// cell as it was; what is printed for it is left open.
 pub fn script<R: Read + Drop, W: Write + Drop>(alloc: Global, input: R, output: W) -> (Ended, W)
     ensures ended { IfSome (R.remaining input) (λ bytes. EndsAs bytes result.0) }
     ensures written { Owes (R.remaining input) (W.contents output) (W.contents result.1) result.0 }
@@ -60,8 +59,8 @@ pub fn script<R: Read + Drop, W: Write + Drop>(alloc: Global, input: R, output: 
     (ended, out.into_writer())
 }
 
-/// Answers the lines, and writes what is gathered of their answers at the end.
-#[tactic(auto, using(crate::proofs::Printing::owes_flushed, crate::proofs::Printing::owes_cut))]
+/// Makes the calls, and writes the rest of the output at the end.
+#[tactic(auto, using(crate::proofs::Written::owes_flushed, crate::proofs::Written::owes_cut))]
 fn run<R: Read + Drop, W: Write + Drop>(
     alloc: Global,
     lines: &mut Lines<R>,
@@ -72,13 +71,13 @@ fn run<R: Read + Drop, W: Write + Drop>(
     ensures written { Owes (bytes_left lines.old) (output_contents W.contents out.old)
         (W.contents out.new.writer) (result_unwrap_or result Ended.Failed) }
 {
-    let ended = answer_all(alloc, lines, out)?;
+    let ended = step_all(alloc, lines, out)?;
     out.flush()?;
     Ok(ended)
 }
 
-/// Makes one call after the other on a new cell, up to the end or to a line that is none.
-fn answer_all<R: Read + Drop, W: Write + Drop>(
+/// Makes one call after the other on a new cell, up to the end or the first bad line.
+fn step_all<R: Read + Drop, W: Write + Drop>(
     alloc: Global,
     lines: &mut Lines<R>,
     out: &mut Output<W>,
@@ -89,15 +88,16 @@ fn answer_all<R: Read + Drop, W: Write + Drop>(
         (output_contents W.contents out.new) (result_unwrap_or result Ended.Failed) }
 {
     let mut session = Session::new(alloc);
-    let mut answer = Vec::new(alloc);
+    let mut text = Vec::new(alloc);
+    // Bounded, so that it is proved to end. No input has that many lines.
     for number in 1..u64::MAX {
         match lines.next(out)? {
             Next::Call(command) => {
-                answer.clear();
-                if session.answer(command, &mut answer).is_err() {
+                text.clear();
+                if session.step(command, &mut text).is_err() {
                     return Ok(Ended::Failed);
                 }
-                if out.gather(&answer).is_err() {
+                if out.gather(&text).is_err() {
                     return Ok(Ended::Failed);
                 }
             }

@@ -1,22 +1,22 @@
 //! The cell that a script steps.
 ghost use Rattle.std.specs.Prelude.{◌≡◌, [], OnOk};
-ghost use Rattle.cellrun.specs.Answered.{Answered};
+ghost use Rattle.cellrun.specs.CallPrints.{CallPrints};
 ghost use Rattle.cellrun.specs.Written.{new_cell};
 
-use crate::answer::{done, found, owned, polled, refused, replaced, woke};
 use crate::command::Command;
+use crate::reply::{done, found, owned, polled, refused, replaced, woke};
 use async_cell_core::{Core, Named};
 use std::alloc::{AllocError, Global};
 use std::io::Write;
 
-/// The cell between two calls.
+/// The cell of a script.
 #[derive(Drop)]
 pub struct Session {
     core: Core<i64, Named>,
 }
 
 impl Session {
-    /// An open cell without a value, with one owner.
+    /// Makes an open cell without a value, with one owner.
     pub fn new(alloc: Global) -> Session
         ensures { result.core ≡ new_cell }
     {
@@ -25,14 +25,15 @@ impl Session {
         }
     }
 
-    /// Makes the call, and puts what it prints into `out`, which is to be empty.
-    pub fn answer(&mut self, command: Command, out: &mut Vec<u8>) -> Result<(), AllocError>
+    /// Makes the call, and appends what it prints to `out`, which must be empty. Fails if there is
+    /// no memory for the text.
+    pub fn step(&mut self, command: Command, out: &mut Vec<u8>) -> Result<(), AllocError>
         requires { out.old.items ≡ [] }
-        ensures { OnOk result (Answered self.old.core command out.new.items self.new.core) }
+        ensures { OnOk result (CallPrints self.old.core command out.new.items self.new.core) }
     {
         match command {
             Command::Set(value) => done(out, self.core.set(value).ok()),
-            Command::OrSet(value) => done(out, self.core.or_set(value).ok().map(|answer| answer.1)),
+            Command::OrSet(value) => done(out, self.core.or_set(value).ok().map(|reply| reply.1)),
             Command::Replace(value) => replaced(out, self.core.replace(value).ok()),
             Command::UpdatePut(value) => done(out, self.core.update(|_| Some(value)).ok()),
             Command::UpdateNone => done(out, self.core.update(|_| None).ok()),

@@ -1,4 +1,4 @@
-//! Scripts that meet a want of memory.
+//! Scripts whose requests for memory are refused.
 use super::texts::SCRIPTS;
 use super::{Ended, script};
 use arrayvec::ArrayVec;
@@ -8,7 +8,7 @@ use std::io;
 use std::io::{ErrorKind, Write};
 use std::test::Fail;
 
-/// Keeps the little that is written.
+/// Stores up to 256 bytes.
 #[derive(Drop)]
 struct Page<'a> {
     written: &'a RefCell<ArrayVec<u8, 256>>,
@@ -30,15 +30,15 @@ impl Write for Page<'_> {
     }
 }
 
-/// How the script ends that prints on this page.
+/// Runs the script, and returns how it ended.
 fn on_page(alloc: Global, input: &str, written: &RefCell<ArrayVec<u8, 256>>) -> Ended {
     script(alloc, input.as_bytes(), Page { written }).0
 }
 
-/// A line is refused for want of memory where its poll would add a waker, or the script fails with
-/// a beginning of its text written. It is run with each request for memory refused in turn.
+/// Without memory, a poll that would add a waker prints `refused memory`, or the script fails after
+/// a prefix of its text. The test is run with each request for memory refused in turn.
 #[test]
-fn want_of_memory_is_told_or_ends_the_script(rt: HostRuntime) -> Result<(), Fail> {
+fn a_refused_request_is_printed_or_ends_the_script(rt: HostRuntime) -> Result<(), Fail> {
     let whole = SCRIPTS[7].1;
     let third = "pending\n\
         pending\n\

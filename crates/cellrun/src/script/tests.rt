@@ -4,7 +4,7 @@ use std::io;
 use std::io::{ErrorKind, Read, Write};
 use std::test::Fail;
 
-/// Gives its bytes at most so many a read, and after them fails or ends.
+/// Gives at most `most` bytes a read. After the last one it ends, or fails if `is_broken`.
 #[derive(Drop)]
 struct Trickle<'a> {
     rest: &'a [u8],
@@ -25,18 +25,18 @@ impl Read for Trickle<'_> {
     }
 }
 
-/// Gives one line a read, and fails where the answer to an earlier one is not yet written.
+/// Gives one line a read, and fails if the result of an earlier one is not written yet.
 #[derive(Drop)]
 struct Asker<'a> {
     left: usize,
     asked: usize,
-    answers: &'a Cell<usize>,
+    written: &'a Cell<usize>,
 }
 
 impl Read for Asker<'_> {
     fn read(&mut self, buf: &mut [u8]) -> io::Result<usize> {
         let line = b"is_set\n";
-        if self.answers.get() != self.asked || buf.len() < line.len() {
+        if self.written.get() != self.asked || buf.len() < line.len() {
             return Err(io::Error::from(ErrorKind::Other));
         }
         if self.left == 0 {
@@ -49,7 +49,7 @@ impl Read for Asker<'_> {
     }
 }
 
-/// Takes so many bytes, counts the lines among them, and then fails.
+/// Takes `room` bytes, counts the lines among them, and then fails.
 #[derive(Drop)]
 struct Narrow<'a> {
     room: usize,
@@ -73,7 +73,7 @@ impl Write for Narrow<'_> {
     }
 }
 
-/// How the script ends on these bytes, read so many at a time, and how many lines it writes.
+/// Returns how the script ended and how many lines it wrote, with at most `most` bytes a read.
 fn outcome(rt: &HostRuntime, input: &[u8], most: usize, is_broken: bool) -> (Ended, usize) {
     let lines = Cell::new(0);
     let reader = Trickle {
@@ -178,19 +178,19 @@ fn many_lines(rt: HostRuntime) -> Result<(), Fail> {
 }
 
 #[test]
-fn answers_come_before_the_next_read(rt: HostRuntime) {
-    let answers = Cell::new(0);
+fn results_are_written_before_the_next_read(rt: HostRuntime) {
+    let written = Cell::new(0);
     let asker = Asker {
         left: 100,
         asked: 0,
-        answers: &answers,
+        written: &written,
     };
     let writer = Narrow {
         room: usize::MAX,
-        lines: &answers,
+        lines: &written,
     };
     assert_eq!(rt; script(rt.alloc(), asker, writer).0, Ended::Done);
-    assert_eq!(rt; answers.get(), 100);
+    assert_eq!(rt; written.get(), 100);
 }
 
 #[test]
@@ -260,8 +260,7 @@ fn an_interrupted_read_is_tried_again(rt: HostRuntime) {
     }
 }
 
-/// Counts the calls that are made on it, and fails the one of this number, counted from 1, with
-/// this error.
+/// Counts the calls on it. The one of number `fails_at`, counted from 1, fails with `kind`.
 #[derive(Drop)]
 struct Faulty<'a> {
     fails_at: usize,
@@ -291,8 +290,8 @@ impl Write for Faulty<'_> {
     }
 }
 
-/// Each answer is written and flushed before the next line is read: two calls on the writer a line.
-/// Where one of them fails, it is the last, also where the writer says that it found no memory.
+/// Each result is written and flushed before the next line is read: two calls on the writer a line.
+/// If one of them fails, it is the last, also if it fails with `OutOfMemory`.
 #[test]
 fn nothing_is_written_after_a_failed_write(rt: HostRuntime) {
     for kind in [ErrorKind::Other, ErrorKind::OutOfMemory] {
@@ -314,7 +313,7 @@ fn nothing_is_written_after_a_failed_write(rt: HostRuntime) {
     }
 }
 
-/// Takes no byte of what it is to write, and does not fail.
+/// Writes no byte, and does not fail.
 #[derive(Drop)]
 struct Stuck;
 

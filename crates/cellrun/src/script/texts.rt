@@ -5,7 +5,7 @@ use std::io;
 use std::io::{ErrorKind, Write};
 use std::test::Fail;
 
-/// Compares what is written with a text, and notes how much of it has come.
+/// Compares what is written with a text, and stores how many bytes are left of it.
 #[derive(Drop)]
 struct Expected<'a> {
     rest: &'a [u8],
@@ -27,8 +27,8 @@ impl Write for Expected<'_> {
     }
 }
 
-/// How the script ends, and how many bytes of the expected text it did not print. What is printed
-/// otherwise fails it.
+/// Returns how the script ended, and how many bytes of the expected text it did not print. The
+/// script fails if it prints another text.
 fn printed(rt: &HostRuntime, input: &str, text: &str) -> (Ended, usize) {
     let left = Cell::new(text.len());
     let output = Expected {
@@ -39,7 +39,7 @@ fn printed(rt: &HostRuntime, input: &str, text: &str) -> (Ended, usize) {
     (ended, left.get())
 }
 
-/// What is read, what is printed, and how it ends.
+/// Scripts, what they print, and how they end.
 pub(super) const SCRIPTS: [(&str, &str, Ended); 17] = [
     ("", "", Ended::Done),
     (

@@ -1,7 +1,7 @@
 use Rattle.std.proofs.Common.{sym, ◌+◌}
 use Rattle.cellrun.specs.Command.{is_space}
 use Rattle.cellrun.proofs.Places.{position_found, position_none, from_place}
-use Rattle.cellrun.proofs.Spelling.{map_none, map_some, split_line, parts_of_line, line_of_parts, word_of_line}
+use Rattle.cellrun.proofs.LineParts.{map_none, map_some, split_line, parts_of_line, line_of_parts, word_of_line}
 use Rattle.cellrun.proofs.command.parse.Goals as goal
 
 pub returns-in-None-clause-refused : goal.returns-in-None-clause-refused

@@ -1,6 +1,6 @@
 use Rattle.std.proofs.Common.{codes, arith, rules}
 use Rattle.std.proofs.lemmas.Slice.Eq.{text_from_reads}
-use Rattle.cellrun.proofs.Spelling.{map_none, edit_of_parts}
+use Rattle.cellrun.proofs.LineParts.{map_none, edit_of_parts}
 use Rattle.cellrun.proofs.command.with_operand.Goals as goal
 
 pub returns-in-update-clause-refused : goal.returns-in-update-clause-refused

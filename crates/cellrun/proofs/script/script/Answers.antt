@@ -2,7 +2,7 @@ use Rattle.std.specs.Result.{result_unwrap_or}
 use Rattle.cellrun.specs.Lines.{bytes_left}
 use Rattle.cellrun.specs.Output.{output_contents}
 use Rattle.cellrun.specs.declared.script.Ended.TheVariants.{Failed}
-use Rattle.cellrun.proofs.Printing.{owes_nothing, owes_kept}
+use Rattle.cellrun.proofs.Written.{owes_nothing, owes_kept}
 use Rattle.cellrun.proofs.script.script.Goals as goal
 
 pub returns-in_default-clause-written : goal.returns-in_default-clause-written

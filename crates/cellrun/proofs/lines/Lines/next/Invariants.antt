@@ -12,6 +12,6 @@ invariant-loop-next g l = record {
   out : Keeps (output_contents g.W.Write.contents l.initial.out) (output_contents g.W.Write.contents l.out);
 }
 
--- the room for more of the line
+-- the number of bytes that `held` has room for
 abbrev pub decreases-loop-next : goal.decreases-loop-next
 decreases-loop-next g l = 64 - array_vec_len l.self.held

@@ -1,5 +1,5 @@
 use Rattle.std.proofs.KnownBytes.{Keeps-trans, append_known-kept}
-use Rattle.cellrun.proofs.Gathering.{moved, unwritten}
+use Rattle.cellrun.proofs.OutputContents.{moved, unwritten}
 use Rattle.cellrun.proofs.output.Output.flush.Goals as goal
 use Rattle.cellrun.proofs.output.Output.flush.Goals.{in-Ok, in-Err+else-ne}
 

@@ -1,4 +1,4 @@
--- What an update answers, by what a history keeps of it.
+-- The reply to an update, and what is printed for it, by what a history stores of the update.
 use Rattle.std.proofs.Common.{◌≡◌, ◌++◌, ◌↔◌, inl, inr, ℕ, ℤ, true, false, List, [], codes, Option, None, Result, Ok, Err, OnOk, OnErr, IsOk, refl, sym, ap, subst, ◌∙◌}
 use Rattle.std.specs.Result.{result_ok}
 use Rattle.async_cell_cons.specs.declared.named.Named.{Named}
@@ -15,10 +15,10 @@ use Rattle.async_cell_model.specs.Step.{reply}
 use Rattle.async_cell_model.specs.History.{State}
 use Rattle.async_cell_model.specs.Legal.{Steps}
 use Rattle.async_cell_core.specs.IsStep.{update_answer}
-use Rattle.cellrun.specs.Answered.{kept_update, kept_update_some, names_wake, reply_text, refusal_text, end_text, done_text}
+use Rattle.cellrun.specs.CallPrints.{kept_update, kept_update_some, names_wake, reply_text, refusal_text, end_text, done_text}
 use Rattle.cellrun.specs.declared.command.Command.{Command}
 
--- a fact of an answer that was written leads to another
+-- what follows from a fact about a result that is `Ok`
 pub told : {T E P Q : Type 0} (r : Result T E) → OnOk r P → (P → Q) → OnOk r Q
 told (Ok x) p f = f p
 told (Err e) p f = tt
@@ -41,30 +41,30 @@ own_reply (Open value owners) call saw put why h is e = absurd (h refl)
 
 -- an update is refused because the cell is closed
 pub refused_closed : (from to : State ℤ Named) (why : Refusal) → (is_closed from.cell ≡ false → ⊥) → Steps names_wake true from (kept.Update (content from.cell) (content to.cell)) (Refused why None) [] to → why ≡ refusal.Closed
-refused_closed from to why h answers =
-    elim answers.legal.0.replied [
+refused_closed from to why h steps =
+    elim steps.legal.0.replied [
       | inl own ↦ own_reply from.cell (kept.Update (content from.cell) (content to.cell)) (content from.cell) (content to.cell) why h refl own
       | inr none ↦ let no = none.1 in absurd (cc no)
     ]
 
 -- what an update prints that puts this into an open cell
-pub put_answered : (call : Command) (from to : State ℤ Named) (put : Option ℤ) (result : Result (List Named) Refusal) (answer : Option (List Named)) (before line : List ℕ)
+pub put_prints : (call : Command) (from to : State ℤ Named) (put : Option ℤ) (result : Result (List Named) Refusal) (woke : Option (List Named)) (before line : List ℕ)
     → ((owners : ℕ) → reply_text call Done owners ≡ codes "done")
     → ((why : Refusal) (owners : ℕ) → reply_text call (Refused why None) owners ≡ refusal_text why)
     → Steps names_wake true from (kept.Update (content from.cell) (content to.cell)) (update_answer {T = ℤ} result).reply (update_answer {T = ℤ} result).woken to
     → OnOk result (content to.cell ≡ put)
     → OnErr result (to ≡ from)
     → (IsOk result ↔ (is_closed from.cell ≡ false))
-    → answer ≡ result_ok result → before ≡ [] → line ≡ before ++ done_text answer
+    → woke ≡ result_ok result → before ≡ [] → line ≡ before ++ done_text woke
     → (reply : Reply ℤ) × (woken : List Named) × Steps names_wake true from (kept_update from.cell put) reply woken to × (line ≡ reply_text call reply (owners_of to.cell) ++ end_text woken)
-put_answered call from to put (Ok woken) answer before line says refuses model called same opened is empty text =
+put_prints call from to put (Ok woken) woke before line says refuses model called same opened is empty text =
     let h : is_closed from.cell ≡ false = opened.0 refl in (
       Done,
       woken,
       subst (λ k. Steps names_wake true from k Done woken to) (ap (λ p. kept.Update (content from.cell) p) called ∙ sym (updated from.cell put h)) model,
       rw (text, is, empty, says (owners_of to.cell)) refl,
     )
-put_answered call from to put (Err why) answer before line says refuses model called same opened is empty text =
+put_prints call from to put (Err why) woke before line says refuses model called same opened is empty text =
     let h : is_closed from.cell ≡ false → ⊥ = (λ k. absurd (cc (opened.1 k))) in
     let closed = refused_closed from to why h model in (
       Refused why None,

@@ -1,13 +1,13 @@
 use Rattle.std.proofs.Common.{rules}
 use Rattle.std.specs.Io.KnownBytes.{Keeps, Appends}
 use Rattle.std.proofs.KnownBytes.{Keeps-refl}
-use Rattle.cellrun.specs.Answered.{Answered}
+use Rattle.cellrun.specs.CallPrints.{CallPrints}
 use Rattle.cellrun.specs.Lines.{bytes_left}
 use Rattle.cellrun.specs.Output.{output_contents}
-use Rattle.cellrun.proofs.Coming.{at_start, after_call, after_blank, at_bad, at_end}
-use Rattle.cellrun.proofs.Printing.{printed_start, printed_blank, printed_call, owes_done, owes_bad, owes_failed, err_fails}
-use Rattle.cellrun.proofs.script.answer_all.Goals as goal
-use Rattle.cellrun.proofs.script.answer_all.Goals.{in-Blank, in-Call+else-is_err+else-is_err-2}
+use Rattle.cellrun.proofs.LineNumber.{at_start, after_call, after_blank, at_bad, at_end}
+use Rattle.cellrun.proofs.Written.{printed_start, printed_blank, printed_call, owes_done, owes_bad, owes_failed, err_fails}
+use Rattle.cellrun.proofs.script.step_all.Goals as goal
+use Rattle.cellrun.proofs.script.step_all.Goals.{in-Blank, in-Call+else-is_err+else-is_err-2}
 
 pub loop-number-init : goal.loop-number-init
 loop-number-init g c =
@@ -21,16 +21,16 @@ loop-number-preserved g c =
     elim c.match-branch-2.branch [
       | in-Call+else-is_err+else-is_err-2 w ↦
           let next = rw w.in-Call.is at c.in_ok-command.ensures.next in
-          let answered : Answered c.loop-number.session.core w.in-Call.command w.answer.new.out.items w.answer.new.self.core = search rules in
-          let more : Appends (output_contents g.W.Write.contents c.next.new.out) (output_contents g.W.Write.contents w.gather.new.self) w.answer.new.out.items = search rules in
+          let prints : CallPrints c.loop-number.session.core w.in-Call.command w.step.new.out.items w.step.new.self.core = search rules in
+          let more : Appends (output_contents g.W.Write.contents c.next.new.out) (output_contents g.W.Write.contents w.gather.new.self) w.step.new.out.items = search rules in
           record {
             at = after_call (bytes_left c.args.lines.now) (bytes_left c.loop-number.lines) (bytes_left c.next.new.self) c.loop-number.number w.in-Call.command c.loop-number.invariant.at next;
             printed = rw (w.session-is, w.out-is)
                 (printed_call (bytes_left c.args.lines.now) (bytes_left c.loop-number.lines) (bytes_left c.next.new.self) c.loop-number.number
-                w.in-Call.command w.answer.new.out.items c.loop-number.session.core w.answer.new.self.core
+                w.in-Call.command w.step.new.out.items c.loop-number.session.core w.step.new.self.core
                 (output_contents g.W.Write.contents c.args.out.now) (output_contents g.W.Write.contents c.loop-number.out)
                 (output_contents g.W.Write.contents c.next.new.out) (output_contents g.W.Write.contents w.gather.new.self)
-                c.loop-number.invariant.printed next c.next.ensures.out answered more);
+                c.loop-number.invariant.printed next c.next.ensures.out prints more);
           }
       | in-Blank w ↦
           let next = rw w.in-Blank.is at c.in_ok-command.ensures.next in

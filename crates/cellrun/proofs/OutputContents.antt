@@ -1,4 +1,4 @@
--- Bytes that move from what is gathered to the writer.
+-- The bytes of an output, after more are gathered and after some are written.
 use Rattle.std.proofs.Common.{◌≡◌, ℕ, ◌+◌, List, take, drop, ◌++◌, Option, Some, None, length, ◌≤◌, ◌-◌, sym, arith, append_assoc, take-append-drop, drop-drop, length-drop, take_all}
 use Rattle.std.proofs.lemmas.List.{drop-append-le}
 use Rattle.std.specs.Io.KnownBytes.{Keeps, Appends, append_known}
@@ -10,12 +10,12 @@ moved old new gathered written n more =
     (append_known-moved old new (take n (drop written gathered)) (drop n (drop written gathered)) (drop written gathered) more
     (sym (take-append-drop n (drop written gathered))))
 
-pub gathered_more : (held : Option (List ℕ)) (gathered answer : List ℕ) (written : ℕ) → written ≤ length gathered → Appends (append_known held (drop written gathered)) (append_known held (drop written (gathered ++ answer))) answer
-gathered_more None gathered answer written within = tt
-gathered_more (Some held) gathered answer written within =
-    rw (drop-append-le written gathered answer within) (sym (append_assoc held (drop written gathered) answer))
+pub gathered_more : (held : Option (List ℕ)) (gathered text : List ℕ) (written : ℕ) → written ≤ length gathered → Appends (append_known held (drop written gathered)) (append_known held (drop written (gathered ++ text))) text
+gathered_more None gathered text written within = tt
+gathered_more (Some held) gathered text written within =
+    rw (drop-append-le written gathered text within) (sym (append_assoc held (drop written gathered) text))
 
--- the gathered bytes from the first on that is not yet written
+-- the gathered bytes that are not written yet
 pub unwritten : (gathered : List ℕ) (written : ℕ) → take (length gathered - written) (drop written gathered) ≡ drop written gathered
 unwritten gathered written =
     let len = length-drop written gathered in

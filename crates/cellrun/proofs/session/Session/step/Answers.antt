@@ -2,17 +2,17 @@ use Rattle.std.proofs.Common.{◌≡◌, true, [], Some, None, OnOk, rules, refl
 use Rattle.async_cell_model.specs.Cell.{content}
 use Rattle.async_cell_model.specs.Legal.{Steps}
 use Rattle.async_cell_model.specs.declared.reply.Reply.TheVariants.{Refused}
-use Rattle.cellrun.specs.Answered.{names_wake}
+use Rattle.cellrun.specs.CallPrints.{names_wake}
 use Rattle.cellrun.specs.declared.command.Command.TheVariants.{UpdatePut, UpdateNone, UpdateKeep}
-use Rattle.cellrun.proofs.Keeping.{told, put_answered, not_changed}
-use Rattle.cellrun.proofs.session.Session.answer.Goals as goal
+use Rattle.cellrun.proofs.UpdateReply.{told, put_prints, not_changed}
+use Rattle.cellrun.proofs.session.Session.step.Goals as goal
 
 pub returns-in-UpdatePut : goal.returns-in-UpdatePut
 returns-in-UpdatePut c =
     let put : OnOk c.update.result (content c.update.new.self.cell ≡ Some c.in-UpdatePut.value) = search rules in
     rw c.in-UpdatePut.is
     (told c.done-in-UpdatePut.result c.done-in-UpdatePut.ensures
-    (put_answered (UpdatePut c.in-UpdatePut.value) c.args.self.now.core c.update.new.self (Some c.in-UpdatePut.value) c.update.result c.ok-in-UpdatePut.result
+    (put_prints (UpdatePut c.in-UpdatePut.value) c.args.self.now.core c.update.new.self (Some c.in-UpdatePut.value) c.update.result c.ok-in-UpdatePut.result
     c.args.out.now.items c.done-in-UpdatePut.new.out.items (λ owners. refl) (λ why owners. refl) c.update.ensures.model put
     c.update.ensures.unchanged c.update.ensures.if_open c.ok-in-UpdatePut.ensures.value c.requires))
 
@@ -21,7 +21,7 @@ returns-in-UpdateNone c =
     let put : OnOk c.update-in-UpdateNone.result (content c.update-in-UpdateNone.new.self.cell ≡ None) = search rules in
     rw c.in-UpdateNone.is
     (told c.done-in-UpdateNone.result c.done-in-UpdateNone.ensures
-    (put_answered UpdateNone c.args.self.now.core c.update-in-UpdateNone.new.self None c.update-in-UpdateNone.result c.ok-in-UpdateNone.result
+    (put_prints UpdateNone c.args.self.now.core c.update-in-UpdateNone.new.self None c.update-in-UpdateNone.result c.ok-in-UpdateNone.result
     c.args.out.now.items c.done-in-UpdateNone.new.out.items (λ owners. refl) (λ why owners. refl) c.update-in-UpdateNone.ensures.model put
     c.update-in-UpdateNone.ensures.unchanged c.update-in-UpdateNone.ensures.if_open c.ok-in-UpdateNone.ensures.value c.requires))
 
@@ -30,7 +30,7 @@ returns-in-UpdateKeep c =
     let put : OnOk c.update-in-UpdateKeep.result (content c.update-in-UpdateKeep.new.self.cell ≡ content c.args.self.now.core.cell) = search rules in
     rw c.in-UpdateKeep.is
     (told c.done-in-UpdateKeep.result c.done-in-UpdateKeep.ensures
-    (put_answered UpdateKeep c.args.self.now.core c.update-in-UpdateKeep.new.self (content c.args.self.now.core.cell) c.update-in-UpdateKeep.result c.ok-in-UpdateKeep.result
+    (put_prints UpdateKeep c.args.self.now.core c.update-in-UpdateKeep.new.self (content c.args.self.now.core.cell) c.update-in-UpdateKeep.result c.ok-in-UpdateKeep.result
     c.args.out.now.items c.done-in-UpdateKeep.new.out.items (λ owners. refl) (λ why owners. refl) c.update-in-UpdateKeep.ensures.model put
     c.update-in-UpdateKeep.ensures.unchanged c.update-in-UpdateKeep.ensures.if_open c.ok-in-UpdateKeep.ensures.value c.requires))
 

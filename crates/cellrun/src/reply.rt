@@ -1,14 +1,14 @@
-//! The texts of the answers.
+//! Prints the result of each call.
 ghost use Rattle.std.specs.Prelude.{◌≡◌, ◌++◌, codes, OnOk, Option, Some, None, Ok, Err};
 ghost use Rattle.std.specs.Fmt.{signed_decimal};
-ghost use Rattle.cellrun.specs.Answered.{done_text, replaced_text, polled_text, found_text};
-ghost use Rattle.cellrun.specs.Answered.{owners_text, refusal_text, end_text};
+ghost use Rattle.cellrun.specs.CallPrints.{done_text, replaced_text, polled_text, found_text};
+ghost use Rattle.cellrun.specs.CallPrints.{owners_text, refusal_text, end_text};
 
 use async_cell_core::{Named, Poll, Refusal, Wakers};
 use itoa::Buffer;
 use std::alloc::AllocError;
 
-/// A write that answers nothing: done, unless the cell is closed.
+/// Appends `done` and the woken names, or `refused closed` for `None`.
 pub fn done(out: &mut Vec<u8>, woken: Option<Wakers<Named>>) -> Result<(), AllocError>
     ensures { OnOk result (out.new.items ≡ out.old.items ++ done_text woken) }
 {
@@ -21,14 +21,14 @@ pub fn done(out: &mut Vec<u8>, woken: Option<Wakers<Named>>) -> Result<(), Alloc
     }
 }
 
-/// A write that answers the old value, unless the cell is closed.
+/// Appends the old value and the woken names, or `refused closed` for `None`.
 pub fn replaced(
     out: &mut Vec<u8>,
-    answer: Option<(Option<i64>, Wakers<Named>)>,
+    reply: Option<(Option<i64>, Wakers<Named>)>,
 ) -> Result<(), AllocError>
-    ensures { OnOk result (out.new.items ≡ out.old.items ++ replaced_text answer) }
+    ensures { OnOk result (out.new.items ≡ out.old.items ++ replaced_text reply) }
 {
-    let Some((old, woken)) = answer else {
+    let Some((old, woken)) = reply else {
         return refused(out, Refusal::Closed);
     };
     match old {
@@ -38,14 +38,14 @@ pub fn replaced(
     woke(out, woken)
 }
 
-/// What a poll answers.
+/// Appends the result of a poll.
 pub fn polled(
     out: &mut Vec<u8>,
-    answer: Result<Poll<Option<i64>>, Refusal>,
+    reply: Result<Poll<Option<i64>>, Refusal>,
 ) -> Result<(), AllocError>
-    ensures { OnOk result (out.new.items ≡ out.old.items ++ polled_text answer) }
+    ensures { OnOk result (out.new.items ≡ out.old.items ++ polled_text reply) }
 {
-    match answer {
+    match reply {
         Ok(Poll::Ready(Some(value))) => {
             labelled(out, b"ready ", value)?;
             out.extend_from_slice(b"\n")
@@ -56,7 +56,7 @@ pub fn polled(
     }
 }
 
-/// The value, if there is one.
+/// Appends `some` and the value, or `none`.
 pub fn found(out: &mut Vec<u8>, content: Option<i64>) -> Result<(), AllocError>
     ensures { OnOk result (out.new.items ≡ out.old.items ++ found_text content) }
 {
@@ -66,7 +66,7 @@ pub fn found(out: &mut Vec<u8>, content: Option<i64>) -> Result<(), AllocError>
     }
 }
 
-/// A value after its label.
+/// Appends the label, and then the value.
 fn labelled(out: &mut Vec<u8>, label: &[u8], value: i64) -> Result<(), AllocError>
     ensures { OnOk result (out.new.items ≡ out.old.items ++ label.now ++ signed_decimal value) }
 {
@@ -74,7 +74,7 @@ fn labelled(out: &mut Vec<u8>, label: &[u8], value: i64) -> Result<(), AllocErro
     out.extend_from_slice(Buffer::new().format(value).as_bytes())
 }
 
-/// The number of owners.
+/// Appends `owners` and the number of owners.
 pub fn owned(out: &mut Vec<u8>, owners: u32) -> Result<(), AllocError>
     ensures { OnOk result (out.new.items ≡ out.old.items ++ owners_text owners) }
 {
@@ -82,7 +82,7 @@ pub fn owned(out: &mut Vec<u8>, owners: u32) -> Result<(), AllocError>
     out.extend_from_slice(Buffer::new().format(owners).as_bytes())
 }
 
-/// Why a call was refused, and the end of the line.
+/// Appends the reason of a refusal, and ends the line.
 pub fn refused(out: &mut Vec<u8>, why: Refusal) -> Result<(), AllocError>
     ensures { OnOk result (out.new.items ≡ out.old.items ++ refusal_text why ++ codes "\n") }
 {
@@ -90,7 +90,7 @@ pub fn refused(out: &mut Vec<u8>, why: Refusal) -> Result<(), AllocError>
     out.extend_from_slice(b"\n")
 }
 
-/// Why a call was refused.
+/// Returns the text of a refusal.
 fn reason(why: Refusal) -> &'static [u8]
     ensures { result.now ≡ refusal_text why }
 {
@@ -102,8 +102,8 @@ fn reason(why: Refusal) -> &'static [u8]
     }
 }
 
-/// The names of the wakers that were handed out, if there are any, and the end of the line.
-#[tactic(auto, using(crate::proofs::Naming::some_named))]
+/// Appends ` woke` and the names of the woken wakers, if there are any, and ends the line.
+#[tactic(auto, using(crate::proofs::EndText::some_named))]
 pub fn woke(out: &mut Vec<u8>, woken: Wakers<Named>) -> Result<(), AllocError>
     ensures { OnOk result (out.new.items ≡ out.old.items ++ end_text woken) }
 {

@@ -1,10 +1,10 @@
--- What a script has written, from one line to the next.
+-- What a script has written, from one line to the next, and at its end.
 use Rattle.std.proofs.Common.{◌≡◌, ℕ, ℤ, ◌+◌, List, [], ◌++◌, Option, Some, None, IfSome, Result, Ok, Err, IsErr, refl, sym, ap, ◌∙◌, append-nil, append_assoc}
 use Rattle.std.specs.Result.{result_unwrap_or}
 use Rattle.std.specs.Io.KnownBytes.{Keeps, Appends, append_known}
 use Rattle.async_cell_cons.specs.declared.named.Named.{Named}
 use Rattle.async_cell_model.specs.History.{State}
-use Rattle.cellrun.specs.Answered.{Answered}
+use Rattle.cellrun.specs.CallPrints.{CallPrints}
 use Rattle.cellrun.specs.Next.{IsNext}
 use Rattle.cellrun.specs.Written.{Prints, StopsAt, Owes, new_cell}
 use Rattle.cellrun.specs.Written.{start, blank, called}
@@ -13,8 +13,8 @@ use Rattle.cellrun.specs.declared.lines.Next.TheVariants.{Call, Blank, Bad, End}
 use Rattle.cellrun.specs.declared.script.Ended.{Ended}
 use Rattle.cellrun.specs.declared.script.Ended.TheVariants.{Done, BadLine, Failed}
 
--- Of known bytes, some are left, and line n begins with them. The calls before it lead to the cell,
--- and a writer whose bytes are known has got their answers.
+-- If the input's bytes are known, those that are left begin with line n, and the calls before it
+-- lead to the cell. If the writer's bytes are known too, it has the text of these calls.
 abbrev pub IsPrinted : Option (List ℕ) → Option (List ℕ) → ℕ → State ℤ Named → Option (List ℕ) → Option (List ℕ) → Type 0
 IsPrinted None left n cell before now = Unit {0}
 IsPrinted (Some bytes) None n cell before now = ⊥
@@ -35,7 +35,7 @@ printed_blank (Some bytes) (Some rest) next n cell (Some before) None mid h i k 
 printed_blank (Some bytes) (Some rest) next n cell (Some before) (Some now) None h i k = absurd k
 printed_blank (Some bytes) (Some rest) next n cell (Some before) (Some now) (Some mid) h i k = rw (i.2) (h.0, blank (h.1) (i.0) (i.1), rw k (h.2))
 
-pub printed_call : (bytes left next : Option (List ℕ)) (n : ℕ) (call : Command) (line : List ℕ) (cell to : State ℤ Named) (before now mid after : Option (List ℕ)) → IsPrinted bytes left n cell before now → IfSome left (λ rest. IsNext rest next (Call call)) → Keeps now mid → Answered cell call line to → Appends mid after line → IsPrinted bytes next (n + 1) to before after
+pub printed_call : (bytes left next : Option (List ℕ)) (n : ℕ) (call : Command) (line : List ℕ) (cell to : State ℤ Named) (before now mid after : Option (List ℕ)) → IsPrinted bytes left n cell before now → IfSome left (λ rest. IsNext rest next (Call call)) → Keeps now mid → CallPrints cell call line to → Appends mid after line → IsPrinted bytes next (n + 1) to before after
 printed_call None left next n call line cell to before now mid after h i k a p = tt
 printed_call (Some bytes) None next n call line cell to before now mid after h i k a p = absurd h
 printed_call (Some bytes) (Some rest) next n call line cell to None now mid after h i k a p = rw (i.2) tt
@@ -85,7 +85,7 @@ kept_stop n rest whole (Some total) None after ended h k l = absurd k
 kept_stop n rest whole (Some total) (Some flushed) None ended h k l = absurd l
 kept_stop n rest whole (Some total) (Some flushed) (Some after) ended h k l = rw (l, k) h
 
--- what is gathered was written
+-- after all that was gathered is written
 pub owes_flushed : (bytes before total flushed after : Option (List ℕ)) (ended : Ended) → Owes bytes before total ended → Keeps total flushed → Keeps flushed after → Owes bytes before after ended
 owes_flushed None before total flushed after ended h k l = tt
 owes_flushed (Some bytes) None total flushed after ended h k l = tt
@@ -102,7 +102,7 @@ cut_stop n rest whole (Some total) (Some after) unwritten (BadLine number) h k =
 cut_stop n rest whole (Some total) (Some after) unwritten Failed h k =
     (unwritten ++ h.0, rw (sym (append_assoc after unwritten (h.0)), k) (h.1))
 
--- what is gathered was written in part
+-- after a part of what was gathered is written
 pub owes_cut : (bytes before total after : Option (List ℕ)) (unwritten : List ℕ) (ended : Ended) → Owes bytes before total ended → Keeps total (append_known after unwritten) → Owes bytes before after Failed
 owes_cut None before total after unwritten ended h k = tt
 owes_cut (Some bytes) None total after unwritten ended h k = tt

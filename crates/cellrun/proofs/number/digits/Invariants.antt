@@ -1,6 +1,6 @@
 use Rattle.std.proofs.Common.{◌≡◌, ◌<◌, ◌^◌, take}
 use Rattle.std.specs.Str.Parse.{AllDigits, digits_value}
-use Rattle.cellrun.proofs.number.waker.Given as goal
+use Rattle.cellrun.proofs.number.digits.Given as goal
 
 -- the bytes so far are digits, and write the number
 abbrev pub invariant-loop-byte : goal.invariant-loop-byte

@@ -1,4 +1,4 @@
--- How far a script has come, from one line to the next.
+-- The number of the next line, from one line to the next, and how the script ends there.
 use Rattle.std.proofs.Common.{ℕ, ◌+◌, List, Option, Some, None, IfSome}
 use Rattle.cellrun.specs.Next.{IsNext}
 use Rattle.cellrun.specs.Ended.{ComesTo, EndsAs}
@@ -7,7 +7,7 @@ use Rattle.cellrun.specs.declared.command.Command.{Command}
 use Rattle.cellrun.specs.declared.lines.Next.TheVariants.{Call, Blank, Bad, End}
 use Rattle.cellrun.specs.declared.script.Ended.TheVariants.{Done, BadLine}
 
--- of known bytes, some are left, and line n begins with them
+-- if the input's bytes are known, those that are left begin with line n
 abbrev pub IsAt : Option (List ℕ) → Option (List ℕ) → ℕ → Type 0
 IsAt None left n = Unit {0}
 IsAt (Some bytes) None n = ⊥

@@ -1,4 +1,4 @@
--- How the parts of a line round its first space tell which call it is.
+-- Which call a line is, by its parts before and after the first space.
 use Rattle.std.proofs.Common.{◌≡◌, ℕ, ◌<◌, List, ◌∷◌, ◌++◌, ◌+◌, length, take, drop, Option, Some, None, IfSome, IfNone, codes, refl, ap, get_or, arith}
 use Rattle.std.specs.List.{position, position_or_len, before_first, after_first}
 use Rattle.std.proofs.lemmas.List.Sums.{split_at_first, passes_at_first}
@@ -8,12 +8,12 @@ use Rattle.cellrun.specs.Command.{Spells, SpellsWord, SpellsParts, SpellsEdit, i
 use Rattle.cellrun.specs.declared.command.Command.{Command}
 use Rattle.cellrun.specs.declared.command.Command.TheVariants.{Set, OrSet, Replace, UpdatePut, UpdateNone, UpdateKeep, UpdateSomeAdd, Take, Get, TryTake, TryGet, IsSet, Own, End, Inner, Debug}
 
--- what follows where there is no value
+-- what follows if there is no value
 pub map_none : {T P Q : Type 0} (r : Option T) → (P → Q) → IfNone r P → IfNone r Q
 map_none None f h = f h
 map_none (Some x) f h = tt
 
--- what follows of the value that there is
+-- what follows for the value, if there is one
 pub map_some : {T : Type 0} {P Q : T → Type 0} (r : Option T) → ((x : T) → P x → Q x) → IfSome r P → IfSome r Q
 map_some None f h = tt
 map_some (Some x) f h = f x h
@@ -60,7 +60,7 @@ line_of_parts word rest End h = absurd h
 line_of_parts word rest Inner h = absurd h
 line_of_parts word rest Debug h = absurd h
 
--- a line is what stands round its first space
+-- a line is the parts before and after its first space
 pub split_line : (line : List ℕ) (k : ℕ) → position is_space line ≡ Some k → line ≡ take k line ++ (32 ∷ drop (k + 1) line)
 split_line line k e =
     let found = position_found is_space line k e in
@@ -68,7 +68,7 @@ split_line line k e =
     let parts = split_at_first is_space line 0 (found.1) in
     rw (found.0) (rw space at parts)
 
--- a line with a space is a call only by the parts round the first one
+-- a line with a space is a call only by the parts before and after the first one
 pub parts_of_line : (line : List ℕ) → position_or_len is_space line < length line → (call : Command) → Spells line call → SpellsParts (before_first is_space line) (after_first is_space line) call
 parts_of_line line h (Set v) s = rw (s.1) (refl, s.2)
 parts_of_line line h (OrSet v) s = rw (s.1) (refl, s.2)

@@ -33,7 +33,7 @@ kept_update cell put =
 abbrev pub kept_update_some : Cell ℤ → (ℤ → ℤ) → Kept ℤ Named
 kept_update_some cell change = kept.UpdateSome (content cell) (option_map change (content cell))
 
--- the call of a line, on this cell, as a history keeps it
+-- the call of a line, on this cell, as a history stores it
 abbrev pub kept_call : Cell ℤ → Command → Kept ℤ Named
 kept_call cell (Set v) = kept.Set v
 kept_call cell (OrSet v) = kept.OrSet v
@@ -58,7 +58,7 @@ refusal_text why.OwnersFull = codes "refused owners"
 refusal_text why.StillShared = codes "refused shared"
 refusal_text _ = codes "refused memory"
 
--- the old value that `replace` answers
+-- the old value that `replace` returns
 abbrev pub old_text : Option ℤ → List ℕ
 old_text None = codes "old none"
 old_text (Some v) = codes "old " ++ signed_decimal v
@@ -73,7 +73,7 @@ abbrev pub ready_text : Option ℤ → List ℕ
 ready_text None = codes "closed"
 ready_text (Some v) = codes "ready " ++ signed_decimal v
 
--- how many owners there are
+-- the number of owners
 abbrev pub owners_text : ℕ → List ℕ
 owners_text owners = codes "owners " ++ decimal owners
 
@@ -82,20 +82,20 @@ abbrev pub names_text : List Named → List ℕ
 names_text [] = []
 names_text (name ∷ names) = codes " " ++ decimal name.0 ++ names_text names
 
--- the wakers that a call hands out, if there are any, and the line feed
+-- the wakers that a call wakes, if there are any, and the line feed
 abbrev pub end_text : List Named → List ℕ
 end_text [] = codes "\n"
 end_text (name ∷ names) = codes " woke" ++ names_text (name ∷ names) ++ codes "\n"
 
--- what a write that returns nothing prints, by the wakers it hands out; `None` if it is refused
+-- what a write that returns no value prints, by the wakers it wakes; `None` if it is refused
 abbrev pub done_text : Option (List Named) → List ℕ
 done_text None = refusal_text why.Closed ++ codes "\n"
 done_text (Some woken) = codes "done" ++ end_text woken
 
--- what `replace` prints, by the old value and the wakers it hands out; `None` if it is refused
+-- what `replace` prints, by the old value and the wakers it wakes; `None` if it is refused
 abbrev pub replaced_text : Option (Option ℤ × List Named) → List ℕ
 replaced_text None = refusal_text why.Closed ++ codes "\n"
-replaced_text (Some answer) = old_text answer.0 ++ end_text answer.1
+replaced_text (Some reply) = old_text reply.0 ++ end_text reply.1
 
 -- what a poll prints
 abbrev pub polled_text : Result (Poll (Option ℤ)) Refusal → List ℕ
@@ -103,7 +103,7 @@ polled_text (Ok (poll.Ready value)) = ready_text value ++ codes "\n"
 polled_text (Ok poll.Pending) = codes "pending\n"
 polled_text (Err why) = refusal_text why ++ codes "\n"
 
--- what the call is answered, where the cell has so many owners after it
+-- the reply to the call, on a cell that then has this number of owners
 abbrev pub reply_text : Command → Reply ℤ → ℕ → List ℕ
 reply_text (Replace v) (Value old) owners = old_text old
 reply_text (OrSet v) (Value unused) owners = codes "done"
@@ -111,15 +111,15 @@ reply_text Own Done owners = owners_text owners
 reply_text End (Value last) owners = owners_text owners
 reply_text call Done owners = codes "done"
 reply_text call (Value found) owners = found_text found
-reply_text call (Is answer) owners = if answer then codes "true" else codes "false"
+reply_text call (Is holds) owners = if holds then codes "true" else codes "false"
 reply_text call Pending owners = codes "pending"
 reply_text call (Ready value) owners = ready_text value
 reply_text call (Refused why back) owners = refusal_text why
 
--- The call leads the cell from there to here, as the model says, and the line is what it is
--- answered and whom it wakes. Of `debug` this says only that the cell stays.
-abbrev pub Answered : State ℤ Named → Command → List ℕ → State ℤ Named → Type 0
-Answered from Debug line to = to ≡ from
-Answered from call line to = (reply : Reply ℤ) × (woken : List Named)
+-- The call is a step of the model between these two cells, and the line is its reply and the wakers
+-- that it wakes. Of `debug` this says only that the cell stays as it was.
+abbrev pub CallPrints : State ℤ Named → Command → List ℕ → State ℤ Named → Type 0
+CallPrints from Debug line to = to ≡ from
+CallPrints from call line to = (reply : Reply ℤ) × (woken : List Named)
     × Steps names_wake true from (kept_call from.cell call) reply woken to
     × (line ≡ reply_text call reply (owners_of to.cell) ++ end_text woken)

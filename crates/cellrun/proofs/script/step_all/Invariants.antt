@@ -1,10 +1,10 @@
 use Rattle.cellrun.specs.Lines.{bytes_left}
 use Rattle.cellrun.specs.Output.{output_contents}
-use Rattle.cellrun.proofs.Coming.{IsAt}
-use Rattle.cellrun.proofs.Printing.{IsPrinted}
-use Rattle.cellrun.proofs.script.answer_all.Given as goal
+use Rattle.cellrun.proofs.LineNumber.{IsAt}
+use Rattle.cellrun.proofs.Written.{IsPrinted}
+use Rattle.cellrun.proofs.script.step_all.Given as goal
 
--- line `number` is the next, and those before it are answered
+-- line `number` is the next, and the results of those before it are in `out`
 abbrev pub invariant-loop-number : goal.invariant-loop-number
 invariant-loop-number g l = record {
   at : IsAt (bytes_left l.fn.lines) (bytes_left l.lines) l.number;

@@ -2,7 +2,7 @@ use Rattle.std.proofs.Common.{◌<◌, length, get_or, arith, rules, take_all}
 use Rattle.std.specs.Int.{IsInRange}
 use Rattle.std.proofs.lemmas.Str.Parse.{digit_at}
 use Rattle.cellrun.proofs.Digits.{one_more, more_digits, at_most}
-use Rattle.cellrun.proofs.number.waker.Goals as goal
+use Rattle.cellrun.proofs.number.digits.Goals as goal
 
 pub returns-then-not-is_ascii_digit : goal.returns-then-not-is_ascii_digit
 returns-then-not-is_ascii_digit c =
