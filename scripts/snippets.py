@@ -32,7 +32,7 @@ TOP = os.path.dirname(os.path.dirname(os.path.abspath(__file__)))
 # What a fragment that names one of these may leave out.
 IMPORTS = {
     "anyhow": "Result",
-    "async_cell_core": "Edit Named Wakes",
+    "async_cell_core": "Edit Named Refusal Wakes",
     "async_cell_sync": "AsyncCell Core LockedCore Owner",
     "async_cell_task": "TaskWaker",
     "futures::executor": "block_on",
