@@ -182,7 +182,8 @@ def lay_out(work, name, files):
     text = "\n".join(files.values())
     used = set(re.findall(r"^\s*(?:pub )?use (\w+)", text, re.M)) - {"std", "crate", "self"}
     used |= set(re.findall(r"ghost use Rattle\.(async_\w+)", text))
-    used |= set(re.findall(r"\b(async_cell_\w+)::", text))
+    modules = {file[:-len(".rt")] for file in files}
+    used |= set(re.findall(r"\b(async_cell_\w+)::", text)) - modules
     lines = []
     for crate, line in needed(used):
         lines.append(line)
