@@ -1,5 +1,5 @@
 #!/usr/bin/env python3
-"""Runs each Rust snippet of README.md, docs/GUIDE.md and the CALLING.md pages, from the page itself.
+"""Runs each Rust snippet of README.md, docs/GUIDE.md and the CALLING.md pages.
 
     python3 scripts/snippets.py [PAGE..]
 
@@ -291,7 +291,8 @@ def judge(fragments, status, output, said):
         later = [other for other in fragments[number + 1:] if other.name in printed]
         snippet.output = printed.get(snippet.name)
         if snippet.output is None or (status != 0 and not later):
-            snippet.failures.append("it did not run to its end:\n" + "\n".join(said.splitlines()[-8:]))
+            last = "\n".join(said.splitlines()[-8:])
+            snippet.failures.append(f"it did not run to its end:\n{last}")
         elif "failed: " in snippet.output:
             snippet.failures.append(snippet.output.strip())
         else:
