@@ -71,6 +71,7 @@ impl<W: Drop> WaitList<W> {
         ensures makes_room { OnOk result (additional ≤ self.new.room) }
         ensures keeps_room { self.old.room ≤ self.new.room }
         ensures room_suffices { additional ≤ self.old.room → IsOk result }
+        ensures unchanged { OnErr result (self.new ≡ self.old) }
     {
         self.rest.reserve(additional)
     }

@@ -8,6 +8,7 @@ mod debug;
 mod internal;
 mod owners;
 mod polls;
+mod unique;
 
 use async_cell_cons::{WaitList, Wakers, Wakes};
 use async_cell_model::{Cell, Kept, Refusal, Reply};

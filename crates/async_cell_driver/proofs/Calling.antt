@@ -25,12 +25,12 @@ use Rattle.async_cell_driver.specs.declared.task.Task.{Task}
 use Rattle.async_cell_driver.specs.declared.event.Event.{Event}
 use Rattle.async_cell_driver.specs.declared.event.Told.{Told}
 use Rattle.async_cell_driver.specs.Mark.{is_done_mark, waits_mark, is_due_mark, is_ready_mark}
-use Rattle.async_cell_driver.specs.DriverState.{DriverState, mark_at, result_at, IsCovered, is_named, wake_each, AllNamed, AllStarted}
+use Rattle.async_cell_driver.specs.DriverState.{DriverState, mark_at, result_at, IsCovered, is_named, wake_each, AllNamed, AllWaiting}
 use Rattle.async_cell_driver.specs.Log.{Line, kinds, is_ready, is_poll_of, started}
 use Rattle.async_cell_driver.specs.History.{history, handed_out, line_of, call_of, reply_of, entry_of, names_by, kept_update}
 use Rattle.async_cell_driver.specs.Drives.{Drives, FitsTold, is_same}
 use Rattle.async_cell_driver.proofs.Reading.{awake, ready_now, started_now}
-use Rattle.async_cell_driver.proofs.Waking.{mark-wake_each, woken_if, kinds-wake_each, length-wake_each, results-wake_each, named-wait_list, named-append}
+use Rattle.async_cell_driver.proofs.Waking.{mark-wake_each, woken_if, kinds-wake_each, results-wake_each, named-wait_list, named-append}
 
 head_is : {A : Type 0} (x y : A) (xs ys : List A) → x ∷ xs ≡ y ∷ ys → x ≡ y
 head_is x y xs ys same = cc
@@ -76,11 +76,16 @@ kept_named : (ends : Bool) (l cut : List Named) (i : ℕ) → ends ≡ false →
 kept_named true l cut i not named = cc
 kept_named false l cut i not named = named-wait_list i (l ++ cut) ∙ (named-append i l cut ∙ ap (λ p. p || is_named i cut) named)
 
--- who waits after an entry that adds nobody waited before it
+-- who waits after an entry that adds nobody waited before it, and the entry ended no waiting
 named_before : {T : Type 0} (ends : Bool) (l : List Named) (e : Entry T Named) (i : ℕ) → pending_waker e ≡ None
-    → is_named i (wait_list is_same ((if ends || false then [] else l) ++ filter_map pending_waker (if ends || false then [] else e ∷ []))) ≡ true → is_named i l ≡ true
+    → is_named i (wait_list is_same ((if ends || false then [] else l) ++ filter_map pending_waker (if ends || false then [] else e ∷ []))) ≡ true → (ends ≡ false) × (is_named i l ≡ true)
 named_before true l e i none named = cc
-named_before false l e i none named = let same = rw (none, append-nil l) at named in sym (named-wait_list i l) ∙ same
+named_before false l e i none named = let same = rw (none, append-nil l) at named in (refl, sym (named-wait_list i l) ∙ same)
+
+-- where an entry ends no waiting, it wakes none
+unnamed_by : (ends : Bool) (l names : List Named) (i : ℕ) → names ≡ (if ends then l else []) → ends ≡ false → is_named i names ≡ false
+unnamed_by true l names i same going_on = cc
+unnamed_by false l names i same going_on = ap (is_named i) same
 
 silent_entry : {T : Type 0} (call : Kept T Named) (r : Reply T) → is_pending r ≡ false → pending_waker (record { call = call; reply = r }) ≡ None
 silent_entry call r silent = rw silent refl
@@ -161,19 +166,22 @@ module _ {T : Type 0} where
   pub results_woken : (names : List Named) (from old : DriverState T) (tasks : List (Task T)) → from ≡ old → tasks ≡ wake_each names from.tasks → (i : ℕ) → result_at tasks i ≡ result_at old.tasks i
   results_woken names from old tasks same tasks_are i = ap (λ ts. result_at ts i) tasks_are ∙ (results-wake_each names from.tasks i ∙ ap (λ (s : DriverState T). result_at s.tasks i) same)
 
-  -- a call that does not wait adds no name
-  started_after : (from to : State T Named) (call : Kept T Named) (r : Reply T) (names : List Named) (tasks : List (Task T)) → is_pending r ≡ false → Steps is_same true from call r names to
-      → AllStarted (record { core = from; tasks = tasks }) → AllStarted (record { core = to; tasks = wake_each names tasks })
-  started_after from to call r names tasks silent answers started i named =
+  -- a call that does not wait adds no name, and each that stays in the list is that of a task that
+  -- is not woken
+  waiting_after : (from to : State T Named) (call : Kept T Named) (r : Reply T) (names : List Named) (tasks : List (Task T)) → is_pending r ≡ false → Steps is_same true from call r names to
+      → AllWaiting (record { core = from; tasks = tasks }) → AllWaiting (record { core = to; tasks = wake_each names tasks })
+  waiting_after from to call r names tasks silent answers waiting_all i named =
       let e : Entry T Named = record { call = call; reply = r } in
       let there : is_named i (waiting is_same from (e ∷ [])) ≡ true = ap (is_named i) (sym answers.waiting_is) ∙ named in
-      rw length-wake_each (started i (named_before (ends_waiting from.cell (next from.cell e)) from.waiting e i (silent_entry call r silent) there))
+      let before = named_before (ends_waiting from.cell (next from.cell e)) from.waiting e i (silent_entry call r silent) there in
+      let unnamed : is_named i names ≡ false = unnamed_by (ends_waiting from.cell (next from.cell e)) from.waiting names i (names_are from to call r names answers) before.0 in
+      mark-wake_each names tasks i ∙ (ap (λ (woken : Bool). woken_if woken (mark_at tasks i)) unnamed ∙ waiting_all i before.1)
 
   pub covered_called : (from : DriverState T) (core : State T Named) (tasks : List (Task T)) (names : List Named) (call : Kept T Named) (r : Reply T) → is_pending r ≡ false → IsCovered from
       → Steps is_same true from.core call r names core → tasks ≡ wake_each names from.tasks → IsCovered (record { core = core; tasks = tasks })
   covered_called from core tasks names call r silent covered answers tasks_are =
       subst (λ (ts : List (Task T)). IsCovered (record { core = core; tasks = ts })) (sym tasks_are)
-      (named_after from.core core call r names from.tasks answers covered.0, started_after from.core core call r names from.tasks silent answers covered.1)
+      (named_after from.core core call r names from.tasks answers covered.0, waiting_after from.core core call r names from.tasks silent answers covered.1)
 
   -- a reply that gives a value is the model's
   pub value_is : (from to : State T Named) (call : Kept T Named) (value : Option T) (names : List Named) → Steps is_same true from call (reply.Value value) names to → reply.Value value ≡ model_reply from.cell call

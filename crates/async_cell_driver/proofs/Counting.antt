@@ -1,5 +1,5 @@
 -- How many names stand in a driver's wait list.
-use Rattle.std.proofs.Common.{◌≡◌, ◌≢◌, ℕ, ◌<◌, ◌≤◌, Bool, true, false, ◌||◌, List, [], ◌∷◌, length, get_or, map, refl, sym, subst, ◌∙◌, arith}
+use Rattle.std.proofs.Common.{◌≡◌, ◌≢◌, ℕ, zero, suc, ◌<◌, ◌≤◌, Bool, true, false, ◌||◌, List, [], ◌∷◌, Some, length, get_or, map, refl, sym, subst, ◌∙◌, arith}
 use Rattle.std.specs.Prelude.{nat_eq, AllPairs}
 use Rattle.std.specs.List.{list_any, IsDistinct}
 use Rattle.std.proofs.lemmas.Bool.{eqb-true, eqb-false, eq-eqb, ne_eqb}
@@ -9,7 +9,10 @@ use Rattle.std.proofs.lemmas.Map.Steps.{length-le_from_distinct_below}
 use Rattle.async_cell_cons.specs.declared.named.Named.{Named}
 use Rattle.async_cell_model.specs.History.{IsSound}
 use Rattle.async_cell_model.proofs.Adding.{wait_list-distinct}
-use Rattle.async_cell_driver.specs.DriverState.{DriverState, name_of, IsCovered, is_named}
+use Rattle.async_cell_driver.specs.declared.task.Mark.{Mark}
+use Rattle.async_cell_driver.specs.declared.task.Mark.TheVariants.{Waiting}
+use Rattle.async_cell_driver.specs.declared.task.Task.{Task}
+use Rattle.async_cell_driver.specs.DriverState.{DriverState, mark_at, name_of, IsCovered, is_named}
 use Rattle.async_cell_driver.specs.Drives.{is_same}
 
 numbers_apart : (a b : Named) → a ≢ b → nat_eq a.0 b.0 ≡ false
@@ -30,9 +33,15 @@ named_number : (q : ℕ) (names : List Named) → list_any (nat_eq q) (map (λ (
 named_number q [] = refl
 named_number q (n ∷ names) = rw (same_if q n.0 (nat_eq q n.0) refl, named_number q names) refl
 
+-- a task that has a mark was started
+marked_started : {T : Type 0} (i : ℕ) (tasks : List (Task T)) (mark : Mark) → mark_at tasks i ≡ Some mark → i < length tasks
+marked_started i [] mark is = cc
+marked_started zero (t ∷ tasks) mark is = omega arith
+marked_started (suc i) (t ∷ tasks) mark is = let rest = marked_started i tasks mark is in omega arith
+
 -- no more wakers wait than there are tasks
 pub waiting_few : {T : Type 0} (at : DriverState T) → IsSound is_same at.core → IsCovered at → length at.core.waiting ≤ length at.tasks
 waiting_few at sound covered =
     let distinct : AllPairs (λ (u v : Named). u ≢ v) at.core.waiting = subst (λ (l : List Named). AllPairs (λ (u v : Named). u ≢ v) l) sound.kept (wait_list-distinct is_same at.core.waiting (λ w. eq-eqb w.0 w.0 refl)) in
-    let few = length-le_from_distinct_below (map (λ (name : Named). name.0) at.core.waiting) (length at.tasks) (numbers_distinct at.core.waiting distinct) (λ q has. covered.1 q (sym (named_number q at.core.waiting) ∙ has)) in
+    let few = length-le_from_distinct_below (map (λ (name : Named). name.0) at.core.waiting) (length at.tasks) (numbers_distinct at.core.waiting distinct) (λ q has. marked_started q at.tasks Waiting (covered.1 q (sym (named_number q at.core.waiting) ∙ has))) in
     rw length-map at few

@@ -8,7 +8,7 @@ use Rattle.async_cell_driver.specs.DriverState.{DriverState, mark_at, result_at,
 use Rattle.async_cell_driver.specs.Log.{Log, is_ready}
 use Rattle.async_cell_driver.specs.Drives.{Drives}
 use Rattle.async_cell_driver.proofs.Reading.{ready_now}
-use Rattle.async_cell_driver.proofs.Waking.{says_same, length-change, map-change, slice_get-change_same, slice_get-change_other}
+use Rattle.async_cell_driver.proofs.Waking.{says_same, map-change, slice_get-change_same, slice_get-change_other}
 
 module _ {T : Type 0} where
   -- the state with what is kept for task i
@@ -25,7 +25,7 @@ module _ {T : Type 0} where
   pub covered_keeping : (i : ℕ) (result : Option (Option T)) (at : DriverState T) → IsCovered at → IsCovered (keeping i result at)
   covered_keeping i result at covered = (
     λ j stands. covered.0 j (sym (mark-keeping i j result at.tasks) ∙ stands),
-    λ j named. rw length-change (covered.1 j named),
+    λ j named. mark-keeping i j result at.tasks ∙ covered.1 j named,
   )
 
   pub ready-keeping : (i j : ℕ) (result : Option (Option T)) (at : DriverState T) → is_ready (keeping i result at) [] j ≡ is_ready at [] j

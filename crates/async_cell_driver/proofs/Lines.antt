@@ -1,5 +1,5 @@
 -- Where one line leads.
-use Rattle.std.proofs.Common.{append-nil, ◌≡◌, ℕ, zero, suc, true, false, List, [], ◌∷◌, ◌++◌, Option, Some, None, map, length, refl, ap, sym, ◌∙◌, arith, length-append}
+use Rattle.std.proofs.Common.{append-nil, ◌≡◌, ℕ, zero, suc, true, false, List, [], ◌∷◌, ◌++◌, Option, Some, None, map, length, refl, ap, sym, ◌∙◌}
 use Rattle.std.specs.Prelude.{Result, Ok, Err, IfOk, IfErr}
 use Rattle.std.proofs.lemmas.List.{map-append, length-map}
 use Rattle.async_cell_model.specs.declared.refusal.Refusal.{Refusal}
@@ -39,6 +39,11 @@ module _ {T : Type 0} where
   result_with_fresh (t ∷ tasks) kind zero = refl
   result_with_fresh (t ∷ tasks) kind (suc i) = result_with_fresh tasks kind i
 
+  still_with_fresh : (tasks : List (Task T)) (kind : Kind) (i : ℕ) → mark_at tasks i ≡ Some Waiting → mark_at (tasks ++ fresh kind ∷ []) i ≡ Some Waiting
+  still_with_fresh [] kind i stands = cc
+  still_with_fresh (t ∷ tasks) kind zero stands = stands
+  still_with_fresh (t ∷ tasks) kind (suc i) stands = still_with_fresh tasks kind i stands
+
   waiting_with_fresh : (tasks : List (Task T)) (kind : Kind) (i : ℕ) → mark_at (tasks ++ fresh kind ∷ []) i ≡ Some Waiting → mark_at tasks i ≡ Some Waiting
   waiting_with_fresh [] kind zero stands = cc
   waiting_with_fresh [] kind (suc i) stands = cc
@@ -49,7 +54,7 @@ module _ {T : Type 0} where
   pub covered_with_fresh : (from : DriverState T) (kind : Kind) → IsCovered from → IsCovered (record from { tasks = from.tasks ++ fresh kind ∷ [] })
   covered_with_fresh from kind covered = (
     λ i stands. covered.0 i (waiting_with_fresh from.tasks kind i stands),
-    λ i named. let before = covered.1 i named in rw length-append (omega arith),
+    λ i named. still_with_fresh from.tasks kind i (covered.1 i named),
   )
 
   kinds_with_fresh : (tasks : List (Task T)) (kind : Kind) → map (λ task. task.kind) (tasks ++ fresh kind ∷ []) ≡ map (λ task. task.kind) tasks ++ kind ∷ []

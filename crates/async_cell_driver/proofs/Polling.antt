@@ -1,5 +1,5 @@
 -- Where a poll leads.
-use Rattle.std.proofs.Common.{◌≡◌, ◌≢◌, ◌<◌, ℕ, zero, suc, Bool, true, false, not, ◌&&◌, ◌||◌, List, [], ◌∷◌, ◌++◌, Option, Some, None, map, length, refl, ap, sym, ◌∙◌, subst, append-nil, arith}
+use Rattle.std.proofs.Common.{◌≡◌, ◌≢◌, ℕ, Bool, true, false, not, ◌&&◌, ◌||◌, List, [], ◌∷◌, ◌++◌, Option, Some, None, map, length, refl, ap, sym, ◌∙◌, subst, append-nil}
 use Rattle.std.specs.Prelude.{slice_get, is_some, nat_eq, if◌then◌else◌, Result, Ok, Err, IsOk, IfOk, IfErr, OnOk, MatchOption}
 use Rattle.std.specs.Option.{option_map}
 use Rattle.std.proofs.lemmas.Bool.{eqb-true, eqb-false, eq-eqb}
@@ -17,7 +17,6 @@ use Rattle.async_cell_model.specs.Cell.{content, ends_waiting, is_vacant}
 use Rattle.async_cell_model.specs.Step.{next, is_memory}
 use Rattle.async_cell_model.specs.History.{State, IsSound}
 use Rattle.async_cell_model.specs.Legal.{wakes, may_refuse}
-use Rattle.async_cell_model.specs.WaitList.{wait_list}
 use Rattle.async_cell_core.specs.Polled.{poll_reply, IsReadyWith}
 use Rattle.async_cell_model.specs.Legal.{RunsUpTo, StepsUpTo}
 use Rattle.async_cell_driver.specs.declared.task.Kind.{Kind}
@@ -31,13 +30,13 @@ use Rattle.async_cell_driver.specs.declared.event.Told.TheVariants as told
 use Rattle.async_cell_driver.specs.declared.event.Polled.{Polled}
 use Rattle.async_cell_driver.specs.declared.event.Polled.TheVariants as polled
 use Rattle.async_cell_driver.specs.Mark.{is_done_mark, waits_mark, is_due_mark, is_ready_mark}
-use Rattle.async_cell_driver.specs.DriverState.{DriverState, name_of, mark_at, result_of, result_at, kind_at, IsCovered, AllNamed, AllStarted, is_named, change, with_mark}
+use Rattle.async_cell_driver.specs.DriverState.{DriverState, name_of, mark_at, result_of, result_at, kind_at, IsCovered, AllNamed, AllWaiting, is_named, change, with_mark}
 use Rattle.async_cell_driver.specs.Log.{Line, kinds, is_ready, is_poll_of, was_ready, was_pending, was_refused}
 use Rattle.async_cell_driver.specs.History.{poll_of, told_of, line_of, history, handed_out}
 use Rattle.async_cell_driver.specs.Asked.{waiting_when, mark_after, polled_of, IsPolledWith}
 use Rattle.async_cell_driver.specs.Drives.{Drives, FitsTold, IsSpared, is_same}
 use Rattle.async_cell_driver.proofs.Reading.{awake, ready_now, started_now, ready_by}
-use Rattle.async_cell_driver.proofs.Waking.{length-change, slice_get-change_same, slice_get-change_other, says_same, map-change, named-wait_list, named-append}
+use Rattle.async_cell_driver.proofs.Waking.{slice_get-change_same, slice_get-change_other, says_same, map-change, named-append}
 
 module _ {T : Type 0} where
   -- a cell that stays open and gets no value ends no waiting
@@ -92,23 +91,31 @@ unmarked true m None otherwise stands = cc
 unmarked true m (Some old) otherwise stands = let same : m ≡ mark.Waiting = cc in absurd (otherwise same)
 
 named_or_asked : (i j : ℕ) (b : Bool) → nat_eq i j ≡ b → (l : List Named) (old : Option Mark) → (old ≡ Some mark.Waiting → is_named j l ≡ true) → marked_if b mark.Waiting old ≡ Some mark.Waiting
-    → is_named j (wait_list is_same (l ++ name_of i ∷ [])) ≡ true
-named_or_asked i j true is l old covered stands =
-    named-wait_list j (l ++ name_of i ∷ []) ∙ (named-append j l (name_of i ∷ []) ∙ rw is (or-true (is_named j l)))
-named_or_asked i j false is l old covered stands =
-    named-wait_list j (l ++ name_of i ∷ []) ∙ (named-append j l (name_of i ∷ []) ∙ ap (λ p. p || is_named j (name_of i ∷ [])) (covered stands))
+    → is_named j (l ++ name_of i ∷ []) ≡ true
+named_or_asked i j true is l old covered stands = named-append j l (name_of i ∷ []) ∙ rw is (or-true (is_named j l))
+named_or_asked i j false is l old covered stands = named-append j l (name_of i ∷ []) ∙ ap (λ p. p || is_named j (name_of i ∷ [])) (covered stands)
 
--- a name in the list that a poll leaves is the task's own, or stood there before
-started_or_polled : (i j : ℕ) (b : Bool) → nat_eq i j ≡ b → (l : List Named) (n : ℕ) → (is_named j l ≡ true → j < n) → i < n → is_named j (wait_list is_same (l ++ name_of i ∷ [])) ≡ true → j < n
-started_or_polled i j true is l n started polled kept = rw (← eqb-true i j is) polled
-started_or_polled i j false is l n started polled kept =
-    let either : (is_named j l || (nat_eq i j || false)) ≡ true = sym (named-wait_list j (l ++ name_of i ∷ []) ∙ named-append j l (name_of i ∷ [])) ∙ kept in
-    let before : (is_named j l || false) ≡ true = rw is at either in
-    started (sym (or-false (is_named j l)) ∙ before)
+-- a name that was in the list before a poll is not the task's own, and its task waits as before
+waiting_beside : (b : Bool) (m : Mark) (old : Option Mark) → (b ≡ true → is_ready_mark old ≡ true) → old ≡ Some mark.Waiting → marked_if b m old ≡ Some mark.Waiting
+waiting_beside false m old ready stands = stands
+waiting_beside true m old ready stands = let no : false ≡ true = sym (ap is_ready_mark stands) ∙ ready refl in cc
 
 some_marked : (m : Mark) (old : Option Mark) → is_ready_mark old ≡ true → option_map (λ _. m) old ≡ Some m
 some_marked m None ready = cc
 some_marked m (Some old) ready = refl
+
+-- a name in the list after a poll that waits is the task's own, or was there before
+waiting_or_asked : (i j : ℕ) (b : Bool) → nat_eq i j ≡ b → (l : List Named) (old : Option Mark) → (b ≡ true → is_ready_mark old ≡ true) → (is_named j l ≡ true → old ≡ Some mark.Waiting)
+    → is_named j (l ++ name_of i ∷ []) ≡ true → marked_if b mark.Waiting old ≡ Some mark.Waiting
+waiting_or_asked i j true is l old ready waits named = some_marked mark.Waiting old (ready refl)
+waiting_or_asked i j false is l old ready waits named =
+    let either : (is_named j l || (nat_eq i j || false)) ≡ true = sym (named-append j l (name_of i ∷ [])) ∙ named in
+    let before : (is_named j l || false) ≡ true = rw is at either in
+    waits (sym (or-false (is_named j l)) ∙ before)
+
+unnamed_if : (b : Bool) (old : Option Mark) → (b ≡ true → old ≡ Some mark.Waiting) → is_ready_mark old ≡ true → b ≡ false
+unnamed_if true old waits ready = let no : false ≡ true = sym (ap is_ready_mark (waits refl)) ∙ ready in cc
+unnamed_if false old waits ready = refl
 
 pub same_kind : (k l : Kind) → Some k ≡ Some l → k ≡ l
 same_kind k l same = cc
@@ -133,11 +140,9 @@ module _ {T : Type 0} where
   pub mark-marked : (m : Mark) (i j : ℕ) (tasks : List (Task T)) → mark_at (change (with_mark m) i tasks) j ≡ marked_if (nat_eq i j) m (mark_at tasks j)
   mark-marked m i j tasks = mark-marked_one m i j (nat_eq i j) refl tasks
 
-  -- a task that has a kind was started
-  pub started_kind : (i : ℕ) (tasks : List (Task T)) (kind : Kind) → kind_at tasks i ≡ Some kind → i < length tasks
-  started_kind i [] kind is = cc
-  started_kind zero (t ∷ tasks) kind is = omega arith
-  started_kind (suc i) (t ∷ tasks) kind is = let rest = started_kind i tasks kind is in omega arith
+  -- what a task of the same number says
+  this_ready : (i j : ℕ) (tasks : List (Task T)) → is_ready_mark (mark_at tasks i) ≡ true → nat_eq i j ≡ true → is_ready_mark (mark_at tasks j) ≡ true
+  this_ready i j tasks ready same = subst (λ k. is_ready_mark (mark_at tasks k) ≡ true) (eqb-true i j same) ready
 
   -- Where a line leads that is a poll of a ready task.
   polls : (is_clone : T → T → Type 0) (from : DriverState T) (core : State T Named) (i : ℕ) (answer : Told T) (m : Mark) (line : Line T)
@@ -150,16 +155,15 @@ module _ {T : Type 0} where
       → (RunsUpTo is_same true is_clone from.core (history from (record { event = event.Poll i; told = answer; names = [] } ∷ [])) (handed_out from (record { event = event.Poll i; told = answer; names = [] } ∷ [])) core)
       → Drives is_clone from (line ∷ []) (record { core = core; tasks = change (with_mark m) i from.tasks })
   polls is_clone from core i answer m line is sound covered ready fits is_poll says_done says_waits says_due leads =
-      let this_ready : (j : ℕ) → nat_eq i j ≡ true → is_ready_mark (mark_at from.tasks j) ≡ true =
-      λ j same. subst (λ k. is_ready_mark (mark_at from.tasks k) ≡ true) (eqb-true i j same) (sym (ready_now from i) ∙ ready) in
+      let marked_ready : is_ready_mark (mark_at from.tasks i) ≡ true = sym (ready_now from i) ∙ ready in
       rw is record {
         legal = (fits, tt);
         core_leads = leads;
         kinds_are = map-change (λ task. task.kind) (with_mark m) (λ t. refl) i from.tasks ∙ sym (append-nil (map (λ task. task.kind) from.tasks));
-        done_is = λ j. rw (is_poll j) (ap is_done_mark (mark-marked m i j from.tasks) ∙ done_polled (nat_eq i j) m (mark_at from.tasks j) (was_ready answer) (this_ready j) says_done);
-        waits_is = λ j. rw (is_poll j) (ap waits_mark (mark-marked m i j from.tasks) ∙ waits_polled (nat_eq i j) m (mark_at from.tasks j) (was_pending answer) (this_ready j) says_waits);
+        done_is = λ j. rw (is_poll j) (ap is_done_mark (mark-marked m i j from.tasks) ∙ done_polled (nat_eq i j) m (mark_at from.tasks j) (was_ready answer) (this_ready i j from.tasks marked_ready) says_done);
+        waits_is = λ j. rw (is_poll j) (ap waits_mark (mark-marked m i j from.tasks) ∙ waits_polled (nat_eq i j) m (mark_at from.tasks j) (was_pending answer) (this_ready i j from.tasks marked_ready) says_waits);
         ready_is = λ j.
-            let here = ready_now (record { core = core; tasks = change (with_mark m) i from.tasks }) j ∙ (ap is_ready_mark (mark-marked m i j from.tasks) ∙ ready_polled (nat_eq i j) m (mark_at from.tasks j) (was_ready answer) (was_refused answer) (this_ready j) says_done says_due) in
+            let here = ready_now (record { core = core; tasks = change (with_mark m) i from.tasks }) j ∙ (ap is_ready_mark (mark-marked m i j from.tasks) ∙ ready_polled (nat_eq i j) m (mark_at from.tasks j) (was_ready answer) (was_refused answer) (this_ready i j from.tasks marked_ready) says_done says_due) in
             rw (is_poll j, append-nil (map (λ task. task.kind) from.tasks), started_now j from.tasks) here;
         none_forgotten = awake _ sound covered;
       }
@@ -175,23 +179,28 @@ module _ {T : Type 0} where
   named_polled from core i (Err why) covered refused waits j stands =
       ap (is_named j) refused.2 ∙ covered j (unmarked (nat_eq i j) mark.Ready (mark_at from.tasks j) (λ no. cc) (sym (mark-marked mark.Ready i j from.tasks) ∙ stands))
 
-  -- and each name there is still the number of a task
-  started_polled : (from : DriverState T) (core : State T Named) (i : ℕ) (asked : Result (Poll (Option T)) Refusal) → AllStarted from → i < length from.tasks
+  -- and each name there is still that of a task that waits
+  waiting_polled : (from : DriverState T) (core : State T Named) (i : ℕ) (asked : Result (Poll (Option T)) Refusal) → AllWaiting from → is_ready_mark (mark_at from.tasks i) ≡ true
       → IfErr asked (λ why. (why ≡ Memory) × (core.cell ≡ from.core.cell) × (core.waiting ≡ from.core.waiting)) → IfOk asked (λ p. core.waiting ≡ waiting_when p (name_of i) from.core.waiting)
-      → (j : ℕ) → is_named j core.waiting ≡ true → j < length from.tasks
-  started_polled from core i (Ok (Ready value)) started polled refused waits j named = started j (ap (is_named j) (sym waits) ∙ named)
-  started_polled from core i (Ok Pending) started polled refused waits j named =
-      let kept : is_named j (wait_list is_same (from.core.waiting ++ name_of i ∷ [])) ≡ true = ap (is_named j) (sym waits) ∙ named in
-      started_or_polled i j (nat_eq i j) refl from.core.waiting (length from.tasks) (started j) polled kept
-  started_polled from core i (Err why) started polled refused waits j named = started j (ap (is_named j) (sym refused.2) ∙ named)
+      → AllWaiting (record { core = core; tasks = change (with_mark (mark_after asked)) i from.tasks })
+  waiting_polled from core i (Ok (Ready value)) all ready refused waits j named =
+      mark-marked mark.Done i j from.tasks ∙ waiting_beside (nat_eq i j) mark.Done (mark_at from.tasks j) (this_ready i j from.tasks ready) (all j (ap (is_named j) (sym waits) ∙ named))
+  waiting_polled from core i (Ok Pending) all ready refused waits j named =
+      mark-marked mark.Waiting i j from.tasks ∙ waiting_or_asked i j (nat_eq i j) refl from.core.waiting (mark_at from.tasks j) (this_ready i j from.tasks ready) (all j) (ap (is_named j) (sym waits) ∙ named)
+  waiting_polled from core i (Err why) all ready refused waits j named =
+      mark-marked mark.Ready i j from.tasks ∙ waiting_beside (nat_eq i j) mark.Ready (mark_at from.tasks j) (this_ready i j from.tasks ready) (all j (ap (is_named j) (sym refused.2) ∙ named))
 
-  pub covered_polled : (from : DriverState T) (core : State T Named) (i : ℕ) (asked : Result (Poll (Option T)) Refusal) → IsCovered from → i < length from.tasks
+  pub covered_polled : (from : DriverState T) (core : State T Named) (i : ℕ) (asked : Result (Poll (Option T)) Refusal) → IsCovered from → is_ready_mark (mark_at from.tasks i) ≡ true
       → IfErr asked (λ why. (why ≡ Memory) × (core.cell ≡ from.core.cell) × (core.waiting ≡ from.core.waiting)) → IfOk asked (λ p. core.waiting ≡ waiting_when p (name_of i) from.core.waiting)
       → IsCovered (record { core = core; tasks = change (with_mark (mark_after asked)) i from.tasks })
-  covered_polled from core i asked covered polled refused waits = (
+  covered_polled from core i asked covered ready refused waits = (
     named_polled from core i asked covered.0 refused waits,
-    λ j named. rw length-change (started_polled from core i asked covered.1 polled refused waits j named),
+    waiting_polled from core i asked covered.1 ready refused waits,
   )
+
+  -- the name of a ready task is not in the wait list
+  pub ready_unnamed : (from : DriverState T) (i : ℕ) → IsCovered from → is_ready_mark (mark_at from.tasks i) ≡ true → is_named i from.core.waiting ≡ false
+  ready_unnamed from i covered ready = unnamed_if (is_named i from.core.waiting) (mark_at from.tasks i) (covered.1 i) ready
 
   -- where the poll of a ready task leads
   pub poll_drives : (is_clone : T → T → Type 0) (from : DriverState T) (core : State T Named) (i : ℕ) (kind : Kind) (asked : Result (Poll (Option T)) Refusal)

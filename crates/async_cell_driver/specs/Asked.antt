@@ -4,18 +4,16 @@ use Rattle.futures.specs.declared.task.Poll.{Poll}
 use Rattle.futures.specs.declared.task.Poll.TheVariants.{Ready, Pending}
 use Rattle.async_cell_cons.specs.declared.named.Named.{Named}
 use Rattle.async_cell_model.specs.declared.refusal.Refusal.{Refusal}
-use Rattle.async_cell_model.specs.WaitList.{wait_list}
 use Rattle.async_cell_driver.specs.declared.task.Mark.{Mark}
 use Rattle.async_cell_driver.specs.declared.task.Mark.TheVariants as mark
 use Rattle.async_cell_driver.specs.declared.event.Polled.{Polled}
 use Rattle.async_cell_driver.specs.declared.event.Polled.TheVariants as polled
-use Rattle.async_cell_driver.specs.Drives.{is_same}
 
 module _ {T : Type 0} where
   -- the wait list after the poll
   abbrev pub waiting_when : Poll (Option T) → Named → List Named → List Named
   waiting_when (Ready value) name waiting = waiting
-  waiting_when Pending name waiting = wait_list is_same (waiting ++ name ∷ [])
+  waiting_when Pending name waiting = waiting ++ name ∷ []
 
   -- the mark of the task after the poll
   abbrev pub mark_after : Result (Poll (Option T)) Refusal → Mark

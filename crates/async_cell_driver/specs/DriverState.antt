@@ -1,5 +1,5 @@
 -- What contracts see of a driver: its core, and its tasks by number.
-use Rattle.std.specs.Prelude.{◌≡◌, ◌<◌, ℕ, zero, suc, Bool, true, List, [], ◌∷◌, Option, Some, None, length, slice_get, map, nat_eq}
+use Rattle.std.specs.Prelude.{◌≡◌, ℕ, zero, suc, Bool, true, List, [], ◌∷◌, Option, Some, None, slice_get, map, nat_eq}
 use Rattle.std.specs.List.{list_any}
 use Rattle.std.specs.Option.{option_map}
 use Rattle.async_cell_cons.specs.declared.named.Named.{Named}
@@ -64,9 +64,9 @@ module _ {T : Type 0} where
   abbrev pub AllNamed : DriverState T → Type 0
   AllNamed at = (i : ℕ) → mark_at at.tasks i ≡ Some Waiting → is_named i at.core.waiting ≡ true
 
-  -- each name in the wait list is the number of a task
-  abbrev pub AllStarted : DriverState T → Type 0
-  AllStarted at = (i : ℕ) → is_named i at.core.waiting ≡ true → i < length at.tasks
+  -- each name in the wait list is that of a task that waits and was not woken
+  abbrev pub AllWaiting : DriverState T → Type 0
+  AllWaiting at = (i : ℕ) → is_named i at.core.waiting ≡ true → mark_at at.tasks i ≡ Some Waiting
 
   abbrev pub IsCovered : DriverState T → Type 0
-  IsCovered at = AllNamed at × AllStarted at
+  IsCovered at = AllNamed at × AllWaiting at

@@ -2,7 +2,7 @@ ghost use Rattle.std.specs.Prelude.{◌≡◌, ◌≢◌, ◌≤◌, ℕ, [], le
 ghost use Rattle.async_cell_model.specs.Cell.{content, is_closed, is_vacant};
 ghost use Rattle.async_cell_model.specs.Legal.{StepsUpTo, may_refuse};
 ghost use Rattle.async_cell_core.specs.Polled.{IsCloneOf, IsReadyWith, poll_reply};
-ghost use Rattle.async_cell_driver.specs.DriverState.{kind_at};
+ghost use Rattle.async_cell_driver.specs.DriverState.{is_named, kind_at};
 ghost use Rattle.async_cell_driver.specs.Log.{is_ready, waits};
 ghost use Rattle.async_cell_driver.specs.History.{poll_of, told_of};
 ghost use Rattle.async_cell_driver.specs.Drives.{Happens, IsSpared, KeepsResults, is_same};
@@ -123,6 +123,8 @@ impl<T: Clone> Driver<T> {
         ensures keeps_room { self.old.core.room ≤ self.new.core.room }
         ensures refused { IfErr result (λ why. why ≡ Refusal.Memory) }
         ensures closed { is_closed self.old.core.cell ≡ true → IsOk result × (self.new ≡ self.old) }
+        ensures enough { additional ≤ self.old.core.room → IsOk result }
+        ensures unchanged { OnErr result (self.new ≡ self.old) }
     {
         self.core.reserve(additional)
     }
@@ -163,13 +165,15 @@ impl<T: Clone> Driver<T> {
     }
 }
 
-/// Polls the core for a task of this kind.
+/// Polls the core for a task of this kind, whose name does not wait. So a poll that has to wait adds
+/// it without a look at those that do.
 #[tactic(auto, using(crate::proofs::Polling::sure_anyway, async_cell_model::proofs::UpTo::up_to_clones))]
 fn ask<T: Clone>(
     core: &mut Core<T, Named>,
     kind: Kind,
     name: Named,
 ) -> Result<Poll<Option<T>>, Refusal>
+    requires { is_named name.0 core.old.waiting ≡ false }
     ensures model { StepsUpTo is_same true T.is_clone core.old
         (poll_of (Some kind) name.0) (poll_reply result) [] core.new }
     ensures refused { IfErr result (λ why. (why ≡ Refusal.Memory)
@@ -189,6 +193,10 @@ fn ask<T: Clone>(
         → MatchOption (content core.old.cell) (IsOk result)
         (λ value. T.is_infallible value → IsOk result) }
 {
+    if core.is_vacant() {
+        core.add_unique(&name)?;
+        return Ok(Poll::Pending);
+    }
     match kind {
         Kind::Take => core.poll_take(&name),
         Kind::Get => core.poll_get(&name),

@@ -55,6 +55,7 @@ impl<T: Drop, W: Wakes> Core<T, W> {
         ensures refused { IfErr result (λ why. why ≡ Refusal.Memory) }
         ensures closed { is_closed self.old.cell ≡ true → IsOk result × (self.new ≡ self.old) }
         ensures enough { additional ≤ self.old.room → IsOk result }
+        ensures unchanged { OnErr result (self.new ≡ self.old) }
         ensures sound { IsSound W.will_wake self.new }
     {
         if self.is_closed() {

@@ -5,7 +5,7 @@ use Rattle.async_cell_driver.specs.Log.{is_ready}
 use Rattle.async_cell_driver.specs.Asked.{polled_of}
 use Rattle.async_cell_driver.proofs.Reading.{ready_now}
 use Rattle.async_cell_driver.proofs.Lines.{not_polled}
-use Rattle.async_cell_driver.proofs.Polling.{covered_polled, started_kind, poll_drives_as, results-marked, ready_no_more, others_stay, sure_anyway, sure_polled, taker_sure, same_kind, not_both, ok_as_polled, ready_as_polled, spared_polled}
+use Rattle.async_cell_driver.proofs.Polling.{covered_polled, ready_unnamed, poll_drives_as, results-marked, ready_no_more, others_stay, sure_anyway, sure_polled, taker_sure, same_kind, not_both, ok_as_polled, ready_as_polled, spared_polled}
 use Rattle.async_cell_driver.proofs.driver.Driver.poll.Goals as goal
 
 pub returns-in_default-clause-drives : goal.returns-in_default-clause-drives
@@ -24,7 +24,7 @@ pub invariant_of-self : goal.invariant_of-self
 invariant_of-self g c =
     let at : DriverState g.row.T.Denot = record { core = c.self.inside.core; tasks = c.self.inside.tasks } in
     let ready = rw c.in-Some.is at c.ready.ensures.kind in
-    rw (c.set_mark.ensures, c.mark_of.ensures) (covered_polled at c.ask-asked.new.core c.args.i c.ask-asked.result c.self.invariant (started_kind c.args.i at.tasks c.in-Some.kind ready.0) c.ask-asked.ensures.refused c.ask-asked.ensures.waiting)
+    rw (c.set_mark.ensures, c.mark_of.ensures) (covered_polled at c.ask-asked.new.core c.args.i c.ask-asked.result c.self.invariant ready.1 c.ask-asked.ensures.refused c.ask-asked.ensures.waiting)
 
 pub returns-clause-drives : goal.returns-clause-drives
 returns-clause-drives g c =
