@@ -2,11 +2,12 @@
 # Runs all tests without a proof: what one runs while writing. Prints a line for each crate, and
 # what the crate printed where a test failed; the status is 0 if none did. It takes some three
 # minutes. JOBS says how many crates run side by side, and words say which crates (none: all that
-# have tests).
+# have tests). First it looks whether each deliberate bug can still be applied, in half a second.
 set -euo pipefail
 top=$(cd "$(dirname "$0")/.." && pwd)
 work=$(mktemp -d)
 trap 'rm -rf "$work"' EXIT
+python3 "$top/scripts/check_edits.py"
 cd "$top/crates"
 
 if [ $# -gt 0 ]; then
