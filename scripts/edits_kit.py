@@ -132,7 +132,7 @@ def singly_tried(chosen, say):
     with tempfile.TemporaryDirectory(prefix="edits-") as room:
         for it in ("crates.txt", "HANDLES"):
             shutil.copy(it, room)
-        others = shutil.ignore_patterns("must-fail", "bugs")
+        others = shutil.ignore_patterns("must-fail", "bugs", "incremental")
         shutil.copytree("crates", f"{room}/crates", ignore=others)
         for name, paths in chosen.items():
             os.mkdir(f"{room}/crates/{name}/must-fail")

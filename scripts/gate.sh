@@ -18,7 +18,8 @@ failed=0
 # Says every 45 seconds what the step has last printed.
 tick() {
     local begun=$SECONDS
-    while sleep 45; do
+    trap 'kill "$!"; exit' TERM
+    while sleep 45 & wait "$!"; do
         echo "gate: $1, $(((SECONDS - begun) / 60)) min: $(tail -n 1 "$work/log" | cut -c 1-160)"
     done
 }
