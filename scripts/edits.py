@@ -6,9 +6,10 @@
 It takes the edits of crates/NAME/bugs/, and after the word must-fail those of crates/NAME/must-fail/
 too: of the crates that are named, or of all. It proves a crate once. Then it checks the crate with
 as many edits as stand side by side, one a function, and an edit is refused if the prover says, at a
-line of the function that it edits, that something is not proved. An edit of which a check says
-nothing comes into a second one, and is then tried alone, as `rt must-fail` does. An edit that adds
-a function or changes a contract is tried alone at once.
+line of the function that it edits or in its proof file, that something is not proved. An edit of
+which a check says nothing comes into a second one, and is then tried alone, as `rt must-fail` does.
+An edit that no other stands beside, that adds a function or that changes a contract is tried alone
+at once.
 
 Checks run side by side: as many as there are processors and memory for, or JOBS. It prints a line
 for each edit, and one at least every minute. The last line is 'N passed, M failed', and the status
@@ -25,7 +26,7 @@ from concurrent.futures import ThreadPoolExecutor
 import check_edits
 from edits_kit import Kit, Lacking, singly_tried
 
-FN = re.compile(r"( *)(?:pub(?:\([a-z]+\))? )?(?:const )?(?:unsafe )?fn \w")
+FN = re.compile(r"( *)(?:pub(?:\([a-z]+\))? )?(?:const )?(?:unsafe )?fn (\w+)")
 # An edit with one of these words changes more than one function's body.
 BEYOND = re.compile(r"\b(fn|ensures|requires|ghost|invariant|macro_rules)\b|#\[")
 # The most edits of one check: more take long and much memory, and save little.
@@ -48,12 +49,21 @@ def span(lines, at):
     return begin + 1, end + 1
 
 
+def proof_folder(file, lines, first):
+    """Returns a pattern of the folder of the proof files of a function, or None where another one
+    of the file has its name. The function's text begins at the line first, from 1."""
+    found = [it[2] for it in map(FN.match, lines) if it]
+    name = next(it[2] for it in map(FN.match, lines[first - 1 :]) if it)
+    module = re.escape(file[len("src/") : -len(".rt")])
+    return rf"proofs/{module}/([A-Z]\w*/)?{name}/\w+\.antt" if found.count(name) == 1 else None
+
+
 class Bug:
     """An edit of a crate: its name, and the functions that it edits (none: it is tried alone)."""
 
     def __init__(self, crate, path):
         self.crate, self.path, self.name = crate, path, os.path.basename(path)
-        self.pairs = check_edits.pairs_of(path)
+        self.pairs, self.proofs = check_edits.pairs_of(path), set()
         found = {self.function(*it) for it in self.pairs}
         self.functions = set() if None in found else found
 
@@ -65,7 +75,10 @@ class Bug:
             text = it.read()
         if text.count(old) != 1:
             return None
-        found = span(text.split("\n"), text.count("\n", 0, text.find(old)))
+        lines = text.split("\n")
+        found = span(lines, text.count("\n", 0, text.find(old)))
+        if found:
+            self.proofs.add(proof_folder(file, lines, found[0]))
         return found and (file, *found)
 
     def applied_to(self, texts):
@@ -75,9 +88,10 @@ class Bug:
         return None if any(faults) else texts
 
     def refusal(self, complaints):
-        """Returns the first complaint at a line of what it edits, or None."""
+        """Returns the first complaint at a line of what it edits, or in its proof, or None."""
         for file, line, words in complaints:
-            if any(it[0] == file and it[1] <= line <= it[2] for it in self.functions):
+            is_there = any(it[0] == file and it[1] <= line <= it[2] for it in self.functions)
+            if is_there or any(it and re.fullmatch(it, file) for it in self.proofs):
                 return f"{file}:{line}: {words}"
         return None
 
@@ -173,10 +187,11 @@ class Trial:
 
     def try_groups(self, bugs, kept):
         """Tries edits many at a time, and returns those of which the checks say nothing."""
-        groups = groups_of([it for it in bugs if it.functions])
+        found = groups_of([it for it in bugs if it.functions])
+        groups = [it for it in found if len(it.bugs) > 1]
         self.number += len(groups)
         given = [self.checks.submit(self.kit.complaints, self.crate, it.texts, kept) for it in groups]
-        left = [it for it in bugs if not it.functions]
+        left = [it for it in bugs if not any(it in group.bugs for group in groups)]
         for group, complaints in zip(groups, given):
             left += self.judge(group, complaints.result())
         return left

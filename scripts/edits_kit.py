@@ -15,6 +15,11 @@ import tempfile
 ONE_JOB = ["--jobs", "1"]
 # Each name in rt or in its module rtlib.
 NEEDED = ("checked", "must_fail", "unread", "rtlib.crates_below", "rtlib.guarded", "rtlib.STALE")
+# A complaint at a line of a function, and one in a proof file that names the goal. What a proof
+# file names and an edit took away shows nothing of a contract.
+IN_CODE = re.compile(r"note: (?:\./)?(src/\S+?):(\d+):\d+: (it is not proved .*)")
+IN_PROOF = re.compile(r"(?:\./)?(proofs/\S+?):(\d+):\d+: error: (`[^`]*`: .*)")
+TAKEN_AWAY = re.compile(r"has no field|is not in scope|has no `|was not admitted")
 
 
 class Lacking(Exception):
@@ -116,7 +121,8 @@ class Kit:
             return []
         if any(self.rt.unread(it, texts) for it in said):
             return []
-        found = [re.match(r"note: (?:\./)?(\S+?):(\d+):\d+: (it is not proved .*)", it) for it in said]
+        lines = [it for it in said if not TAKEN_AWAY.search(it)]
+        found = [IN_CODE.match(it) or IN_PROOF.match(it) for it in lines]
         return [(it[1], int(it[2]), it[3]) for it in found if it]
 
     def tried(self, name, path, kept):
