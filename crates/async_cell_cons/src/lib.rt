@@ -1,16 +1,21 @@
-//! The trait of wakers, the wait list of a cell and the list of the wakers to wake. The crate is
-//! called `cons` after the file in which the Rust crate `async_cell` has its list of wakers.
+//! The trait of wakers, the wait list of a cell with the places of waiting futures, and the list of
+//! the wakers to wake. The crate is called `cons` after the file in which the Rust crate
+//! `async_cell` has its list of wakers.
 //!
-//! `WaitList` is for the crates that build on this one. `Wakes`, `Named` and `Wakers` are
-//! re-exported by `async_cell_core`.
+//! `WaitList` is for the crates that build on this one. The others are re-exported by
+//! `async_cell_core`.
 #![tactic(auto)]
 
 mod named;
+mod place;
+mod task_waker;
 mod wait_list;
 mod wakers;
 mod wakes;
 
 pub use named::Named;
+pub use place::Place;
+pub use task_waker::TaskWaker;
 pub use wait_list::WaitList;
 pub use wakers::Wakers;
 pub use wakes::Wakes;

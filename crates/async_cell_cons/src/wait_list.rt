@@ -1,6 +1,8 @@
 ghost use Rattle.std.specs.Prelude.{◌≡◌, ◌<◌, ◌≤◌, ◌-◌, [], ◌∷◌, ◌++◌, length, IsTrue, IsOk, IfErr, OnOk, OnErr, ◌↔◌};
 ghost use Rattle.async_cell_model.specs.WaitList.{skips};
 
+mod places;
+
 use crate::wakers::Wakers;
 use crate::wakes::Wakes;
 use std::alloc::{AllocError, Global};
@@ -13,10 +15,10 @@ use std::mem;
 pub struct WaitList<W> {
     first: Option<W>,
     rest: Vec<W>,
-    /// How often the list was handed out. Wraps.
+    /// Begins with 1 and grows with each `hand_out`: places of other rounds are given up.
     round: u64,
-    /// A number that the crates above store: 0 again after each `hand_out`.
-    note: usize,
+    /// The number of the free place that is taken over next, counted from 1: 0 if none is free.
+    free: usize,
 }
 
 /// Contracts see the wakers in order of registration, and the room for more.
@@ -41,8 +43,8 @@ impl<W: Drop> WaitList<W> {
         WaitList {
             first: None,
             rest: Vec::new(alloc),
-            round: 0,
-            note: 0,
+            round: 1,
+            free: 0,
         }
     }
 
@@ -78,7 +80,7 @@ impl<W: Drop> WaitList<W> {
 
     /// Adds a waker, by value, as the last. Needs no memory if the list is empty or has room. If
     /// there is no memory, the list is unchanged and the waker is returned in the error.
-    pub fn push_owned(&mut self, waker: W) -> Result<(), W>
+    pub fn add(&mut self, waker: W) -> Result<(), W>
         ensures added { OnOk result (self.new.wakers ≡ self.old.wakers ++ waker ∷ []) }
         ensures takes_room { OnOk result (self.old.room - 1 ≤ self.new.room) }
         ensures unchanged { OnErr result (self.new ≡ self.old) }
@@ -106,12 +108,31 @@ impl<W: Drop> WaitList<W> {
 
     /// Removes all wakers and returns them, in order of registration. Leaves neither wakers nor
     /// room. Takes constant time and allocates nothing.
+    #[inline(always)]
     pub fn hand_out(&mut self) -> Wakers<W>
         ensures hands_out_all { result ≡ self.old.wakers }
         ensures leaves_none { self.new ≡ record { wakers = []; room = 0 } }
     {
+        if self.is_bare() {
+            return self.no_wakers();
+        }
+        self.hand_out_all()
+    }
+
+    /// Returns whether there are neither wakers nor memory for any.
+    fn is_bare(&self) -> bool
+        ensures { IsTrue result → self.now ≡ record { wakers = []; room = 0 } }
+    {
+        self.is_empty() && self.rest.capacity() == 0
+    }
+
+    /// `hand_out`, where there is something to be handed out or given up.
+    fn hand_out_all(&mut self) -> Wakers<W>
+        ensures hands_out_all { result ≡ self.old.wakers }
+        ensures leaves_none { self.new ≡ record { wakers = []; room = 0 } }
+    {
         self.round = self.round.wrapping_add(1);
-        self.note = 0;
+        self.free = 0;
         let first = self.first.take();
         if self.rest.capacity() == 0 {
             return Wakers::of(first);
@@ -119,33 +140,6 @@ impl<W: Drop> WaitList<W> {
         let none = Vec::new(*self.rest.allocator());
         let rest = mem::replace(&mut self.rest, none);
         Wakers::of_all(first, rest)
-    }
-
-    /// Stores a waker in place of the one at `index`, which is returned. If there is none, the
-    /// waker is returned in the error. For types of wakers that contracts do not tell apart.
-    pub fn exchange(&mut self, index: usize, waker: W) -> Result<W, W>
-        requires { (a b : W) → a ≡ b }
-        ensures unchanged { self.new ≡ self.old }
-    {
-        match (index.checked_sub(1), &mut self.first) {
-            (None, Some(first)) => Ok(mem::replace(first, waker)),
-            (Some(index), _) if index < self.rest.len() => {
-                Ok(mem::replace(&mut self.rest[index], waker))
-            }
-            _ => Err(waker),
-        }
-    }
-
-    /// Returns how often the list was handed out, and the note. The first number wraps.
-    pub fn round_and_note(&self) -> (u64, usize) {
-        (self.round, self.note)
-    }
-
-    /// Stores a note, which lasts until the next `hand_out`.
-    pub fn set_note(&mut self, note: usize)
-        ensures unchanged { self.new ≡ self.old }
-    {
-        self.note = note;
     }
 }
 
@@ -186,6 +180,15 @@ impl<W: Wakes> WaitList<W> {
         let clone: W = waker.clone()?;
         self.rest.push_reserved(clone);
         Ok(())
+    }
+
+    /// Returns whether no waking of these wakers would wake anybody (see `Wakes::wakes_nobody`).
+    pub fn wakes_nobody(&self) -> bool {
+        let first = match &self.first {
+            Some(first) => first.wakes_nobody(),
+            None => true,
+        };
+        first && self.rest.iter().all(|waker| waker.wakes_nobody())
     }
 }
 

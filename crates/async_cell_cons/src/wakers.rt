@@ -102,15 +102,24 @@ impl<W: Drop> Iterator for Wakers<W> {
 
 impl<W: Wakes> Wakers<W> {
     /// Wakes all wakers that are left, the next one first.
+    #[inline(always)]
     pub fn wake_all(self) {
         let Wakers { first, rest } = self;
-        if let Some(waker) = first {
-            waker.wake();
+        if first.is_some() || rest.is_some() {
+            wake_each(first, rest);
         }
-        if let Some(rest) = rest {
-            for waker in rest {
-                waker.wake();
-            }
+    }
+}
+
+/// Wakes these wakers. Apart from `wake_all`, which is then small where there are none.
+#[inline(never)]
+fn wake_each<W: Wakes>(first: Option<W>, rest: Option<vec::IntoIter<W>>) {
+    if let Some(waker) = first {
+        waker.wake();
+    }
+    if let Some(rest) = rest {
+        for waker in rest {
+            waker.wake();
         }
     }
 }

@@ -16,6 +16,12 @@ pub trait Wakes: Clone {
     fn will_wake(&self, other: &Self) -> bool
         ensures { result ≡ will_wake self.now other.now };
 
+    /// Returns whether waking `self` wakes nobody: false, unless the type says otherwise. It is
+    /// asked only by the debug text of a cell.
+    fn wakes_nobody(&self) -> bool {
+        false
+    }
+
     /// Wakes the task that registered this waker, and consumes the waker.
     fn wake(self);
 

@@ -7,6 +7,7 @@ ghost use Rattle.async_cell_core.specs.IsStep.{IsStep, replies, set_answer, repl
 mod debug;
 mod internal;
 mod owners;
+mod places;
 mod polls;
 mod unique;
 

@@ -21,6 +21,11 @@ module _ {W : Type 0} (will_wake : W → W → Bool) where
   pub keep_added : (l : List W) (w : W) → wait_list will_wake l ≡ l → skips will_wake l w ≡ false → wait_list will_wake (l ++ w ∷ []) ≡ l ++ w ∷ []
   keep_added l w kept not = wait_list-one l w kept ∙ (rw not refl)
 
+  -- nobody is skipped where no waker would wake another
+  pub never_skipped : (l : List W) (w : W) → ((a b : W) → will_wake a b ≡ false) → skips will_wake l w ≡ false
+  never_skipped [] w never = refl
+  never_skipped (x ∷ xs) w never = rw (never x w) (never_skipped xs w never)
+
   -- and not added, where it is
   pub keep_skipped : (l : List W) (w : W) → wait_list will_wake l ≡ l → skips will_wake l w ≡ true → wait_list will_wake (l ++ w ∷ []) ≡ l
   keep_skipped l w kept skipped = wait_list-one l w kept ∙ (rw skipped refl)

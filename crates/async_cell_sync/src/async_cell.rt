@@ -2,6 +2,7 @@ ghost use Rattle.std.specs.Prelude.{◌≡◌, IsOk, IfOk, IfErr};
 ghost use Rattle.async_cell_sync.specs.Names.{cell_of};
 
 mod debug;
+mod places;
 mod polls;
 mod steps;
 
@@ -10,8 +11,7 @@ use crate::guarded_cell::GuardedCell;
 use crate::locked_core::LockedCore;
 use crate::shared::Shared;
 use crate::take::Take;
-use async_cell_core::{Core, Refusal};
-use async_cell_task::TaskWaker;
+use async_cell_core::{Core, Refusal, TaskWaker};
 use futures::task::Source;
 use std::alloc::Global;
 use std::sync::Wait;

@@ -17,8 +17,7 @@ mod weak_owner;
 mod with;
 
 pub use async_cell::AsyncCell;
-pub use async_cell_core::{Core, Poll, Refusal, Wakers, Wakes};
-pub use async_cell_task::TaskWaker;
+pub use async_cell_core::{Core, Poll, Refusal, TaskWaker, Wakers, Wakes};
 pub use cell_ref::CellRef;
 pub use get::Get;
 pub use guard::Guard;

@@ -53,6 +53,10 @@ impl<T: Drop, W: Wakes> LockedCore<T, W> {
         ensures comes_back { IfErr result (λ back. back ≡ value) }
     {
         let mut core = self.lock(rt);
+        let value = match core.overwrite(value) {
+            Ok(old) => return Ok(Some(old)), // Nobody waits on a cell that holds a value.
+            Err(value) => value,
+        };
         let (old, woken) = core.replace(value)?;
         drop(core); // What is woken or dropped may call this cell: never under the lock.
         woken.wake_all();
@@ -174,6 +178,17 @@ impl<T: Drop, W: Wakes> LockedCore<T, W> {
         ensures refused { IfErr result (λ why. why ≡ Refusal.Closed) }
     {
         let mut core = self.lock(rt);
+        if core.owners() > 1 {
+            core.end_owner()?; // Nobody is woken, and there is nothing to drop.
+            return Ok(());
+        }
+        LockedCore::end_last(core)
+    }
+
+    /// Ends the last owner, of a core that is locked.
+    fn end_last(mut core: MutexGuard<'_, Core<T, W>>) -> Result<(), Refusal>
+        ensures refused { IfErr result (λ why. why ≡ Refusal.Closed) }
+    {
         let ended = core.end_owner();
         drop(core); // What is woken or dropped may call this cell: never under the lock.
         let (value, woken) = ended?;

@@ -10,8 +10,7 @@ use crate::get::Get;
 use crate::owner::Owner;
 use crate::take::Take;
 use crate::weak::{GetWeak, TakeWeak};
-use async_cell_core::Refusal;
-use async_cell_task::Place;
+use async_cell_core::{Place, Refusal};
 use futures::future::Future;
 use futures::task::{Context, Poll};
 use std::sync::Wait;
@@ -79,6 +78,18 @@ impl<P: Waits, R: Wait> With<P, R> {
             polled,
             rt,
             place: Place::new(),
+        }
+    }
+}
+
+impl<P: Waits, R: Wait + Drop> With<P, R> {
+    /// Drops the future, and the waker that it left in the cell: the task that polled it last is
+    /// polled once more. A waker keeps what its executor needs to wake the task, so cancel a wait
+    /// that came to nothing on a cell that lives on, as when its time is up. May wait for the lock.
+    pub fn cancel(self) {
+        let With { polled, rt, place } = self;
+        if let Some(cell) = polled.waits_on() {
+            cell.cancel(place, &rt);
         }
     }
 }

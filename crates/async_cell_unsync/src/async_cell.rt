@@ -3,6 +3,7 @@ ghost use Rattle.async_cell_model.specs.History.{IsSound};
 ghost use Rattle.async_cell_unsync.specs.Names.{cell_of};
 
 mod debug;
+mod places;
 mod polls;
 mod steps;
 
@@ -10,8 +11,7 @@ use crate::get::Get;
 use crate::guarded_cell::GuardedCell;
 use crate::shared::Shared;
 use crate::take::Take;
-use async_cell_core::{Core, Refusal, Wakes};
-use async_cell_task::TaskWaker;
+use async_cell_core::{Core, Refusal, TaskWaker, Wakes};
 use futures::task::Source;
 use std::alloc::Global;
 use std::cell::RefCell;
@@ -85,6 +85,10 @@ impl<T: Drop> AsyncCell<T> {
     #[inline]
     pub fn replace(&self, value: T) -> Option<T> {
         let mut core = self.lend()?;
+        let value = match core.overwrite(value) {
+            Ok(old) => return Some(old), // Nobody waits on a cell that holds a value.
+            Err(value) => value,
+        };
         let replaced = core.replace(value);
         // What is woken or dropped may call this cell: never while the core is lent.
         drop(core);

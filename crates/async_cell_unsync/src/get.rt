@@ -1,6 +1,7 @@
 ghost use Rattle.std.specs.Prelude.{◌≡◌, ◌⊎◌, IfErr};
 ghost use Rattle.futures.specs.Poll.{IfReady, OnPending};
 ghost use Rattle.futures.specs.Task.{Covers, Keeps};
+ghost use Rattle.async_cell_unsync.specs.Refused.{FailsWithMemoryOrClosed};
 
 use crate::cell_ref::CellRef;
 use crate::in_place::InPlace;
@@ -48,6 +49,8 @@ where
     type Output = Result<C::Value, Refusal>;
 
     ghost needs = { λ future. C.waits_for future.0 };
+
+    ghost gives = { λ _. FailsWithMemoryOrClosed };
 
     fn poll(&mut self, cx: &mut Context<'_>) -> Poll<Result<C::Value, Refusal>> {
         self.poll_shared(cx)

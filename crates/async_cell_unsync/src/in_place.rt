@@ -1,5 +1,5 @@
 ghost use Rattle.std.specs.Prelude.{◌≡◌};
-ghost use Rattle.async_cell_unsync.specs.Refused.{FailsWithMemory};
+ghost use Rattle.async_cell_unsync.specs.Refused.{FailsWithMemoryOrClosed, GivesWeakly};
 ghost use Rattle.async_cell_unsync.specs.Source.{IsSourceOf};
 
 use crate::async_cell::AsyncCell;
@@ -7,8 +7,7 @@ use crate::cell_ref::CellRef;
 use crate::get::Get;
 use crate::take::Take;
 use crate::weak::{GetWeak, TakeWeak};
-use async_cell_core::Refusal;
-use async_cell_task::Place;
+use async_cell_core::{Place, Refusal};
 use futures::future::Future;
 use futures::task::{Context, Poll};
 
@@ -76,6 +75,18 @@ impl<P: Waits> InPlace<P> {
     }
 }
 
+impl<P: Waits> InPlace<P> {
+    /// Drops the future, and the waker that it left in the cell: the task that polled it last is
+    /// polled once more. A waker keeps what its executor needs to wake the task, so cancel a wait
+    /// that came to nothing on a cell that lives on, as when its time is up.
+    pub fn cancel(self) {
+        let InPlace { polled, place } = self;
+        if let Some(cell) = polled.waits_on() {
+            cell.cancel(place);
+        }
+    }
+}
+
 /// Leaves its place in the wait list free.
 impl<P: Waits> Drop for InPlace<P> {
     fn drop(self) {
@@ -91,6 +102,8 @@ impl<C: CellRef> Future for InPlace<Take<C>> {
 
     ghost needs = { λ future. C.waits_for future.polled.0 };
 
+    ghost gives = { λ _. FailsWithMemoryOrClosed };
+
     fn poll(&mut self, cx: &mut Context<'_>) -> Poll<Result<C::Value, Refusal>> {
         let cell = self.polled.0.cell();
         cell.poll_take(Some(&mut self.place), cx)
@@ -105,6 +118,8 @@ where
 
     ghost needs = { λ future. C.waits_for future.polled.0 };
 
+    ghost gives = { λ _. FailsWithMemoryOrClosed };
+
     fn poll(&mut self, cx: &mut Context<'_>) -> Poll<Result<C::Value, Refusal>> {
         let cell = self.polled.0.cell();
         cell.poll_get(Some(&mut self.place), cx)
@@ -116,7 +131,7 @@ impl<T: Drop> Future for InPlace<TakeWeak<T>> {
 
     ghost needs = { λ future. IsSourceOf future.polled.0 };
 
-    ghost gives = { λ _. FailsWithMemory };
+    ghost gives = { λ future. GivesWeakly future.polled.0 };
 
     fn poll(&mut self, cx: &mut Context<'_>) -> Poll<Result<Option<T>, Refusal>> {
         self.polled.poll_at(Some(&mut self.place), cx)
@@ -128,7 +143,7 @@ impl<T: Clone> Future for InPlace<GetWeak<T>> {
 
     ghost needs = { λ future. IsSourceOf future.polled.0 };
 
-    ghost gives = { λ _. FailsWithMemory };
+    ghost gives = { λ future. GivesWeakly future.polled.0 };
 
     fn poll(&mut self, cx: &mut Context<'_>) -> Poll<Result<Option<T>, Refusal>> {
         self.polled.poll_at(Some(&mut self.place), cx)

@@ -13,8 +13,7 @@ mod values;
 mod weak;
 
 pub use async_cell::AsyncCell;
-pub use async_cell_core::Refusal;
-pub use async_cell_task::TaskWaker;
+pub use async_cell_core::{Refusal, TaskWaker};
 pub use cell_ref::CellRef;
 pub use get::Get;
 pub use guarded_cell::GuardedCell;

@@ -3,6 +3,7 @@ ghost use Rattle.std.specs.Rc.{rc_value};
 ghost use Rattle.futures.specs.Poll.{IfReady, OnPending};
 ghost use Rattle.futures.specs.Task.{Covers, Keeps};
 ghost use Rattle.async_cell_unsync.specs.Names.{IsLost, NamesAtMost, NameTheSame, OwnsNamed};
+ghost use Rattle.async_cell_unsync.specs.Refused.{GivesWeakly};
 ghost use Rattle.async_cell_unsync.specs.Source.{source_of, IsSourceOf};
 
 use crate::async_cell::AsyncCell;
@@ -10,8 +11,7 @@ use crate::get::Get;
 use crate::in_place::InPlace;
 use crate::shared::Shared;
 use crate::take::Take;
-use async_cell_core::Refusal;
-use async_cell_task::Place;
+use async_cell_core::{Place, Refusal};
 use futures::future::Future;
 use futures::task::{Context, Poll};
 use std::alloc::AllocError;
@@ -152,6 +152,8 @@ impl<T: Drop> Future for TakeWeak<T> {
 
     ghost needs = { λ future. IsSourceOf future.0 };
 
+    ghost gives = { λ future. GivesWeakly future.0 };
+
     fn poll(&mut self, cx: &mut Context<'_>) -> Poll<Result<Option<T>, Refusal>> {
         self.poll_shared(cx)
     }
@@ -233,6 +235,8 @@ impl<T: Clone> Future for GetWeak<T> {
     type Output = Result<Option<T>, Refusal>;
 
     ghost needs = { λ future. IsSourceOf future.0 };
+
+    ghost gives = { λ future. GivesWeakly future.0 };
 
     fn poll(&mut self, cx: &mut Context<'_>) -> Poll<Result<Option<T>, Refusal>> {
         self.poll_shared(cx)

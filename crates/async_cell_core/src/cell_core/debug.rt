@@ -10,7 +10,7 @@ impl<T: fmt::Debug, W: Wakes> fmt::Debug for Core<T, W> {
         match &self.value {
             Some(value) => write!(f, "AsyncCell::Full({value:?})"),
             None if self.owners == 0 => f.write_str("AsyncCell::Closed"),
-            None if self.waiting.is_empty() => f.write_str("AsyncCell::Empty"),
+            None if self.waiting.wakes_nobody() => f.write_str("AsyncCell::Empty"),
             None => f.write_str("AsyncCell::Pending"),
         }
     }

@@ -1,6 +1,6 @@
 //! Polls: each either returns `Ready`, or registers the task and adds its waker to the wait list.
 //! The waker of a future that keeps a place is stored in that place.
-ghost use Rattle.std.specs.Prelude.{◌≡◌, ◌⊎◌, true, IfErr};
+ghost use Rattle.std.specs.Prelude.{◌≡◌, ◌⊎◌, true, Err, IfErr};
 ghost use Rattle.std.specs.Sync.Mutex.{mutex_guard_value};
 ghost use Rattle.futures.specs.Poll.{IfReady, OnPending};
 ghost use Rattle.futures.specs.Task.{Hears, IsArmed, Keeps};
@@ -8,9 +8,8 @@ ghost use Rattle.async_cell_model.specs.Cell.{is_vacant};
 ghost use Rattle.async_cell_sync.specs.Source.{source_of};
 
 use super::AsyncCell;
-use async_cell_core::{Core, Refusal};
-use async_cell_task::{Place, TaskWaker};
-use futures::task::{Context, Poll};
+use async_cell_core::{Core, Place, Refusal, TaskWaker};
+use futures::task::{Context, Poll, Waker};
 use std::sync::{MutexGuard, Wait};
 
 impl<T: Drop> AsyncCell<T> {
@@ -62,13 +61,6 @@ impl<T: Drop> AsyncCell<T> {
         }
     }
 
-    /// Frees the place of a future that is dropped.
-    pub(crate) fn leave<R: Wait>(&self, mut place: Place, rt: &R) {
-        if place.is_taken() {
-            place.leave(&mut *self.core.lock(rt));
-        }
-    }
-
     /// Returns the core, locked, if a poll need not wait. Otherwise waits in the place, or adds a
     /// waker if there is no place.
     #[inline(always)]
@@ -83,50 +75,72 @@ impl<T: Drop> AsyncCell<T> {
         ensures kept { Keeps cx.old cx.new }
         ensures refused { IfReady result (λ answer. IfErr answer (λ why. why ≡ Refusal.Memory)) }
     {
-        let core = self.core.lock(rt);
-        match place {
-            Some(place) => self.wait_at(core, place, cx, rt),
-            None if core.is_vacant() => match self.add(core, cx) {
-                Ok(()) => Poll::Pending,
-                Err(why) => Poll::Ready(Err(why)),
-            },
-            None => Poll::Ready(Ok(core)),
+        let mut core = self.core.lock(rt);
+        if !core.is_vacant() {
+            if let Some(place) = place {
+                place.forget();
+            }
+            return Poll::Ready(Ok(core));
+        }
+        let Some(place) = place else {
+            return self.add(core, cx);
+        };
+        match core.take_back(place) {
+            None => self.wait_at(core, place, cx),
+            Some(waker) => self.renew(core, waker, place, cx, rt),
         }
     }
 
-    /// Adds a waker of the task to the wait list of the core, which must be vacant.
-    fn add(
+    /// Adds a waker of the task to the wait list of the core, which must be vacant. It is a new
+    /// one: so nothing is dropped, and nobody woken, while the lock is held.
+    fn add<'a>(
         &self,
-        mut core: MutexGuard<'_, Core<T, TaskWaker>>,
+        mut core: MutexGuard<'a, Core<T, TaskWaker>>,
         cx: &mut Context<'_>,
-    ) -> Result<(), Refusal>
+    ) -> Poll<Result<MutexGuard<'a, Core<T, TaskWaker>>, Refusal>>
         requires { is_vacant (mutex_guard_value core).cell ≡ true }
         ensures armed { IsArmed cx.new }
         ensures heard { Hears cx.new (source_of self.now) }
         ensures kept { Keeps cx.old cx.new }
-        ensures refused { IfErr result (λ why. why ≡ Refusal.Memory) }
+        ensures refused { IfReady result (λ answer. answer ≡ Err Refusal.Memory) }
     {
-        let waker = TaskWaker::register(cx, &self.source).ok_or(Refusal::Memory)?;
-        // A waker that is dropped wakes its task: never under the lock.
-        match core.register(waker) {
-            Ok(None) => Ok(()),
-            Ok(Some(unused)) => {
-                drop(core);
-                drop(unused);
-                Ok(())
-            }
-            Err(unused) => {
-                drop(core);
-                drop(unused);
-                Err(Refusal::Memory)
-            }
+        let Some(new) = TaskWaker::register(cx, &self.source) else {
+            return Poll::Ready(Err(Refusal::Memory));
+        };
+        if let Err(unused) = core.add(new) {
+            drop(core); // A waker that is dropped wakes its task: never under the lock.
+            drop(unused);
+            return Poll::Ready(Err(Refusal::Memory));
         }
+        Poll::Pending
     }
 
-    /// Returns the core if a poll need not wait. Otherwise waits in the place.
-    fn wait_at<'a, R: Wait>(
+    /// `add`, in a place that has no waker: the place is then that of the waker.
+    fn wait_at<'a>(
+        &self,
+        core: MutexGuard<'a, Core<T, TaskWaker>>,
+        place: &mut Place,
+        cx: &mut Context<'_>,
+    ) -> Poll<Result<MutexGuard<'a, Core<T, TaskWaker>>, Refusal>>
+        requires { is_vacant (mutex_guard_value core).cell ≡ true }
+        ensures armed { IsArmed cx.new }
+        ensures heard { Hears cx.new (source_of self.now) }
+        ensures kept { Keeps cx.old cx.new }
+        ensures refused { IfReady result (λ answer. answer ≡ Err Refusal.Memory) }
+    {
+        let Some(waker) = TaskWaker::register(cx, &self.source) else {
+            return Poll::Ready(Err(Refusal::Memory));
+        };
+        store(core, place, waker)
+    }
+
+    /// Registers the task with the waker of its place, which was taken out, and stores it again. If
+    /// it was another task's, it is dropped, which wakes that task: so the lock is free meanwhile.
+    #[inline(never)]
+    fn renew<'a, R: Wait>(
         &'a self,
-        mut core: MutexGuard<'a, Core<T, TaskWaker>>,
+        core: MutexGuard<'a, Core<T, TaskWaker>>,
+        waker: Waker,
         place: &mut Place,
         cx: &mut Context<'_>,
         rt: &R,
@@ -136,43 +150,63 @@ impl<T: Drop> AsyncCell<T> {
         ensures kept { Keeps cx.old cx.new }
         ensures refused { IfReady result (λ answer. IfErr answer (λ why. why ≡ Refusal.Memory)) }
     {
-        if core.is_vacant() {
-            core = self.register(core, place, cx, rt);
-        }
+        drop(core);
+        let mut slot = Some(waker);
+        let _ = cx.register::<()>(&self.source, &mut slot);
+        let core = self.core.lock(rt);
+        // Another thread may have filled or closed the cell while the lock was free.
         if !core.is_vacant() {
-            place.forget();
-            return Poll::Ready(Ok(core));
+            drop(core);
+            drop(slot); // A waker that is dropped wakes its task: never under the lock.
+            return self.wait_again(place, cx, rt);
         }
-        let stored = place.store(&mut *core);
-        drop(core); // A waker that is dropped wakes its task: never under the lock.
-        match stored {
-            Ok(replaced) => {
-                drop(replaced);
-                Poll::Pending
-            }
-            Err(why) => Poll::Ready(Err(why)),
+        match slot {
+            Some(waker) => store(core, place, TaskWaker::of(waker)),
+            None => Poll::Ready(Err(Refusal::Memory)),
         }
     }
 
-    /// Registers the task, with the waker of the place if it has one. That may drop another task's
-    /// waker, which wakes that task, so the lock is then released meanwhile.
-    fn register<'a, R: Wait>(
+    /// `lock_or_wait`, with a place that was given up while the lock was free.
+    fn wait_again<'a, R: Wait>(
         &'a self,
-        mut core: MutexGuard<'a, Core<T, TaskWaker>>,
         place: &mut Place,
         cx: &mut Context<'_>,
         rt: &R,
-    ) -> MutexGuard<'a, Core<T, TaskWaker>>
-        ensures armed { IsArmed cx.new }
-        ensures heard { Hears cx.new (source_of self.now) }
+    ) -> Poll<Result<MutexGuard<'a, Core<T, TaskWaker>>, Refusal>>
+        ensures armed { OnPending result (IsArmed cx.new) }
+        ensures heard { OnPending result (Hears cx.new (source_of self.now)) }
         ensures kept { Keeps cx.old cx.new }
+        ensures refused { IfReady result (λ answer. IfErr answer (λ why. why ≡ Refusal.Memory)) }
     {
-        if !place.lift(&mut *core) {
-            place.register(cx, &self.source);
-            return core;
+        let core = self.core.lock(rt);
+        if core.is_vacant() {
+            return self.wait_at(core, place, cx);
         }
-        drop(core);
-        place.register(cx, &self.source);
-        self.core.lock(rt)
+        place.forget();
+        Poll::Ready(Ok(core))
+    }
+}
+
+/// Stores a waker in the place, or as the last, of the core, which must be vacant. What is dropped
+/// then wakes its task, so the lock is released before.
+fn store<'a, T: Drop>(
+    mut core: MutexGuard<'a, Core<T, TaskWaker>>,
+    place: &mut Place,
+    waker: TaskWaker,
+) -> Poll<Result<MutexGuard<'a, Core<T, TaskWaker>>, Refusal>>
+    requires { is_vacant (mutex_guard_value core).cell ≡ true }
+    ensures refused { IfReady result (λ answer. answer ≡ Err Refusal.Memory) }
+{
+    let stored = core.store(place, waker);
+    drop(core);
+    match stored {
+        Ok(before) => {
+            drop(before);
+            Poll::Pending
+        }
+        Err(unused) => {
+            drop(unused);
+            Poll::Ready(Err(Refusal::Memory))
+        }
     }
 }

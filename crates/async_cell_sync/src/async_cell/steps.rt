@@ -3,8 +3,7 @@ ghost use Rattle.std.specs.Prelude.{◌≡◌, IfErr, ◌⊎◌};
 
 use super::AsyncCell;
 use crate::locked_core::LockedCore;
-use async_cell_core::{Core, Refusal, end_guard};
-use async_cell_task::TaskWaker;
+use async_cell_core::{Core, Refusal, TaskWaker, end_guard};
 use futures::task::Source;
 use std::alloc::Global;
 use std::sync::Wait;

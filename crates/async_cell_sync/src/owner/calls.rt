@@ -44,6 +44,11 @@ impl<T: Drop, R: Wait + Drop> Owner<T, R> {
         self.cell().update_some(change, &self.rt);
     }
 
+    /// Lets go of all wakers that dropped futures left in the cell (see `AsyncCell::purge`).
+    pub fn purge(&self) {
+        self.cell().purge(&self.rt);
+    }
+
     /// Takes the value, if there is one. The waiters stay registered.
     pub fn try_take(&self) -> Option<T> {
         self.cell().try_take(&self.rt)

@@ -19,9 +19,9 @@ impl<T: Drop> AsyncCell<T> {
     /// Returns how a cell that holds no value prints.
     fn text_without_value(&self) -> &'static str {
         match self.lend() {
-            Some(core) if core.is_vacant() => match core.waiting() {
-                0 => "AsyncCell::Empty",
-                _ => "AsyncCell::Pending",
+            Some(core) if core.is_vacant() => match core.wakes_nobody() {
+                true => "AsyncCell::Empty",
+                false => "AsyncCell::Pending",
             },
             _ => "AsyncCell::Closed",
         }

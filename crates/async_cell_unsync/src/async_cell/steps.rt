@@ -5,8 +5,7 @@ ghost use Rattle.std.specs.RefCell.{ref_mut_value};
 ghost use Rattle.async_cell_model.specs.History.{IsSound};
 
 use super::AsyncCell;
-use async_cell_core::{Core, Refusal, Wakes, end_guard};
-use async_cell_task::TaskWaker;
+use async_cell_core::{Core, Refusal, TaskWaker, Wakes, end_guard};
 use futures::task::Source;
 use std::alloc::{AllocError, Global};
 use std::cell::{RefCell, RefMut};

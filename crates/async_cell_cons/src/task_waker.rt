@@ -1,20 +1,26 @@
 ghost use Rattle.std.specs.Prelude.{IfNone};
 ghost use Rattle.futures.specs.Task.{Hears, IsArmed, Keeps};
-ghost use Rattle.async_cell_task.specs.Lacking.{LacksWaker};
+ghost use Rattle.async_cell_cons.specs.Lacking.{LacksWaker};
 
-use async_cell_cons::Wakes;
+use crate::wakes::Wakes;
 use futures::task::{Context, Source, Waker};
 use std::alloc::AllocError;
 use std::marker::Model;
 
-/// The waker of a task of `futures`, as a cell stores it. It wakes its task when it is woken, and
-/// also when it is dropped.
+/// The link of a place that a future holds.
+const HELD: usize = 0;
+
+/// The link of a free place, if it is the last one in the list of the free places.
+const FREE: usize = 1;
+
+/// The waker of a task of `futures`, as a cell stores it in a place of its wait list. It wakes its
+/// task when it is woken, and also when it is dropped.
 #[derive(Drop)]
 pub struct TaskWaker {
     /// `None` while the waker is taken out of its place.
     waker: Option<Waker>,
-    /// The number of the next free place, if this one is free: see `Place`.
-    next_free: usize,
+    /// `HELD`, or for a free place `FREE` and the number of the next free one.
+    link: usize,
 }
 
 /// Contracts see a value without parts.
@@ -36,36 +42,51 @@ impl TaskWaker {
     {
         let mut slot = None;
         let _ = cx.register::<()>(source, &mut slot);
-        Some(TaskWaker::of(Some(slot?)))
+        Some(TaskWaker::of(slot?))
     }
 
-    /// Makes what is stored in a place: the waker, or none while it is taken out.
-    pub(crate) fn of(waker: Option<Waker>) -> TaskWaker {
+    /// Makes what is stored in the place of a future: its waker.
+    pub fn of(waker: Waker) -> TaskWaker {
         TaskWaker {
-            waker,
-            next_free: 0,
+            waker: Some(waker),
+            link: HELD,
         }
     }
 
-    /// Returns this waker for a place that is free, before this one in the list of free places.
-    pub(crate) fn before(self, next_free: usize) -> TaskWaker {
+    /// Makes what is stored in the place of a future while its waker is taken out.
+    pub(crate) fn taken_out() -> TaskWaker {
+        TaskWaker {
+            waker: None,
+            link: HELD,
+        }
+    }
+
+    /// Returns this waker for a place that is free, before the one of this number.
+    pub(crate) fn left_before(self, next: usize) -> TaskWaker {
         TaskWaker {
             waker: self.into_waker(),
-            next_free,
+            link: FREE.saturating_add(next),
         }
     }
 
-    /// Returns the number of the next free place.
+    /// Returns the number of the next free place: 0 if there is none.
     pub(crate) fn next_free(&self) -> usize {
-        self.next_free
+        self.link.saturating_sub(FREE)
+    }
+
+    /// Returns the waker of a free place, and what stays in the place. Leaves that of a place that
+    /// is held where it is.
+    pub(crate) fn let_go(self) -> (Option<Waker>, TaskWaker) {
+        let TaskWaker { waker, link } = self;
+        match link {
+            HELD => (None, TaskWaker { waker, link }),
+            _ => (waker, TaskWaker { waker: None, link }),
+        }
     }
 
     /// Returns the waker, unless it is taken out.
-    pub(crate) fn into_waker(self) -> Option<Waker> {
-        let TaskWaker {
-            waker,
-            next_free: _,
-        } = self;
+    pub fn into_waker(self) -> Option<Waker> {
+        let TaskWaker { waker, link: _ } = self;
         waker
     }
 }
@@ -97,6 +118,10 @@ impl Wakes for TaskWaker {
 
     fn will_wake(&self, _: &TaskWaker) -> bool {
         false
+    }
+
+    fn wakes_nobody(&self) -> bool {
+        self.waker.is_none()
     }
 
     fn wake(self) {

@@ -1,0 +1,135 @@
+//! The places of futures in a wait list. A future takes its waker back from its place, and stores
+//! it again; one that is dropped leaves its place free, with the waker in it. The free places form a
+//! list: each has the number of the next one, counted from 1, beside its waker.
+ghost use Rattle.std.specs.Prelude.{◌≡◌, [], ◌∷◌, ◌++◌, IsErr, IfOk, IfErr, OnErr, MatchOption};
+
+use super::WaitList;
+use crate::place::Place;
+use crate::task_waker::TaskWaker;
+use futures::task::Waker;
+use std::mem;
+
+impl WaitList<TaskWaker> {
+    /// Takes the waker out of the place, or out of a free place that is taken over. Returns `None`
+    /// if there is neither. The waker may be another task's.
+    #[inline(always)]
+    pub fn take_back(&mut self, place: &mut Place) -> Option<Waker>
+        ensures unchanged { self.new ≡ self.old }
+    {
+        if self.is_new(place) {
+            return None;
+        }
+        let stored = self.exchange_at(place, TaskWaker::taken_out()).ok()?;
+        stored.into_waker()
+    }
+
+    /// Stores a waker in the place, in a free place that is taken over, or as the last of the list.
+    /// Returns the waker that was there, if any, which wakes its task when it is dropped. If there
+    /// is no memory to grow the list, the waker is returned in the error.
+    pub fn store(
+        &mut self,
+        place: &mut Place,
+        waker: TaskWaker,
+    ) -> Result<Option<TaskWaker>, TaskWaker>
+        ensures stored { IfOk result (λ before. MatchOption before
+            (self.new.wakers ≡ self.old.wakers ++ waker ∷ [])
+            (λ _. (self.new ≡ self.old) × (self.old.wakers ≡ [] → ⊥))) }
+        ensures unchanged { OnErr result (self.new ≡ self.old) }
+    {
+        if self.is_new(place) {
+            return self.store_last(place, waker);
+        }
+        match self.exchange_at(place, waker) {
+            Ok(before) => Ok(Some(before)),
+            Err(waker) => self.store_last(place, waker),
+        }
+    }
+
+    /// Leaves the place free. Its waker stays there: to drop it would wake the task. Returns the
+    /// index of the place, unless it was given up.
+    pub fn leave(&mut self, place: Place) -> Option<usize>
+        ensures unchanged { self.new ≡ self.old }
+    {
+        if !place.is_of(self.round) {
+            return None;
+        }
+        let index = place.index();
+        let waker = self.exchange(index, TaskWaker::taken_out()).ok()?;
+        let _ = self.exchange(index, waker.left_before(self.free));
+        self.free = index.saturating_add(1);
+        Some(index)
+    }
+
+    /// Takes the waker out of the place at `index`, if that place is free.
+    pub fn take_left(&mut self, index: usize) -> Option<Waker>
+        ensures unchanged { self.new ≡ self.old }
+    {
+        let stored = self.exchange(index, TaskWaker::taken_out()).ok()?;
+        let (waker, stays) = stored.let_go();
+        let _ = self.exchange(index, stays);
+        waker
+    }
+
+    /// Returns whether a future with this place has to be added: it has none, and none is free.
+    #[inline(always)]
+    fn is_new(&self, place: &Place) -> bool {
+        !place.is_of(self.round) && self.free == 0
+    }
+
+    /// Stores a waker as the last of the list, which is the place from then on.
+    fn store_last(
+        &mut self,
+        place: &mut Place,
+        waker: TaskWaker,
+    ) -> Result<Option<TaskWaker>, TaskWaker>
+        ensures stored { IfOk result (λ before. MatchOption before
+            (self.new.wakers ≡ self.old.wakers ++ waker ∷ []) (λ _. ⊥)) }
+        ensures unchanged { OnErr result (self.new ≡ self.old) }
+    {
+        let index = self.len();
+        self.add(waker)?;
+        *place = Place::at(self.round, index);
+        Ok(None)
+    }
+
+    /// Stores a waker in the place, or in a free place that is taken over, and returns what was
+    /// there. If there is neither, the waker is returned in the error.
+    #[inline(never)]
+    fn exchange_at(
+        &mut self,
+        place: &mut Place,
+        waker: TaskWaker,
+    ) -> Result<TaskWaker, TaskWaker>
+        ensures unchanged { self.new ≡ self.old }
+        ensures not_in_an_empty_list { self.old.wakers ≡ [] → IsErr result }
+    {
+        if place.is_of(self.round) {
+            return self.exchange(place.index(), waker);
+        }
+        let Some(index) = self.free.checked_sub(1) else {
+            return Err(waker);
+        };
+        let left = self.exchange(index, waker)?;
+        self.free = left.next_free();
+        *place = Place::at(self.round, index);
+        Ok(left)
+    }
+}
+
+impl<W: Drop> WaitList<W> {
+    /// Stores a waker in place of the one at `index`, which is returned. If there is none, the
+    /// waker is returned in the error. For types of wakers that contracts do not tell apart.
+    fn exchange(&mut self, index: usize, waker: W) -> Result<W, W>
+        requires { (a b : W) → a ≡ b }
+        ensures unchanged { self.new ≡ self.old }
+        ensures not_in_an_empty_list { self.old.wakers ≡ [] → IsErr result }
+    {
+        match (index.checked_sub(1), &mut self.first) {
+            (None, Some(first)) => Ok(mem::replace(first, waker)),
+            (Some(index), _) if index < self.rest.len() => {
+                Ok(mem::replace(&mut self.rest[index], waker))
+            }
+            _ => Err(waker),
+        }
+    }
+}

@@ -1,0 +1,91 @@
+//! Internal: may change without notice. The places of waiting futures, and wakers that are never
+//! skipped.
+ghost use Rattle.std.specs.Prelude.{◌≡◌, ◌<◌, [], ◌∷◌, ◌++◌, true, false, IsOk, IfOk, IfErr, OnErr, MatchOption};
+ghost use Rattle.async_cell_model.specs.Cell.{is_vacant};
+ghost use Rattle.async_cell_core.specs.IsStep.{IsStep, wait_answer};
+
+use super::Core;
+use async_cell_cons::{Place, TaskWaker, Wakes};
+use async_cell_model::Kept;
+use futures::task::Waker;
+
+impl<T: Drop, W: Wakes> Core<T, W> {
+    /// Internal: may change without notice.
+    ///
+    /// Adds a waker, by value, as the last, for a poll that has to wait. The cell must be vacant,
+    /// and the waker of a type of which none would wake another, so it is never skipped. If there
+    /// is no memory to grow the list, fails and returns the waker in the error.
+    #[doc(hidden)]
+    #[tactic(auto, using(async_cell_model::proofs::Adding::keep_added, async_cell_model::proofs::Adding::never_skipped, async_cell_model::proofs::Polling::get_added, async_cell_model::proofs::Polling::get_refused, async_cell_model::proofs::Polling::take_added, async_cell_model::proofs::Polling::take_refused))]
+    pub fn add(&mut self, waker: W) -> Result<(), W>
+        requires vacant { is_vacant self.old.cell ≡ true }
+        requires none_skipped { (a b : W) → W.will_wake a b ≡ false }
+        ensures take { IsStep W.Wakes self.old (Kept.PollTake waker) (wait_answer result) self.new }
+        ensures get { IsStep W.Wakes self.old (Kept.PollGet waker) (wait_answer result) self.new }
+
+        ensures unchanged { OnErr result (self.new ≡ self.old) }
+        ensures comes_back { IfErr result (λ back. back ≡ waker) }
+        ensures first_waits { self.old.waiting ≡ [] → IsOk result }
+        ensures room_suffices { 0 < self.old.room → IsOk result }
+    {
+        self.waiting.add(waker)?;
+        Ok(())
+    }
+}
+
+impl<T: Drop> Core<T, TaskWaker> {
+    /// Internal: may change without notice.
+    ///
+    /// Takes the waker out of the place, or out of a free place that is taken over. Returns `None`
+    /// if there is neither. The waker may be another task's.
+    #[doc(hidden)]
+    #[inline(always)]
+    pub fn take_back(&mut self, place: &mut Place) -> Option<Waker>
+        ensures unchanged { self.new ≡ self.old }
+    {
+        self.waiting.take_back(place)
+    }
+
+    /// Internal: may change without notice.
+    ///
+    /// Stores a waker in the place, in a free place that is taken over, or as the last of the list.
+    /// The cell must be vacant. Returns the waker that was there, if any, which wakes its task when
+    /// it is dropped. If there is no memory to grow the list, the waker is returned in the error.
+    #[doc(hidden)]
+    #[tactic(auto, using(async_cell_model::proofs::Adding::keep_added, async_cell_model::proofs::Adding::never_skipped))]
+    pub fn store(
+        &mut self,
+        place: &mut Place,
+        waker: TaskWaker,
+    ) -> Result<Option<TaskWaker>, TaskWaker>
+        requires vacant { is_vacant self.old.cell ≡ true }
+        ensures cell_stays { self.new.cell ≡ self.old.cell }
+        ensures stored { IfOk result (λ before. MatchOption before
+            (self.new.waiting ≡ self.old.waiting ++ waker ∷ [])
+            (λ _. (self.new ≡ self.old) × (self.old.waiting ≡ [] → ⊥))) }
+        ensures unchanged { OnErr result (self.new ≡ self.old) }
+    {
+        self.waiting.store(place, waker)
+    }
+
+    /// Internal: may change without notice.
+    ///
+    /// Leaves the place free. Its waker stays there: to drop it would wake the task. Returns the
+    /// index of the place, unless it was given up.
+    #[doc(hidden)]
+    pub fn leave(&mut self, place: Place) -> Option<usize>
+        ensures unchanged { self.new ≡ self.old }
+    {
+        self.waiting.leave(place)
+    }
+
+    /// Internal: may change without notice.
+    ///
+    /// Takes the waker out of the place at `index`, if that place is free.
+    #[doc(hidden)]
+    pub fn take_left(&mut self, index: usize) -> Option<Waker>
+        ensures unchanged { self.new ≡ self.old }
+    {
+        self.waiting.take_left(index)
+    }
+}
