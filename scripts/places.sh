@@ -1,9 +1,10 @@
 #!/usr/bin/env bash
-# Runs two programs whose futures wait on a `sync` cell again and again: looks.txt looks for a
-# signal by `now_or_never`, and messages.txt takes messages until a signal comes. Each is to stay
-# under 2 MB, however often it polls. They are proved and built in a copy of the crates that they
-# need, with what earlier checks kept of these. Prints a line a program; the status is 0 if both
-# held.
+# Runs three programs whose futures wait on `sync` cells again and again. looks.txt looks for a
+# signal by `now_or_never`, and messages.txt takes messages until a signal comes: each is to stay
+# under 2 MB, however often it polls. late.txt, under the kit's `tokio`, waits too late on 300 cells
+# and lets go of what that left: it is to have as many descriptors open as at first, within 4. The
+# first two are proved, all are built in a copy of the crates that they need, with what earlier
+# checks kept of these. Prints a line a program; the status is 0 if all held.
 set -euo pipefail
 top=$(cd "$(dirname "$0")/.." && pwd)
 work=$(mktemp -d)
@@ -14,7 +15,7 @@ limit=2048
 mkdir "$work/crates"
 cp "$top/HANDLES" "$work/"
 git init -q "$work"
-for crate in async_cell_{model,cons,core,task,sync}; do
+for crate in async_cell_{model,cons,core,sync}; do
     cp -r "$top/crates/$crate" "$work/crates/"
     grep "^$crate:" "$top/crates.txt" >>"$work/crates.txt"
 done
@@ -35,5 +36,24 @@ stays_small() {
     echo "places: $1: $2, at most $most kB"
 }
 
+# Runs late.txt, which links epoll, so its project has HANDLES of its own.
+closes_all() {
+    mkdir -p "$work/crates/late/src"
+    cp "$top/scripts/late.txt" "$work/crates/late/src/main.rt"
+    echo "late: anyhow async_cell_sync futures tokio" >>"$work/crates.txt"
+    echo 'Handles allowed: Threads, Wait, Net.' >"$work/HANDLES"
+    (cd "$work/crates/late" && rt try) >"$work/late.log" 2>"$work/late.errors" </dev/null || true
+    local first left last
+    { read -r first; read -r left; read -r last; } < <(awk '/^open / { print $2 }' "$work/late.log") ||
+        true
+    if [ -z "$last" ] || [ "$left" -lt 300 ] || [ "$last" -gt $((first + 4)) ]; then
+        echo "places: late failed: as many open descriptors as at first were wanted" >&2
+        tail -n 5 "$work/late.log" "$work/late.errors" >&2
+        return 1
+    fi
+    echo "places: late: $first descriptors at first, $left after 300 late waits, $last in the end"
+}
+
 stays_small looks 'looked 300000'
 stays_small messages 'served 100000'
+closes_all

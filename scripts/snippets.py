@@ -34,7 +34,6 @@ IMPORTS = {
     "anyhow": "Result",
     "async_cell_core": "Edit Named Refusal Wakes",
     "async_cell_sync": "AsyncCell Core LockedCore Owner",
-    "async_cell_task": "TaskWaker",
     "futures::executor": "block_on",
     "futures::future": "Either ready select",
     "futures::task": "Context Poll Source",

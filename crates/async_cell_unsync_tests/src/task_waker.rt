@@ -3,7 +3,7 @@ use crate::checks::holds;
 use crate::ticks::task;
 use async_cell_cons::Wakes;
 use async_cell_model::Refusal;
-use async_cell_task::TaskWaker;
+use async_cell_unsync::TaskWaker;
 use futures::task::{Context, Poll, Source};
 use futures::test::MockTask;
 use std::alloc::AllocError;
