@@ -1,9 +1,11 @@
-ghost use Rattle.std.specs.Prelude.{◌≡◌, ◌↔◌, [], IsTrue, IfOk, IfErr, length};
-ghost use Rattle.async_cell_recorded.specs.Recording.{IsRecorded, without_shares, with_one_share};
+ghost use Rattle.std.specs.Prelude.{◌≡◌, ◌↔◌, [], false, IsTrue, IfOk, IfErr, length, map};
+ghost use Rattle.async_cell_model.specs.Taken.{IsDistinct, brought, given, has_update};
+ghost use Rattle.async_cell_recorded.specs.Recording.{IsRecorded, plain_entry, without_shares, with_one_share};
 
 use crate::entry::{Entry, Plain};
 use crate::plain_history::PlainHistory;
-use async_cell_core::Refusal;
+use async_cell_core::{Named, Refusal};
+use async_cell_model::laws::exact::a_value_is_taken_once;
 use std::marker::Model;
 
 /// The calls that were made on a recorded cell, in the order in which they took effect, each with
@@ -55,6 +57,20 @@ impl<T> History<T> {
         ensures recorded { IsRecorded self.now }
     {
         self.entries.as_slice()
+    }
+
+    /// A value that a call took is taken by no other. If no call is an update, and the values that
+    /// the calls put in all differ, then the values that the replies move out all differ too. A get
+    /// moves none out.
+    ///
+    /// Does nothing: its contract is the law.
+    pub fn a_value_is_taken_once(&self)
+        ensures law { has_update (map plain_entry self.now.entries) ≡ false
+            → IsDistinct (brought (map plain_entry self.now.entries))
+            → IsDistinct (given (map plain_entry self.now.entries)) }
+    {
+        let _ = self.entries();
+        a_value_is_taken_once::<T, Named>();
     }
 }
 

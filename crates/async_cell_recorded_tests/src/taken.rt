@@ -1,14 +1,11 @@
 //! What a caller may conclude from a value that it was told: nobody else took it.
-ghost use Rattle.std.specs.Prelude.{◌≡◌, ℕ, Some, false, map, IfOk};
-ghost use Rattle.async_cell_model.specs.Taken.{IsDistinct, brought, given, has_update};
+ghost use Rattle.std.specs.Prelude.{◌≡◌, ℕ, Some, IfOk};
 ghost use Rattle.async_cell_recorded.specs.Counting.{from_bool, picked};
-ghost use Rattle.async_cell_recorded.specs.Recording.{plain_entry};
 ghost use Rattle.async_cell_recorded_tests.specs.Picks.{hands_out};
 
 use crate::picks::Told;
 use async_cell_model::Kept;
-use async_cell_model::laws::exact::a_value_is_taken_once;
-use async_cell_recorded::{Blanks, History, Named, Pick, Recorded, Refusal, Reply};
+use async_cell_recorded::{Blanks, Pick, Recorded, Refusal, Reply};
 use std::alloc::Global;
 use std::marker::Brand;
 use std::sync::Wait;
@@ -51,17 +48,6 @@ pub fn five_taken(alloc: Global, rt: &impl Wait) -> Result<Told, Refusal>
     take_five::<Brand>(alloc, Blanks::new(1), rt)
 }
 
-/// In a finished history without updates whose calls put in values that all differ, no value is
-/// handed out twice. So whoever was told a value is the only one.
-pub fn differing_values_are_taken_once(history: &History<u32>)
-    ensures { has_update (map plain_entry history.now.entries) ≡ false
-        → IsDistinct (brought (map plain_entry history.now.entries))
-        → IsDistinct (given (map plain_entry history.now.entries)) }
-{
-    let _ = history.entries();
-    a_value_is_taken_once::<u32, Named>();
-}
-
 #[cfg(test)]
 mod tests {
     use super::*;
@@ -73,7 +59,7 @@ mod tests {
         assert_eq!(rt; told.entry.call, Kept::TryTake);
         assert_eq!(rt; told.entry.reply, Reply::Value(Some(5)));
         assert_eq!(rt; told.history.entries().get(1), Some(&told.entry));
-        differing_values_are_taken_once(&told.history);
+        told.history.a_value_is_taken_once();
         Ok(())
     }
 }
