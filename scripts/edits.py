@@ -1,7 +1,7 @@
 #!/usr/bin/env python3
 """Tries deliberate bugs, many in one check, and wants each refused by the prover.
 
-    scripts/edits.py [must-fail] [CRATE..]
+    scripts/edits.py [proved] [must-fail] [CRATE..]
 
 It takes the edits of crates/NAME/bugs/, and after the word must-fail those of crates/NAME/must-fail/
 too: of the crates that are named, or of all. It proves a crate once. Then it checks the crate with
@@ -10,6 +10,9 @@ line of the function that it edits or in its proof file, that something is not p
 which a check says nothing comes into a second one, and is then tried alone, as `rt must-fail` does.
 An edit that no other stands beside, that adds a function or that changes a contract is tried alone
 at once.
+
+The word proved says that the crates have just been proved, as `rt ci` does. Then only the functions
+that are edited are checked, and a crate is proved once more only for what is left to try alone.
 
 Checks run side by side: as many as there are processors and memory for, or JOBS. It prints a line
 for each edit, and one at least every minute. The last line is 'N passed, M failed', and the status
@@ -27,8 +30,13 @@ import check_edits
 from edits_kit import Kit, Lacking, singly_tried
 
 FN = re.compile(r"( *)(?:pub(?:\([a-z]+\))? )?(?:const )?(?:unsafe )?fn (\w+)")
+IMPL = re.compile(
+    r"impl(?:<.*?>+)? (?:(?P<trait>[\w:]+)(?:<.*?>)? for )?(?P<ref>&)?(?:'\w+ )?(?P<type>[\w:]+)"
+)
 # An edit with one of these words changes more than one function's body.
 BEYOND = re.compile(r"\b(fn|ensures|requires|ghost|invariant|macro_rules)\b|#\[")
+# What may stand before the names of crates.
+WORDS = ("proved", "must-fail")
 # The most edits of one check: more take long and much memory, and save little.
 MOST = 16
 
@@ -58,6 +66,21 @@ def proof_folder(file, lines, first):
     return rf"proofs/{module}/([A-Z]\w*/)?{name}/\w+\.antt" if found.count(name) == 1 else None
 
 
+def name_of(file, lines, first):
+    """Returns the end of the name that the prover gives to a function, as near as its text says:
+    its module or its type, with the trait, and its own. Its text begins at the line first, from 1."""
+    at = next(it for it in range(first - 1, len(lines)) if FN.match(lines[it]))
+    indent, name = FN.match(lines[at])[1], FN.match(lines[at])[2]
+    if not indent:
+        module = re.sub(r"^src/|\.rt$", "", file).replace("/", "::")
+        return name if module in ("lib", "main") else f"{module}::{name}"
+    found = next((IMPL.match(lines[it]) for it in range(at, -1, -1) if IMPL.match(lines[it])), None)
+    if not found:
+        return name
+    of = ("Ref" if found["ref"] else "") + found["type"].split("::")[-1]
+    return f"{of}{(found['trait'] or '').split('::')[-1]}::{name}"
+
+
 class Bug:
     """An edit of a crate: its name, and the functions that it edits (none: it is tried alone)."""
 
@@ -68,7 +91,7 @@ class Bug:
         self.functions = set() if None in found else found
 
     def function(self, file, old, new):
-        """Returns the file and the lines of the function that a pair edits, or None."""
+        """Returns the file, the lines and the name of the function that a pair edits, or None."""
         if not file.startswith("src/") or BEYOND.search(old) or BEYOND.search(new):
             return None
         with open(f"crates/{self.crate}/{file}", encoding="utf-8") as it:
@@ -79,7 +102,7 @@ class Bug:
         found = span(lines, text.count("\n", 0, text.find(old)))
         if found:
             self.proofs.add(proof_folder(file, lines, found[0]))
-        return found and (file, *found)
+        return found and (file, *found, name_of(file, lines, found[0]))
 
     def applied_to(self, texts):
         """Returns these texts with the edit, or None where it cannot be applied to them."""
@@ -118,6 +141,10 @@ class Group:
         is_free = len(self.bugs) < MOST and not self.functions & bug.functions
         return is_free and bug.applied_to(self.texts) is not None
 
+    def names(self):
+        """Returns the names of the edited functions."""
+        return sorted({it[3] for it in self.functions})
+
     def add(self, bug):
         self.bugs.append(bug)
         self.texts = bug.applied_to(self.texts)
@@ -155,27 +182,33 @@ class Progress:
 class Trial:
     """The edits of one crate."""
 
-    def __init__(self, kit, bugs, checks, progress, jobs):
+    def __init__(self, kit, bugs, checks, progress, jobs, is_proved):
         self.kit, self.bugs, self.crate = kit, bugs, bugs[0].crate
         self.checks, self.progress, self.jobs = checks, progress, jobs
+        self.is_proved = is_proved
         self.number, self.begun = 0, time.monotonic()
 
     def run(self):
         """Tries them all."""
+        left = self.bugs
+        if self.is_proved:
+            self.progress.step[self.crate] = "many at a time, of proved functions"
+            left = self.try_groups(left, None, 0)
         with tempfile.TemporaryDirectory(prefix="edits-") as kept:
             self.progress.step[self.crate] = "proving it without an edit"
-            why = self.checks.submit(self.kit.proved, self.crate, kept, self.jobs).result()
+            prove = self.kit.proved
+            why = self.checks.submit(prove, self.crate, kept, self.jobs).result() if left else None
             if why is not None:
-                for it in self.bugs:
+                for it in left:
                     self.progress.judge(it, False, f"the crate without an edit is not proved: {why}")
             else:
-                self.try_over(kept)
+                self.try_over(left, kept)
         self.progress.step.pop(self.crate, None)
 
-    def try_over(self, kept):
+    def try_over(self, left, kept):
         self.progress.step[self.crate] = "many at a time"
-        left = self.try_groups(self.bugs, kept)
-        left = self.try_groups(left, kept) if left else left
+        left = self.try_groups(left, kept, 1) if left else left
+        left = self.try_groups(left, kept, 1) if left else left
         self.progress.step[self.crate] = f"{len(left)} alone"
         alone = [(it, self.checks.submit(self.kit.tried, self.crate, it.path, kept)) for it in left]
         for bug, given in alone:
@@ -185,12 +218,17 @@ class Trial:
         number = f"{len(self.bugs)} edits, {self.number} checks, {len(alone)} alone"
         self.progress.say(f"{self.crate}: {number}, {seconds} s")
 
-    def try_groups(self, bugs, kept):
-        """Tries edits many at a time, and returns those of which the checks say nothing."""
+    def try_groups(self, bugs, kept, least):
+        """Tries edits many at a time, and returns those of which the checks say nothing. Takes
+        groups of more than this number of edits. Without kept work only these functions are
+        checked."""
         found = groups_of([it for it in bugs if it.functions])
-        groups = [it for it in found if len(it.bugs) > 1]
+        groups = [it for it in found if len(it.bugs) > least]
         self.number += len(groups)
-        given = [self.checks.submit(self.kit.complaints, self.crate, it.texts, kept) for it in groups]
+        given = [
+            self.checks.submit(self.kit.complaints, self.crate, it.texts, kept, it.names())
+            for it in groups
+        ]
         left = [it for it in bugs if not any(it in group.bugs for group in groups)]
         for group, complaints in zip(groups, given):
             left += self.judge(group, complaints.result())
@@ -208,10 +246,11 @@ class Trial:
 def chosen_edits(words):
     """Returns the paths of the edits that the words ask for, by their crates."""
     folders = ["bugs", "must-fail"] if "must-fail" in words else ["bugs"]
-    names = [it for it in words if it != "must-fail"] or sorted(os.listdir("crates"))
+    names = [it for it in words if it not in WORDS] or sorted(os.listdir("crates"))
     for name in names:
         if not os.path.isdir(f"crates/{name}"):
-            sys.exit(f"edits.py: there is no crate {name}; the words are must-fail and names of crates")
+            known = ", ".join(WORDS)
+            sys.exit(f"edits.py: there is no crate {name}; the words are {known}, and names of crates")
     found = {}
     for name in names:
         below = [f"crates/{name}/{it}" for it in folders if os.path.isdir(f"crates/{name}/{it}")]
@@ -221,7 +260,7 @@ def chosen_edits(words):
     return found
 
 
-def try_all(kit, chosen, progress):
+def try_all(kit, chosen, progress, is_proved):
     """Tries the edits of each crate, crates and checks side by side."""
     bugs = {name: [Bug(name, it) for it in paths] for name, paths in chosen.items()}
     lacking = kit.build_below(chosen)
@@ -232,7 +271,8 @@ def try_all(kit, chosen, progress):
     progress.say(f"{sum(map(len, chosen.values()))} edits of {len(chosen)} crates, {number} checks at a time")
     with ThreadPoolExecutor(number) as checks, ThreadPoolExecutor(len(chosen)) as crates:
         # (first the crates with the most edits, which take longest)
-        trials = [Trial(kit, it, checks, progress, jobs) for it in sorted(bugs.values(), key=len)[::-1]]
+        longest_first = sorted(bugs.values(), key=len)[::-1]
+        trials = [Trial(kit, it, checks, progress, jobs, is_proved) for it in longest_first]
         for it in [crates.submit(it.run) for it in trials]:
             it.result()
     return None
@@ -245,7 +285,8 @@ def main(words):
     progress = Progress({name: len(paths) for name, paths in chosen.items()})
     progress.ticker.start()
     try:
-        why = try_all(Kit(), chosen, progress) if chosen else "there is no edit"
+        is_proved = "proved" in words
+        why = try_all(Kit(), chosen, progress, is_proved) if chosen else "there is no edit"
         passed = 0 if why else sum(progress.done.values()) - progress.failed
     except (Lacking, AttributeError, TypeError) as error:
         print(f"edits.py: ERROR: this kit is another than it was written for: {error}", file=sys.stderr)

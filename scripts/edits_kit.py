@@ -19,6 +19,11 @@ NEEDED = ("checked", "must_fail", "unread", "rtlib.crates_below", "rtlib.guarded
 # file names and an edit took away shows nothing of a contract.
 IN_CODE = re.compile(r"note: (?:\./)?(src/\S+?):(\d+):\d+: (it is not proved .*)")
 IN_PROOF = re.compile(r"(?:\./)?(proofs/\S+?):(\d+):\d+: error: (`[^`]*`: .*)")
+# The last line of a check that judged a crate, or some of its functions.
+JUDGED = re.compile(r"logic=not-proved|only=\d+ proved=\d+$")
+# What is said of a name that is of no function, or of several.
+NO_FUNCTION = re.compile(r"error: `\w+` has no function `(\S+?)`")
+SEVERAL = re.compile(r"error: several functions are named `(\S+?)`: help: write one of (.*)")
 TAKEN_AWAY = re.compile(r"has no field|is not in scope|has no `|was not admitted")
 
 
@@ -107,16 +112,13 @@ class Kit:
         ran = self.rt.checked(self.crates[name], {}, ["--jobs", str(jobs)], kept)
         return "\n".join(ran.stdout.split("\n")[-8:]) if ran.returncode else None
 
-    def complaints(self, name, texts, kept):
+    def complaints(self, name, texts, kept, functions):
         """Returns (file, line, words) of each complaint about a crate with these texts, or nothing
-        where the check says nothing of its contracts."""
-        # (over a copy, since a kept folder holds one version of a function: a check over what edits
-        # left would prove each of those functions again)
-        with tempfile.TemporaryDirectory(prefix="edits-") as room:
-            shutil.copytree(kept, f"{room}/kept")
-            ran = self.rt.checked(self.crates[name], texts, ONE_JOB, f"{room}/kept")
+        where the check says nothing of its contracts. Without kept work only the functions of these
+        names are checked."""
+        ran = self.checked(name, texts, kept) if kept else self.only(name, texts, functions)
         said = ran.stdout.rstrip("\n").split("\n")
-        is_judged = ran.returncode == 1 and said[-1].startswith("logic=not-proved")
+        is_judged = ran.returncode == 1 and JUDGED.match(said[-1])
         if not is_judged or self.rt.rtlib.STALE.search(ran.stdout):
             return []
         if any(self.rt.unread(it, texts) for it in said):
@@ -124,6 +126,31 @@ class Kit:
         lines = [it for it in said if not TAKEN_AWAY.search(it)]
         found = [IN_CODE.match(it) or IN_PROOF.match(it) for it in lines]
         return [(it[1], int(it[2]), it[3]) for it in found if it]
+
+    def checked(self, name, texts, kept):
+        """Checks a crate with these texts over kept work."""
+        # (over a copy, since a kept folder holds one version of a function: a check over what edits
+        # left would prove each of those functions again)
+        with tempfile.TemporaryDirectory(prefix="edits-") as room:
+            shutil.copytree(kept, f"{room}/kept")
+            return self.rt.checked(self.crates[name], texts, ONE_JOB, f"{room}/kept")
+
+    def only(self, name, texts, functions):
+        """Checks these functions of a crate with these texts. Where a name is of none, it looks for
+        the last part of it, and where it is of several, it takes all."""
+        words = dict.fromkeys(functions)
+        while True:
+            flags = [flag for it in words for flag in ("--only", it)]
+            ran = self.rt.checked(self.crates[name], texts, [*ONE_JOB, *flags], None)
+            none, several = NO_FUNCTION.search(ran.stdout), SEVERAL.search(ran.stdout)
+            if none and none[1] in words and "::" in none[1]:
+                words.pop(none[1])
+                words[none[1].split("::")[-1]] = None
+            elif several and several[1] in words and "::" not in several[1]:
+                words.pop(several[1])
+                words.update(dict.fromkeys(re.findall(r"`(\S+?)`", several[2])))
+            else:
+                return ran
 
     def tried(self, name, path, kept):
         """Tries one edit as rt must-fail does, and returns whether it is refused, and a line."""

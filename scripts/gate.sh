@@ -74,7 +74,7 @@ count() {
 step 'the deliberate bugs can be applied' python3 scripts/check_edits.py
 step 'proofs, tests, programs, and the bugs of must-fail/ (rt ci)' rt ci
 count
-step 'the bugs of bugs/ (scripts/edits.py)' python3 scripts/edits.py
+step 'the bugs of bugs/ (scripts/edits.py)' python3 scripts/edits.py proved
 count
 step 'the built program (scripts/program.sh)' bash scripts/program.sh
 step 'no memory (scripts/memory.sh)' bash scripts/memory.sh

@@ -113,20 +113,16 @@ impl<W: Drop> WaitList<W> {
         ensures hands_out_all { result ≡ self.old.wakers }
         ensures leaves_none { self.new ≡ record { wakers = []; room = 0 } }
     {
-        if self.is_bare() {
-            return self.no_wakers();
+        if self.rest.capacity() == 0 {
+            self.round = self.round.wrapping_add(1);
+            self.free = 0;
+            return Wakers::of(self.first.take());
         }
         self.hand_out_all()
     }
 
-    /// Returns whether there are neither wakers nor memory for any.
-    fn is_bare(&self) -> bool
-        ensures { IsTrue result → self.now ≡ record { wakers = []; room = 0 } }
-    {
-        self.is_empty() && self.rest.capacity() == 0
-    }
-
-    /// `hand_out`, where there is something to be handed out or given up.
+    /// `hand_out`. Apart from it, which is then small where no more than one waker waits.
+    #[inline(never)]
     fn hand_out_all(&mut self) -> Wakers<W>
         ensures hands_out_all { result ≡ self.old.wakers }
         ensures leaves_none { self.new ≡ record { wakers = []; room = 0 } }
@@ -134,9 +130,6 @@ impl<W: Drop> WaitList<W> {
         self.round = self.round.wrapping_add(1);
         self.free = 0;
         let first = self.first.take();
-        if self.rest.capacity() == 0 {
-            return Wakers::of(first);
-        }
         let none = Vec::new(*self.rest.allocator());
         let rest = mem::replace(&mut self.rest, none);
         Wakers::of_all(first, rest)

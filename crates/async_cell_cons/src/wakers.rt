@@ -105,22 +105,20 @@ impl<W: Wakes> Wakers<W> {
     #[inline(always)]
     pub fn wake_all(self) {
         let Wakers { first, rest } = self;
-        if first.is_some() || rest.is_some() {
-            wake_each(first, rest);
+        if let Some(waker) = first {
+            waker.wake();
+        }
+        if let Some(rest) = rest {
+            wake_rest(rest);
         }
     }
 }
 
-/// Wakes these wakers. Apart from `wake_all`, which is then small where there are none.
+/// Wakes these wakers. Apart from `wake_all`, which is then small where there is one or none.
 #[inline(never)]
-fn wake_each<W: Wakes>(first: Option<W>, rest: Option<vec::IntoIter<W>>) {
-    if let Some(waker) = first {
+fn wake_rest<W: Wakes>(rest: vec::IntoIter<W>) {
+    for waker in rest {
         waker.wake();
-    }
-    if let Some(rest) = rest {
-        for waker in rest {
-            waker.wake();
-        }
     }
 }
 

@@ -26,6 +26,7 @@ impl WaitList<TaskWaker> {
     /// Stores a waker in the place, in a free place that is taken over, or as the last of the list.
     /// Returns the waker that was there, if any, which wakes its task when it is dropped. If there
     /// is no memory to grow the list, the waker is returned in the error.
+    #[inline(always)]
     pub fn store(
         &mut self,
         place: &mut Place,
@@ -77,6 +78,7 @@ impl WaitList<TaskWaker> {
     }
 
     /// Stores a waker as the last of the list, which is the place from then on.
+    #[inline(always)]
     fn store_last(
         &mut self,
         place: &mut Place,

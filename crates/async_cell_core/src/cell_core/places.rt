@@ -52,6 +52,7 @@ impl<T: Drop> Core<T, TaskWaker> {
     /// The cell must be vacant. Returns the waker that was there, if any, which wakes its task when
     /// it is dropped. If there is no memory to grow the list, the waker is returned in the error.
     #[doc(hidden)]
+    #[inline(always)]
     #[tactic(auto, using(async_cell_model::proofs::Adding::keep_added, async_cell_model::proofs::Adding::never_skipped))]
     pub fn store(
         &mut self,

@@ -189,6 +189,7 @@ impl<T: Drop> AsyncCell<T> {
 
 /// Stores a waker in the place, or as the last, of the core, which must be vacant. What is dropped
 /// then wakes its task, so the lock is released before.
+#[inline(always)]
 fn store<'a, T: Drop>(
     mut core: MutexGuard<'a, Core<T, TaskWaker>>,
     place: &mut Place,

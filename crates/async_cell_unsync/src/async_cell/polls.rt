@@ -151,6 +151,7 @@ impl<T: Drop> AsyncCell<T> {
 
 /// Stores a waker in the place, or as the last, of the core, which must be vacant. What is dropped
 /// then wakes its task, so the core is no longer lent before.
+#[inline(always)]
 fn store<T: Drop>(
     mut core: RefMut<'_, Core<T, TaskWaker>>,
     place: &mut Place,
