@@ -53,10 +53,10 @@ impl<T: Drop, W: Wakes> LockedCore<T, W> {
         ensures comes_back { IfErr result (λ back. back ≡ value) }
     {
         let mut core = self.lock(rt);
-        let value = match core.overwrite(value) {
-            Ok(old) => return Ok(Some(old)), // Nobody waits on a cell that holds a value.
-            Err(value) => value,
-        };
+        if core.is_set() {
+            let old = core.overwrite(value)?; // Nobody waits on a cell that holds a value.
+            return Ok(Some(old));
+        }
         let (old, woken) = core.replace(value)?;
         drop(core); // What is woken or dropped may call this cell: never under the lock.
         woken.wake_all();

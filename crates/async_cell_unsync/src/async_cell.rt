@@ -85,10 +85,9 @@ impl<T: Drop> AsyncCell<T> {
     #[inline]
     pub fn replace(&self, value: T) -> Option<T> {
         let mut core = self.lend()?;
-        let value = match core.overwrite(value) {
-            Ok(old) => return Some(old), // Nobody waits on a cell that holds a value.
-            Err(value) => value,
-        };
+        if core.is_set() {
+            return core.overwrite(value).ok(); // Nobody waits on a cell that holds a value.
+        }
         let replaced = core.replace(value);
         // What is woken or dropped may call this cell: never while the core is lent.
         drop(core);

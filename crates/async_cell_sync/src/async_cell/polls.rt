@@ -83,54 +83,50 @@ impl<T: Drop> AsyncCell<T> {
             return Poll::Ready(Ok(core));
         }
         let Some(place) = place else {
-            return self.add(core, cx);
+            return waits(self.add(core, cx));
         };
         match core.take_back(place) {
-            None => self.wait_at(core, place, cx),
+            None => waits(self.wait_at(core, place, cx)),
             Some(waker) => self.renew(core, waker, place, cx, rt),
         }
     }
 
     /// Adds a waker of the task to the wait list of the core, which must be vacant. It is a new
     /// one: so nothing is dropped, and nobody woken, while the lock is held.
-    fn add<'a>(
+    fn add(
         &self,
-        mut core: MutexGuard<'a, Core<T, TaskWaker>>,
+        mut core: MutexGuard<'_, Core<T, TaskWaker>>,
         cx: &mut Context<'_>,
-    ) -> Poll<Result<MutexGuard<'a, Core<T, TaskWaker>>, Refusal>>
+    ) -> Result<(), Refusal>
         requires { is_vacant (mutex_guard_value core).cell ≡ true }
         ensures armed { IsArmed cx.new }
         ensures heard { Hears cx.new (source_of self.now) }
         ensures kept { Keeps cx.old cx.new }
-        ensures refused { IfReady result (λ answer. answer ≡ Err Refusal.Memory) }
+        ensures refused { IfErr result (λ why. why ≡ Refusal.Memory) }
     {
-        let Some(new) = TaskWaker::register(cx, &self.source) else {
-            return Poll::Ready(Err(Refusal::Memory));
-        };
+        let new = TaskWaker::register(cx, &self.source).ok_or(Refusal::Memory)?;
         if let Err(unused) = core.add(new) {
             drop(core); // A waker that is dropped wakes its task: never under the lock.
             drop(unused);
-            return Poll::Ready(Err(Refusal::Memory));
+            return Err(Refusal::Memory);
         }
-        Poll::Pending
+        Ok(())
     }
 
     /// `add`, in a place that has no waker: the place is then that of the waker.
-    fn wait_at<'a>(
+    fn wait_at(
         &self,
-        core: MutexGuard<'a, Core<T, TaskWaker>>,
+        core: MutexGuard<'_, Core<T, TaskWaker>>,
         place: &mut Place,
         cx: &mut Context<'_>,
-    ) -> Poll<Result<MutexGuard<'a, Core<T, TaskWaker>>, Refusal>>
+    ) -> Result<(), Refusal>
         requires { is_vacant (mutex_guard_value core).cell ≡ true }
         ensures armed { IsArmed cx.new }
         ensures heard { Hears cx.new (source_of self.now) }
         ensures kept { Keeps cx.old cx.new }
-        ensures refused { IfReady result (λ answer. answer ≡ Err Refusal.Memory) }
+        ensures refused { IfErr result (λ why. why ≡ Refusal.Memory) }
     {
-        let Some(waker) = TaskWaker::register(cx, &self.source) else {
-            return Poll::Ready(Err(Refusal::Memory));
-        };
+        let waker = TaskWaker::register(cx, &self.source).ok_or(Refusal::Memory)?;
         store(core, place, waker)
     }
 
@@ -161,7 +157,7 @@ impl<T: Drop> AsyncCell<T> {
             return self.wait_again(place, cx, rt);
         }
         match slot {
-            Some(waker) => store(core, place, TaskWaker::of(waker)),
+            Some(waker) => waits(store(core, place, TaskWaker::of(waker))),
             None => Poll::Ready(Err(Refusal::Memory)),
         }
     }
@@ -180,7 +176,7 @@ impl<T: Drop> AsyncCell<T> {
     {
         let core = self.core.lock(rt);
         if core.is_vacant() {
-            return self.wait_at(core, place, cx);
+            return waits(self.wait_at(core, place, cx));
         }
         place.forget();
         Poll::Ready(Ok(core))
@@ -190,24 +186,35 @@ impl<T: Drop> AsyncCell<T> {
 /// Stores a waker in the place, or as the last, of the core, which must be vacant. What is dropped
 /// then wakes its task, so the lock is released before.
 #[inline(always)]
-fn store<'a, T: Drop>(
-    mut core: MutexGuard<'a, Core<T, TaskWaker>>,
+fn store<T: Drop>(
+    mut core: MutexGuard<'_, Core<T, TaskWaker>>,
     place: &mut Place,
     waker: TaskWaker,
-) -> Poll<Result<MutexGuard<'a, Core<T, TaskWaker>>, Refusal>>
+) -> Result<(), Refusal>
     requires { is_vacant (mutex_guard_value core).cell ≡ true }
-    ensures refused { IfReady result (λ answer. answer ≡ Err Refusal.Memory) }
+    ensures refused { IfErr result (λ why. why ≡ Refusal.Memory) }
 {
     let stored = core.store(place, waker);
     drop(core);
     match stored {
         Ok(before) => {
             drop(before);
-            Poll::Pending
+            Ok(())
         }
         Err(unused) => {
             drop(unused);
-            Poll::Ready(Err(Refusal::Memory))
+            Err(Refusal::Memory)
         }
+    }
+}
+
+/// The answer of a poll that has to wait.
+#[inline(always)]
+fn waits<A>(waited: Result<(), Refusal>) -> Poll<Result<A, Refusal>>
+    ensures refused { IfReady result (λ answer. IfErr answer (λ why. waited ≡ Err why)) }
+{
+    match waited {
+        Ok(()) => Poll::Pending,
+        Err(why) => Poll::Ready(Err(why)),
     }
 }
