@@ -1,6 +1,6 @@
 //! One call at a time.
 use crate::compared::{Compared, polled_by};
-use crate::shared::{ONE, THREE, TWO, assert_wakers, same};
+use crate::shared::{ONE, THREE, TWO, assert_wakers};
 use async_cell_core::{Core, Named, Poll};
 use std::alloc::{AllocError, Global};
 use std::process::Abort;
@@ -131,22 +131,4 @@ fn the_debug_text_has_that_of_the_value_and_no_owners(rt: HostRuntime) -> Result
     let text = format!(in alloc; "{core:?}")?;
     assert_eq!(rt; text.as_str(), "AsyncCell::Empty");
     Ok(())
-}
-
-/// Asserts that a note lasts until these wakers, which wait, are handed out.
-fn keeps_a_note_for_a_round(rt: &(impl Abort + Alloc<A = Global>), waiting: &[Named]) {
-    let mut core = polled_by(rt, rt.alloc(), waiting).into_core();
-    let (round, note) = core.round_and_note();
-    same(rt, "new", note, 0);
-    core.set_note(5);
-    same(rt, "set", core.round_and_note(), (round, 5));
-    drop(core.set(7));
-    let next = (round.wrapping_add(1), 0);
-    same(rt, "handed out", core.round_and_note(), next);
-}
-
-#[test]
-fn a_note_lasts_until_the_wakers_are_handed_out(rt: HostRuntime) {
-    keeps_a_note_for_a_round(&rt, &[ONE]);
-    keeps_a_note_for_a_round(&rt, &[ONE, TWO]);
 }

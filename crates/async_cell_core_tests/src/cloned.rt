@@ -5,6 +5,7 @@ ghost use Rattle.std.proofs.Common.{rules};
 
 use crate::count::Count;
 use crate::shared::same;
+use async_cell_cons::WaitList;
 use async_cell_core::{Call, Core, Edit, Named, Wakes, step};
 use std::alloc::{AllocError, Global};
 use std::cell::Cell;
@@ -186,19 +187,23 @@ fn a_refused_clone_is_not_tried_again(rt: HostRuntime) {
 }
 
 #[test]
-fn a_registered_waker_is_added_or_comes_back_and_is_not_cloned(rt: HostRuntime) {
+fn a_waker_that_is_added_by_value_is_not_cloned(rt: HostRuntime) {
     let clones = Cell::new(0);
-    let mut core: Waiting<'_> = Core::new(rt.alloc());
-    for (name, back, waiting) in [(1, None, 1), (2, None, 2), (1, Some(1), 2)] {
-        if core.is_vacant() {
-            let waker = CountsClones {
-                name,
-                clones: &clones,
-            };
-            let unused = core.register(waker).ok().flatten();
-            same(&rt, "unused", unused.map(|waker| waker.name), back);
-        }
-        same(&rt, "waiting", core.waiting(), waiting);
+    let mut waiting = WaitList::new(rt.alloc());
+    for (name, count) in [(1, 1), (2, 2), (1, 3)] {
+        let waker = CountsClones {
+            name,
+            clones: &clones,
+        };
+        let back = waiting.add(waker).err();
+        same(&rt, "back", back.map(|waker| waker.name), None);
+        same(&rt, "waiting", waiting.len(), count);
+    }
+    let names = [1, 2, 1];
+    let mut wakers = waiting.hand_out();
+    for name in names {
+        let next = wakers.next();
+        same(&rt, "next", next.map(|waker| waker.name), Some(name));
     }
     same(&rt, "clones", clones.get(), 0);
 }

@@ -1,5 +1,5 @@
-//! Tests of `Core`, lists of calls, the guard's end, the wait list, the laws and the callers of
-//! `Core`, in a crate of their own so that no library is proved twice.
+//! Tests of `Core`, lists of calls, the guard's end, the wait list and its places, the laws and the
+//! callers of `Core`, in a crate of their own so that no library is proved twice.
 #![tactic(auto)]
 
 #[cfg(test)]
@@ -26,13 +26,19 @@ mod in_turn;
 #[cfg(test)]
 mod laws;
 #[cfg(test)]
+mod let_go;
+#[cfg(test)]
 mod noted;
 #[cfg(test)]
 mod oracle;
 #[cfg(test)]
 mod order;
 #[cfg(test)]
+mod overwrite;
+#[cfg(test)]
 mod owners;
+#[cfg(test)]
+mod places;
 #[cfg(test)]
 mod random;
 #[cfg(test)]
@@ -41,6 +47,8 @@ mod refusals;
 mod reserve;
 pub mod room;
 #[cfg(test)]
+mod rounds;
+#[cfg(test)]
 mod runs;
 #[cfg(test)]
 mod shared;
@@ -48,6 +56,8 @@ mod shared;
 mod steps;
 #[cfg(test)]
 mod tables;
+#[cfg(test)]
+mod tasks;
 #[cfg(test)]
 mod uses;
 #[cfg(test)]

@@ -65,7 +65,7 @@ fn many_to_drop(
     let mut waiting = WaitList::new(alloc);
     for number in 0..MANY {
         let waker = DroppedInTurn { number, dropped };
-        waiting.push_owned(waker).map_err(|_| AllocError)?;
+        waiting.add(waker).map_err(|_| AllocError)?;
     }
     Ok(waiting)
 }
@@ -103,11 +103,11 @@ fn each_waiting_waker_skips_its_own_name(rt: HostRuntime) -> Result<(), Fail> {
 fn a_refused_waker_comes_back_and_the_list_stays(rt: HostRuntime) {
     let mut waiting = WaitList::new(rt.alloc());
     assert_eq!(rt;
-        waiting.push_owned(Named(1)),
+        waiting.add(Named(1)),
         Ok(()),
         "an empty list needs no memory"
     );
-    let added = match waiting.push_owned(Named(2)) {
+    let added = match waiting.add(Named(2)) {
         Ok(()) => 2,
         Err(back) => {
             assert_eq!(rt; back, Named(2));

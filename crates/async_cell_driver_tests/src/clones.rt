@@ -1,5 +1,6 @@
 //! Values whose clone is not their source: a getter is ready with the clone, and the value stays.
-use async_cell_driver::{Driver, Edit, Event, Kind, Polled};
+use crate::bare::{Bare, holds, same};
+use async_cell_driver::{Edit, Event, Kind, Polled};
 use std::alloc::AllocError;
 use std::test::Fail;
 
@@ -39,61 +40,61 @@ impl Edit<String> for Keep {
 
 #[test]
 fn getters_give_clones_and_the_taker_the_value(rt: HostRuntime) -> Result<(), Fail> {
-    let mut driver = Driver::new(rt.alloc(), Some(Generation(0)));
+    let mut driver = Bare::new(rt.alloc(), Some(Generation(0)));
     driver.start(Kind::Get)?;
     driver.start(Kind::Get)?;
     driver.start(Kind::Take)?;
-    assert_eq!(rt; driver.poll(0)?, Polled::Ready(Some(Generation(1))));
-    assert_eq!(rt; driver.poll(1)?, Polled::Ready(Some(Generation(1))));
-    assert_eq!(rt; driver.poll(2)?, Polled::Ready(Some(Generation(0))));
-    assert_eq!(rt; driver.try_take(), None);
+    same(&rt, driver.poll(0)?, Polled::Ready(Some(Generation(1))));
+    same(&rt, driver.poll(1)?, Polled::Ready(Some(Generation(1))));
+    same(&rt, driver.poll(2)?, Polled::Ready(Some(Generation(0))));
+    same(&rt, driver.try_take(), None);
     Ok(())
 }
 
 #[test]
 fn settled_getters_give_clones_and_leave_the_value(rt: HostRuntime) -> Result<(), Fail> {
-    let mut driver = Driver::new(rt.alloc(), None);
+    let mut driver = Bare::new(rt.alloc(), None);
     driver.start(Kind::Get)?;
     driver.start(Kind::Get)?;
-    assert_eq!(rt; driver.settle()?, 2);
-    assert_eq!(rt; driver.set(Generation(7)), Ok(()));
-    assert_eq!(rt; driver.settle()?, 2);
-    assert_eq!(rt; driver.result(0), Some(Some(Generation(8))));
-    assert_eq!(rt; driver.result(1), Some(Some(Generation(8))));
-    assert_eq!(rt; driver.try_take(), Some(Generation(7)));
+    same(&rt, driver.settle()?, 2);
+    same(&rt, driver.set(Generation(7)), Ok(()));
+    same(&rt, driver.settle()?, 2);
+    same(&rt, driver.result(0), Some(Some(Generation(8))));
+    same(&rt, driver.result(1), Some(Some(Generation(8))));
+    same(&rt, driver.try_take(), Some(Generation(7)));
     Ok(())
 }
 
 #[test]
 fn a_getter_leaves_the_text(rt: HostRuntime) -> Result<(), Fail> {
     let text = String::from_str(rt.alloc(), "seven")?;
-    let mut driver = Driver::new(rt.alloc(), Some(text));
+    let mut driver = Bare::new(rt.alloc(), Some(text));
     driver.start(Kind::Get)?;
     let Polled::Ready(Some(got)) = driver.poll(0)? else {
         panic!(rt; "a full cell is ready");
     };
-    assert_eq!(rt; got.as_str(), "seven");
+    same(&rt, got.as_str(), "seven");
     let Some(left) = driver.try_take() else {
         panic!(rt; "the value stays");
     };
-    assert_eq!(rt; left.as_str(), "seven");
+    same(&rt, left.as_str(), "seven");
     Ok(())
 }
 
 #[test]
 fn settled_getters_leave_the_bytes(rt: HostRuntime) -> Result<(), Fail> {
-    let mut driver: Driver<Vec<u8>> = Driver::new(rt.alloc(), None);
+    let mut driver: Bare<Vec<u8>> = Bare::new(rt.alloc(), None);
     driver.start(Kind::Get)?;
     driver.start(Kind::Take)?;
-    assert_eq!(rt; driver.settle()?, 2);
+    same(&rt, driver.settle()?, 2);
     let bytes = [1u8, 2, 3].to_vec(rt.alloc())?;
-    assert!(rt; driver.set(bytes).is_ok());
-    assert_eq!(rt; driver.settle()?, 2);
+    holds(&rt, driver.set(bytes).is_ok());
+    same(&rt, driver.settle()?, 2);
     for number in 0..2usize {
         let Some(Some(got)) = driver.result(number) else {
             panic!(rt; "both tasks are done");
         };
-        assert_eq!(rt; got.as_slice(), [1, 2, 3].as_slice());
+        same(&rt, got.as_slice(), [1, 2, 3].as_slice());
     }
     Ok(())
 }
@@ -101,10 +102,10 @@ fn settled_getters_leave_the_bytes(rt: HostRuntime) -> Result<(), Fail> {
 /// It holds with no memory at all, too.
 #[test]
 fn an_empty_list_is_never_refused(rt: HostRuntime) {
-    let mut driver: Driver<String> = Driver::new(rt.alloc(), None);
+    let mut driver: Bare<String> = Bare::new(rt.alloc(), None);
     let none: Vec<Event<String, Keep>> = Vec::new(rt.alloc());
     match driver.apply(none) {
-        Ok(told) => assert!(rt; told.is_empty()),
+        Ok(told) => holds(&rt, told.is_empty()),
         Err(_) => panic!(rt; "an empty list needs no memory"),
     }
 }

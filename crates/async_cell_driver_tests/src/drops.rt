@@ -1,7 +1,8 @@
 //! Every call drops each value and each edit once, and keeps none that the cell does not hold.
 ghost use Rattle.std.specs.Prelude.{◌≡◌, None};
 
-use async_cell_driver::{Driver, Edit, Event, Kind, Polled};
+use crate::bare::{Bare, holds, same, same_at};
+use async_cell_driver::{Edit, Event, Kind, Polled};
 use std::alloc::{AllocError, Global};
 use std::cell::Cell;
 use std::test::Fail;
@@ -68,7 +69,7 @@ fn with_values<'a>(event: Event<(), ()>, alive: &'a Cell<u64>) -> Event<Counted<
 }
 
 /// Makes the event happen by the call of its name.
-fn call<'a>(driver: &mut Driver<Counted<'a>>, event: Event<Counted<'a>, Empties<'a>>) {
+fn call<'a>(driver: &mut Bare<Counted<'a>>, event: Event<Counted<'a>, Empties<'a>>) {
     match event {
         Event::Start(kind) => drop(driver.start(kind)),
         Event::Poll(i) => drop(driver.poll(i)),
@@ -97,13 +98,13 @@ const TABLE: [(Event<(), ()>, [u64; 3]); 9] = [
 ];
 
 /// The driver of a vacant cell, of a full one or of a closed one, with a taker and a getter.
-fn driver_at(place: usize, alloc: Global, alive: &Cell<u64>) -> Result<Driver<Counted<'_>>, Fail> {
+fn driver_at(place: usize, alloc: Global, alive: &Cell<u64>) -> Result<Bare<Counted<'_>>, Fail> {
     let value = if place == 1 {
         Some(Counted::new(alive))
     } else {
         None
     };
-    let mut driver = Driver::new(alloc, value);
+    let mut driver = Bare::new(alloc, value);
     driver.start(Kind::Take)?;
     driver.start(Kind::Get)?;
     if place == 2 {
@@ -119,9 +120,9 @@ fn each_call_keeps_the_value_that_the_cell_holds_and_no_other(rt: HostRuntime) -
         for place in 0..3usize {
             let mut driver = driver_at(place, rt.alloc(), &alive)?;
             call(&mut driver, with_values(event, &alive));
-            assert_eq!(rt; alive.get(), after[place], "{event:?}, {place}");
+            same_at(&rt, &(event, place), alive.get(), after[place]);
             drop(driver);
-            assert_eq!(rt; alive.get(), 0, "{event:?}, {place}, dropped");
+            same_at(&rt, &(event, place, "dropped"), alive.get(), 0);
         }
     }
     Ok(())
@@ -136,8 +137,8 @@ fn a_list_of_one_event_keeps_the_value_that_the_cell_holds(rt: HostRuntime) -> R
             let mut driver = driver_at(place, rt.alloc(), &alive)?;
             let mut events = Vec::new(rt.alloc());
             events.push(with_values(event, &alive))?;
-            assert!(rt; driver.apply(events).is_ok(), "{event:?}, {place}");
-            assert_eq!(rt; alive.get(), after[place], "{event:?}, {place}");
+            same_at(&rt, &(event, place), driver.apply(events).is_ok(), true);
+            same_at(&rt, &(event, place), alive.get(), after[place]);
         }
     }
     Ok(())
@@ -157,13 +158,13 @@ impl Clone for Cloned<'_> {
 #[test]
 fn a_getter_clones_the_value_once_and_a_taker_never(rt: HostRuntime) -> Result<(), Fail> {
     let clones = Cell::new(0);
-    let mut driver = Driver::new(rt.alloc(), Some(Cloned(&clones)));
+    let mut driver = Bare::new(rt.alloc(), Some(Cloned(&clones)));
     for kind in [Kind::Get, Kind::Get, Kind::Take] {
         driver.start(kind)?;
     }
-    assert!(rt; matches!(driver.poll(0)?, Polled::Ready(Some(_))));
-    assert_eq!(rt; clones.get(), 1);
-    assert_eq!(rt; driver.settle()?, 2);
-    assert_eq!(rt; clones.get(), 2);
+    holds(&rt, matches!(driver.poll(0)?, Polled::Ready(Some(_))));
+    same(&rt, clones.get(), 1);
+    same(&rt, driver.settle()?, 2);
+    same(&rt, clones.get(), 2);
     Ok(())
 }

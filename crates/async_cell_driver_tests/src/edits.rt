@@ -1,7 +1,8 @@
 //! Edits, and how often they are called: no contract can say it.
 ghost use Rattle.std.specs.Prelude.{◌≡◌, Some};
 
-use async_cell_driver::{Driver, Edit, Event, Refusal, Reply, Told};
+use crate::bare::{Bare, same};
+use async_cell_driver::{Edit, Event, Refusal, Reply, Told};
 use std::cell::Cell;
 use std::test::Fail;
 
@@ -35,9 +36,9 @@ impl Edit<u32> for Counted<'_> {
 fn an_edit_is_called_once_and_not_on_a_closed_cell(rt: HostRuntime) -> Result<(), Fail> {
     let calls = Cell::new(0);
     let edit = Counted { calls: &calls };
-    let mut driver: Driver<u32> = Driver::new(rt.alloc(), None);
-    assert_eq!(rt; driver.update(edit), Ok(()));
-    assert_eq!(rt; calls.get(), 1);
+    let mut driver: Bare<u32> = Bare::new(rt.alloc(), None);
+    same(&rt, driver.update(edit), Ok(()));
+    same(&rt, calls.get(), 1);
     let mut events = Vec::new(rt.alloc());
     events.push(Event::Update(edit))?;
     events.push(Event::EndOwner)?;
@@ -48,9 +49,9 @@ fn an_edit_is_called_once_and_not_on_a_closed_cell(rt: HostRuntime) -> Result<()
         Told::Reply(Reply::Value(Some(1))),
         Told::Reply(Reply::Refused(Refusal::Closed, None)),
     ];
-    assert_eq!(rt; told.as_slice(), expected.as_slice());
-    assert_eq!(rt; calls.get(), 2);
-    assert_eq!(rt; driver.update(edit), Err(Refusal::Closed));
-    assert_eq!(rt; calls.get(), 2);
+    same(&rt, told.as_slice(), expected.as_slice());
+    same(&rt, calls.get(), 2);
+    same(&rt, driver.update(edit), Err(Refusal::Closed));
+    same(&rt, calls.get(), 2);
     Ok(())
 }

@@ -1,7 +1,8 @@
 //! Lists of events.
 ghost use Rattle.std.specs.Prelude.{◌≡◌, Some};
 
-use async_cell_driver::{Driver, Edit, Event, Kind, Polled, Refusal, Reply, Told, laws};
+use crate::bare::{Bare, same};
+use async_cell_driver::{Edit, Event, Kind, Polled, Refusal, Reply, Told, laws};
 use std::test::Fail;
 
 /// An edit that puts a value in.
@@ -47,7 +48,7 @@ fn takers() -> [Event<u32, Put>; 12] {
 /// The Rust crate's test `can_wake_multiple_takes`, as a list of events.
 #[test]
 fn three_takers_in_a_list_each_get_a_value(rt: HostRuntime) -> Result<(), Fail> {
-    let mut driver: Driver<u32> = Driver::new(rt.alloc(), None);
+    let mut driver: Bare<u32> = Bare::new(rt.alloc(), None);
     let events = takers().to_vec(rt.alloc())?;
     let told = driver.apply(events).ok().ok_or("refused")?;
     let expected = [
@@ -64,13 +65,13 @@ fn three_takers_in_a_list_each_get_a_value(rt: HostRuntime) -> Result<(), Fail> 
         Told::Reply(Reply::Done),
         Told::Polled(Polled::Ready(Some(3))),
     ];
-    assert_eq!(rt; told.as_slice(), expected.as_slice());
+    same(&rt, told.as_slice(), expected.as_slice());
     Ok(())
 }
 
 #[test]
 fn each_call_on_the_cell_is_told_its_reply(rt: HostRuntime) -> Result<(), Fail> {
-    let mut driver: Driver<u32> = Driver::new(rt.alloc(), Some(1));
+    let mut driver: Bare<u32> = Bare::new(rt.alloc(), Some(1));
     let events: [Event<u32, Put>; 12] = [
         Event::OrSet(2),
         Event::Replace(3),
@@ -103,28 +104,28 @@ fn each_call_on_the_cell_is_told_its_reply(rt: HostRuntime) -> Result<(), Fail> 
         Told::Reply(Reply::Refused(Refusal::Closed, None)),
         Told::Polled(Polled::NotReady),
     ];
-    assert_eq!(rt; told.as_slice(), expected.as_slice());
+    same(&rt, told.as_slice(), expected.as_slice());
     Ok(())
 }
 
 #[test]
 fn each_call_on_the_cell_answers(rt: HostRuntime) -> Result<(), Fail> {
-    let mut driver: Driver<u32> = Driver::new(rt.alloc(), Some(1));
-    assert_eq!(rt; driver.or_set(2), Ok(()));
-    assert_eq!(rt; driver.replace(3), Ok(Some(1)));
-    assert_eq!(rt; driver.try_take(), Some(3));
-    assert_eq!(rt; driver.or_set(4), Ok(()));
-    assert_eq!(rt; driver.update(Put(5)), Ok(()));
-    assert_eq!(rt; driver.try_take(), Some(5));
-    assert_eq!(rt; driver.add_owner(), Ok(()));
-    assert_eq!(rt; driver.end_owner(), Ok(()));
-    assert_eq!(rt; driver.end_owner(), Ok(()));
-    assert_eq!(rt; driver.set(6), Err(6));
-    assert_eq!(rt; driver.or_set(6), Err(6));
-    assert_eq!(rt; driver.replace(6), Err(6));
-    assert_eq!(rt; driver.update(Put(6)), Err(Refusal::Closed));
-    assert_eq!(rt; driver.add_owner(), Err(Refusal::Closed));
-    assert_eq!(rt; driver.end_owner(), Err(Refusal::Closed));
+    let mut driver: Bare<u32> = Bare::new(rt.alloc(), Some(1));
+    same(&rt, driver.or_set(2), Ok(()));
+    same(&rt, driver.replace(3), Ok(Some(1)));
+    same(&rt, driver.try_take(), Some(3));
+    same(&rt, driver.or_set(4), Ok(()));
+    same(&rt, driver.update(Put(5)), Ok(()));
+    same(&rt, driver.try_take(), Some(5));
+    same(&rt, driver.add_owner(), Ok(()));
+    same(&rt, driver.end_owner(), Ok(()));
+    same(&rt, driver.end_owner(), Ok(()));
+    same(&rt, driver.set(6), Err(6));
+    same(&rt, driver.or_set(6), Err(6));
+    same(&rt, driver.replace(6), Err(6));
+    same(&rt, driver.update(Put(6)), Err(Refusal::Closed));
+    same(&rt, driver.add_owner(), Err(Refusal::Closed));
+    same(&rt, driver.end_owner(), Err(Refusal::Closed));
     Ok(())
 }
 

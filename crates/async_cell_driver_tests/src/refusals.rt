@@ -1,8 +1,9 @@
 //! Calls that find no memory. scripts/memory.sh runs the tests with each request for memory refused
 //! in turn: where the driver answers the refusal they call again and go on, since only one is
 //! refused. Where that is one of what is made first, the test ends with that error.
+use crate::bare::{Bare, holds, same, same_at};
 use crate::lists::Put;
-use async_cell_driver::{Driver, Event, Kind, Polled, Refusal, Reply, Told};
+use async_cell_driver::{Event, Kind, Polled, Refusal, Reply, Told};
 use std::alloc::{AllocError, Global};
 use std::cell::Cell;
 use std::process::Abort;
@@ -28,7 +29,7 @@ impl Clone for Stubborn<'_> {
 }
 
 /// Starts a task, a second time where the first found no memory.
-fn start<T: Clone>(driver: &mut Driver<T>, kind: Kind) -> Result<usize, Refusal> {
+fn start<T: Clone>(driver: &mut Bare<T>, kind: Kind) -> Result<usize, Refusal> {
     match driver.start(kind) {
         Ok(number) => Ok(number),
         Err(_) => driver.start(kind),
@@ -36,18 +37,18 @@ fn start<T: Clone>(driver: &mut Driver<T>, kind: Kind) -> Result<usize, Refusal>
 }
 
 /// Starts a task before the calls that the test is of.
-fn started<T: Clone>(driver: &mut Driver<T>, kind: Kind) -> Result<usize, AllocError> {
+fn started<T: Clone>(driver: &mut Bare<T>, kind: Kind) -> Result<usize, AllocError> {
     driver.start(kind).map_err(|_| AllocError)
 }
 
 #[test]
 fn a_refused_start_adds_no_task(rt: HostRuntime) -> Result<(), Fail> {
-    let mut driver: Driver<u32> = Driver::new(rt.alloc(), Some(6));
-    assert_eq!(rt; start(&mut driver, Kind::Get)?, 0);
-    assert_eq!(rt; start(&mut driver, Kind::Take)?, 1);
-    assert!(rt; driver.is_ready(1));
-    assert!(rt; !driver.is_ready(2));
-    assert_eq!(rt; driver.poll(1)?, Polled::Ready(Some(6)));
+    let mut driver: Bare<u32> = Bare::new(rt.alloc(), Some(6));
+    same(&rt, start(&mut driver, Kind::Get)?, 0);
+    same(&rt, start(&mut driver, Kind::Take)?, 1);
+    holds(&rt, driver.is_ready(1));
+    holds(&rt, !driver.is_ready(2));
+    same(&rt, driver.poll(1)?, Polled::Ready(Some(6)));
     Ok(())
 }
 
@@ -58,65 +59,66 @@ fn a_task_whose_poll_is_refused_stays_ready(rt: HostRuntime) -> Result<(), Fail>
         number: 8,
         refuses: &refuses,
     };
-    let mut driver = Driver::new(rt.alloc(), Some(value));
+    let mut driver = Bare::new(rt.alloc(), Some(value));
     for number in 0..3usize {
-        assert_eq!(rt; start(&mut driver, Kind::Get)?, number);
+        same(&rt, start(&mut driver, Kind::Get)?, number);
     }
-    assert_eq!(rt; driver.poll(1).err(), Some(Refusal::Memory));
-    assert!(rt; driver.is_ready(1));
-    assert!(rt; !driver.waits(1));
-    assert_eq!(rt; driver.settle().err(), Some(Refusal::Memory));
-    assert!(rt; driver.is_ready(0));
-    assert!(rt; driver.is_ready(2));
+    same(&rt, driver.poll(1).err(), Some(Refusal::Memory));
+    holds(&rt, driver.is_ready(1));
+    holds(&rt, !driver.waits(1));
+    same(&rt, driver.settle().err(), Some(Refusal::Memory));
+    holds(&rt, driver.is_ready(0));
+    holds(&rt, driver.is_ready(2));
     refuses.set(false);
-    assert_eq!(rt; driver.settle()?, 3);
+    same(&rt, driver.settle()?, 3);
     for number in 0..3usize {
         let got = driver.result(number).flatten().map(|value| value.number);
-        assert_eq!(rt; got, Some(8));
+        same(&rt, got, Some(8));
     }
     Ok(())
 }
 
 #[test]
 fn a_taker_that_found_no_memory_is_polled_again(rt: HostRuntime) -> Result<(), Fail> {
-    let mut driver: Driver<u32> = Driver::new(rt.alloc(), None);
-    assert_eq!(rt; started(&mut driver, Kind::Take)?, 0);
-    assert_eq!(rt; started(&mut driver, Kind::Take)?, 1);
-    assert_eq!(rt;
+    let mut driver: Bare<u32> = Bare::new(rt.alloc(), None);
+    same(&rt, started(&mut driver, Kind::Take)?, 0);
+    same(&rt, started(&mut driver, Kind::Take)?, 1);
+    same_at(
+        &rt,
+        &"the first that waits needs no memory",
         driver.poll(0)?,
         Polled::Pending,
-        "the first that waits needs no memory"
     );
     match driver.poll(1) {
         Ok(polled) => {
-            assert_eq!(rt; polled, Polled::Pending);
-            assert!(rt; !driver.is_ready(1));
+            same(&rt, polled, Polled::Pending);
+            holds(&rt, !driver.is_ready(1));
         }
         Err(why) => {
-            assert_eq!(rt; why, Refusal::Memory);
-            assert!(rt; driver.is_ready(1));
-            assert!(rt; !driver.waits(1));
-            assert_eq!(rt; driver.settle()?, 1);
+            same(&rt, why, Refusal::Memory);
+            holds(&rt, driver.is_ready(1));
+            holds(&rt, !driver.waits(1));
+            same(&rt, driver.settle()?, 1);
         }
     }
-    assert!(rt; driver.waits(0));
-    assert!(rt; driver.waits(1));
+    holds(&rt, driver.waits(0));
+    holds(&rt, driver.waits(1));
     Ok(())
 }
 
 #[test]
 fn takers_find_the_room_that_was_made(rt: HostRuntime) -> Result<(), Fail> {
-    let mut driver: Driver<u32> = Driver::new(rt.alloc(), None);
+    let mut driver: Bare<u32> = Bare::new(rt.alloc(), None);
     for number in 0..3usize {
-        assert_eq!(rt; started(&mut driver, Kind::Take)?, number);
+        same(&rt, started(&mut driver, Kind::Take)?, number);
     }
     if driver.reserve(3).is_err() {
-        assert_eq!(rt; driver.reserve(3), Ok(()));
+        same(&rt, driver.reserve(3), Ok(()));
     }
-    assert_eq!(rt; driver.settle(), Ok(3));
+    same(&rt, driver.settle(), Ok(3));
     for number in 0..3usize {
-        assert!(rt; driver.waits(number));
-        assert!(rt; !driver.is_ready(number));
+        holds(&rt, driver.waits(number));
+        holds(&rt, !driver.is_ready(number));
     }
     Ok(())
 }
@@ -124,12 +126,12 @@ fn takers_find_the_room_that_was_made(rt: HostRuntime) -> Result<(), Fail> {
 /// Calls that have memory are not refused it.
 #[test]
 fn room_is_made_whatever_the_cell_holds(rt: HostRuntime) -> Result<(), Fail> {
-    let mut driver = Driver::new(rt.alloc(), Some(1u32));
-    assert_eq!(rt; driver.reserve(3), Ok(()));
-    assert_eq!(rt; driver.try_take(), Some(1));
-    assert_eq!(rt; driver.reserve(3), Ok(()));
-    assert_eq!(rt; driver.end_owner(), Ok(()));
-    assert_eq!(rt; driver.reserve(3), Ok(()));
+    let mut driver = Bare::new(rt.alloc(), Some(1u32));
+    same(&rt, driver.reserve(3), Ok(()));
+    same(&rt, driver.try_take(), Some(1));
+    same(&rt, driver.reserve(3), Ok(()));
+    same(&rt, driver.end_owner(), Ok(()));
+    same(&rt, driver.reserve(3), Ok(()));
     Ok(())
 }
 
@@ -196,15 +198,15 @@ fn told_without_memory_at(refused: Option<usize>) -> [Told<u32>; 10] {
 fn apply_or_again(
     rt: &impl Abort,
     alloc: Global,
-    driver: &mut Driver<u32>,
+    driver: &mut Bare<u32>,
     list: &[Event<u32, Put>],
 ) -> Result<Vec<Told<u32>>, Fail> {
     match driver.apply(list.to_vec(alloc)?) {
         Ok(told) => Ok(told),
         Err(back) => {
-            assert_eq!(rt; back.as_slice(), list);
-            assert!(rt; !driver.is_ready(0), "no task was started");
-            assert_eq!(rt; driver.try_take(), None);
+            same(rt, back.as_slice(), list);
+            same_at(rt, &"no task was started", driver.is_ready(0), false);
+            same(rt, driver.try_take(), None);
             Ok(driver.apply(back).ok().ok_or("refused twice")?)
         }
     }
@@ -218,13 +220,13 @@ fn refused_at(told: &[Told<u32>]) -> Option<usize> {
 
 #[test]
 fn a_list_that_finds_no_memory_comes_back_or_forgets_nobody(rt: HostRuntime) -> Result<(), Fail> {
-    let mut driver: Driver<u32> = Driver::new(rt.alloc(), None);
+    let mut driver: Bare<u32> = Bare::new(rt.alloc(), None);
     let told = apply_or_again(&rt, rt.alloc(), &mut driver, events().as_slice())?;
     let expected = told_without_memory_at(refused_at(told.as_slice()));
-    assert_eq!(rt; told.as_slice(), expected.as_slice());
+    same(&rt, told.as_slice(), expected.as_slice());
     let forgotten = (0..3usize).any(|i| driver.waits(i) && !driver.is_ready(i));
     let full = driver.try_take().is_some();
-    assert!(rt; !(full && forgotten));
+    holds(&rt, !(full && forgotten));
     Ok(())
 }
 
@@ -237,18 +239,16 @@ fn forgets_nobody(
 ) -> Result<(), Fail> {
     let mut list = events().to_vec(alloc)?;
     list.push(last)?;
-    let mut driver: Driver<u32> = Driver::new(alloc, None);
+    let mut driver: Bare<u32> = Bare::new(alloc, None);
     let told = apply_or_again(rt, alloc, &mut driver, list.as_slice())?;
     let mut expected = told_without_memory_at(refused_at(told.as_slice())).to_vec(alloc)?;
     expected.push(last_told)?;
-    assert_eq!(rt; told.as_slice(), expected.as_slice());
+    same(rt, told.as_slice(), expected.as_slice());
     for number in 0..3usize {
-        assert!(rt;
-            !driver.waits(number) || driver.is_ready(number),
-            "task {number}"
-        );
+        let is_forgotten = driver.waits(number) && !driver.is_ready(number);
+        same_at(rt, &number, is_forgotten, false);
     }
-    assert!(rt; driver.is_ready(1), "it took nothing");
+    same_at(rt, &"it took nothing", driver.is_ready(1), true);
     Ok(())
 }
 

@@ -1,4 +1,5 @@
 //! How events and their outcomes are printed, and which of them are equal.
+use crate::bare::{holds, same};
 use crate::lists::Put;
 use async_cell_driver::{Event, Kind, Polled, Refusal, Reply, Told};
 use std::test::Fail;
@@ -47,16 +48,16 @@ fn all_differ<T: PartialEq>(all: &[T]) -> bool {
 
 #[test]
 fn events_are_printed_and_compared_by_all_that_they_hold(rt: HostRuntime) -> Result<(), Fail> {
-    assert!(rt; all_differ(EVENTS.as_slice()));
+    holds(&rt, all_differ(EVENTS.as_slice()));
     let text = format!(in rt.alloc(); "{:?}", EVENTS.as_slice())?;
-    assert_eq!(rt; text.as_str(), EVENTS_TEXT);
+    same(&rt, text.as_str(), EVENTS_TEXT);
     Ok(())
 }
 
 #[test]
 fn outcomes_are_printed_and_compared_by_all_that_they_hold(rt: HostRuntime) -> Result<(), Fail> {
-    assert!(rt; all_differ(TOLD.as_slice()));
+    holds(&rt, all_differ(TOLD.as_slice()));
     let text = format!(in rt.alloc(); "{:?}", TOLD.as_slice())?;
-    assert_eq!(rt; text.as_str(), TOLD_TEXT);
+    same(&rt, text.as_str(), TOLD_TEXT);
     Ok(())
 }

@@ -11,7 +11,13 @@ mod drops;
 #[cfg(test)]
 mod first;
 #[cfg(test)]
+mod four_threads;
+#[cfg(test)]
 mod guards;
+#[cfg(test)]
+mod left;
+#[cfg(test)]
+mod left_places;
 #[cfg(test)]
 mod locked_calls;
 #[cfg(test)]
@@ -30,6 +36,8 @@ mod owners;
 mod owning;
 #[cfg(test)]
 mod places;
+#[cfg(test)]
+mod slow_wakes;
 #[cfg(test)]
 mod stream;
 #[cfg(test)]

@@ -21,7 +21,7 @@ where
 }
 
 /// Polls the future, which has to wait.
-fn waits<F: Future<Output: Drop>>(rt: &impl Abort, future: &mut F, flag: &MockTask)
+pub fn waits<F: Future<Output: Drop>>(rt: &impl Abort, future: &mut F, flag: &MockTask)
     requires { F.can_poll future.old }
 {
     assert!(rt; matches!(flag.poll(future), Poll::Pending));
@@ -34,7 +34,7 @@ fn is_open<R: Abort + Copy + Wait>(rt: &R, weak: &WeakOwner<u32, R>, expected: b
 }
 
 /// Drops an owner, a guard or a future.
-fn end<P: Drop>(_: P) {}
+pub fn end<P: Drop>(_: P) {}
 
 /// One owner more.
 fn more<T: Drop, R: Abort + Copy + Wait>(owner: &Owner<T, R>, rt: R) -> Owner<T, R> {

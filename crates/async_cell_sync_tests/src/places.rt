@@ -152,9 +152,9 @@ const TURNS: u32 = 10_000_000;
 
 /// A future that asks for another poll, so many times, before it relies on its waker.
 #[derive(Drop)]
-struct Restless<F> {
-    future: F,
-    left: u32,
+pub struct Restless<F> {
+    pub future: F,
+    pub left: u32,
 }
 
 impl<F: Future> Future for Restless<F> {

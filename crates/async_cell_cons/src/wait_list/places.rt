@@ -97,11 +97,7 @@ impl WaitList<TaskWaker> {
     /// Stores a waker in the place, or in a free place that is taken over, and returns what was
     /// there. If there is neither, the waker is returned in the error.
     #[inline(never)]
-    fn exchange_at(
-        &mut self,
-        place: &mut Place,
-        waker: TaskWaker,
-    ) -> Result<TaskWaker, TaskWaker>
+    fn exchange_at(&mut self, place: &mut Place, waker: TaskWaker) -> Result<TaskWaker, TaskWaker>
         ensures unchanged { self.new ≡ self.old }
         ensures not_in_an_empty_list { self.old.wakers ≡ [] → IsErr result }
     {

@@ -1,0 +1,178 @@
+//! Two threads take what a third one sets, while a fourth makes, drops and cancels futures that wait
+//! on the same cell. No wake is lost: each of the two takes one value in each round, so the second
+//! value of a round waits for one thread alone.
+//!
+//! The gate runs a thousand rounds. Where the polls of the cell were changed, set `ROUNDS` to 10,000
+//! and run `rt try --test --only four_threads` in this crate: it takes a few seconds.
+use crate::checks::{holds, same};
+use crate::owner::first;
+use crate::places::Restless;
+use crate::ticks::{task, tick_mut};
+use async_cell_sync::{Owner, WeakOwner};
+use futures::FutureExt;
+use futures::executor::block_on;
+use futures::test::MockTask;
+use std::alloc::AllocGlobal;
+use std::process::Abort;
+use std::random::RandomSource;
+use std::sync::Wait;
+use std::sync::atomic::{AtomicBool, AtomicU64, Ordering};
+use std::thread;
+
+/// How many rounds the gate runs.
+const ROUNDS: u64 = 1_000;
+
+/// How often a thread looks for what the others do before it gives up.
+const TURNS: u32 = 10_000_000;
+
+/// What the threads of a run know of each other.
+#[derive(Drop)]
+struct Run {
+    rounds: u64,
+    /// How many values were taken.
+    taken: AtomicU64,
+    /// Whether the last value was set, or a thread gave up.
+    is_over: AtomicBool,
+}
+
+impl Run {
+    fn new(rounds: u64) -> Run {
+        Run {
+            rounds,
+            taken: AtomicU64::new(0),
+            is_over: AtomicBool::new(false),
+        }
+    }
+
+    fn is_over(&self) -> bool {
+        self.is_over.load(Ordering::SeqCst)
+    }
+
+    /// Whether so many values were taken. It gives up after its turns, and when the run is over.
+    fn are_taken(&self, count: u64) -> bool {
+        for _ in 0..TURNS {
+            let is_over = self.is_over();
+            if self.taken.load(Ordering::SeqCst) >= count {
+                return true;
+            }
+            if is_over {
+                return false;
+            }
+            thread::yield_now();
+        }
+        false
+    }
+
+    /// Counts a value as taken, and waits for the other thread's value of the same round.
+    fn end_round(&self, round: u64) -> bool {
+        self.taken.fetch_add(1, Ordering::SeqCst);
+        self.are_taken(round.saturating_add(1).saturating_mul(2))
+    }
+}
+
+/// Takes a value: by a future that is dropped if it waits, and then by one that is polled again some
+/// times before it relies on its waker. `None` if the cell is closed, or a poll failed.
+fn take_one<R>(weak: &WeakOwner<u32, R>, again: u32, rt: &R) -> Option<u32>
+where
+    R: Wait + Copy + RandomSource + AllocGlobal,
+{
+    if let Some(answer) = weak.take().now_or_never(rt).ok()? {
+        return answer.ok()?;
+    }
+    let future = weak.take();
+    let left = again;
+    block_on(rt, Restless { future, left }).ok()?.ok()?
+}
+
+/// Takes one value in each round, up to the close. Returns how many it took.
+fn take_each<R>(weak: &WeakOwner<u32, R>, run: &Run, rt: &R) -> u64
+where
+    R: Wait + Copy + RandomSource + AllocGlobal,
+{
+    for round in 0..=run.rounds {
+        let again = u32::try_from(round % 7).unwrap_or(0);
+        if take_one(weak, again, rt).is_none() {
+            return round;
+        }
+        if !run.end_round(round) {
+            return round;
+        }
+    }
+    run.rounds
+}
+
+/// Sets two values, each once the one before is taken. Returns whether both were taken.
+fn set_two<R: Wait + Copy>(owner: &Owner<u32, R>, run: &Run, round: u64) -> bool {
+    let before = round.saturating_mul(2);
+    owner.set(1);
+    if !run.are_taken(before.saturating_add(1)) {
+        return false;
+    }
+    owner.set(2);
+    run.are_taken(before.saturating_add(2))
+}
+
+/// Sets two values in each round, and then ends the owner. Returns whether all were taken.
+fn set_each<R: Wait + Copy>(owner: Owner<u32, R>, run: &Run) -> bool {
+    let are_taken = (0..run.rounds).all(|round| set_two(&owner, run, round));
+    run.is_over.store(true, Ordering::SeqCst);
+    are_taken
+}
+
+/// Makes three getters that wait, and cancels one of them, drops the others, and lets go of what
+/// they leave now and then.
+fn disturb<R: Wait + Copy>(owner: &Owner<u32, R>, flag: &MockTask, turn: u32) {
+    let (mut first, mut second, mut third) = (owner.get(), owner.get(), owner.get());
+    let _ = tick_mut(&mut first, flag);
+    let _ = tick_mut(&mut second, flag);
+    let _ = tick_mut(&mut third, flag);
+    let _ = tick_mut(&mut second, flag);
+    match turn % 4 {
+        0 => first.cancel(),
+        1 => second.cancel(),
+        2 => drop(first),
+        _ => owner.purge(),
+    }
+}
+
+/// Disturbs the others until the run is over. Then it ends the owner.
+fn disturb_all<R>(owner: Owner<u32, R>, run: &Run, rt: &R)
+where
+    R: Wait + Copy + RandomSource + AllocGlobal + Abort,
+{
+    let flag = task(rt);
+    for turn in 0..u32::MAX {
+        if run.is_over() {
+            return;
+        }
+        disturb(&owner, &flag, turn);
+    }
+}
+
+#[test]
+fn no_wake_is_lost_while_a_fourth_thread_drops_and_cancels(rt: HostRuntime) {
+    let run = Run::new(ROUNDS);
+    let setter: Owner<u32, _> = first(rt);
+    let other = setter.another().expect(&rt, "an owner");
+    let weak = setter.downgrade();
+    let ((first, second), (are_taken, ())) = thread::join(
+        &rt,
+        || {
+            thread::join(
+                &rt,
+                || take_each(&weak, &run, &rt),
+                || take_each(&weak, &run, &rt),
+            )
+        },
+        || {
+            thread::join(
+                &rt,
+                || set_each(setter, &run),
+                || disturb_all(other, &run, &rt),
+            )
+        },
+    );
+    holds(&rt, are_taken);
+    same(&rt, first, ROUNDS);
+    same(&rt, second, ROUNDS);
+}
