@@ -44,6 +44,10 @@ async_cell_sync_tests      memory::each_future_that_waits_holds_a_place
 async_cell_sync_tests      memory::a_stream_without_memory_tells_it_and_goes_on
 async_cell_sync_tests      memory::a_refused_new_owner_is_none
 async_cell_sync_tests      locked_core::polls_find_the_room_that_was_made
+async_cell_sync_tests      left_places::a_future_whose_first_wait_was_refused_is_usable
+async_cell_sync_tests      left_places::a_future_whose_wait_was_refused_shares_no_place
+async_cell_sync_tests      left_places::a_future_whose_wait_was_refused_leaves_no_waker
+async_cell_sync_tests      left_places::a_place_that_was_taken_over_without_memory_is_left_again
 async_cell_recorded_tests  memory::a_recorded_call_without_memory_leaves_no_entry
 async_cell_recorded_tests  memory::a_recorded_wait_without_memory_is_not_handed_out
 async_cell_recorded_tests  memory::a_step_without_memory_does_not_count

@@ -49,9 +49,10 @@ fn to_let_go_of_a_waker_leaves_those_of_the_others(rt: HostRuntime) {
         for index in [0, 1, 2, 3] {
             drop(core.take_left(index));
         }
-        let others = [0, 1, 2usize].into_iter().filter(|index| *index != free);
-        for index in others {
-            is_waker_of(&rt, core.take_back(&mut places[index]), &tasks[index]);
+        for index in 0..3usize {
+            if index != free {
+                is_waker_of(&rt, core.take_back(&mut places[index]), &tasks[index]);
+            }
         }
     }
 }

@@ -3,7 +3,7 @@
 use crate::shared::same;
 use crate::tasks::{
     Awaited, add, added, are_woken_in_order, each_is_woken, fill_and_empty, is_nobodys,
-    is_waker_of, leave, store, stored, taken_over, task, three_places, three_tasks, woken,
+    is_waker_of, leave, store, stored, taken_over, task, three_places, three_tasks, try_store, woken,
 };
 use async_cell_core::{Core, Place, TaskWaker};
 use futures::task::Source;
@@ -140,9 +140,11 @@ fn four_are_stored(rt: &impl Abort, core: &mut Awaited, tasks: &[MockTask; 4]) {
     same(rt, "woken", woken(tasks), 0);
     let mut held = [false; 4];
     for place in places {
-        match core.leave(place).and_then(|index| held.get_mut(index)) {
-            Some(held) => *held = true,
-            None => panic!(rt; "a place is not held"),
+        let Some(index) = core.leave(place) else {
+            panic!(rt; "a place is not held");
+        };
+        if let Some(held) = held.get_mut(index) {
+            *held = true;
         }
     }
     same(rt, "held", held, [true; 4]);
@@ -310,13 +312,13 @@ fn a_value_wakes_those_whose_wakers_are_stored_in_order(rt: HostRuntime) {
     let mut core = Core::new(rt.alloc());
     let mut places = three_places(&rt, &mut core, &tasks);
     let before = store(&rt, &mut core, &mut places[0], &again);
-    is_waker_of(&rt, before.and_then(TaskWaker::into_waker), &tasks[0]);
+    is_waker_of(&rt, before.and_then(|before| before.into_waker()), &tasks[0]);
     leave(&rt, &mut core, &mut places, 1);
     let (_place, before) = taken_over(&rt, &mut core, &next);
     is_waker_of(&rt, before, &tasks[1]);
     match core.set(7) {
         Ok(wakers) => are_woken_in_order(&rt, wakers, &[&again, &next, &tasks[2]]),
-        Err(_) => panic!(&rt; "set is refused"),
+        Err(_) => panic!(rt; "set is refused"),
     }
     same(&rt, "waiting", core.waiting(), 0);
 }
@@ -336,17 +338,14 @@ fn a_waker_without_memory_for_its_place_comes_back(rt: HostRuntime) -> Result<()
     let (early, late) = (register(&first)?, register(&second)?);
     let (mut place, mut next) = (Place::new(), Place::new());
     let mut core = Core::new(rt.alloc());
-    same(&rt, "first", core.store(&mut place, early).is_ok(), true);
-    if let Err(back) = core.store(&mut next, late) {
+    let added = try_store(&rt, &mut core, &mut place, early);
+    same(&rt, "first", added.is_ok(), true);
+    if let Err(back) = try_store(&rt, &mut core, &mut next, late) {
         same(&rt, "held", next.was_held(), false);
         same(&rt, "waiting", core.waiting(), 1);
         is_waker_of(&rt, back.into_waker(), &second);
-        same(
-            &rt,
-            "taken over",
-            store(&rt, &mut core, &mut next, &second).is_some(),
-            false,
-        );
+        let before = store(&rt, &mut core, &mut next, &second);
+        same(&rt, "taken over", before.is_some(), false);
     }
     same(&rt, "waiting", core.waiting(), 2);
     is_waker_of(&rt, core.take_back(&mut place), &first);

@@ -31,6 +31,17 @@ pub fn add(rt: &impl Abort, core: &mut Awaited, task: &MockTask) {
     same(rt, "added", core.add(waker).is_ok(), true);
 }
 
+/// Stores the waker in the place, and returns what was there, or the waker if there is no memory.
+pub fn try_store(
+    rt: &impl Abort,
+    core: &mut Awaited,
+    place: &mut Place,
+    waker: TaskWaker,
+) -> Result<Option<TaskWaker>, TaskWaker> {
+    assert!(rt; core.is_vacant());
+    core.store(place, waker)
+}
+
 /// Stores a new waker of the task in the place, and returns what was there.
 pub fn store(
     rt: &impl Abort,
@@ -38,9 +49,7 @@ pub fn store(
     place: &mut Place,
     task: &MockTask,
 ) -> Option<TaskWaker> {
-    let waker = waker_of(rt, task);
-    assert!(rt; core.is_vacant());
-    match core.store(place, waker) {
+    match try_store(rt, core, place, waker_of(rt, task)) {
         Ok(before) => before,
         Err(_) => panic!(rt; "there is memory for a place"),
     }
@@ -132,15 +141,18 @@ pub fn fill_and_empty(rt: &impl Abort, core: &mut Awaited) {
 
 /// Asserts that all who wait are woken by a value, one by each waker.
 pub fn each_is_woken(rt: &impl Abort, core: &mut Awaited, tasks: &[MockTask]) {
-    let Ok(wakers) = core.set(7) else {
+    let Ok(mut wakers) = core.set(7) else {
         panic!(rt; "set is refused");
     };
-    same(rt, "wakers", wakers.len(), tasks.len());
-    for (before, waker) in wakers.enumerate() {
+    for before in 0..tasks.len() {
         same(rt, "woken", woken(tasks), before);
-        waker.wake();
+        match wakers.next() {
+            Some(waker) => waker.wake(),
+            None => panic!(rt; "there is no waker"),
+        }
     }
     same(rt, "woken", woken(tasks), tasks.len());
+    same(rt, "wakers", wakers.len(), 0);
 }
 
 /// Asserts that the wakers that are left wake these tasks in order, one by each, and nobody else.

@@ -165,8 +165,8 @@ impl<T: Clone> Driver<T> {
     }
 }
 
-/// Polls the core for a task of this kind, whose name does not wait. So a poll that has to wait adds
-/// it without a look at those that do.
+/// Polls the core for a task of this kind, whose name does not wait. So a poll that has to wait
+/// adds it without a look at those that do.
 #[tactic(auto, using(crate::proofs::Polling::sure_anyway, async_cell_model::proofs::UpTo::up_to_clones))]
 fn ask<T: Clone>(
     core: &mut Core<T, Named>,

@@ -1,9 +1,10 @@
-//! Two threads take what a third one sets, while a fourth makes, drops and cancels futures that wait
-//! on the same cell. No wake is lost: each of the two takes one value in each round, so the second
-//! value of a round waits for one thread alone.
+//! Two threads take what a third one sets, while a fourth makes, drops and cancels futures that
+//! wait on the same cell. No wake is lost: each of the two takes one value in each round, so the
+//! second value of a round waits for one thread alone. If its wake were lost, the setter would give
+//! up after its turns, and the run would end early.
 //!
-//! The gate runs a thousand rounds. Where the polls of the cell were changed, set `ROUNDS` to 10,000
-//! and run `rt try --test --only four_threads` in this crate: it takes a few seconds.
+//! The gate runs two hundred rounds. Where the polls of a cell were changed, set `ROUNDS` to 10,000
+//! and run `rt try --test` in this crate: on a busy machine the test then takes 40 seconds.
 use crate::checks::{holds, same};
 use crate::owner::first;
 use crate::places::Restless;
@@ -20,7 +21,7 @@ use std::sync::atomic::{AtomicBool, AtomicU64, Ordering};
 use std::thread;
 
 /// How many rounds the gate runs.
-const ROUNDS: u64 = 1_000;
+const ROUNDS: u64 = 200;
 
 /// How often a thread looks for what the others do before it gives up.
 const TURNS: u32 = 10_000_000;
@@ -70,8 +71,8 @@ impl Run {
     }
 }
 
-/// Takes a value: by a future that is dropped if it waits, and then by one that is polled again some
-/// times before it relies on its waker. `None` if the cell is closed, or a poll failed.
+/// Takes a value: by a future that is dropped if it waits, and then by one that is polled again
+/// some times before it relies on its waker. `None` if the cell is closed, or a poll failed.
 fn take_one<R>(weak: &WeakOwner<u32, R>, again: u32, rt: &R) -> Option<u32>
 where
     R: Wait + Copy + RandomSource + AllocGlobal,

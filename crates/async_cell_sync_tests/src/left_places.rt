@@ -1,5 +1,5 @@
-//! Places and memory. A refused wait leaves its future without a place, and a place that was left is
-//! taken over without memory. The tests hold whichever request is refused, and scripts/memory.sh
+//! Places and memory. A refused wait leaves its future without a place, and a place that was left
+//! is taken over without memory. The tests hold whichever request is refused, and scripts/memory.sh
 //! refuses each in turn. Where that is one of what is made first, the test ends with that error.
 use crate::checks::{holds, same};
 use crate::owner::waits;

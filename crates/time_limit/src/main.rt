@@ -1,5 +1,5 @@
-//! A reply with a time limit, and no timer but a thread: it sleeps, and then notifies a cell. A wait
-//! that loses has taken nothing, and goes on.
+//! A reply with a time limit, and no timer but a thread: it sleeps, and then notifies a cell. A
+//! wait that loses has taken nothing, and goes on.
 #![tactic(auto)]
 
 use anyhow::Result;

@@ -1,6 +1,6 @@
 //! The places of futures in a wait list. A future takes its waker back from its place, and stores
-//! it again; one that is dropped leaves its place free, with the waker in it. The free places form a
-//! list: each has the number of the next one, counted from 1, beside its waker.
+//! it again; one that is dropped leaves its place free, with the waker in it. The free places form
+//! a list: each has the number of the next one, counted from 1, beside its waker.
 ghost use Rattle.std.specs.Prelude.{◌≡◌, [], ◌∷◌, ◌++◌, IsErr, IfOk, IfErr, OnErr, MatchOption};
 
 use super::WaitList;
