@@ -3,7 +3,8 @@
 use crate::shared::same;
 use crate::tasks::{
     Awaited, add, added, are_woken_in_order, each_is_woken, fill_and_empty, is_nobodys,
-    is_waker_of, leave, store, stored, taken_over, task, three_places, three_tasks, try_store, woken,
+    is_waker_of, leave, store, stored, taken_over, task, three_places, three_tasks, try_store,
+    woken,
 };
 use async_cell_core::{Core, Place, TaskWaker};
 use futures::task::Source;
@@ -312,7 +313,11 @@ fn a_value_wakes_those_whose_wakers_are_stored_in_order(rt: HostRuntime) {
     let mut core = Core::new(rt.alloc());
     let mut places = three_places(&rt, &mut core, &tasks);
     let before = store(&rt, &mut core, &mut places[0], &again);
-    is_waker_of(&rt, before.and_then(|before| before.into_waker()), &tasks[0]);
+    is_waker_of(
+        &rt,
+        before.and_then(|before| before.into_waker()),
+        &tasks[0],
+    );
     leave(&rt, &mut core, &mut places, 1);
     let (_place, before) = taken_over(&rt, &mut core, &next);
     is_waker_of(&rt, before, &tasks[1]);

@@ -91,7 +91,11 @@ where
     R: Wait + Copy + RandomSource + AllocGlobal,
 {
     for round in 0..=run.rounds {
-        let again = u32::try_from(round % 7).unwrap_or(0);
+        let again = match round % 3 {
+            0 => 0,
+            1 => 20,
+            _ => 200,
+        };
         if take_one(weak, again, rt).is_none() {
             return round;
         }
@@ -102,13 +106,22 @@ where
     run.rounds
 }
 
+/// Lets the other threads run, so that what comes next comes at another moment of their polls.
+fn pause(turns: u64) {
+    for _ in 0..turns {
+        thread::yield_now();
+    }
+}
+
 /// Sets two values, each once the one before is taken. Returns whether both were taken.
 fn set_two<R: Wait + Copy>(owner: &Owner<u32, R>, run: &Run, round: u64) -> bool {
     let before = round.saturating_mul(2);
+    pause(round % 50);
     owner.set(1);
     if !run.are_taken(before.saturating_add(1)) {
         return false;
     }
+    pause(round % 7);
     owner.set(2);
     run.are_taken(before.saturating_add(2))
 }

@@ -37,8 +37,6 @@ mod owning;
 #[cfg(test)]
 mod places;
 #[cfg(test)]
-mod slow_wakes;
-#[cfg(test)]
 mod stream;
 #[cfg(test)]
 mod texts;

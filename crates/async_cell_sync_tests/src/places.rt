@@ -123,6 +123,28 @@ fn a_place_of_a_past_round_is_not_taken_again(rt: HostRuntime) {
     holds(&rt, !now.is_woken()); // its waker stays in its place
 }
 
+#[test]
+fn a_future_of_a_past_round_takes_over_a_free_place_and_no_other(rt: HostRuntime) {
+    let cell: AsyncCell<u32> = AsyncCell::new(rt.alloc());
+    let (past, now, left) = (task(&rt), task(&rt), task(&rt));
+    let mut getter = cell.get().with(&rt);
+    holds(&rt, tick_mut(&mut getter, &past).is_pending());
+    cell.set(7, &rt);
+    same(&rt, cell.try_take(&rt), Some(7));
+    let mut taker = cell.take().with(&rt);
+    let mut other = cell.take().with(&rt);
+    holds(&rt, tick_mut(&mut taker, &now).is_pending());
+    holds(&rt, tick_mut(&mut other, &left).is_pending());
+    drop(other);
+    holds(&rt, tick_mut(&mut getter, &past).is_pending());
+    holds(&rt, !now.is_woken()); // its waker stays in its place
+    holds(&rt, left.is_woken()); // its waker was dropped
+    same(&rt, cell.waiting(&rt), 2);
+    cell.set(8, &rt);
+    holds(&rt, now.is_woken());
+    holds(&rt, past.is_woken());
+}
+
 /// Polls a taker and a getter of the owner's cell twice: they wait. Then they are dropped.
 fn wait_and_leave(shared: &Shared<u32>, flag: &MockTask, rt: &(impl Abort + Wait)) {
     let mut taker = weak_taker(shared).with(rt);
