@@ -18,13 +18,13 @@ use std::process::Abort;
 use std::random::RandomSource;
 use std::sync::Wait;
 use std::sync::atomic::{AtomicBool, AtomicU64, Ordering};
-use std::thread;
+use std::{hint, thread};
 
 /// How many rounds the gate runs.
 const ROUNDS: u64 = 200;
 
 /// How often a thread looks for what the others do before it gives up.
-const TURNS: u32 = 10_000_000;
+const TURNS: u32 = 100_000_000;
 
 /// What the threads of a run know of each other.
 #[derive(Drop)]
@@ -51,7 +51,7 @@ impl Run {
 
     /// Whether so many values were taken. It gives up after its turns, and when the run is over.
     fn are_taken(&self, count: u64) -> bool {
-        for _ in 0..TURNS {
+        for turn in 0..TURNS {
             let is_over = self.is_over();
             if self.taken.load(Ordering::SeqCst) >= count {
                 return true;
@@ -59,7 +59,9 @@ impl Run {
             if is_over {
                 return false;
             }
-            thread::yield_now();
+            if turn % 16 == 15 {
+                thread::yield_now();
+            }
         }
         false
     }
@@ -106,22 +108,22 @@ where
     run.rounds
 }
 
-/// Lets the other threads run, so that what comes next comes at another moment of their polls.
+/// Waits a little, so that the next value comes at another moment of the polls.
 fn pause(turns: u64) {
     for _ in 0..turns {
-        thread::yield_now();
+        hint::spin_loop();
     }
 }
 
 /// Sets two values, each once the one before is taken. Returns whether both were taken.
 fn set_two<R: Wait + Copy>(owner: &Owner<u32, R>, run: &Run, round: u64) -> bool {
     let before = round.saturating_mul(2);
-    pause(round % 50);
+    pause((round % 50).saturating_mul(50));
     owner.set(1);
     if !run.are_taken(before.saturating_add(1)) {
         return false;
     }
-    pause(round % 7);
+    pause((round % 7).saturating_mul(7));
     owner.set(2);
     run.are_taken(before.saturating_add(2))
 }
@@ -160,6 +162,9 @@ where
             return;
         }
         disturb(&owner, &flag, turn);
+        if turn % 4 == 3 {
+            thread::yield_now();
+        }
     }
 }
 
