@@ -95,8 +95,8 @@ where
     for round in 0..=run.rounds {
         let again = match round % 3 {
             0 => 0,
-            1 => 20,
-            _ => 200,
+            1 => 1,
+            _ => 9,
         };
         if take_one(weak, again, rt).is_none() {
             return round;
@@ -135,19 +135,22 @@ fn set_each<R: Wait + Copy>(owner: Owner<u32, R>, run: &Run) -> bool {
     are_taken
 }
 
-/// Makes three getters that wait, and cancels one of them, drops the others, and lets go of what
-/// they leave now and then.
-fn disturb<R: Wait + Copy>(owner: &Owner<u32, R>, flag: &MockTask, turn: u32) {
-    let (mut first, mut second, mut third) = (owner.get(), owner.get(), owner.get());
+/// Makes getters that wait, drops some of them and cancels another. A waker that is left is all that
+/// is left of its executor, so whoever takes over its place is busy for a while.
+fn disturb<R>(owner: &Owner<u32, R>, flag: &MockTask, turn: u32, rt: &R)
+where
+    R: Wait + Copy + RandomSource + AllocGlobal,
+{
+    let (mut first, mut second) = (owner.get(), owner.get());
     let _ = tick_mut(&mut first, flag);
     let _ = tick_mut(&mut second, flag);
-    let _ = tick_mut(&mut third, flag);
+    let _ = owner.get().now_or_never(rt);
+    let _ = owner.get().now_or_never(rt);
     let _ = tick_mut(&mut second, flag);
-    match turn % 4 {
-        0 => first.cancel(),
-        1 => second.cancel(),
-        2 => drop(first),
-        _ => owner.purge(),
+    match turn % 64 {
+        0 => owner.purge(),
+        odd if odd % 2 == 1 => first.cancel(),
+        _ => second.cancel(),
     }
 }
 
@@ -161,7 +164,7 @@ where
         if run.is_over() {
             return;
         }
-        disturb(&owner, &flag, turn);
+        disturb(&owner, &flag, turn, rt);
         if turn % 4 == 3 {
             thread::yield_now();
         }
