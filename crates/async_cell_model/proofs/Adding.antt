@@ -1,7 +1,6 @@
 -- What one more waker makes of a wait list, and the wait lists of longer lists.
-use Rattle.std.proofs.Common.{◌≡◌, ◌≤◌, ◌<◌, ◌⊎◌, inl, inr, ℕ, Bool, true, false, not, ◌||◌, List, [], ◌∷◌, ◌++◌, length, get_or, refl, ap, sym, subst, ◌∙◌, arith, le_refl, le_trans, append-nil, length-append}
-use Rattle.std.specs.Prelude.{◌≢◌, if◌then◌else◌, filter, fold, Contains, AllPairs}
-use Rattle.std.specs.List.{list_any}
+use Rattle.std.proofs.Common.{◌≡◌, ◌≤◌, ◌<◌, inl, inr, ℕ, Bool, true, false, not, ◌||◌, List, [], ◌∷◌, ◌++◌, length, get_or, refl, ap, sym, subst, ◌∙◌, arith, le_refl, le_trans, length-append}
+use Rattle.std.specs.Prelude.{◌≢◌, if◌then◌else◌, filter, fold, AllPairs}
 use Rattle.std.proofs.lemmas.List.Sums.{fold-append}
 use Rattle.std.proofs.lemmas.List.Folds.{list_any-append, list_any_at}
 use Rattle.std.proofs.lemmas.List.Elements.{Contains-append_left, Contains-push}

@@ -6,7 +6,6 @@ use Rattle.async_cell_model.specs.declared.entry.Kept.{Kept}
 use Rattle.async_cell_model.specs.declared.entry.Kept.TheVariants.{TryGet, PollGet}
 use Rattle.async_cell_model.specs.declared.reply.Reply.{Reply}
 use Rattle.async_cell_model.specs.declared.reply.Reply.TheVariants.{Value, Ready}
-use Rattle.async_cell_model.specs.Step.{reply}
 use Rattle.async_cell_model.specs.History.{State, History}
 use Rattle.async_cell_model.specs.Clones.{IsExact, IsCloned, UpToClones, copies, is_copy}
 use Rattle.async_cell_model.specs.Legal.{IsLegalAfterBy, IsLegalAfter, Runs, RunsUpTo}

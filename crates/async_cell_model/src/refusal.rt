@@ -1,6 +1,6 @@
 use std::alloc::AllocError;
 use std::error::Error;
-use std::fmt;
+use std::{fmt, io};
 
 /// The reason why a call was refused. A refused call changes nothing.
 #[derive(Clone, Copy, Debug, PartialEq, Eq)]
@@ -20,16 +20,23 @@ pub enum Refusal {
     ShareMissing,
 }
 
-impl fmt::Display for Refusal {
-    fn fmt<W: fmt::Write>(&self, f: &mut fmt::Formatter<W>) -> fmt::Result {
-        f.write_str(match self {
+impl Refusal {
+    /// Returns the reason in words.
+    fn text(self) -> &'static str {
+        match self {
             Refusal::Memory => "there was no memory",
             Refusal::Closed => "the cell is closed",
             Refusal::OwnersFull => "the cell has as many owners as it can count",
             Refusal::StillShared => "the cell has other owners",
             Refusal::OutOfTurn => "the share does not fit the history",
             Refusal::ShareMissing => "a share is missing",
-        })
+        }
+    }
+}
+
+impl fmt::Display for Refusal {
+    fn fmt<W: fmt::Write>(&self, f: &mut fmt::Formatter<W>) -> fmt::Result {
+        f.write_str(self.text())
     }
 }
 
@@ -43,5 +50,23 @@ impl From<AllocError> for Refusal {
 
     fn from(_: AllocError) -> Refusal {
         Refusal::Memory
+    }
+}
+
+/// For `?` in code whose errors are those of input and output. The kind is `OutOfMemory` for
+/// `Memory`, and otherwise `Other`.
+impl From<Refusal> for io::Error {
+    ghost use Rattle.std.specs.Prelude.{◌≡◌};
+    ghost use Rattle.std.specs.IoError.{error_kind};
+    ghost use Rattle.async_cell_model.specs.Refusal.{io_kind};
+
+    ghost from_gives = { λ refused result. error_kind result ≡ io_kind refused };
+
+    fn from(refused: Refusal) -> io::Error {
+        let kind = match refused {
+            Refusal::Memory => io::ErrorKind::OutOfMemory,
+            _ => io::ErrorKind::Other,
+        };
+        io::Error::new(kind, refused.text())
     }
 }
