@@ -28,7 +28,8 @@ stays_small() {
     local most status=0
     (cd "$work/crates/$1" && rt run) >"$work/$1.log" 2>&1 </dev/null || status=$?
     most=$(awk '/^VmHWM:/ { print $2 }' "$work/$1.log")
-    if [ "$status" -ne 0 ] || ! grep -qx "$2" "$work/$1.log" || [ "${most:-$limit}" -ge "$limit" ]; then
+    grep -qx "$2" "$work/$1.log" || status=1
+    if [ "$status" -ne 0 ] || [ "${most:-$limit}" -ge "$limit" ]; then
         echo "places: $1 failed: '$2' and less than $limit kB were wanted" >&2
         tail -n 5 "$work/$1.log" >&2
         return 1

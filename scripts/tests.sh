@@ -29,7 +29,7 @@ printf '%s\n' "${crates[@]}" | xargs -P "${JOBS:-$(nproc)}" -I '{}' bash -c 'try
 failed=0
 for crate in "${crates[@]}"; do
     result=$(grep '^test result: ' "$work/$crate" || true)
-    [ ! -e "$work/$crate.status" ] || result=${result/: ok./: $(cat "$work/$crate.status") after ok.}
+    [ ! -e "$work/$crate.status" ] || result=${result/ok./$(cat "$work/$crate.status"), after ok.}
     case $result in
         'test result: ok. 0 passed'* | '')
             failed=1
