@@ -4,9 +4,9 @@
 # stack, the cases of misuse that must not compile, the tests of values that call their own cell,
 # the first program in a repository of its own, and the snippets of the pages. Prints a line at
 # least every minute, at the end a line for each step with what it has shown, and last 'N passed, M
-# failed', with the totals of `rt ci` and of the deliberate bugs. A step fails if its status is not 0,
-# or if its last line is not as it has to be. The first one that fails ends the gate, whose status is
-# then not 0. A failure of a step that is not among the totals counts as one.
+# failed', with the totals of `rt ci` and of the deliberate bugs. A step fails if its status is not
+# 0, or if its last line is not as it has to be. The first one that fails ends the gate, whose
+# status is then not 0. A failure of a step that is not among the totals counts as one.
 set -u
 cd "$(dirname "$0")/.." || exit 1
 work=$(mktemp -d)

@@ -43,13 +43,12 @@ closes_all() {
     cp "$top/scripts/late.txt" "$work/crates/late/src/main.rt"
     echo "late: anyhow async_cell_sync futures tokio" >>"$work/crates.txt"
     echo 'Handles allowed: Threads, Wait, Net.' >"$work/HANDLES"
-    local first left last status=0
+    local open first left last status=0
     (cd "$work/crates/late" && rt try) >"$work/late.log" 2>"$work/late.errors" </dev/null ||
         status=$?
-    { read -r first; read -r left; read -r last; } < <(awk '/^open / { print $2 }' "$work/late.log") ||
-        true
-    if [ "$status" -ne 0 ] || [ -z "$last" ] || [ "$left" -lt 300 ] ||
-        [ "$last" -gt $((first + 4)) ]; then
+    open=$(awk '/^open / { print $2 }' "$work/late.log")
+    { read -r first && read -r left && read -r last; } <<<"$open" || status=1
+    if [ "$status" -ne 0 ] || [ "$left" -lt 300 ] || [ "$last" -gt $((first + 4)) ]; then
         echo "places: late failed: as many open descriptors as at first were wanted" >&2
         tail -n 5 "$work/late.log" "$work/late.errors" >&2
         return 1
