@@ -2,13 +2,10 @@
 //! whatever the schedule.
 use crate::checks::{holds, holds_at, same};
 use crate::owner::first;
-use crate::race::{Race, Side};
+use crate::race::{MOST, Race, Side};
 use async_cell_sync::{AsyncCell, Owner};
 use std::sync::Wait;
 use std::thread;
-
-/// The most calls that a thread makes. A race ends long before.
-const MOST: u64 = 1_000_000_000;
 
 /// What a thread put into a cell, and what it got out of it: the sums of the values.
 #[derive(Clone, Copy)]

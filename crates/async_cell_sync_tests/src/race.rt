@@ -3,10 +3,13 @@
 use std::sync::atomic::{AtomicBool, AtomicU32, Ordering};
 
 /// How often each side is to find that the other made a call meanwhile.
-const MEETINGS: u32 = 5_000;
+const MEETINGS: u32 = 2_000;
 
 /// After how many calls a side gives up looking for that.
-const TURNS: u32 = 1_000_000;
+const TURNS: u32 = 100_000;
+
+/// The most calls that a side makes. A race ends long before.
+pub const MOST: u64 = 1_000_000_000;
 
 /// What one side shows the other.
 #[derive(Drop)]
