@@ -33,6 +33,10 @@ while IFS=$'\t' read -r name crate error at; do
     case " ${crates[*]} " in *" $crate "*) ;; *) crates+=("$crate") ;; esac
 done <"$cases/cases.tsv"
 left=${#expected[@]} passed=0 failed=0
+for snippet in "$cases"/*.txt; do
+    name=$(basename "$snippet" .txt)
+    [ -n "${expected[$name]:-}" ] || { echo "failed $name: no case names it" && failed=1; }
+done
 
 # The cases of a crate that must be `accepted`, or `refused`, in the order of the list.
 cases_of() {

@@ -54,9 +54,13 @@ def fault_in(pair, folder, texts):
 
 def fault_of(path):
     """Returns why a bug cannot be applied to its crate, or None."""
-    if not NAME.fullmatch(os.path.basename(path)):
-        return "the name is not of letters, digits, _, - and ., ended by .edit"
+    if not NAME.fullmatch(os.path.basename(path)) or not os.path.isfile(path):
+        return "it is no file with a name of letters, digits, _, - and ., ended by .edit"
     folder, texts, pairs = os.path.dirname(os.path.dirname(path)), {}, pairs_of(path)
+    with open(path, encoding="utf-8") as it:
+        olds = sum(line.startswith("old: ") for line in it)
+    if olds != len(pairs):
+        return "an 'old:' line has no 'new:' line of its own"
     faults = [fault_in(it, folder, texts) for it in pairs]
     return next((it for it in faults if it), None if pairs else "it has no 'old:' and 'new:' pair")
 

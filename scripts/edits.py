@@ -57,13 +57,27 @@ def span(lines, at):
     return begin + 1, end + 1
 
 
+def type_of(lines, at):
+    """Returns what the impl says of the function at the line at (from 0): a match, or None."""
+    is_method = FN.match(lines[at])[1]
+    return next((it for it in map(IMPL.match, lines[at::-1]) if it), None) if is_method else None
+
+
 def proof_folder(file, lines, first):
     """Returns a pattern of the folder of the proof files of a function, or None where another one
     of the file has its name. The function's text begins at the line first, from 1."""
     found = [it[2] for it in map(FN.match, lines) if it]
-    name = next(it[2] for it in map(FN.match, lines[first - 1 :]) if it)
-    module = re.escape(file[len("src/") : -len(".rt")])
-    return rf"proofs/{module}/([A-Z]\w*/)?{name}/\w+\.antt" if found.count(name) == 1 else None
+    at = next(it for it in range(first - 1, len(lines)) if FN.match(lines[it]))
+    name, of = FN.match(lines[at])[2], type_of(lines, at)
+    if found.count(name) != 1:
+        return None
+    module = file[len("src/") : -len(".rt")]
+    places = [rf"{module}/([A-Z]\w*/)?"]
+    # (those of a method lie below the module of its type, which may be one further up)
+    while of and "/" in module:
+        module = module.rpartition("/")[0]
+        places.append(rf"{module}/{of['type'].split('::')[-1]}/")
+    return rf"proofs/({'|'.join(places)}){name}/\w+\.antt"
 
 
 def name_of(file, lines, first):
@@ -74,7 +88,7 @@ def name_of(file, lines, first):
     if not indent:
         module = re.sub(r"^src/|\.rt$", "", file).replace("/", "::")
         return name if module in ("lib", "main") else f"{module}::{name}"
-    found = next((IMPL.match(lines[it]) for it in range(at, -1, -1) if IMPL.match(lines[it])), None)
+    found = type_of(lines, at)
     if not found:
         return name
     of = ("Ref" if found["ref"] else "") + found["type"].split("::")[-1]

@@ -4,8 +4,9 @@
 # stack, the cases of misuse that must not compile, the tests of values that call their own cell,
 # the first program in a repository of its own, and the snippets of the pages. Prints a line at
 # least every minute, at the end a line for each step with what it has shown, and last 'N passed, M
-# failed', with the totals of `rt ci` and of the deliberate bugs. The first step that fails ends it,
-# and the status is then not 0. A failure of a step that counts nothing counts as one.
+# failed', with the totals of `rt ci` and of the deliberate bugs. A step fails if its status is not
+# 0, or if its last line is not as it has to be. The first one that fails ends the gate, whose
+# status is then not 0. A failure of a step that is not among the totals counts as one.
 set -u
 cd "$(dirname "$0")/.." || exit 1
 work=$(mktemp -d)
@@ -15,11 +16,12 @@ trap 'exit 1' INT TERM
 passed=0
 failed=0
 
-# Says every 45 seconds what the step has last printed.
+# Says every 45 seconds what the step has last printed. It has begun once there is the file
+# "ticking": before that a signal would meet the traps of the gate itself.
 tick() {
     local begun=$SECONDS
     trap 'kill "$!"; exit' TERM
-    while sleep 45 & wait "$!"; do
+    while sleep 45 & : >"$work/ticking" && wait "$!"; do
         echo "gate: $1, $(((SECONDS - begun) / 60)) min: $(tail -n 1 "$work/log" | cut -c 1-160)"
     done
 }
@@ -33,54 +35,62 @@ finish() {
     exit "$1"
 }
 
-# Runs a step: its name, and its command. Keeps its last line. The status of a pipe is that of its
-# first command here.
+# Runs a step: its name, a pattern of its last line, and its command. Keeps its last line. It passes
+# if its status is 0 and that line is as the pattern says. The status of a pipe is that of its first
+# command here.
 step() {
-    local name=$1 status
-    shift
+    local name=$1 wanted=$2 status
+    shift 2
     echo "gate: $name"
     : >"$work/log"
     tick "$name" &
     ticker=$!
     "$@" 2>&1 </dev/null | tee "$work/log"
     status=${PIPESTATUS[0]}
+    until [ -e "$work/ticking" ]; do sleep 0.05; done
+    rm "$work/ticking"
     kill "$ticker"
     wait "$ticker" 2>/dev/null
     ticker=
     last=$(tail -n 1 "$work/log")
     echo "gate: $name: $last" >>"$work/shown"
-    [ "$status" -eq 0 ] && return
-    add || failed=$((failed + 1))
+    [ "$status" -eq 0 ] && [[ $last =~ $wanted ]]
+}
+
+# Runs a step, and ends the gate if it fails.
+show() {
+    step "$@" && return
+    failed=$((failed + 1))
+    finish 1
+}
+
+# Does the same, and adds the 'N passed, M failed' in which the step ends to the totals.
+count() {
+    local has_passed=yes
+    step "$1" "$counts" "${@:2}" || has_passed=no
+    if [[ $last =~ ^([0-9]+)\ passed,\ ([0-9]+)\ failed$ ]]; then
+        passed=$((passed + BASH_REMATCH[1]))
+        failed=$((failed + BASH_REMATCH[2]))
+    fi
+    [ "$has_passed" = no ] || return 0
     [ "$failed" -gt 0 ] || failed=1
     finish 1
 }
 
-# Adds the last step's 'N passed, M failed' to the totals; the status is 0 if there is one.
-add() {
-    [[ $last =~ ^([0-9]+)\ passed,\ ([0-9]+)\ failed$ ]] || return 1
-    passed=$((passed + BASH_REMATCH[1]))
-    failed=$((failed + BASH_REMATCH[2]))
-}
+# The last line of a step that counts, and those of two that do not.
+counts='^([a-z]+: )?[1-9][0-9]* passed, 0 failed$'
+applied='^[1-9][0-9]* deliberate bugs, 0 of which cannot be applied$'
+vendored='^vendor_check: .* runs in a repository of its own: .'
 
-# Counts the last step, which has to end in 'N passed, M failed' with N above and M equal to 0.
-count() {
-    local before=$passed
-    if ! add || [ "$passed" -eq "$before" ]; then
-        failed=$((failed + 1))
-    fi
-    [ "$failed" -eq 0 ] || finish 1
-}
-
-step 'the deliberate bugs can be applied' python3 scripts/check_edits.py
-step 'proofs, tests, programs, and the bugs of must-fail/ (rt ci)' rt ci
-count
-step 'the bugs of bugs/ (scripts/edits.py)' python3 scripts/edits.py proved
-count
-step 'the built program (scripts/program.sh)' bash scripts/program.sh
-step 'no memory (scripts/memory.sh)' bash scripts/memory.sh
-step 'a million wakers (scripts/many.sh)' bash scripts/many.sh
-step 'misuse that must not compile (misuse/check.sh)' bash misuse/check.sh
-step 'values that call their own cell (misuse/check.sh reentry)' bash misuse/check.sh reentry
-step 'a project of its own (scripts/vendor_check.sh)' bash scripts/vendor_check.sh
-step 'the snippets of the pages (scripts/snippets.py)' python3 scripts/snippets.py
+show 'the deliberate bugs can be applied' "$applied" python3 scripts/check_edits.py
+count 'proofs, tests, programs, and the bugs of must-fail/ (rt ci)' rt ci
+count 'the bugs of bugs/ (scripts/edits.py)' python3 scripts/edits.py proved
+show 'the built program (scripts/program.sh)' "$counts" bash scripts/program.sh
+show 'no memory (scripts/memory.sh)' "$counts" bash scripts/memory.sh
+show 'a million wakers (scripts/many.sh)' "$counts" bash scripts/many.sh
+show 'misuse that must not compile (misuse/check.sh)' "$counts" bash misuse/check.sh
+show 'values that call their own cell (misuse/check.sh reentry)' "$counts" \
+    bash misuse/check.sh reentry
+show 'a project of its own (scripts/vendor_check.sh)' "$vendored" bash scripts/vendor_check.sh
+show 'the snippets of the pages (scripts/snippets.py)' "$counts" python3 scripts/snippets.py
 finish 0

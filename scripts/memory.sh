@@ -24,6 +24,7 @@ async_cell_core_tests      reserve::writes_on_a_full_cell_leave_the_room
 async_cell_core_tests      reserve::room_keeps_the_value
 async_cell_core_tests      wait_list::a_refused_waker_comes_back_and_the_list_stays
 async_cell_core_tests      cloned::a_waker_is_cloned_only_where_there_is_a_place_for_it
+async_cell_core_tests      places::a_waker_without_memory_for_its_place_comes_back
 async_cell_driver_tests    refusals::a_refused_start_adds_no_task
 async_cell_driver_tests    refusals::a_taker_that_found_no_memory_is_polled_again
 async_cell_driver_tests    refusals::takers_find_the_room_that_was_made

@@ -25,10 +25,11 @@ stays_small() {
     mkdir -p "$work/crates/$1/src"
     cp "$top/scripts/$1.txt" "$work/crates/$1/src/main.rt"
     echo "$1: async_cell_sync futures anyhow" >>"$work/crates.txt"
-    (cd "$work/crates/$1" && rt run) >"$work/$1.log" 2>&1 </dev/null || true
-    local most
+    local most status=0
+    (cd "$work/crates/$1" && rt run) >"$work/$1.log" 2>&1 </dev/null || status=$?
     most=$(awk '/^VmHWM:/ { print $2 }' "$work/$1.log")
-    if ! grep -qx "$2" "$work/$1.log" || [ -z "$most" ] || [ "$most" -ge "$limit" ]; then
+    grep -qx "$2" "$work/$1.log" || status=1
+    if [ "$status" -ne 0 ] || [ "${most:-$limit}" -ge "$limit" ]; then
         echo "places: $1 failed: '$2' and less than $limit kB were wanted" >&2
         tail -n 5 "$work/$1.log" >&2
         return 1
@@ -42,11 +43,12 @@ closes_all() {
     cp "$top/scripts/late.txt" "$work/crates/late/src/main.rt"
     echo "late: anyhow async_cell_sync futures tokio" >>"$work/crates.txt"
     echo 'Handles allowed: Threads, Wait, Net.' >"$work/HANDLES"
-    (cd "$work/crates/late" && rt try) >"$work/late.log" 2>"$work/late.errors" </dev/null || true
-    local first left last
-    { read -r first; read -r left; read -r last; } < <(awk '/^open / { print $2 }' "$work/late.log") ||
-        true
-    if [ -z "$last" ] || [ "$left" -lt 300 ] || [ "$last" -gt $((first + 4)) ]; then
+    local open first left last status=0
+    (cd "$work/crates/late" && rt try) >"$work/late.log" 2>"$work/late.errors" </dev/null ||
+        status=$?
+    open=$(awk '/^open / { print $2 }' "$work/late.log")
+    { read -r first && read -r left && read -r last; } <<<"$open" || status=1
+    if [ "$status" -ne 0 ] || [ "$left" -lt 300 ] || [ "$last" -gt $((first + 4)) ]; then
         echo "places: late failed: as many open descriptors as at first were wanted" >&2
         tail -n 5 "$work/late.log" "$work/late.errors" >&2
         return 1

@@ -17,9 +17,9 @@ else
     mapfile -t crates <<<"$marked"
 fi
 
-# Tries a crate's tests, and keeps what they print.
+# Tries a crate's tests, and keeps what they print, and the status if it is not 0.
 try() {
-    (cd "$1" && rt try --test) >"$work/$1" 2>&1 </dev/null || true
+    (cd "$1" && rt try --test) >"$work/$1" 2>&1 </dev/null || echo "status $?" >"$work/$1.status"
 }
 export work
 export -f try
@@ -29,6 +29,7 @@ printf '%s\n' "${crates[@]}" | xargs -P "${JOBS:-$(nproc)}" -I '{}' bash -c 'try
 failed=0
 for crate in "${crates[@]}"; do
     result=$(grep '^test result: ' "$work/$crate" || true)
+    [ ! -e "$work/$crate.status" ] || result=${result/ok./$(cat "$work/$crate.status"), after ok.}
     case $result in
         'test result: ok. 0 passed'* | '')
             failed=1

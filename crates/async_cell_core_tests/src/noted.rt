@@ -1,4 +1,5 @@
-//! What becomes of the wakers: a call drops those that do not wait, and asks each at most once.
+//! What becomes of the wakers: a call drops those that do not wait, and asks in order, each at most
+//! once.
 ghost use Rattle.std.specs.Prelude.{◌≡◌, nat_eq, false};
 ghost use Rattle.std.proofs.Common.{rules};
 
@@ -10,7 +11,8 @@ use std::alloc::AllocError;
 use std::cell::Cell;
 use std::process::Abort;
 
-/// A waker. Those that are alive are counted, and how often any is asked whom it would wake.
+/// A waker. Those that are alive are counted, and the names of those that are asked whom they would
+/// wake are the digits of a number, in order.
 struct Noted<C: Count + Copy> {
     name: u64,
     alive: C,
@@ -50,7 +52,8 @@ impl<C: Count + Copy> Wakes for Noted<C> {
     const SURE_CLONE: bool = false;
 
     fn will_wake(&self, other: &Self) -> bool {
-        self.asked.set_count(self.asked.count().wrapping_add(1));
+        let before = self.asked.count().wrapping_mul(10);
+        self.asked.set_count(before.wrapping_add(self.name));
         self.name == other.name
     }
 
@@ -103,7 +106,19 @@ fn no_call_keeps_a_waker_but_of_those_that_wait(rt: HostRuntime) {
 fn a_poll_asks_in_order_up_to_the_first_that_would_wake_it(rt: HostRuntime) {
     let (alive, asked) = (Cell::new(0u64), Cell::new(0u64));
     let mut core: Waiting<'_> = Core::new(rt.alloc());
-    for (name, expected) in [(1, 0), (1, 1), (2, 1), (2, 2), (1, 1)] {
+    for (name, expected) in [
+        (1, 0),
+        (1, 1),
+        (2, 1),
+        (2, 12),
+        (3, 12),
+        (3, 123),
+        (2, 12),
+        (1, 1),
+        (4, 123),
+        (4, 1234),
+        (3, 123),
+    ] {
         alive.set(alive.get().wrapping_add(1));
         let waker = Noted {
             name,

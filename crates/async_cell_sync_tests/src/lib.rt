@@ -37,6 +37,10 @@ mod owning;
 #[cfg(test)]
 mod places;
 #[cfg(test)]
+mod race;
+#[cfg(test)]
+mod seen;
+#[cfg(test)]
 mod stream;
 #[cfg(test)]
 mod texts;

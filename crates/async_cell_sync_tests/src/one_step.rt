@@ -2,61 +2,71 @@
 //! whatever the schedule.
 use crate::checks::{holds, holds_at, same};
 use crate::owner::first;
+use crate::race::{MOST, Race, Side};
 use async_cell_sync::{AsyncCell, Owner};
 use std::sync::Wait;
 use std::thread;
 
-/// How often each of two threads makes its calls.
-const ROUNDS: u64 = 10_000;
-
-/// Writes the numbers from `first` on, and returns the sum of those that it wrote over.
-fn replace_all(cell: &AsyncCell<u64>, first: u64, rt: &impl Wait) -> u64 {
-    let mut replaced = 0u64;
-    for number in 0..ROUNDS {
-        let old = cell.replace(first.saturating_add(number), rt);
-        replaced = replaced.saturating_add(old.unwrap_or(0));
-    }
-    replaced
+/// What a thread put into a cell, and what it got out of it: the sums of the values.
+#[derive(Clone, Copy)]
+struct Sums {
+    put: u64,
+    got: u64,
 }
 
-/// Takes values and returns their sum.
-fn take_all(cell: &AsyncCell<u64>, rt: &impl Wait) -> u64 {
-    let mut taken = 0u64;
-    for _ in 0..ROUNDS {
-        taken = taken.saturating_add(cell.try_take(rt).unwrap_or(0));
+/// Writes the numbers from 1 on.
+fn replace_all(cell: &AsyncCell<u64>, mut side: Side<'_>, rt: &impl Wait) -> Sums {
+    let mut sums = Sums { put: 0, got: 0 };
+    for number in 1..MOST {
+        if !side.goes_on() {
+            return sums;
+        }
+        let old = cell.replace(number, rt);
+        sums.put = sums.put.saturating_add(number);
+        sums.got = sums.got.saturating_add(old.unwrap_or(0));
     }
-    taken
+    sums
 }
 
-/// The sum of the numbers below this one.
-fn sum_below(number: u64) -> u64 {
-    number.saturating_mul(number.saturating_sub(1)) / 2
+/// Takes values.
+fn take_all(cell: &AsyncCell<u64>, mut side: Side<'_>, rt: &impl Wait) -> Sums {
+    let mut sums = Sums { put: 0, got: 0 };
+    for _ in 1..MOST {
+        if !side.goes_on() {
+            return sums;
+        }
+        sums.got = sums.got.saturating_add(cell.try_take(rt).unwrap_or(0));
+    }
+    sums
+}
+
+/// What was put into a cell and not got out of it, by two threads.
+fn left(first: Sums, second: Sums) -> u64 {
+    let put = first.put.saturating_add(second.put);
+    put.saturating_sub(first.got.saturating_add(second.got))
 }
 
 #[test]
 fn replaces_of_two_threads_lose_no_value(rt: HostRuntime) {
-    let cell = AsyncCell::new(rt.alloc());
+    let (cell, race) = (AsyncCell::new(rt.alloc()), Race::new());
     let (first, second) = thread::join(
         &rt,
-        || replace_all(&cell, 0, &rt),
-        || replace_all(&cell, ROUNDS, &rt),
+        || replace_all(&cell, race.first(), &rt),
+        || replace_all(&cell, race.second(), &rt),
     );
-    let last = cell.into_inner().unwrap_or(0);
-    let sum = first.saturating_add(second).saturating_add(last);
-    same(&rt, sum, sum_below(2 * ROUNDS));
+    same(&rt, cell.into_inner(), Some(left(first, second)));
 }
 
 #[test]
 fn a_value_is_taken_once_or_replaced(rt: HostRuntime) {
-    let cell = AsyncCell::new(rt.alloc());
+    let (cell, race) = (AsyncCell::new(rt.alloc()), Race::new());
     let (replaced, taken) = thread::join(
         &rt,
-        || replace_all(&cell, 0, &rt),
-        || take_all(&cell, &rt),
+        || replace_all(&cell, race.first(), &rt),
+        || take_all(&cell, race.second(), &rt),
     );
     let last = cell.into_inner().unwrap_or(0);
-    let sum = replaced.saturating_add(taken).saturating_add(last);
-    same(&rt, sum, sum_below(ROUNDS));
+    same(&rt, last, left(replaced, taken));
 }
 
 /// The writes that write over no value.
@@ -67,8 +77,11 @@ enum Careful {
     OrSetOfAGuard,
 }
 
-fn write_twos(write: Careful, cell: &AsyncCell<u64>, rt: &impl Wait) {
-    for _ in 0..ROUNDS {
+fn write_twos(write: Careful, cell: &AsyncCell<u64>, mut side: Side<'_>, rt: &impl Wait) {
+    for _ in 0..MOST {
+        if !side.goes_on() {
+            return;
+        }
         match write {
             Careful::OrSet => cell.or_set(2, rt),
             Careful::CancelOfAGuard => cell.guard(2).cancel(rt),
@@ -78,9 +91,12 @@ fn write_twos(write: Careful, cell: &AsyncCell<u64>, rt: &impl Wait) {
 }
 
 /// Puts a value in again and again, and takes it. Returns whether it was there each time.
-fn keeps_its_value(cell: &AsyncCell<u64>, rt: &impl Wait) -> bool {
+fn keeps_its_value(cell: &AsyncCell<u64>, mut side: Side<'_>, rt: &impl Wait) -> bool {
     let mut keeps = true;
-    for _ in 0..ROUNDS {
+    for _ in 0..MOST {
+        if !side.goes_on() {
+            return keeps;
+        }
         let _ = cell.replace(1, rt);
         keeps = keeps && cell.try_take(rt) == Some(1);
     }
@@ -94,27 +110,33 @@ fn a_write_to_an_empty_cell_never_writes_over_a_value(rt: HostRuntime) {
         Careful::CancelOfAGuard,
         Careful::OrSetOfAGuard,
     ] {
-        let cell = AsyncCell::new(rt.alloc());
+        let (cell, race) = (AsyncCell::new(rt.alloc()), Race::new());
         let (keeps, ()) = thread::join(
             &rt,
-            || keeps_its_value(&cell, &rt),
-            || write_twos(write, &cell, &rt),
+            || keeps_its_value(&cell, race.first(), &rt),
+            || write_twos(write, &cell, race.second(), &rt),
         );
         holds_at(&rt, &write, keeps);
     }
 }
 
 /// Ends guards by a write of 5. Their cancel value is 9.
-fn set_by_guards(cell: &AsyncCell<u64>, rt: &impl Wait) {
-    for _ in 0..ROUNDS {
+fn set_by_guards(cell: &AsyncCell<u64>, mut side: Side<'_>, rt: &impl Wait) {
+    for _ in 0..MOST {
+        if !side.goes_on() {
+            return;
+        }
         cell.guard(9).set(5, rt);
     }
 }
 
 /// Whether each value that is taken is a 5.
-fn takes_fives(cell: &AsyncCell<u64>, rt: &impl Wait) -> bool {
+fn takes_fives(cell: &AsyncCell<u64>, mut side: Side<'_>, rt: &impl Wait) -> bool {
     let mut fives = true;
-    for _ in 0..ROUNDS {
+    for _ in 0..MOST {
+        if !side.goes_on() {
+            return fives;
+        }
         fives = fives && matches!(cell.try_take(rt), None | Some(5));
     }
     fives
@@ -122,11 +144,11 @@ fn takes_fives(cell: &AsyncCell<u64>, rt: &impl Wait) -> bool {
 
 #[test]
 fn a_guard_that_sets_never_shows_its_cancel_value(rt: HostRuntime) {
-    let cell = AsyncCell::new(rt.alloc());
+    let (cell, race) = (AsyncCell::new(rt.alloc()), Race::new());
     let ((), fives) = thread::join(
         &rt,
-        || set_by_guards(&cell, &rt),
-        || takes_fives(&cell, &rt),
+        || set_by_guards(&cell, race.first(), &rt),
+        || takes_fives(&cell, race.second(), &rt),
     );
     holds(&rt, fives);
 }
@@ -135,6 +157,7 @@ fn a_guard_that_sets_never_shows_its_cancel_value(rt: HostRuntime) {
 #[derive(Clone, Copy, Debug)]
 enum Filled {
     Prints,
+    Gets,
     Sets,
     Replaces,
     Updates,
@@ -142,10 +165,14 @@ enum Filled {
     EndsAGuard,
 }
 
-fn call_often(call: Filled, cell: &AsyncCell<u64>, rt: &impl Wait) {
-    for _ in 0..ROUNDS / 4 {
+fn call_often(call: Filled, cell: &AsyncCell<u64>, mut side: Side<'_>, rt: &impl Wait) {
+    for _ in 0..MOST {
+        if !side.goes_on() {
+            return;
+        }
         match call {
             Filled::Prints => drop(cell.debug_text(rt)),
+            Filled::Gets => drop(cell.try_get(rt)),
             Filled::Sets => cell.set(7, rt),
             Filled::Replaces => drop(cell.replace(7, rt)),
             Filled::Updates => cell.update(|content| content, rt),
@@ -156,9 +183,12 @@ fn call_often(call: Filled, cell: &AsyncCell<u64>, rt: &impl Wait) {
 }
 
 /// Whether the cell holds a 7 whenever it is looked at.
-fn stays_full(cell: &AsyncCell<u64>, rt: &impl Wait) -> bool {
+fn stays_full(cell: &AsyncCell<u64>, mut side: Side<'_>, rt: &impl Wait) -> bool {
     let mut full = true;
-    for _ in 0..ROUNDS / 4 {
+    for _ in 0..MOST {
+        if !side.goes_on() {
+            return full;
+        }
         full = full && cell.is_set(rt) && cell.try_get(rt) == Ok(Some(7));
     }
     full
@@ -168,54 +198,66 @@ fn stays_full(cell: &AsyncCell<u64>, rt: &impl Wait) -> bool {
 fn a_full_cell_never_looks_empty_meanwhile(rt: HostRuntime) {
     for call in [
         Filled::Prints,
+        Filled::Gets,
         Filled::Sets,
         Filled::Replaces,
         Filled::Updates,
         Filled::UpdatesSome,
         Filled::EndsAGuard,
     ] {
-        let cell = AsyncCell::new_with(rt.alloc(), 7);
+        let (cell, race) = (AsyncCell::new_with(rt.alloc(), 7), Race::new());
         let ((), full) = thread::join(
             &rt,
-            || call_often(call, &cell, &rt),
-            || stays_full(&cell, &rt),
+            || call_often(call, &cell, race.first(), &rt),
+            || stays_full(&cell, race.second(), &rt),
         );
         holds_at(&rt, &call, full);
     }
 }
 
-fn or_set_twos<R: Drop + Wait>(owner: &Owner<u64, R>) {
-    for _ in 0..ROUNDS {
+fn or_set_twos<R: Drop + Wait>(owner: &Owner<u64, R>, mut side: Side<'_>) {
+    for _ in 0..MOST {
+        if !side.goes_on() {
+            return;
+        }
         owner.or_set(2);
     }
 }
 
 #[test]
 fn an_or_set_of_an_owner_never_writes_over_a_value(rt: HostRuntime) {
-    let owner: Owner<u64, _> = first(rt);
+    let (owner, race): (Owner<u64, _>, _) = (first(rt), Race::new());
     let (keeps, ()) = thread::join(
         &rt,
-        || keeps_its_value(owner.cell(), &rt),
-        || or_set_twos(&owner),
+        || keeps_its_value(owner.cell(), race.first(), &rt),
+        || or_set_twos(&owner, race.second()),
     );
     holds(&rt, keeps);
 }
 
-/// Counts up, and returns the sum of the counts that it replaced by 0.
-fn count_up<R: Drop + Wait>(owner: &Owner<u64, R>) -> u64 {
-    let mut counted = 0u64;
-    for _ in 0..ROUNDS {
+/// Counts up by two, and takes the counts out by a 0. Returns how much it added and got.
+fn count_up<R: Drop + Wait>(owner: &Owner<u64, R>, mut side: Side<'_>) -> Sums {
+    let mut sums = Sums { put: 0, got: 0 };
+    for _ in 0..MOST {
+        if !side.goes_on() {
+            return sums;
+        }
         owner.update(|content| content.map(|count| count.saturating_add(1)));
         owner.update_some(|count| count.saturating_add(1));
-        counted = counted.saturating_add(owner.replace(0).unwrap_or(0));
+        sums.put = sums.put.saturating_add(2);
+        sums.got = sums.got.saturating_add(owner.replace(0).unwrap_or(0));
     }
-    counted
+    sums
 }
 
 #[test]
 fn updates_of_an_owner_by_two_threads_lose_none(rt: HostRuntime) {
-    let owner: Owner<u64, _> = first(rt);
+    let (owner, race): (Owner<u64, _>, _) = (first(rt), Race::new());
     owner.set(0);
-    let (counted, other) = thread::join(&rt, || count_up(&owner), || count_up(&owner));
-    same(&rt, counted.saturating_add(other), 4 * ROUNDS);
+    let (counted, other) = thread::join(
+        &rt,
+        || count_up(&owner, race.first()),
+        || count_up(&owner, race.second()),
+    );
+    same(&rt, owner.try_take(), Some(left(counted, other)));
 }

@@ -1,6 +1,7 @@
 //! One cell in several threads.
 use crate::checks::{holds, same};
 use crate::owning::{first_owner, weak_taker};
+use crate::race::{MOST, Race, Side};
 use crate::ticks::{Tick, task};
 use async_cell_sync::{AsyncCell, Shared, TakeWeak};
 use futures::executor::block_on;
@@ -102,27 +103,43 @@ fn weak_polls_in_four_threads_while_the_owner_ends(rt: HostRuntime) -> io::Resul
     Ok(())
 }
 
-/// How often each of two threads makes its calls.
-const ROUNDS: u32 = 10_000;
-
-fn count_up(cell: &AsyncCell<u64>, rt: &impl Wait) {
-    for _ in 0..ROUNDS {
+/// Counts up, and returns by how much.
+fn count_up(cell: &AsyncCell<u64>, mut side: Side<'_>, rt: &impl Wait) -> u64 {
+    let mut counted = 0u64;
+    for _ in 0..MOST {
+        if !side.goes_on() {
+            return counted;
+        }
         cell.update(|content| content.map(|count| count.saturating_add(1)), rt);
         cell.update_some(|count| count.saturating_add(1), rt);
+        counted = counted.saturating_add(2);
     }
+    counted
 }
 
 #[test]
 fn updates_of_two_threads_lose_none(rt: HostRuntime) {
-    let cell = AsyncCell::new_with(rt.alloc(), 0u64);
-    thread::join(&rt, || count_up(&cell, &rt), || count_up(&cell, &rt));
-    same(&rt, cell.into_inner(), Some(4 * u64::from(ROUNDS)));
+    let (cell, race) = (AsyncCell::new_with(rt.alloc(), 0u64), Race::new());
+    let (first, second) = thread::join(
+        &rt,
+        || count_up(&cell, race.first(), &rt),
+        || count_up(&cell, race.second(), &rt),
+    );
+    same(&rt, cell.into_inner(), Some(first.saturating_add(second)));
 }
 
 /// Whether each clone and each poll gives the value.
-fn gives_sevens(cell: &AsyncCell<u64>, flag: &MockTask, rt: &impl Wait) -> bool {
+fn gives_sevens(
+    cell: &AsyncCell<u64>,
+    flag: &MockTask,
+    mut side: Side<'_>,
+    rt: &impl Wait,
+) -> bool {
     let mut gives = true;
-    for _ in 0..ROUNDS {
+    for _ in 0..MOST {
+        if !side.goes_on() {
+            return gives;
+        }
         let polled = cell.get().tick(flag, rt);
         gives = gives && cell.try_get(rt) == Ok(Some(7)) && polled == Poll::Ready(Ok(7));
     }
@@ -131,12 +148,12 @@ fn gives_sevens(cell: &AsyncCell<u64>, flag: &MockTask, rt: &impl Wait) -> bool 
 
 #[test]
 fn a_cell_whose_value_is_cloned_never_looks_empty(rt: HostRuntime) {
-    let cell = AsyncCell::new_with(rt.alloc(), 7u64);
+    let (cell, race) = (AsyncCell::new_with(rt.alloc(), 7u64), Race::new());
     let (first, second) = (task(&rt), task(&rt));
     let (gave, gave_too) = thread::join(
         &rt,
-        || gives_sevens(&cell, &first, &rt),
-        || gives_sevens(&cell, &second, &rt),
+        || gives_sevens(&cell, &first, race.first(), &rt),
+        || gives_sevens(&cell, &second, race.second(), &rt),
     );
     holds(&rt, gave);
     holds(&rt, gave_too);
