@@ -101,7 +101,7 @@ impl<T: Drop, W: Wakes> Core<T, W> {
             return Err(value);
         }
         match self.value.replace(value) {
-            Some(old) => Ok((Some(old), self.no_wakers())),
+            Some(old) => Ok((Some(old), Wakers::none())),
             None => Ok((None, self.waiting.hand_out())),
         }
     }
@@ -127,7 +127,7 @@ impl<T: Drop, W: Wakes> Core<T, W> {
         }
         if self.is_set() {
             let unused = Some(value);
-            return Ok((unused, self.no_wakers()));
+            return Ok((unused, Wakers::none()));
         }
         self.value = Some(value);
         Ok((None, self.waiting.hand_out()))
@@ -157,7 +157,7 @@ impl<T: Drop, W: Wakes> Core<T, W> {
         let was_set = self.value.is_some();
         self.value = change(self.value.take());
         if was_set || self.value.is_none() {
-            return Ok(self.no_wakers());
+            return Ok(Wakers::none());
         }
         Ok(self.waiting.hand_out())
     }
