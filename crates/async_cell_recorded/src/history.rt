@@ -1,5 +1,6 @@
 ghost use Rattle.std.specs.Prelude.{◌≡◌, ◌↔◌, [], false, IsTrue, IfOk, IfErr, length, map};
 ghost use Rattle.async_cell_model.specs.Taken.{IsDistinct, brought, given, has_update};
+ghost use Rattle.async_cell_model.specs.Refusal.{FailsWithMemory};
 ghost use Rattle.async_cell_recorded.specs.Recording.{IsRecorded, plain_entry, without_shares, with_one_share};
 
 use crate::entry::{Entry, Plain};
@@ -19,7 +20,8 @@ pub struct History<T> {
 /// Contracts see the number of owners at the start, and the list of the entries.
 impl<T> Model for History<T> {
     ghost use Rattle.std.specs.Prelude.{◌≡◌};
-    ghost use Rattle.async_cell_recorded.specs.Recording.{Recording, IsRecorded};
+    ghost use Rattle.async_cell_model.specs.Refusal.{FailsWithMemory};
+ghost use Rattle.async_cell_recorded.specs.Recording.{Recording, IsRecorded};
 
     ghost Value = { Recording T };
 
@@ -79,7 +81,7 @@ impl<T: Copy> History<T> {
     /// there is no memory.
     pub fn plain(&self) -> Result<PlainHistory<T>, Refusal>
         ensures same { IfOk result (λ plain. plain ≡ without_shares self.now) }
-        ensures memory { IfErr result (λ why. why ≡ Refusal.Memory) }
+        ensures memory { FailsWithMemory result }
     {
         let all = self.entries.as_slice();
         let mut entries = Vec::new(*self.entries.allocator());
