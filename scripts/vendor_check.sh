@@ -26,7 +26,7 @@ vendor async_cell_sync crates >/dev/null
 [ "$(cat HANDLES)" = 'Handles allowed: Wait.' ] || fail "HANDLES: $(cat HANDLES)"
 [ "$(cat .gitignore)" = 'out/' ] || fail ".gitignore: $(cat .gitignore)"
 vendor async_cell_recorded crates >"$work/lines"
-recorded=$(grep '^async_cell_recorded ' "$top/crates.txt")
+recorded=$(grep '^async_cell_recorded:' "$top/crates.txt")
 grep -qx "$recorded" "$work/lines" || fail 'no line of recorded'
 grep -qx 'Handles allowed: Threads, Wait.' "$work/lines" || fail 'no line of HANDLES'
 if find crates -name must-fail -o -name bugs -o -name out | grep -q .; then
