@@ -115,7 +115,7 @@ impl<T: Drop, W: Wakes> Core<T, W> {
 
         ensures if_open { IsOk result ↔ (is_closed self.old.cell ≡ false) }
         ensures holds { is_vacant self.old.cell ≡ true → content self.new.cell ≡ Some value }
-        ensures keeps { is_full self.old.cell ≡ true
+        ensures value_stays { is_full self.old.cell ≡ true
             → content self.new.cell ≡ content self.old.cell }
         ensures unused { IfOk result (λ answer. IsSome answer.0 ↔ (is_full self.old.cell ≡ true)) }
         ensures hands_out_all { IfOk result (λ answer. answer.1 ≡ self.old.waiting) }
