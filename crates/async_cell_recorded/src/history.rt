@@ -81,7 +81,7 @@ impl<T: Copy> History<T> {
     /// there is no memory.
     pub fn plain(&self) -> Result<PlainHistory<T>, Refusal>
         ensures same { IfOk result (λ plain. plain ≡ without_shares self.now) }
-        ensures memory { FailsWithMemory result }
+        ensures refused { FailsWithMemory result }
     {
         let all = self.entries.as_slice();
         let mut entries = Vec::new(*self.entries.allocator());
@@ -104,7 +104,7 @@ impl<T: Copy> History<T> {
         ensures entries { IfOk result (λ history. history ≡ with_one_share old) }
         ensures recorded { IfOk result (λ history. IsRecorded history) }
         ensures plain { IfOk result (λ history. without_shares history ≡ old) }
-        ensures memory { IfErr result (λ back. back.0 ≡ Refusal.Memory) }
+        ensures refused { IfErr result (λ back. back.0 ≡ Refusal.Memory) }
         ensures comes_back { IfErr result (λ back. back.1 ≡ old) }
     {
         let mut entries = Vec::new(*old.entries.allocator());

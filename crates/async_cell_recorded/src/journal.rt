@@ -57,7 +57,7 @@ impl<T: Copy, M: Pick<T>> Journal<T, M> {
         ensures begins { IfOk result (λ new. new.0 ≡ record { begin = shares; entries = [] }) }
         ensures one_each { IfOk result (λ new. vec_len new.1 ≡ shares) }
         ensures new_shares { IfOk result (λ new. new.1.items ≡ new_shares shares) }
-        ensures memory { FailsWithMemory result }
+        ensures refused { FailsWithMemory result }
     {
         let (books, made) = Books::open(alloc, shares, blanks)?;
         let journal = Journal {

@@ -75,7 +75,7 @@ impl<T: Copy, M: Pick<T>> Recorded<T, M> {
         requires picked { (blanks.picked.name ≡ M.picked) × (blanks.picked.parts ≡ M.shares) }
         ensures one_each { IfOk result (λ new. vec_len new.1 ≡ shares) }
         ensures new_shares { IfOk result (λ new. new.1.items ≡ new_shares shares) }
-        ensures memory { FailsWithMemory result }
+        ensures refused { FailsWithMemory result }
     {
         let (journal, made) = Journal::new(alloc, shares, blanks)?;
         let cell = Recorded {

@@ -71,7 +71,7 @@ pub fn with_recorded<
     ensures recorded { IfOk result (λ done. IsRecorded done.1) }
     ensures outcomes { IfOk result (λ done.
         AreOutcomes S.describes S.pick shares done.0.items done.1) }
-    ensures memory { FailsWithMemory result }
+    ensures refused { FailsWithMemory result }
 {
     run_marked::<T, O, S, R, Brand>(rt, alloc, shares, Blanks::new(shares), session)
 }
@@ -101,7 +101,7 @@ fn run_marked<
     ensures recorded { IfOk result (λ done. IsRecorded done.1) }
     ensures outcomes { IfOk result (λ done.
         AreOutcomes S.describes S.pick shares done.0.items done.1) }
-    ensures memory { FailsWithMemory result }
+    ensures refused { FailsWithMemory result }
 {
     let (cell, made) = Recorded::<T, M>::new(alloc, shares, blanks)?;
     let mut outcomes = Vec::new(alloc);
