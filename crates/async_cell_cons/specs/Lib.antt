@@ -1,2 +1,3 @@
 pub mod Lacking
+pub mod Named
 pub mod WaitList

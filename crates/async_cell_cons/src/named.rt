@@ -6,10 +6,11 @@ use crate::wakes::Wakes;
 pub struct Named(pub u64);
 
 impl Wakes for Named {
-    ghost use Rattle.std.specs.Prelude.{nat_eq, true};
+    ghost use Rattle.std.specs.Prelude.{true};
     ghost use Rattle.std.proofs.Common.{rules};
+    ghost use Rattle.async_cell_cons.specs.Named.{same_name};
 
-    ghost will_wake = { λ a b. nat_eq a.0 b.0 };
+    ghost will_wake = { same_name };
 
     ghost SURE_CLONE = { true };
 

@@ -99,13 +99,6 @@ impl<W: Drop> WaitList<W> {
         Ok(())
     }
 
-    /// Returns an empty list of wakers, for a call that wakes nobody. Allocates nothing.
-    pub fn no_wakers(&self) -> Wakers<W>
-        ensures { result ≡ [] }
-    {
-        Wakers::of(None)
-    }
-
     /// Removes all wakers and returns them, in order of registration. Leaves neither wakers nor
     /// room. Takes constant time and allocates nothing.
     #[inline(always)]

@@ -26,6 +26,16 @@ impl<W> Model for Wakers<W> {
 }
 
 impl<W> Wakers<W> {
+    /// Creates an empty list, for a call that wakes nobody. Allocates nothing.
+    pub fn none() -> Self
+        ensures { result ≡ [] }
+    {
+        Wakers {
+            first: None,
+            rest: None,
+        }
+    }
+
     /// Returns the number of wakers that are left, in constant time.
     pub fn len(&self) -> usize
         ensures { result ≡ length self.now }

@@ -2,3 +2,4 @@ pub mod IsStep
 pub mod Kept
 pub mod Polled
 pub mod Stored
+pub mod Waiting

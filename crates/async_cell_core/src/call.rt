@@ -1,6 +1,7 @@
-ghost use Rattle.std.specs.Prelude.{◌≡◌};
+ghost use Rattle.std.specs.Prelude.{◌≡◌, []};
+ghost use Rattle.async_cell_core.specs.Polled.{poll_reply};
 
-use crate::{Reply, Wakers};
+use crate::{Poll, Refusal, Reply, Wakers};
 
 /// A call on a cell, as a list of calls holds it. `W` is the type of the wakers, `E` that of the
 /// edits. The replies below are those of calls that are not refused.
@@ -49,5 +50,30 @@ impl<T, W> Answer<T, W> {
         ensures { result ≡ record { reply = reply; woken = woken } }
     {
         Answer { reply, woken }
+    }
+
+    /// An answer with this reply and no wakers.
+    pub(crate) fn replied(reply: Reply<T>) -> Self
+        ensures { result ≡ record { reply = reply; woken = [] } }
+    {
+        Answer::new(reply, Wakers::none())
+    }
+
+    /// An answer with this refusal, the value that comes back, and no wakers.
+    pub(crate) fn refused(why: Refusal, back: Option<T>) -> Self
+        ensures { result ≡ record { reply = Reply.Refused why back; woken = [] } }
+    {
+        Answer::replied(Reply::Refused(why, back))
+    }
+
+    /// The result of a poll as an answer, with no wakers.
+    pub(crate) fn polled(polled: Result<Poll<Option<T>>, Refusal>) -> Self
+        ensures { result ≡ record { reply = poll_reply polled; woken = [] } }
+    {
+        match polled {
+            Ok(Poll::Ready(content)) => Answer::replied(Reply::Ready(content)),
+            Ok(Poll::Pending) => Answer::replied(Reply::Pending),
+            Err(why) => Answer::refused(why, None),
+        }
     }
 }

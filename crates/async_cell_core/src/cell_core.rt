@@ -101,7 +101,7 @@ impl<T: Drop, W: Wakes> Core<T, W> {
             return Err(value);
         }
         match self.value.replace(value) {
-            Some(old) => Ok((Some(old), self.no_wakers())),
+            Some(old) => Ok((Some(old), Wakers::none())),
             None => Ok((None, self.waiting.hand_out())),
         }
     }
@@ -115,7 +115,7 @@ impl<T: Drop, W: Wakes> Core<T, W> {
 
         ensures if_open { IsOk result ↔ (is_closed self.old.cell ≡ false) }
         ensures holds { is_vacant self.old.cell ≡ true → content self.new.cell ≡ Some value }
-        ensures keeps { is_full self.old.cell ≡ true
+        ensures value_stays { is_full self.old.cell ≡ true
             → content self.new.cell ≡ content self.old.cell }
         ensures unused { IfOk result (λ answer. IsSome answer.0 ↔ (is_full self.old.cell ≡ true)) }
         ensures hands_out_all { IfOk result (λ answer. answer.1 ≡ self.old.waiting) }
@@ -127,7 +127,7 @@ impl<T: Drop, W: Wakes> Core<T, W> {
         }
         if self.is_set() {
             let unused = Some(value);
-            return Ok((unused, self.no_wakers()));
+            return Ok((unused, Wakers::none()));
         }
         self.value = Some(value);
         Ok((None, self.waiting.hand_out()))
@@ -157,7 +157,7 @@ impl<T: Drop, W: Wakes> Core<T, W> {
         let was_set = self.value.is_some();
         self.value = change(self.value.take());
         if was_set || self.value.is_none() {
-            return Ok(self.no_wakers());
+            return Ok(Wakers::none());
         }
         Ok(self.waiting.hand_out())
     }

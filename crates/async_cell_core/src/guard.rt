@@ -26,11 +26,11 @@ pub fn end_guard<T: Drop, W: Wakes>(
         → IfSome cancel (λ value. result.1 ≡ core.old.waiting) }
 {
     let Some(value) = cancel else {
-        return (None, core.no_wakers());
+        return (None, Wakers::none());
     };
     let written = core.or_set(value);
     match written {
         Ok(unused_and_woken) => unused_and_woken,
-        Err(back) => (Some(back), core.no_wakers()),
+        Err(back) => (Some(back), Wakers::none()),
     }
 }

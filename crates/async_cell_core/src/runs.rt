@@ -6,43 +6,16 @@ ghost use Rattle.async_cell_model.specs.Step.{is_memory};
 ghost use Rattle.async_cell_model.specs.Legal.{Runs, RunsUpTo};
 ghost use Rattle.async_cell_core.specs.IsStep.{IsStep, IsStepUpTo};
 ghost use Rattle.async_cell_core.specs.Kept.{is_get, kept_call, history_of, GetsAreCopied};
-ghost use Rattle.async_cell_core.specs.Polled.{IsCopied, IsExact, poll_reply};
+ghost use Rattle.async_cell_core.specs.Polled.{IsCopied, IsExact};
 
 use crate::call::{Answer, Call};
 use crate::cell_core::Core;
 use crate::edit::Edit;
-use crate::{Poll, Refusal, Reply, Wakes};
+use crate::{Refusal, Reply, Wakes};
 use std::alloc::Global;
 
-impl<T: Drop, W: Wakes> Core<T, W> {
-    /// Returns an answer with this reply and no wakers.
-    fn replied(&self, reply: Reply<T>) -> Answer<T, W>
-        ensures { result ≡ record { reply = reply; woken = [] } }
-    {
-        Answer::new(reply, self.no_wakers())
-    }
-
-    /// Returns an answer with this refusal, the value that comes back, and no wakers.
-    fn refused(&self, why: Refusal, back: Option<T>) -> Answer<T, W>
-        ensures { result ≡ record { reply = Reply.Refused why back; woken = [] } }
-    {
-        self.replied(Reply::Refused(why, back))
-    }
-
-    /// Returns the result of a poll as an answer, with no wakers.
-    fn polled(&self, polled: Result<Poll<Option<T>>, Refusal>) -> Answer<T, W>
-        ensures { result ≡ record { reply = poll_reply polled; woken = [] } }
-    {
-        match polled {
-            Ok(Poll::Ready(content)) => self.replied(Reply::Ready(content)),
-            Ok(Poll::Pending) => self.replied(Reply::Pending),
-            Err(why) => self.refused(why, None),
-        }
-    }
-}
-
 /// Makes one call that is no get, so it does not copy the value.
-fn step_moved<T: Drop, W: Wakes, E: Edit<T> + Drop>(
+fn step_no_get<T: Drop, W: Wakes, E: Edit<T> + Drop>(
     core: &mut Core<T, W>,
     call: Call<T, W, E>,
 ) -> Answer<T, W>
@@ -53,44 +26,44 @@ fn step_moved<T: Drop, W: Wakes, E: Edit<T> + Drop>(
     match call {
         Call::Set(value) => match core.set(value) {
             Ok(woken) => Answer::new(Reply::Done, woken),
-            Err(back) => core.refused(Refusal::Closed, Some(back)),
+            Err(back) => Answer::refused(Refusal::Closed, Some(back)),
         },
         Call::OrSet(value) => match core.or_set(value) {
             Ok((unused, woken)) => Answer::new(Reply::Value(unused), woken),
-            Err(back) => core.refused(Refusal::Closed, Some(back)),
+            Err(back) => Answer::refused(Refusal::Closed, Some(back)),
         },
         Call::Replace(value) => match core.replace(value) {
             Ok((old, woken)) => Answer::new(Reply::Value(old), woken),
-            Err(back) => core.refused(Refusal::Closed, Some(back)),
+            Err(back) => Answer::refused(Refusal::Closed, Some(back)),
         },
         Call::Update(edit) => match core.update(|content| edit.edit(content)) {
             Ok(woken) => Answer::new(Reply::Done, woken),
-            Err(why) => core.refused(why, None),
+            Err(why) => Answer::refused(why, None),
         },
         Call::UpdateSome(edit) => match core.update_some(|value| edit.edit_some(value)) {
-            Ok(()) => core.replied(Reply::Done),
-            Err(why) => core.refused(why, None),
+            Ok(()) => Answer::replied(Reply::Done),
+            Err(why) => Answer::refused(why, None),
         },
         Call::TryTake => {
             let taken = core.try_take();
-            core.replied(Reply::Value(taken))
+            Answer::replied(Reply::Value(taken))
         }
-        Call::IsSet => core.replied(Reply::Is(core.is_set())),
+        Call::IsSet => Answer::replied(Reply::Is(core.is_set())),
         Call::PollTake(waker) => {
             let polled = core.poll_take(&waker);
-            core.polled(polled)
+            Answer::polled(polled)
         }
         Call::AddOwner => match core.add_owner() {
-            Ok(()) => core.replied(Reply::Done),
-            Err(why) => core.refused(why, None),
+            Ok(()) => Answer::replied(Reply::Done),
+            Err(why) => Answer::refused(why, None),
         },
         Call::EndOwner => match core.end_owner() {
             Ok((last, woken)) => Answer::new(Reply::Value(last), woken),
-            Err(why) => core.refused(why, None),
+            Err(why) => Answer::refused(why, None),
         },
         Call::TakeInner => match core.take_inner() {
             Ok((inner, woken)) => Answer::new(Reply::Value(inner), woken),
-            Err(why) => core.refused(why, None),
+            Err(why) => Answer::refused(why, None),
         },
         Call::TryGet | Call::PollGet(_) => unreachable!(),
     }
@@ -118,14 +91,14 @@ pub fn step<T: Clone, W: Wakes, E: Edit<T> + Drop>(
 {
     match call {
         Call::TryGet => match core.try_get() {
-            Ok(copy) => core.replied(Reply::Value(copy)),
-            Err(why) => core.refused(why, None),
+            Ok(copy) => Answer::replied(Reply::Value(copy)),
+            Err(why) => Answer::refused(why, None),
         },
         Call::PollGet(waker) => {
             let polled = core.poll_get(&waker);
-            core.polled(polled)
+            Answer::polled(polled)
         }
-        call => step_moved(core, call),
+        call => step_no_get(core, call),
     }
 }
 
@@ -143,12 +116,12 @@ pub fn step_copied<T: Copy, W: Wakes, E: Edit<T> + Drop>(
         → is_memory result.reply ≡ false }
 {
     match call {
-        Call::TryGet => core.replied(Reply::Value(core.try_get_copied())),
+        Call::TryGet => Answer::replied(Reply::Value(core.try_get_copied())),
         Call::PollGet(waker) => {
             let polled = core.poll_get_copied(&waker);
-            core.polled(polled)
+            Answer::polled(polled)
         }
-        call => step_moved(core, call),
+        call => step_no_get(core, call),
     }
 }
 

@@ -1,6 +1,6 @@
 //! The list of those that wait, and what it hands out.
 use crate::in_turn::InTurn;
-use async_cell_cons::{Named, WaitList};
+use async_cell_cons::{Named, WaitList, Wakers};
 use std::alloc::{AllocError, Global};
 use std::cell::Cell;
 use std::test::Fail;
@@ -126,8 +126,7 @@ fn a_refused_waker_comes_back_and_the_list_stays(rt: HostRuntime) {
 
 #[test]
 fn no_wakers_give_none(rt: HostRuntime) {
-    let waiting: WaitList<Named> = WaitList::new(rt.alloc());
-    let mut none = waiting.no_wakers();
+    let mut none: Wakers<Named> = Wakers::none();
     assert!(rt; none.is_empty());
     assert_eq!(rt; none.next(), None);
 }

@@ -1,5 +1,6 @@
 //! An edit of a caller's own, for lists of calls.
-ghost use Rattle.std.specs.Prelude.{◌≡◌, IfSome, Some, map, nat_eq, true, vec_len};
+ghost use Rattle.std.specs.Prelude.{◌≡◌, IfSome, Some, map, true, vec_len};
+ghost use Rattle.async_cell_cons.specs.Named.{same_name};
 ghost use Rattle.async_cell_core.specs.Kept.{history_of};
 ghost use Rattle.async_cell_model.specs.Legal.{Runs};
 
@@ -39,7 +40,7 @@ pub fn made(
 ) -> Option<Vec<Answer<u64, Named>>>
     ensures one_each { IfSome result (λ answers. vec_len answers ≡ vec_len calls) }
     ensures model { IfSome result (λ answers.
-        Runs (λ a b. nat_eq a.0 b.0) true core.old
+        Runs same_name true core.old
         (history_of (λ put content. Some put.0) (λ put value. put.0) core.old.cell
         calls.items (map (λ a. a.reply) answers.items))
         (map (λ a. a.woken) answers.items) core.new) }

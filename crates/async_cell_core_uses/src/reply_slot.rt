@@ -1,5 +1,6 @@
 //! A slot for the reply to one request.
-ghost use Rattle.std.specs.Prelude.{◌≡◌, [], ◌∷◌, ◌++◌, Some, None, Ok, IfOk, OnOk, OnErr, IsOk, nat_eq, true, false};
+ghost use Rattle.std.specs.Prelude.{◌≡◌, [], ◌∷◌, ◌++◌, Some, None, Ok, IfOk, OnOk, OnErr, IsOk, true, false};
+ghost use Rattle.async_cell_cons.specs.Named.{same_name};
 ghost use Rattle.async_cell_model.specs.Cell.{content, is_closed, is_vacant};
 ghost use Rattle.async_cell_model.specs.WaitList.{wait_list};
 
@@ -33,7 +34,7 @@ impl ReplySlot {
         ensures once { OnOk result (content self.new.core.cell ≡ None) }
         ensures waits { is_vacant self.old.core.cell ≡ true → IfOk result (λ polled.
             (polled ≡ Poll.Pending)
-            × (self.new.core.waiting ≡ wait_list (λ a b. nat_eq a.0 b.0)
+            × (self.new.core.waiting ≡ wait_list same_name
             (self.old.core.waiting ++ record { 0 = asker } ∷ []))) }
         ensures first_waits { self.old.core.waiting ≡ [] → IsOk result }
         ensures unchanged { OnErr result ((self.new.core.cell ≡ self.old.core.cell)

@@ -25,7 +25,8 @@ use Rattle.async_cell_driver.specs.Mark.{is_due_mark}
 use Rattle.async_cell_driver.specs.DriverState.{DriverState, mark_at, is_named, IsCovered}
 use Rattle.async_cell_driver.specs.Log.{Line, Log, lines, log_of, with_edit, kinds, is_started, is_done, waits, is_due, is_ready, is_poll_of, was_ready, was_pending, was_refused, started}
 use Rattle.async_cell_driver.specs.History.{line_of, history, handed_out, call_of, reply_of, entry_of}
-use Rattle.async_cell_driver.specs.Drives.{Drives, FitsTold, IsLegal, is_same, IsSpared, AllSpared}
+use Rattle.async_cell_driver.specs.Drives.{Drives, FitsTold, IsLegal, IsSpared, AllSpared}
+use Rattle.async_cell_cons.specs.Named.{same_name}
 use Rattle.async_cell_driver.proofs.Reading.{awake, started_now}
 
 not_started_mark : (m : Option Mark) → is_some m ≡ false → is_due_mark m ≡ true
@@ -48,10 +49,10 @@ due_step false s d f false u ready gone is = is
 
 module _ {T : Type 0} where
   -- no line leads nowhere
-  pub drives_nil : (is_clone : T → T → Type 0) (from : DriverState T) → IsSound is_same from.core → IsCovered from → Drives is_clone from [] from
+  pub drives_nil : (is_clone : T → T → Type 0) (from : DriverState T) → IsSound same_name from.core → IsCovered from → Drives is_clone from [] from
   drives_nil is_clone from sound covered = record {
     legal = tt;
-    core_leads = up_to_clones is_clone is_same true from.core from.core [] [] (Runs-nil is_same true from.core sound);
+    core_leads = up_to_clones is_clone same_name true from.core from.core [] [] (Runs-nil same_name true from.core sound);
     kinds_are = refl;
     done_is = λ i. refl;
     waits_is = λ i. refl;
@@ -167,9 +168,9 @@ module _ {T : Type 0} where
         legal = fits.0;
         core_leads =
             let joined = core_join from at earlier later first.kinds_are first.core_leads.cell_is in
-            subst (λ (h : History T Named). RunsUpTo is_same true is_clone from.core h (handed_out from (later ++ earlier)) to.core) (sym joined.0)
-            (subst (λ (names : List (List Named)). RunsUpTo is_same true is_clone from.core (history from earlier ++ history at later) names to.core) (sym joined.1)
-            (Runs-join-by (UpToClones is_clone) is_same true from.core at.core to.core _ _ _ _ first.core_leads second.core_leads));
+            subst (λ (h : History T Named). RunsUpTo same_name true is_clone from.core h (handed_out from (later ++ earlier)) to.core) (sym joined.0)
+            (subst (λ (names : List (List Named)). RunsUpTo same_name true is_clone from.core (history from earlier ++ history at later) names to.core) (sym joined.1)
+            (Runs-join-by (UpToClones is_clone) same_name true from.core at.core to.core _ _ _ _ first.core_leads second.core_leads));
         kinds_are = second.kinds_are ∙ kinds_join from at earlier later first.kinds_are;
         done_is = λ i. second.done_is i ∙ done_join from at earlier later i (first.done_is i);
         waits_is = λ i. second.waits_is i ∙ waits_join from at earlier later i (first.waits_is i);

@@ -1,6 +1,7 @@
 pub mod Calling
 pub mod Changing
 pub mod Counting
+pub mod Events
 pub mod Joining
 pub mod Keeping
 pub mod Lines

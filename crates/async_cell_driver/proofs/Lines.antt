@@ -18,7 +18,8 @@ use Rattle.async_cell_driver.specs.Mark.{is_done_mark, waits_mark, is_due_mark}
 use Rattle.async_cell_driver.specs.DriverState.{DriverState, mark_at, IsCovered, result_at}
 use Rattle.async_cell_driver.specs.Log.{is_ready}
 use Rattle.async_cell_driver.specs.History.{line_of}
-use Rattle.async_cell_driver.specs.Drives.{Drives, is_same}
+use Rattle.async_cell_driver.specs.Drives.{Drives}
+use Rattle.async_cell_cons.specs.Named.{same_name}
 use Rattle.async_cell_driver.proofs.Reading.{awake}
 
 module _ {T : Type 0} where
@@ -61,11 +62,11 @@ module _ {T : Type 0} where
   kinds_with_fresh tasks kind = map-append (λ task. task.kind) tasks (fresh kind ∷ [])
 
   -- where a task is started
-  pub starts : (is_clone : T → T → Type 0) (from : DriverState T) (kind : Kind) → IsSound is_same from.core → IsCovered from
+  pub starts : (is_clone : T → T → Type 0) (from : DriverState T) (kind : Kind) → IsSound same_name from.core → IsCovered from
       → Drives is_clone from (line_of from (Start kind) (Started (length from.tasks)) ∷ []) (record from { tasks = from.tasks ++ fresh kind ∷ [] })
   starts is_clone from kind sound covered = record {
     legal = ((sym (length-map from.tasks (λ task. task.kind)), refl), tt);
-    core_leads = up_to_clones is_clone is_same true from.core from.core [] [] (Runs-nil is_same true from.core sound);
+    core_leads = up_to_clones is_clone same_name true from.core from.core [] [] (Runs-nil same_name true from.core sound);
     kinds_are = kinds_with_fresh from.tasks kind;
     done_is = λ i. says_with_fresh is_done_mark refl from.tasks kind i;
     waits_is = λ i. says_with_fresh waits_mark refl from.tasks kind i;
@@ -74,11 +75,11 @@ module _ {T : Type 0} where
   }
 
   -- where a start is refused
-  pub start_refused : (is_clone : T → T → Type 0) (from : DriverState T) (kind : Kind) → IsSound is_same from.core → IsCovered from
+  pub start_refused : (is_clone : T → T → Type 0) (from : DriverState T) (kind : Kind) → IsSound same_name from.core → IsCovered from
       → Drives is_clone from (line_of from (Start kind) (Refused Memory) ∷ []) from
   start_refused is_clone from kind sound covered = record {
     legal = ((refl, refl), tt);
-    core_leads = up_to_clones is_clone is_same true from.core from.core [] [] (Runs-nil is_same true from.core sound);
+    core_leads = up_to_clones is_clone same_name true from.core from.core [] [] (Runs-nil same_name true from.core sound);
     kinds_are = sym (append-nil (map (λ task. task.kind) from.tasks));
     done_is = λ i. refl;
     waits_is = λ i. refl;
@@ -87,11 +88,11 @@ module _ {T : Type 0} where
   }
 
   -- where a task is not polled
-  pub not_polled : (from : DriverState T) (i : ℕ) (is_clone : T → T → Type 0) → IsSound is_same from.core → IsCovered from → is_ready from [] i ≡ false
+  pub not_polled : (from : DriverState T) (i : ℕ) (is_clone : T → T → Type 0) → IsSound same_name from.core → IsCovered from → is_ready from [] i ≡ false
       → Drives is_clone from (line_of from (Poll i) (Polled NotReady) ∷ []) from
   not_polled from i is_clone sound covered not_ready = record {
     legal = ((not_ready, refl), tt);
-    core_leads = up_to_clones is_clone is_same true from.core from.core [] [] (Runs-nil is_same true from.core sound);
+    core_leads = up_to_clones is_clone same_name true from.core from.core [] [] (Runs-nil same_name true from.core sound);
     kinds_are = sym (append-nil (map (λ task. task.kind) from.tasks));
     done_is = λ j. refl;
     waits_is = λ j. refl;
@@ -100,12 +101,12 @@ module _ {T : Type 0} where
   }
 
   -- the same, where the new task and its number are known by what they equal
-  pub starts_as : (is_clone : T → T → Type 0) (from : DriverState T) (kind : Kind) (tasks : List (Task T)) (number : ℕ) → IsSound is_same from.core → IsCovered from
+  pub starts_as : (is_clone : T → T → Type 0) (from : DriverState T) (kind : Kind) (tasks : List (Task T)) (number : ℕ) → IsSound same_name from.core → IsCovered from
       → number ≡ length from.tasks → tasks ≡ from.tasks ++ fresh kind ∷ []
       → Drives is_clone from (line_of from (Start kind) (Started number) ∷ []) (record { core = from.core; tasks = tasks })
   starts_as is_clone from kind tasks number sound covered counts made = rw (counts, made) (starts is_clone from kind sound covered)
 
-  pub start_refused_as : (is_clone : T → T → Type 0) (from : DriverState T) (kind : Kind) (tasks : List (Task T)) (why : Refusal) → IsSound is_same from.core → IsCovered from
+  pub start_refused_as : (is_clone : T → T → Type 0) (from : DriverState T) (kind : Kind) (tasks : List (Task T)) (why : Refusal) → IsSound same_name from.core → IsCovered from
       → why ≡ Memory → tasks ≡ from.tasks → Drives is_clone from (line_of from (Start kind) (Refused why) ∷ []) (record { core = from.core; tasks = tasks })
   start_refused_as is_clone from kind tasks why sound covered for_memory same = rw (for_memory, same) (start_refused is_clone from kind sound covered)
 

@@ -34,7 +34,8 @@ use Rattle.async_cell_driver.specs.DriverState.{DriverState, name_of, mark_at, r
 use Rattle.async_cell_driver.specs.Log.{Line, kinds, is_ready, is_poll_of, was_ready, was_pending, was_refused}
 use Rattle.async_cell_driver.specs.History.{poll_of, told_of, line_of, history, handed_out}
 use Rattle.async_cell_driver.specs.Asked.{waiting_when, mark_after, polled_of, IsPolledWith}
-use Rattle.async_cell_driver.specs.Drives.{Drives, FitsTold, IsSpared, is_same}
+use Rattle.async_cell_driver.specs.Drives.{Drives, FitsTold, IsSpared}
+use Rattle.async_cell_cons.specs.Named.{same_name}
 use Rattle.async_cell_driver.proofs.Reading.{awake, ready_now, started_now, ready_by}
 use Rattle.async_cell_driver.proofs.Waking.{slice_get-change_same, slice_get-change_other, says_same, map-change, named-append}
 
@@ -147,12 +148,12 @@ module _ {T : Type 0} where
   -- Where a line leads that is a poll of a ready task.
   polls : (is_clone : T → T → Type 0) (from : DriverState T) (core : State T Named) (i : ℕ) (answer : Told T) (m : Mark) (line : Line T)
       → line ≡ record { event = event.Poll i; told = answer; names = [] }
-      → IsSound is_same core → AllNamed (record { core = core; tasks = change (with_mark m) i from.tasks })
+      → IsSound same_name core → AllNamed (record { core = core; tasks = change (with_mark m) i from.tasks })
       → is_ready from [] i ≡ true
       → FitsTold (length (kinds from [])) (is_ready from []) (event.Poll i) answer []
       → ((j : ℕ) → is_poll_of j (event.Poll i) answer ≡ nat_eq i j)
       → was_ready answer ≡ is_done_mark (Some m) → was_pending answer ≡ waits_mark (Some m) → was_refused answer ≡ is_due_mark (Some m)
-      → (RunsUpTo is_same true is_clone from.core (history from (record { event = event.Poll i; told = answer; names = [] } ∷ [])) (handed_out from (record { event = event.Poll i; told = answer; names = [] } ∷ [])) core)
+      → (RunsUpTo same_name true is_clone from.core (history from (record { event = event.Poll i; told = answer; names = [] } ∷ [])) (handed_out from (record { event = event.Poll i; told = answer; names = [] } ∷ [])) core)
       → Drives is_clone from (line ∷ []) (record { core = core; tasks = change (with_mark m) i from.tasks })
   polls is_clone from core i answer m line is sound covered ready fits is_poll says_done says_waits says_due leads =
       let marked_ready : is_ready_mark (mark_at from.tasks i) ≡ true = sym (ready_now from i) ∙ ready in
@@ -204,8 +205,8 @@ module _ {T : Type 0} where
 
   -- where the poll of a ready task leads
   pub poll_drives : (is_clone : T → T → Type 0) (from : DriverState T) (core : State T Named) (i : ℕ) (kind : Kind) (asked : Result (Poll (Option T)) Refusal)
-      → IsSound is_same core → IsCovered from → kind_at from.tasks i ≡ Some kind → is_ready_mark (mark_at from.tasks i) ≡ true
-      → (StepsUpTo is_same true is_clone from.core (poll_of (Some kind) i) (poll_reply asked) [] core)
+      → IsSound same_name core → IsCovered from → kind_at from.tasks i ≡ Some kind → is_ready_mark (mark_at from.tasks i) ≡ true
+      → (StepsUpTo same_name true is_clone from.core (poll_of (Some kind) i) (poll_reply asked) [] core)
       → IfErr asked (λ why. (why ≡ Memory) × (core.cell ≡ from.core.cell) × (core.waiting ≡ from.core.waiting)) → IfOk asked (λ p. core.waiting ≡ waiting_when p (name_of i) from.core.waiting)
       → Drives is_clone from (line_of from (event.Poll i) (told_of (polled_of asked)) ∷ []) (record { core = core; tasks = change (with_mark (mark_after asked)) i from.tasks })
   poll_drives is_clone from core i kind (Ok (Ready value)) sound covered is_kind ready answers refused waits =
@@ -227,13 +228,11 @@ module _ {T : Type 0} where
   sure_after None P R Q follows sure = follows sure
   sure_after (Some value) P R Q follows sure = λ q. follows (sure q)
 
-  -- where the core's answer is sure, the task is spared a refusal
-  pub spared_polled : (is_infallible : T → Type 0) (c : Cell T) (i : ℕ) (asked : Result (Poll (Option T)) Refusal)
-      → (is_vacant c ≡ false → MatchOption (content c) (IsOk asked) (λ value. is_infallible value → IsOk asked))
-      → IsSpared is_infallible c (event.Poll i) (told_of (polled_of asked))
-  spared_polled is_infallible c i (Ok (Ready value)) sure = tt
-  spared_polled is_infallible c i (Ok Pending) sure = tt
-  spared_polled is_infallible c i (Err why) sure = λ not_vacant. sure_after (content c) _ ⊥ is_infallible (λ ok. cc) (sure not_vacant)
+  -- where a poll is sure, a refusal of it is spared
+  pub spared_refused : (is_infallible : T → Type 0) (c : Cell T) (i : ℕ) (why : Refusal) (result : Result (Polled T) Refusal) → result ≡ Err why
+      → (is_vacant c ≡ false → MatchOption (content c) (IsOk result) (λ value. is_infallible value → IsOk result))
+      → IsSpared is_infallible c (event.Poll i) (told.Refused why)
+  spared_refused is_infallible c i why result is sure = λ not_vacant. sure_after (content c) _ ⊥ is_infallible (λ ok. cc) (sure not_vacant)
 
   ok_polled : (asked : Result (Poll (Option T)) Refusal) → IsOk asked → IsOk (polled_of asked)
   ok_polled (Ok (Ready value)) ok = refl
@@ -244,12 +243,6 @@ module _ {T : Type 0} where
   pub sure_polled : (o : Option T) (Q : T → Type 0) (asked : Result (Poll (Option T)) Refusal) → MatchOption o (IsOk asked) (λ value. Q value → IsOk asked)
       → MatchOption o (IsOk (polled_of asked)) (λ value. Q value → IsOk (polled_of asked))
   sure_polled o Q asked sure = sure_after o (IsOk asked) (IsOk (polled_of asked)) Q (ok_polled asked) sure
-
-  -- a taker that need not wait needs no memory
-  pub taker_sure : (core : State T Named) (kind : Kind) (i : ℕ) (asked : Result (Poll (Option T)) Refusal) → Some kind ≡ Some Take → is_vacant core.cell ≡ false
-      → (may_refuse is_same true core (poll_of (Some kind) i) ≡ false → IsOk asked) → IsOk (polled_of asked)
-  taker_sure core Take i asked is not_vacant spared = ok_polled asked (spared (rw not_vacant refl))
-  taker_sure core Get i asked is not_vacant spared = cc
 
   -- what the core's answer says, the task's poll says
   pub ok_as_polled : (asked : Result (Poll (Option T)) Refusal) (P : Type 0) → OnOk asked P → OnOk (polled_of asked) P
@@ -272,8 +265,8 @@ module _ {T : Type 0} where
 
   -- the same, for an old state, tasks and an answer that are known by what they equal
   pub poll_drives_as : (is_clone : T → T → Type 0) (from old : DriverState T) → from ≡ old → (core : State T Named) (tasks : List (Task T)) (i : ℕ) (kind : Kind) (asked : Result (Poll (Option T)) Refusal) (answer : Result (Polled T) Refusal)
-      → IsSound is_same core → IsCovered from → kind_at from.tasks i ≡ Some kind → is_ready_mark (mark_at from.tasks i) ≡ true
-      → (StepsUpTo is_same true is_clone from.core (poll_of (Some kind) i) (poll_reply asked) [] core)
+      → IsSound same_name core → IsCovered from → kind_at from.tasks i ≡ Some kind → is_ready_mark (mark_at from.tasks i) ≡ true
+      → (StepsUpTo same_name true is_clone from.core (poll_of (Some kind) i) (poll_reply asked) [] core)
       → IfErr asked (λ why. (why ≡ Memory) × (core.cell ≡ from.core.cell) × (core.waiting ≡ from.core.waiting)) → IfOk asked (λ p. core.waiting ≡ waiting_when p (name_of i) from.core.waiting)
       → tasks ≡ change (with_mark (mark_after asked)) i from.tasks → answer ≡ polled_of asked
       → Drives is_clone old (line_of old (event.Poll i) (told_of answer) ∷ []) (record { core = core; tasks = tasks })

@@ -8,7 +8,8 @@ use Rattle.async_cell_driver.specs.declared.task.Task.{Task}
 use Rattle.async_cell_driver.specs.Mark.{is_done_mark, waits_mark, is_due_mark, is_ready_mark}
 use Rattle.async_cell_driver.specs.DriverState.{DriverState, mark_at, AllNamed, is_named}
 use Rattle.async_cell_driver.specs.Log.{is_ready}
-use Rattle.async_cell_driver.specs.Drives.{IsAwake, is_same}
+use Rattle.async_cell_driver.specs.Drives.{IsAwake}
+use Rattle.async_cell_cons.specs.Named.{same_name}
 
 pub ready_by : (mark : Option Mark) → (is_some mark && (not (is_done_mark mark) && is_due_mark mark)) ≡ is_ready_mark mark
 ready_by None = refl
@@ -40,6 +41,6 @@ module _ {T : Type 0} where
       let named = covered i stands in let unnamed : is_named i [] ≡ true = rw none at named in cc
 
   -- where each waiting name stands in the waiting list, no task is forgotten
-  pub awake : (at : DriverState T) → IsSound is_same at.core → AllNamed at → IsAwake at
+  pub awake : (at : DriverState T) → IsSound same_name at.core → AllNamed at → IsAwake at
   awake at sound covered not_vacant i stands =
       ready_now at i ∙ woken_by (mark_at at.tasks i) stands (none_named at i covered (sound.waits_vacant not_vacant))

@@ -11,7 +11,7 @@ use Rattle.async_cell_driver.specs.declared.task.Mark.TheVariants.{Ready, Waitin
 use Rattle.async_cell_driver.specs.declared.task.Task.{Task}
 use Rattle.async_cell_driver.specs.Mark.{woken}
 use Rattle.async_cell_driver.specs.DriverState.{mark_at, result_of, result_at, is_named, change, wake, wake_each}
-use Rattle.async_cell_driver.specs.Drives.{is_same}
+use Rattle.async_cell_cons.specs.Named.{same_name}
 
 module _ {T : Type 0} where
   pub slice_get-change_same : (f : Task T → Task T) (i : ℕ) (tasks : List (Task T)) → slice_get (change f i tasks) i ≡ option_map f (slice_get tasks i)
@@ -111,16 +111,16 @@ or_regrouped true b c = refl
 or_regrouped false b c = refl
 
 -- a name that is skipped stands in the list
-named_if : (i : ℕ) (l : List Named) (w : Named) (b : Bool) → skips is_same l w ≡ b → is_named i (if b then l else l ++ w ∷ []) ≡ (is_named i l || nat_eq w.0 i)
+named_if : (i : ℕ) (l : List Named) (w : Named) (b : Bool) → skips same_name l w ≡ b → is_named i (if b then l else l ++ w ∷ []) ≡ (is_named i l || nat_eq w.0 i)
 named_if i l w true is = or_known (is_named i l) (nat_eq w.0 i) (λ same. ap (λ n. is_named n l) (sym (eqb-true w.0 i same)) ∙ is)
 named_if i l w false is = named-append i l (w ∷ []) ∙ or_last (is_named i l) (nat_eq w.0 i)
 
-named_each : (i : ℕ) (l names : List Named) → is_named i (fold (with_one_more is_same) l names) ≡ (is_named i l || is_named i names)
+named_each : (i : ℕ) (l names : List Named) → is_named i (fold (with_one_more same_name) l names) ≡ (is_named i l || is_named i names)
 named_each i l [] = or_known (is_named i l) false (λ no. cc)
 named_each i l (w ∷ rest) =
-    named_each i (with_one_more is_same l w) rest
-    ∙ (ap (λ p. p || is_named i rest) (named_if i l w (skips is_same l w) refl) ∙ or_regrouped (is_named i l) (nat_eq w.0 i) (is_named i rest))
+    named_each i (with_one_more same_name l w) rest
+    ∙ (ap (λ p. p || is_named i rest) (named_if i l w (skips same_name l w) refl) ∙ or_regrouped (is_named i l) (nat_eq w.0 i) (is_named i rest))
 
 -- the names in the wait list are those that registered
-pub named-wait_list : (i : ℕ) (names : List Named) → is_named i (wait_list is_same names) ≡ is_named i names
+pub named-wait_list : (i : ℕ) (names : List Named) → is_named i (wait_list same_name names) ≡ is_named i names
 named-wait_list i names = named_each i [] names

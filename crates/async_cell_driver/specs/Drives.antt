@@ -1,5 +1,6 @@
 -- What a driver promises: which log runs from one state of it to another.
-use Rattle.std.specs.Prelude.{◌≡◌, ℕ, Bool, true, false, List, [], ◌∷◌, Option, ⊤, map, length, nat_eq, MatchOption}
+use Rattle.std.specs.Prelude.{◌≡◌, ℕ, Bool, true, false, List, [], ◌∷◌, Option, ⊤, map, length, MatchOption}
+use Rattle.async_cell_cons.specs.Named.{same_name}
 use Rattle.async_cell_cons.specs.declared.named.Named.{Named}
 use Rattle.async_cell_model.specs.declared.refusal.Refusal.TheVariants.{Memory}
 use Rattle.async_cell_model.specs.Cell.{content, is_vacant}
@@ -14,10 +15,6 @@ use Rattle.async_cell_driver.specs.declared.event.Polled.TheVariants.{NotReady}
 use Rattle.async_cell_driver.specs.DriverState.{DriverState, result_at}
 use Rattle.async_cell_driver.specs.Log.{Log, kinds, is_done, waits, is_ready}
 use Rattle.async_cell_driver.specs.History.{history, handed_out, line_of}
-
--- whether two names are the same, which is when one wakes the other
-abbrev pub is_same : Named → Named → Bool
-is_same a b = nat_eq a.0 b.0
 
 -- The outcome and the woken names that an event may have, if this many tasks were started and these
 -- are ready. The outcome of a start is the number of tasks before it. A poll returns `NotReady`
@@ -55,7 +52,7 @@ IsAwake at = is_vacant at.core.cell ≡ false
 pub record Drives {T : Type 0} (is_clone : T → T → Type 0)
     (from : DriverState T) (log : Log T) (to : DriverState T) : Type 0 where
   pub legal : IsLegal from log
-  pub core_leads : RunsUpTo is_same true is_clone
+  pub core_leads : RunsUpTo same_name true is_clone
       from.core (history from log) (handed_out from log) to.core
   pub kinds_are : map (λ task. task.kind) to.tasks ≡ kinds from log
   pub done_is : (i : ℕ) → is_done to [] i ≡ is_done from log i

@@ -1,12 +1,14 @@
 ghost use Rattle.std.specs.Prelude.{◌≡◌, ◌≢◌, ◌≤◌, ℕ, [], length, true, false, Some, None, Ok, ◌↔◌, IsTrue, IsOk, IfOk, IfErr, OnOk, OnErr, MatchOption};
 ghost use Rattle.async_cell_model.specs.Cell.{content, is_closed, is_vacant};
 ghost use Rattle.async_cell_model.specs.Legal.{StepsUpTo, may_refuse};
+ghost use Rattle.async_cell_model.specs.Refusal.{FailsWithMemory};
 ghost use Rattle.async_cell_core.specs.Polled.{IsCloneOf, IsReadyWith, poll_reply};
 ghost use Rattle.async_cell_driver.specs.DriverState.{is_named, kind_at};
 ghost use Rattle.async_cell_driver.specs.Log.{is_ready, waits};
 ghost use Rattle.async_cell_driver.specs.History.{poll_of, told_of};
-ghost use Rattle.async_cell_driver.specs.Drives.{Happens, IsSpared, KeepsResults, is_same};
-ghost use Rattle.async_cell_driver.specs.Asked.{IsPolledWith, waiting_when, mark_after, polled_of};
+ghost use Rattle.async_cell_driver.specs.Drives.{Happens, KeepsResults};
+ghost use Rattle.async_cell_cons.specs.Named.{same_name};
+ghost use Rattle.async_cell_driver.specs.Asked.{ClonesContent, TakesContent, waiting_when, mark_after, polled_of};
 
 mod apply;
 mod settle;
@@ -73,33 +75,30 @@ impl<T: Clone> Driver<T> {
     pub fn poll(&mut self, i: usize) -> Result<Polled<T>, Refusal>
         ensures drives { Happens T.is_clone self.old (Event.Poll i) (told_of result) self.new }
 
+        // A task that is not ready.
         ensures not_ready { (result ≡ Ok Polled.NotReady) ↔ (is_ready self.old [] i ≡ false) }
         ensures untouched { result ≡ Ok Polled.NotReady → self.new ≡ self.old }
-        ensures taker_takes { kind_at self.old.tasks i ≡ Some Kind.Take
-            → is_ready self.old [] i ≡ true → is_vacant self.old.core.cell ≡ false
-            → result ≡ Ok (Polled.Ready (content self.old.core.cell)) }
-        ensures taker_leaves_none { kind_at self.old.tasks i ≡ Some Kind.Take
-            → is_ready self.old [] i ≡ true → OnOk result (content self.new.core.cell ≡ None) }
-        ensures getter_clones { kind_at self.old.tasks i ≡ Some Kind.Get
-            → is_ready self.old [] i ≡ true → is_vacant self.old.core.cell ≡ false
-            → IfOk result (IsPolledWith (IsCloneOf T.is_clone (content self.old.core.cell))) }
-        ensures getter_leaves { kind_at self.old.tasks i ≡ Some Kind.Get
-            → is_vacant self.old.core.cell ≡ false → self.new.core ≡ self.old.core }
-        ensures results_stay { KeepsResults self.old self.new }
+
+        // What a ready task gets.
+        ensures taker { kind_at self.old.tasks i ≡ Some Kind.Take → is_ready self.old [] i ≡ true
+            → TakesContent self.old.core self.new.core result }
+        ensures getter { kind_at self.old.tasks i ≡ Some Kind.Get → is_ready self.old [] i ≡ true
+            → ClonesContent T.is_clone self.old.core self.new.core result }
+
+        // When it is refused.
         ensures refused { IfErr result (λ why. (why ≡ Refusal.Memory)
             × (self.new.core.cell ≡ self.old.core.cell)
             × (self.new.core.waiting ≡ self.old.core.waiting)) }
-        ensures ready_no_more { OnOk result (is_ready self.new [] i ≡ false) }
-        ensures others_stay { (j : ℕ) → j ≢ i → is_ready self.new [] j ≡ is_ready self.old [] j }
-        ensures spared { may_refuse is_same true self.old.core
+        ensures spared { may_refuse same_name true self.old.core
             (poll_of (kind_at self.old.tasks i) i) ≡ false → IsOk result }
         ensures sure { is_vacant self.old.core.cell ≡ false
             → MatchOption (content self.old.core.cell) (IsOk result)
             (λ value. T.is_infallible value → IsOk result) }
-        ensures spared_told { IsSpared T.is_infallible self.old.core.cell
-            (Event.Poll i) (told_of result) }
-        ensures taker_sure { kind_at self.old.tasks i ≡ Some Kind.Take
-            → is_vacant self.old.core.cell ≡ false → IsOk result }
+
+        // What stays.
+        ensures results_stay { KeepsResults self.old self.new }
+        ensures ready_no_more { OnOk result (is_ready self.new [] i ≡ false) }
+        ensures others_stay { (j : ℕ) → j ≢ i → is_ready self.new [] j ≡ is_ready self.old [] j }
     {
         self.core.soundness();
         let Some(kind) = self.tasks.ready(i) else {
@@ -121,7 +120,7 @@ impl<T: Clone> Driver<T> {
         ensures makes_room { is_closed self.old.core.cell ≡ false
             → OnOk result (additional ≤ self.new.core.room) }
         ensures keeps_room { self.old.core.room ≤ self.new.core.room }
-        ensures refused { IfErr result (λ why. why ≡ Refusal.Memory) }
+        ensures refused { FailsWithMemory result }
         ensures closed { is_closed self.old.core.cell ≡ true → IsOk result × (self.new ≡ self.old) }
         ensures enough { additional ≤ self.old.core.room → IsOk result }
         ensures unchanged { OnErr result (self.new ≡ self.old) }
@@ -174,7 +173,7 @@ fn ask<T: Clone>(
     name: Named,
 ) -> Result<Poll<Option<T>>, Refusal>
     requires { is_named name.0 core.old.waiting ≡ false }
-    ensures model { StepsUpTo is_same true T.is_clone core.old
+    ensures model { StepsUpTo same_name true T.is_clone core.old
         (poll_of (Some kind) name.0) (poll_reply result) [] core.new }
     ensures refused { IfErr result (λ why. (why ≡ Refusal.Memory)
         × (core.new.cell ≡ core.old.cell) × (core.new.waiting ≡ core.old.waiting)) }
@@ -187,7 +186,7 @@ fn ask<T: Clone>(
         → IfOk result (IsReadyWith (IsCloneOf T.is_clone (content core.old.cell))) }
     ensures getter_leaves { kind ≡ Kind.Get
         → is_vacant core.old.cell ≡ false → core.new ≡ core.old }
-    ensures spared { may_refuse is_same true core.old (poll_of (Some kind) name.0) ≡ false
+    ensures spared { may_refuse same_name true core.old (poll_of (Some kind) name.0) ≡ false
         → IsOk result }
     ensures sure { is_vacant core.old.cell ≡ false
         → MatchOption (content core.old.cell) (IsOk result)

@@ -9,7 +9,8 @@ ghost use Rattle.async_cell_driver.specs.declared.event.Told.{Told};
 ghost use Rattle.async_cell_driver.specs.DriverState.{DriverState};
 ghost use Rattle.async_cell_driver.specs.Log.{Log, log_of, with_edit};
 ghost use Rattle.async_cell_driver.specs.History.{history, handed_out};
-ghost use Rattle.async_cell_driver.specs.Drives.{Drives, is_same};
+ghost use Rattle.async_cell_driver.specs.Drives.{Drives};
+ghost use Rattle.async_cell_cons.specs.Named.{same_name};
 
 /// Two logs are one, if the second starts from the state in which the first ends. So what each call
 /// promises holds of any number of calls, one after the other. The last line of a log comes first,
@@ -43,7 +44,7 @@ pub fn two_lists_are_one<T, E>()
 pub fn a_log_names_those_handed_out<T: Clone>()
     ensures { (from to : DriverState T) (log : Log T)
         → Drives T.is_clone from log to
-        → handed_out from log ≡ wakes_after is_same from.core [] (history from log) }
+        → handed_out from log ≡ wakes_after same_name from.core [] (history from log) }
 {}
 
 /// If a clone of a value equals its source, the outcomes in a log are exactly what the model of the
@@ -52,5 +53,5 @@ pub fn a_log_is_exact_where_clones_are<T: Clone>()
     ensures { (from to : DriverState T) (log : Log T)
         → (list_any copies (history from log) ≡ true → IsExact T.is_clone)
         → Drives T.is_clone from log to
-        → Runs is_same true from.core (history from log) (handed_out from log) to.core }
+        → Runs same_name true from.core (history from log) (handed_out from log) to.core }
 {}

@@ -8,7 +8,8 @@ use Rattle.async_cell_model.specs.History.{History}
 use Rattle.async_cell_model.specs.Legal.{IsLegal}
 use Rattle.async_cell_model.specs.Step.{is_memory}
 use Rattle.async_cell_recorded.specs.declared.entry.Entry.{Entry}
-use Rattle.async_cell_recorded.specs.Recording.{Recording, PlainRecording, IsRecorded, IsPlain, plain_entry, without_shares, of_one_share, with_one_share, made_by, serials_of, numbers_below, names_wake, start}
+use Rattle.async_cell_recorded.specs.Recording.{Recording, PlainRecording, IsRecorded, IsPlain, plain_entry, without_shares, of_one_share, with_one_share, made_by, serials_of, numbers_below, start}
+use Rattle.async_cell_cons.specs.Named.{same_name}
 use Rattle.async_cell_recorded.proofs.Serials.{serials_more, made_by_same}
 
 module _ {T : Type 0} where
@@ -64,7 +65,7 @@ module _ {T : Type 0} where
   pub carried_is : (p : PlainRecording T) → IsPlain p → IsRecorded (with_one_share p)
   carried_is p plain = record {
     owned = plain.owned;
-    legal = subst (λ (h : History T Named). IsLegal names_wake true (start p.begin) h) (sym (same_calls 0 p.entries)) plain.legal;
+    legal = subst (λ (h : History T Named). IsLegal same_name true (start p.begin) h) (sym (same_calls 0 p.entries)) plain.legal;
     answered = answered_too 0 p.entries plain.answered;
     of_shares = of_first p.begin 0 p.entries plain.owned.0;
     serials = in_order [] 0 p.entries refl (λ share. refl);

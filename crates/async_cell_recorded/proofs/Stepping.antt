@@ -12,7 +12,8 @@ use Rattle.async_cell_model.specs.Legal.{IsLegal, wakes, wakes_after, Runs, Step
 use Rattle.async_cell_model.proofs.Leading.{Runs-join}
 use Rattle.async_cell_model.proofs.Whole.{after-nil}
 use Rattle.async_cell_recorded.specs.declared.entry.Entry.{Entry}
-use Rattle.async_cell_recorded.specs.Recording.{Recording, IsRecorded, names_wake, plain_entry, made_by, start, state}
+use Rattle.async_cell_recorded.specs.Recording.{Recording, IsRecorded, plain_entry, made_by, start, state}
+use Rattle.async_cell_cons.specs.Named.{same_name}
 use Rattle.std.specs.Prelude.{slice_set, replicate}
 use Rattle.std.proofs.lemmas.List.{length-set, length-replicate, get_or-replicate}
 use Rattle.async_cell_recorded.proofs.Serials.{serials_more, each_more}
@@ -30,12 +31,12 @@ module _ {T : Type 0} where
   plain-snoc : (h : List (Entry T)) (e : Entry T) → map plain_entry (h ++ e ∷ []) ≡ map plain_entry h ++ plain_entry e ∷ []
   plain-snoc h e = map-append plain_entry h (e ∷ [])
 
-  starts : (n : ℕ) → (1 ≤ n) × (n ≤ 4294967295) → IsSound {T = T} names_wake (start n)
+  starts : (n : ℕ) → (1 ≤ n) × (n ≤ 4294967295) → IsSound {T = T} same_name (start n)
   starts n owned = record { counted = owned; waits_vacant = λ none. cc; kept = refl }
 
   -- a recorded history leads to a core with its cell and its waiting list
   leads : (r : Recording T) (core : State T Named) → IsRecorded r → core.cell ≡ (state r).cell → core.waiting ≡ (state r).waiting
-      → Runs names_wake true (start r.begin) (map plain_entry r.entries) (wakes_after names_wake (start r.begin) [] (map plain_entry r.entries)) core
+      → Runs same_name true (start r.begin) (map plain_entry r.entries) (wakes_after same_name (start r.begin) [] (map plain_entry r.entries)) core
   leads r core recorded cell_is waiting_is = record {
     sound = starts r.begin recorded.owned;
     legal = recorded.legal;
@@ -61,22 +62,22 @@ module _ {T : Type 0} where
     handed : woken ≡ wakes (state r) (plain_entry e)
 
   more : (r : Recording T) (core core' : State T Named) (e : Entry T) (woken : List Named) → IsRecorded r → core.cell ≡ (state r).cell → core.waiting ≡ (state r).waiting
-      → is_memory e.reply ≡ false → IsNext r e → Steps names_wake true core e.call e.reply woken core' → More r core' e woken
+      → is_memory e.reply ≡ false → IsNext r e → Steps same_name true core e.call e.reply woken core' → More r core' e woken
   more r core core' e woken recorded cell_is waiting_is found next one =
-      let both = Runs-join names_wake true (start r.begin) core core' (map plain_entry r.entries) (plain_entry e ∷ []) _ (woken ∷ []) (leads r core recorded cell_is waiting_is) one in
+      let both = Runs-join same_name true (start r.begin) core core' (map plain_entry r.entries) (plain_entry e ∷ []) _ (woken ∷ []) (leads r core recorded cell_is waiting_is) one in
       let grown : map plain_entry r.entries ++ plain_entry e ∷ [] ≡ map plain_entry (r.entries ++ e ∷ []) = sym (plain-snoc r.entries e) in
-      let first : woken ≡ wakes (after names_wake core []) (plain_entry e) = let handed = one.wakes_are in cc in
-      let same : after names_wake core [] ≡ core = after-nil (λ (a b : T). a ≡ b) names_wake true core one.sound.kept in
+      let first : woken ≡ wakes (after same_name core []) (plain_entry e) = let handed = one.wakes_are in cc in
+      let same : after same_name core [] ≡ core = after-nil (λ (a b : T). a ≡ b) same_name true core one.sound.kept in
       record {
         recorded = record {
           owned = recorded.owned;
-          legal = subst (λ (h : History T Named). IsLegal names_wake true (start r.begin) h) grown both.legal;
+          legal = subst (λ (h : History T Named). IsLegal same_name true (start r.begin) h) grown both.legal;
           answered = All-push (λ (x : Entry T). is_memory x.reply ≡ false) r.entries e recorded.answered found;
           of_shares = All-push (λ (x : Entry T). x.share < r.begin) r.entries e recorded.of_shares next.of_share;
           serials = serials_more r.entries e next.serial_is recorded.serials;
         };
-        cell_is = both.cell_is ∙ ap (λ (h : History T Named). (after names_wake (start r.begin) h).cell) grown;
-        waiting_is = both.waiting_is ∙ ap (λ (h : History T Named). (after names_wake (start r.begin) h).waiting) grown;
+        cell_is = both.cell_is ∙ ap (λ (h : History T Named). (after same_name (start r.begin) h).cell) grown;
+        waiting_is = both.waiting_is ∙ ap (λ (h : History T Named). (after same_name (start r.begin) h).waiting) grown;
         handed = first ∙ (ap (λ (at : State T Named). wakes at (plain_entry e)) same ∙ wakes_same core (state r) (plain_entry e) cell_is waiting_is);
       }
 
@@ -90,7 +91,7 @@ module _ {T : Type 0} (test : Test T) where
 
   -- the history is longer by an entry, and passes the test once more where the answer does
   pub journal_more : (r : Recording T) (core core' : State T Named) (counted : Totals) (e : Entry T) (woken : List Named) → IsJournal test r core counted → is_memory e.reply ≡ false → IsNext r e
-      → Steps names_wake true core e.call e.reply woken core'
+      → Steps same_name true core e.call e.reply woken core'
       → IsJournal test (longer r e) core' (record { calls = counted.calls + 1; picked = counted.picked + from_bool (test e woken); next_serials = slice_set counted.next_serials e.share (e.serial + 1) })
   journal_more r core core' counted e woken journal found next one =
       let m = more r core core' e woken journal.recorded journal.cell_is journal.waiting_is found next one in
@@ -120,7 +121,7 @@ module _ {T : Type 0} (test : Test T) where
 
 -- the reply is the model's
 pub step_replies : {T : Type 0} (test : Test T) (r : Recording T) (core core' : State T Named) (counted : Totals) (e : Entry T) (woken : List Named) → IsJournal test r core counted → is_memory e.reply ≡ false
-    → Steps names_wake true core e.call e.reply woken core' → e.reply ≡ reply (state r).cell e.call
+    → Steps same_name true core e.call e.reply woken core' → e.reply ≡ reply (state r).cell e.call
 step_replies {T} test r core core' counted e woken journal found one = elim one.legal.0.replied [
   | inl same ↦ same ∙ ap (λ (c : Cell T). reply c e.call) journal.cell_is
   | inr refused ↦ let memory : is_memory e.reply ≡ true = rw refused.0 refl in cc

@@ -1,6 +1,7 @@
 -- Recorded histories: from which state they start, which are legal, which serials their entries
 -- have, and to which state they lead. All of it is said in the terms of the model.
 use Rattle.std.specs.Prelude.{◌≡◌, ◌≤◌, ◌<◌, ◌+◌, ℕ, zero, suc, Bool, true, false, List, [], ◌∷◌, ◌++◌, None, All, map, filter, count_by, nat_eq}
+use Rattle.async_cell_cons.specs.Named.{same_name}
 use Rattle.async_cell_cons.specs.declared.named.Named.{Named}
 use Rattle.async_cell_model.specs.declared.cell.Cell.TheVariants.{Open}
 use Rattle.async_cell_model.specs.declared.entry.Entry as model
@@ -9,10 +10,6 @@ use Rattle.async_cell_model.specs.Step.{is_memory}
 use Rattle.async_cell_model.specs.History.{State, History, after}
 use Rattle.async_cell_model.specs.Legal.{IsLegal}
 use Rattle.async_cell_recorded.specs.declared.entry.Entry.{Entry}
-
--- a name wakes the wakers of its own name
-abbrev pub names_wake : Named → Named → Bool
-names_wake a b = nat_eq a.0 b.0
 
 -- the numbers 0, 1, 2, .. below n, in order
 abbrev pub numbers_below : ℕ → List ℕ
@@ -56,7 +53,7 @@ module _ {T : Type 0} where
 
   -- the state after a recorded history: the cell, and the wait list
   abbrev pub state : Recording T → State T Named
-  state r = after names_wake (start r.begin) (map plain_entry r.entries)
+  state r = after same_name (start r.begin) (map plain_entry r.entries)
 
   -- whether this share made the entry
   abbrev pub is_of : ℕ → Entry T → Bool
@@ -73,14 +70,14 @@ module _ {T : Type 0} where
   -- A plain history is legal from its start. A call that found no memory left no entry.
   pub record IsPlain (p : PlainRecording T) : Type 0 where
     pub owned : (1 ≤ p.begin) × (p.begin ≤ owners_limit)
-    pub legal : IsLegal names_wake true (start p.begin) p.entries
+    pub legal : IsLegal same_name true (start p.begin) p.entries
     pub answered : All (λ e. is_memory e.reply ≡ false) p.entries
 
   -- A recorded history is legal from its start. A call that found no memory left no entry. Each
   -- entry is of a share, and the serials of each share's entries are 0, 1, 2, .. in order.
   pub record IsRecorded (r : Recording T) : Type 0 where
     pub owned : (1 ≤ r.begin) × (r.begin ≤ owners_limit)
-    pub legal : IsLegal names_wake true (start r.begin) (map plain_entry r.entries)
+    pub legal : IsLegal same_name true (start r.begin) (map plain_entry r.entries)
     pub answered : All (λ e. is_memory e.reply ≡ false) r.entries
     pub of_shares : All (λ e. e.share < r.begin) r.entries
     pub serials : (share : ℕ) → serials_of share r.entries ≡ numbers_below (made_by share r.entries)

@@ -1,5 +1,6 @@
 ghost use Rattle.std.specs.Prelude.{◌≡◌, ◌↔◌, [], false, IsTrue, IfOk, IfErr, length, map};
 ghost use Rattle.async_cell_model.specs.Taken.{IsDistinct, brought, given, has_update};
+ghost use Rattle.async_cell_model.specs.Refusal.{FailsWithMemory};
 ghost use Rattle.async_cell_recorded.specs.Recording.{IsRecorded, plain_entry, without_shares, with_one_share};
 
 use crate::entry::{Entry, Plain};
@@ -19,7 +20,8 @@ pub struct History<T> {
 /// Contracts see the number of owners at the start, and the list of the entries.
 impl<T> Model for History<T> {
     ghost use Rattle.std.specs.Prelude.{◌≡◌};
-    ghost use Rattle.async_cell_recorded.specs.Recording.{Recording, IsRecorded};
+    ghost use Rattle.async_cell_model.specs.Refusal.{FailsWithMemory};
+ghost use Rattle.async_cell_recorded.specs.Recording.{Recording, IsRecorded};
 
     ghost Value = { Recording T };
 
@@ -79,7 +81,7 @@ impl<T: Copy> History<T> {
     /// there is no memory.
     pub fn plain(&self) -> Result<PlainHistory<T>, Refusal>
         ensures same { IfOk result (λ plain. plain ≡ without_shares self.now) }
-        ensures memory { IfErr result (λ why. why ≡ Refusal.Memory) }
+        ensures refused { FailsWithMemory result }
     {
         let all = self.entries.as_slice();
         let mut entries = Vec::new(*self.entries.allocator());
@@ -102,7 +104,7 @@ impl<T: Copy> History<T> {
         ensures entries { IfOk result (λ history. history ≡ with_one_share old) }
         ensures recorded { IfOk result (λ history. IsRecorded history) }
         ensures plain { IfOk result (λ history. without_shares history ≡ old) }
-        ensures memory { IfErr result (λ back. back.0 ≡ Refusal.Memory) }
+        ensures refused { IfErr result (λ back. back.0 ≡ Refusal.Memory) }
         ensures comes_back { IfErr result (λ back. back.1 ≡ old) }
     {
         let mut entries = Vec::new(*old.entries.allocator());

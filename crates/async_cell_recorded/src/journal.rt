@@ -3,6 +3,7 @@ ghost use Rattle.std.specs.Prelude.{IfOk, IfErr, OnErr};
 ghost use Rattle.std.specs.List.{sum_by};
 ghost use Rattle.async_cell_model.specs.Step.{reply};
 ghost use Rattle.async_cell_model.specs.Legal.{wakes};
+ghost use Rattle.async_cell_model.specs.Refusal.{FailsWithMemory};
 ghost use Rattle.async_cell_core.specs.Kept.{kept_call};
 ghost use Rattle.async_cell_recorded.specs.Recording.{IsRecorded, state, plain_entry, made_by};
 ghost use Rattle.async_cell_recorded.specs.Counting.{new_shares, share_after, picked};
@@ -56,7 +57,7 @@ impl<T: Copy, M: Pick<T>> Journal<T, M> {
         ensures begins { IfOk result (λ new. new.0 ≡ record { begin = shares; entries = [] }) }
         ensures one_each { IfOk result (λ new. vec_len new.1 ≡ shares) }
         ensures new_shares { IfOk result (λ new. new.1.items ≡ new_shares shares) }
-        ensures memory { IfErr result (λ why. why ≡ Refusal.Memory) }
+        ensures refused { FailsWithMemory result }
     {
         let (books, made) = Books::open(alloc, shares, blanks)?;
         let journal = Journal {

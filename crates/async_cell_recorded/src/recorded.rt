@@ -1,6 +1,7 @@
 ghost use Rattle.std.specs.Prelude.{◌≡◌, ◌↔◌, ◌≤◌, ◌⊎◌, Bool, Option, length, vec_len};
 ghost use Rattle.std.specs.Prelude.{IsOk, IfOk, IfErr};
 ghost use Rattle.std.specs.List.{sum_by};
+ghost use Rattle.async_cell_model.specs.Refusal.{FailsWithMemory};
 ghost use Rattle.async_cell_recorded.specs.Recording.{IsRecorded, plain_entry};
 ghost use Rattle.async_cell_recorded.specs.Answering.{IsCallResult};
 ghost use Rattle.async_cell_core.specs.Kept.{kept_call};
@@ -74,7 +75,7 @@ impl<T: Copy, M: Pick<T>> Recorded<T, M> {
         requires picked { (blanks.picked.name ≡ M.picked) × (blanks.picked.parts ≡ M.shares) }
         ensures one_each { IfOk result (λ new. vec_len new.1 ≡ shares) }
         ensures new_shares { IfOk result (λ new. new.1.items ≡ new_shares shares) }
-        ensures memory { IfErr result (λ why. why ≡ Refusal.Memory) }
+        ensures refused { FailsWithMemory result }
     {
         let (journal, made) = Journal::new(alloc, shares, blanks)?;
         let cell = Recorded {

@@ -1,7 +1,8 @@
 //! Sharing a recorded cell among threads, without a proof by the caller.
 ghost use Rattle.std.specs.Prelude.{◌≡◌, ◌≤◌, ⊤, false, [], length, vec_len, vec_capacity, map};
-ghost use Rattle.std.specs.Prelude.{IfOk, IfErr};
+ghost use Rattle.std.specs.Prelude.{IfOk};
 ghost use Rattle.std.specs.List.{All, AllZip};
+ghost use Rattle.async_cell_model.specs.Refusal.{FailsWithMemory};
 ghost use Rattle.async_cell_recorded.specs.Counting.{ShareState, Test, new_shares};
 ghost use Rattle.async_cell_recorded.specs.Outcomes.{AreOutcomes, HasEnded, IsNew, share_of};
 ghost use Rattle.async_cell_recorded.specs.Recording.{IsRecorded};
@@ -70,7 +71,7 @@ pub fn with_recorded<
     ensures recorded { IfOk result (λ done. IsRecorded done.1) }
     ensures outcomes { IfOk result (λ done.
         AreOutcomes S.describes S.pick shares done.0.items done.1) }
-    ensures memory { IfErr result (λ why. why ≡ Refusal.Memory) }
+    ensures refused { FailsWithMemory result }
 {
     run_marked::<T, O, S, R, Brand>(rt, alloc, shares, Blanks::new(shares), session)
 }
@@ -100,7 +101,7 @@ fn run_marked<
     ensures recorded { IfOk result (λ done. IsRecorded done.1) }
     ensures outcomes { IfOk result (λ done.
         AreOutcomes S.describes S.pick shares done.0.items done.1) }
-    ensures memory { IfErr result (λ why. why ≡ Refusal.Memory) }
+    ensures refused { FailsWithMemory result }
 {
     let (cell, made) = Recorded::<T, M>::new(alloc, shares, blanks)?;
     let mut outcomes = Vec::new(alloc);

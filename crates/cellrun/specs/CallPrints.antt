@@ -1,8 +1,9 @@
 -- What a call prints.
-use Rattle.std.specs.Prelude.{◌≡◌, ◌+ℤ◌, ℕ, ℤ, Bool, true, List, [], ◌∷◌, ◌++◌, Option, Some, None, Result, Ok, Err, codes, decimal, if◌then◌else◌, nat_eq}
+use Rattle.std.specs.Prelude.{◌≡◌, ◌+ℤ◌, ℕ, ℤ, Bool, true, List, [], ◌∷◌, ◌++◌, Option, Some, None, Result, Ok, Err, codes, decimal, if◌then◌else◌}
 use Rattle.std.specs.Int.{w64, saturate_signed}
 use Rattle.std.specs.Fmt.{signed_decimal}
 use Rattle.std.specs.Option.{option_map}
+use Rattle.async_cell_cons.specs.Named.{same_name}
 use Rattle.async_cell_cons.specs.declared.named.Named.{Named}
 use Rattle.async_cell_model.specs.declared.cell.Cell.{Cell}
 use Rattle.async_cell_model.specs.declared.entry.Kept.{Kept}
@@ -18,10 +19,6 @@ use Rattle.futures.specs.declared.task.Poll.{Poll}
 use Rattle.futures.specs.declared.task.Poll.TheVariants as poll
 use Rattle.cellrun.specs.declared.command.Command.{Command}
 use Rattle.cellrun.specs.declared.command.Command.TheVariants.{Set, OrSet, Replace, UpdatePut, UpdateNone, UpdateKeep, UpdateSomeAdd, Take, Get, TryTake, TryGet, Own, End, Inner, Debug}
-
--- a name wakes the wakers of its own name
-abbrev pub names_wake : Named → Named → Bool
-names_wake a b = nat_eq a.0 b.0
 
 -- an update of this cell as a history stores it: with what its closure saw and what it returned,
 -- both `None` if it was not called
@@ -121,5 +118,5 @@ reply_text call (Refused why back) owners = refusal_text why
 abbrev pub CallPrints : State ℤ Named → Command → List ℕ → State ℤ Named → Type 0
 CallPrints from Debug line to = to ≡ from
 CallPrints from call line to = (reply : Reply ℤ) × (woken : List Named)
-    × Steps names_wake true from (kept_call from.cell call) reply woken to
+    × Steps same_name true from (kept_call from.cell call) reply woken to
     × (line ≡ reply_text call reply (owners_of to.cell) ++ end_text woken)

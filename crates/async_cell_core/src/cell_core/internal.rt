@@ -5,7 +5,7 @@ ghost use Rattle.async_cell_model.specs.History.{IsSound};
 ghost use Rattle.async_cell_core.specs.IsStep.{IsStep, replies, replace_answer, poll_answer};
 
 use super::Core;
-use async_cell_cons::{Wakers, Wakes};
+use async_cell_cons::Wakes;
 use async_cell_model::{Kept, Refusal, Reply};
 use futures::task::Poll;
 use std::mem;
@@ -37,13 +37,6 @@ impl<T: Drop, W: Wakes> Core<T, W> {
     #[doc(hidden)]
     pub fn wakes_nobody(&self) -> bool {
         self.waiting.wakes_nobody()
-    }
-
-    /// Returns an empty list of wakers.
-    pub(crate) fn no_wakers(&self) -> Wakers<W>
-        ensures { result ≡ [] }
-    {
-        self.waiting.no_wakers()
     }
 
     /// Internal: may change without notice.

@@ -42,7 +42,7 @@ impl<T: Drop, W: Wakes> Core<T, W> {
             1 => Ok(self.close()),
             more => {
                 self.owners = more - 1;
-                Ok((None, self.no_wakers()))
+                Ok((None, Wakers::none()))
             }
         }
     }

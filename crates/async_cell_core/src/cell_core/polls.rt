@@ -1,11 +1,12 @@
 //! Polls and gets: what waits, and what copies the value.
-ghost use Rattle.std.specs.Prelude.{◌≡◌, ◌≤◌, ◌<◌, [], ◌∷◌, ◌++◌, None, Ok, length, true, false, IsOk, IfOk, IfErr, OnOk, OnErr, MatchOption};
+ghost use Rattle.std.specs.Prelude.{◌≡◌, ◌≤◌, ◌<◌, [], ◌∷◌, ◌++◌, None, Ok, length, true, false, IsOk, IfOk, OnOk, OnErr, MatchOption};
 ghost use Rattle.async_cell_model.specs.Cell.{content, is_closed, is_full, is_vacant};
 ghost use Rattle.async_cell_model.specs.History.{IsSound};
 ghost use Rattle.async_cell_model.specs.WaitList.{wait_list};
-ghost use Rattle.async_cell_model.specs.Legal.{needs_no_memory};
+ghost use Rattle.async_cell_model.specs.Refusal.{FailsWithMemory};
 ghost use Rattle.async_cell_core.specs.IsStep.{IsStep, IsStepUpTo, get_answer, poll_answer, wait_answer};
 ghost use Rattle.async_cell_core.specs.Polled.{IsExact, IsCloneOf, IsReadyWith};
+ghost use Rattle.async_cell_core.specs.Waiting.{NeedsNoMemory, OnlyRoomGrows};
 
 use super::Core;
 use async_cell_cons::Wakes;
@@ -24,17 +25,11 @@ impl<T: Drop, W: Wakes> Core<T, W> {
         ensures ready { is_vacant self.old.cell ≡ false
             → result ≡ Ok (Poll.Ready (content self.old.cell)) }
         ensures leaves_none { OnOk result (content self.new.cell ≡ None) }
-        ensures pending { is_vacant self.old.cell ≡ true
-            → IfOk result (λ polled. polled ≡ Poll.Pending) }
-        ensures waits { result ≡ Ok Poll.Pending
-            → self.new.waiting ≡ wait_list W.will_wake (self.old.waiting ++ waker.now ∷ []) }
-        ensures spared { needs_no_memory W.will_wake W.SURE_CLONE self.old waker.now ≡ true
-            → IsOk result }
-        ensures first_waits { self.old.waiting ≡ [] → W.is_infallible waker.now → IsOk result }
-        ensures room_suffices { 0 < self.old.room → W.is_infallible waker.now → IsOk result }
-        ensures unchanged { OnErr result
-            ((self.new.cell ≡ self.old.cell) × (self.new.waiting ≡ self.old.waiting)) }
-        ensures keeps_room { OnErr result (self.old.room ≤ self.new.room) }
+        ensures waits { is_vacant self.old.cell ≡ true
+            → IfOk result (λ polled. (polled ≡ Poll.Pending)
+            × (self.new.waiting ≡ wait_list W.will_wake (self.old.waiting ++ waker.now ∷ []))) }
+        ensures spared { NeedsNoMemory W.Wakes self.old waker.now → IsOk result }
+        ensures unchanged { OnErr result (OnlyRoomGrows self.old self.new) }
     {
         if self.is_vacant() {
             self.wait(waker)?;
@@ -52,7 +47,7 @@ impl<T: Drop, W: Wakes> Core<T, W> {
         ensures makes_room { is_closed self.old.cell ≡ false
             → OnOk result (additional ≤ self.new.room) }
         ensures keeps_room { self.old.room ≤ self.new.room }
-        ensures refused { IfErr result (λ why. why ≡ Refusal.Memory) }
+        ensures refused { FailsWithMemory result }
         ensures closed { is_closed self.old.cell ≡ true → IsOk result × (self.new ≡ self.old) }
         ensures enough { additional ≤ self.old.room → IsOk result }
         ensures unchanged { OnErr result (self.new ≡ self.old) }
@@ -79,18 +74,13 @@ impl<T: Drop, W: Wakes> Core<T, W> {
         requires { is_vacant self.old.cell ≡ true }
         ensures waits { OnOk result ((self.new.cell ≡ self.old.cell)
             × (self.new.waiting ≡ wait_list W.will_wake (self.old.waiting ++ waker.now ∷ []))) }
-        ensures refused { IfErr result (λ why. why ≡ Refusal.Memory) }
-        ensures unchanged { OnErr result
-            ((self.new.cell ≡ self.old.cell) × (self.new.waiting ≡ self.old.waiting)) }
-        ensures keeps_room { OnErr result (self.old.room ≤ self.new.room) }
+        ensures refused { FailsWithMemory result }
+        ensures unchanged { OnErr result (OnlyRoomGrows self.old self.new) }
         ensures take { IsStep W.Wakes
             self.old (Kept.PollTake waker.now) (wait_answer result) self.new }
         ensures get { IsStep W.Wakes
             self.old (Kept.PollGet waker.now) (wait_answer result) self.new }
-        ensures spared { needs_no_memory W.will_wake W.SURE_CLONE self.old waker.now ≡ true
-            → IsOk result }
-        ensures first_waits { self.old.waiting ≡ [] → W.is_infallible waker.now → IsOk result }
-        ensures room_suffices { 0 < self.old.room → W.is_infallible waker.now → IsOk result }
+        ensures spared { NeedsNoMemory W.Wakes self.old waker.now → IsOk result }
     {
         if !self.waiting.skips(waker) {
             self.waiting.push(waker)?;
@@ -144,6 +134,7 @@ impl<T: Clone, W: Wakes> Core<T, W> {
         ensures refused { OnErr result
             (IsStep W.Wakes self.old (Kept.PollGet waker.now) (poll_answer result) self.new) }
 
+        // A poll that need not wait.
         ensures gives { IsExact T.is_clone → is_vacant self.old.cell ≡ false
             → IfOk result (λ polled. polled ≡ Poll.Ready (content self.old.cell)) }
         ensures clones { is_vacant self.old.cell ≡ false
@@ -151,19 +142,14 @@ impl<T: Clone, W: Wakes> Core<T, W> {
         ensures sure { is_vacant self.old.cell ≡ false → MatchOption (content self.old.cell)
             (IsOk result) (λ value. T.is_infallible value → IsOk result) }
         ensures stays { is_vacant self.old.cell ≡ false → self.new ≡ self.old }
-        ensures pending { is_vacant self.old.cell ≡ true
-            → IfOk result (λ polled. polled ≡ Poll.Pending) }
-        ensures waits { result ≡ Ok Poll.Pending
-            → self.new.waiting ≡ wait_list W.will_wake (self.old.waiting ++ waker.now ∷ []) }
+
+        // A poll that has to wait.
+        ensures waits { is_vacant self.old.cell ≡ true
+            → IfOk result (λ polled. (polled ≡ Poll.Pending)
+            × (self.new.waiting ≡ wait_list W.will_wake (self.old.waiting ++ waker.now ∷ []))) }
         ensures spared { is_vacant self.old.cell ≡ true
-            → needs_no_memory W.will_wake W.SURE_CLONE self.old waker.now ≡ true → IsOk result }
-        ensures first_waits { is_vacant self.old.cell ≡ true → self.old.waiting ≡ []
-            → W.is_infallible waker.now → IsOk result }
-        ensures room_suffices { is_vacant self.old.cell ≡ true → 0 < self.old.room
-            → W.is_infallible waker.now → IsOk result }
-        ensures unchanged { OnErr result
-            ((self.new.cell ≡ self.old.cell) × (self.new.waiting ≡ self.old.waiting)) }
-        ensures keeps_room { OnErr result (self.old.room ≤ self.new.room) }
+            → NeedsNoMemory W.Wakes self.old waker.now → IsOk result }
+        ensures unchanged { OnErr result (OnlyRoomGrows self.old self.new) }
     {
         if self.is_vacant() {
             self.wait(waker)?;

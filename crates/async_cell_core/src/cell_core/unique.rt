@@ -1,8 +1,9 @@
 //! Internal: may change without notice. Waiting with a waker that no waiting one would wake.
-ghost use Rattle.std.specs.Prelude.{◌≡◌, ◌≤◌, [], ◌∷◌, ◌++◌, true, false, IsOk, IfErr, OnOk, OnErr};
+ghost use Rattle.std.specs.Prelude.{◌≡◌, ◌≤◌, [], ◌∷◌, ◌++◌, true, false, IsOk, OnOk, OnErr};
 ghost use Rattle.async_cell_model.specs.Cell.{is_vacant};
 ghost use Rattle.async_cell_model.specs.WaitList.{skips};
 ghost use Rattle.async_cell_model.specs.Legal.{needs_no_memory};
+ghost use Rattle.async_cell_model.specs.Refusal.{FailsWithMemory};
 ghost use Rattle.async_cell_core.specs.IsStep.{IsStep, wait_answer};
 
 use super::Core;
@@ -28,7 +29,7 @@ impl<T: Drop, W: Wakes> Core<T, W> {
 
         ensures added { OnOk result ((self.new.cell ≡ self.old.cell)
             × (self.new.waiting ≡ self.old.waiting ++ waker.now ∷ [])) }
-        ensures refused { IfErr result (λ why. why ≡ Refusal.Memory) }
+        ensures refused { FailsWithMemory result }
         ensures unchanged { OnErr result
             ((self.new.cell ≡ self.old.cell) × (self.new.waiting ≡ self.old.waiting)) }
         ensures keeps_room { OnErr result (self.old.room ≤ self.new.room) }

@@ -1,13 +1,13 @@
 use Rattle.std.proofs.Common.{◌≡◌, true, false, rules}
 use Rattle.async_cell_model.specs.Step.{is_memory}
-use Rattle.async_cell_recorded.specs.Recording.{names_wake}
+use Rattle.async_cell_cons.specs.Named.{same_name}
 use Rattle.async_cell_recorded.proofs.Making.{kept_made, refused_unchanged}
 use Rattle.async_cell_recorded.proofs.made.make.Goals as goal
 
 pub returns-clause-kept : goal.returns-clause-kept
 returns-clause-kept g c =
     let found : is_memory c.step_copied-reply.result.reply ≡ false = search rules in
-    let made = kept_made g.E.Edit.edit g.E.Edit.edit_some names_wake true c.args.core.now c.step_copied-reply.new.core c.args.call c.step_copied-reply.result.reply c.step_copied-reply.result.woken found c.step_copied-reply.ensures.model in
+    let made = kept_made g.E.Edit.edit g.E.Edit.edit_some same_name true c.args.core.now c.step_copied-reply.new.core c.args.call c.step_copied-reply.result.reply c.step_copied-reply.result.woken found c.step_copied-reply.ensures.model in
     cc
 
 pub returns-clause-model : goal.returns-clause-model
