@@ -1,7 +1,8 @@
 //! A core behind a lock, while the lock is held, and what comes out of it meanwhile. The order of
-//! its end is in one place, `Locked::unlock`: the lock is released, then wakers are woken, and then
-//! the caller gets what it may drop. A call that ends otherwise does not compile.
-ghost use Rattle.std.specs.Prelude.{◌≡◌, Err, IfOk, IfErr};
+//! the end of a call is in one place, `Locked::unlock_and_wake`: the lock is released, then wakers
+//! are woken, and then the caller gets what it may drop. A call that ends otherwise does not
+//! compile.
+ghost use Rattle.std.specs.Prelude.{◌≡◌, Err, IfErr};
 ghost use Rattle.std.specs.Sync.Mutex.{mutex_guard_value};
 ghost use Rattle.async_cell_model.specs.History.{IsSound};
 
@@ -17,16 +18,25 @@ pub(crate) struct Lock<T, W: Wakes> {
     core: Mutex<Core<T, W>>,
 }
 
-/// A core whose lock is held. It is not `Drop` and must be consumed: by `unlock`, or by `read`.
+/// A core whose lock is held. It is not `Drop` and must be consumed: by `unlock`, or by
+/// `unlock_and_wake`.
 pub(crate) struct Locked<'a, T, W: Wakes> {
     core: MutexGuard<'a, Core<T, W>>,
 }
 
-/// What came out of a core while its lock was held: the answer of a call, and wakers to be woken.
-/// It is not `Drop` and must be consumed: by `Locked::unlock`, which wakes the wakers and returns
-/// the answer once the lock is free, or by a call that stores it in the core.
-pub(crate) struct Held<X, W> {
+/// Something that must not be dropped while the lock is held, such as what came out of the core. It
+/// is not `Drop` and must be consumed: by `Locked::unlock`, which returns it, or by a call that
+/// stores it in the core.
+pub(crate) struct Held<X> {
     answer: X,
+}
+
+/// What came out of a core while its lock was held: an answer, and wakers to be woken. It is not
+/// `Drop` and must be consumed: by `Locked::unlock_and_wake`, which wakes the wakers and returns
+/// the answer.
+pub(crate) struct Waking<X, W> {
+    answer: X,
+    /// `None` if nobody is to be woken.
     woken: Option<Wakers<W>>,
 }
 
@@ -52,15 +62,6 @@ impl<T: Drop, W: Wakes> Lock<T, W> {
         Locked { core }
     }
 
-    /// `lock`, with something that must not be dropped while the lock is held.
-    #[inline(always)]
-    pub(crate) fn lock_with<X, R: Wait>(&self, beside: X, rt: &R) -> (Locked<'_, T, W>, Held<X, W>)
-        ensures kept { IsSound W.will_wake (mutex_guard_value result.0.core) }
-        ensures beside { result.1.answer ≡ beside }
-    {
-        (self.lock(rt), Held::of(beside))
-    }
-
     /// Returns the content, whatever the number of owners. Wakes all waiters. Does not take the
     /// lock.
     pub(crate) fn into_inner(self) -> Option<T> {
@@ -74,63 +75,73 @@ impl<T: Drop, W: Wakes> Lock<T, W> {
 impl<T: Drop, W: Wakes> Locked<'_, T, W> {
     /// Releases the lock, wakes the wakers that the core handed out, and returns the answer.
     #[inline(always)]
-    pub(crate) fn unlock<X>(self, held: Held<X, W>) -> X
-        ensures answers { result ≡ held.answer }
+    pub(crate) fn unlock_and_wake<X>(self, out: Waking<X, W>) -> X
+        ensures answers { result ≡ out.answer }
     {
         let Locked { core } = self;
         drop(core); // What is woken or dropped may call this cell: never under the lock.
-        let Held { answer, woken } = held;
+        let Waking { answer, woken } = out;
         if let Some(woken) = woken {
             woken.wake_all();
         }
         answer
     }
 
-    /// Releases the lock, and returns what the closure reads of the core. That is plain data: there
-    /// is nothing to be woken or dropped.
+    /// Releases the lock, and returns what was held.
     #[inline(always)]
-    pub(crate) fn read<X: Copy, F: FnOnce(&Core<T, W>) -> X>(self, read: F) -> X
-        requires { F.IsAlwaysCallable read }
+    pub(crate) fn unlock<X>(self, held: Held<X>) -> X
+        ensures answers { result ≡ held.answer }
     {
         let Locked { core } = self;
-        read(&*core)
+        drop(core);
+        let Held { answer } = held;
+        answer
     }
 }
 
-impl<X, W> Held<X, W> {
-    /// Makes an answer without wakers.
+impl<X> Held<X> {
+    /// Holds this until the lock is released.
     #[inline(always)]
-    fn of(answer: X) -> Self
+    pub(crate) fn of(answer: X) -> Self
         ensures { result.answer ≡ answer }
     {
-        Held {
-            answer,
-            woken: None,
-        }
+        Held { answer }
     }
+}
 
-    /// Makes an answer with these wakers.
+impl<X, W> Waking<X, W> {
+    /// Holds an answer of a call of the core, with the wakers that it handed out.
     #[inline(always)]
-    fn waking(answer: X, woken: Wakers<W>) -> Self
+    fn of(answer: X, woken: Wakers<W>) -> Self
         ensures { result.answer ≡ answer }
     {
-        Held {
+        Waking {
             answer,
             woken: Some(woken),
         }
     }
+
+    /// Holds an answer of a call of the core that handed out no wakers.
+    #[inline(always)]
+    fn nobody(answer: X) -> Self
+        ensures { result.answer ≡ answer }
+    {
+        Waking {
+            answer,
+            woken: None,
+        }
+    }
 }
 
-impl<A, E, W> Held<Result<A, E>, W> {
-    /// Makes an answer of what a call of the core returned.
+impl<A, E, W> Waking<Result<A, E>, W> {
+    /// Holds what a call of the core returned: an answer and wakers, or an error.
     #[inline(always)]
     fn of_result(returned: Result<(A, Wakers<W>), E>) -> Self
         ensures refused { IfErr result.answer (λ why. returned ≡ Err why) }
-        ensures answers { IfOk result.answer (λ answer. IfOk returned (λ both. both.0 ≡ answer)) }
     {
         match returned {
-            Ok((answer, woken)) => Held::waking(Ok(answer), woken),
-            Err(why) => Held::of(Err(why)),
+            Ok((answer, woken)) => Waking::of(Ok(answer), woken),
+            Err(why) => Waking::nobody(Err(why)),
         }
     }
 }

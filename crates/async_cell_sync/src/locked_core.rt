@@ -32,15 +32,6 @@ impl<T: Drop, W: Wakes> LockedCore<T, W> {
         self.core.lock(rt)
     }
 
-    /// `lock`, with something that must not be dropped while the lock is held.
-    #[inline(always)]
-    pub(crate) fn lock_with<X, R: Wait>(&self, beside: X, rt: &R) -> (Locked<'_, T, W>, Held<X, W>)
-        ensures kept { IsSound W.will_wake (mutex_guard_value result.0.core) }
-        ensures beside { result.1.answer ≡ beside }
-    {
-        self.core.lock_with(beside, rt)
-    }
-
     /// Sets the value, drops the old one and wakes all waiters. Fails on a closed cell; the value
     /// is returned in the error.
     pub fn set<R: Wait>(&self, value: T, rt: &R) -> Result<(), T>
@@ -62,7 +53,7 @@ impl<T: Drop, W: Wakes> LockedCore<T, W> {
             return Ok(Some(core.unlock(old)?));
         }
         let replaced = core.replace(value);
-        core.unlock(replaced)
+        core.unlock_and_wake(replaced)
     }
 
     /// Sets the value and wakes all waiters, if the cell holds no value. Drops `value` otherwise.
@@ -72,7 +63,7 @@ impl<T: Drop, W: Wakes> LockedCore<T, W> {
     {
         let mut core = self.lock(rt);
         let written = core.or_set(value);
-        let unused = core.unlock(written)?;
+        let unused = core.unlock_and_wake(written)?;
         drop(unused);
         Ok(())
     }
@@ -91,7 +82,7 @@ impl<T: Drop, W: Wakes> LockedCore<T, W> {
     {
         let mut core = self.lock(rt);
         let updated = core.update(change);
-        let (updated, _not_called) = core.unlock(updated);
+        let (updated, _not_called) = core.unlock_and_wake(updated);
         updated
     }
 
@@ -120,7 +111,9 @@ impl<T: Drop, W: Wakes> LockedCore<T, W> {
 
     /// Returns whether the cell holds a value.
     pub fn is_set<R: Wait>(&self, rt: &R) -> bool {
-        self.lock(rt).read(|core| core.is_set())
+        let core = self.lock(rt);
+        let is_set = core.is_set();
+        core.unlock(Held::of(is_set))
     }
 
     /// Takes the value, or waits for one: registers the waker (see `WaitList::skips`). Returns
@@ -164,7 +157,7 @@ impl<T: Drop, W: Wakes> LockedCore<T, W> {
         let mut core = self.lock(rt);
         if core.owners() > 1 {
             let ended = core.end_owner(); // Nobody is woken, and there is nothing to drop.
-            core.unlock(ended)?;
+            core.unlock_and_wake(ended)?;
             return Ok(());
         }
         LockedCore::end_last(core)
@@ -175,7 +168,7 @@ impl<T: Drop, W: Wakes> LockedCore<T, W> {
         ensures refused { FailsWithClosed result }
     {
         let ended = core.end_owner();
-        let value = core.unlock(ended)?;
+        let value = core.unlock_and_wake(ended)?;
         drop(value);
         Ok(())
     }
@@ -188,22 +181,28 @@ impl<T: Drop, W: Wakes> LockedCore<T, W> {
     {
         let mut core = self.lock(rt);
         let closed = core.take_inner();
-        core.unlock(closed)
+        core.unlock_and_wake(closed)
     }
 
     /// Returns the number of owners: 0 once the cell is closed.
     pub fn owners<R: Wait>(&self, rt: &R) -> u32 {
-        self.lock(rt).read(|core| core.owners())
+        let core = self.lock(rt);
+        let owners = core.owners();
+        core.unlock(Held::of(owners))
     }
 
     /// Returns whether the cell is closed.
     pub fn is_closed<R: Wait>(&self, rt: &R) -> bool {
-        self.lock(rt).read(|core| core.is_closed())
+        let core = self.lock(rt);
+        let is_closed = core.is_closed();
+        core.unlock(Held::of(is_closed))
     }
 
     /// Returns how many wakers wait.
     pub fn waiting<R: Wait>(&self, rt: &R) -> usize {
-        self.lock(rt).read(|core| core.waiting())
+        let core = self.lock(rt);
+        let waiting = core.waiting();
+        core.unlock(Held::of(waiting))
     }
 
     /// Returns the content, whatever the number of owners. Wakes all waiters. Does not take the

@@ -139,7 +139,7 @@ impl<T: Drop> AsyncCell<T> {
     fn renew<'a, R: Wait>(
         &'a self,
         core: Locked<'a, T, TaskWaker>,
-        waker: Held<Waker, TaskWaker>,
+        waker: Held<Waker>,
         place: &mut Place,
         cx: &mut Context<'_>,
         rt: &R,
@@ -149,10 +149,10 @@ impl<T: Drop> AsyncCell<T> {
         ensures kept { Keeps cx.old cx.new }
         ensures refused { IfReady result FailsWithMemory }
     {
-        let waker = core.unlock(waker);
-        let mut slot = Some(waker);
+        let mut slot = Some(core.unlock(waker));
         let _ = cx.register::<()>(&self.source, &mut slot);
-        let (mut core, slot) = self.core.lock_with(slot, rt);
+        let slot = Held::of(slot);
+        let mut core = self.core.lock(rt);
         // Another thread may have filled or closed the cell while the lock was free.
         if !core.is_vacant() {
             drop(core.unlock(slot)); // It wakes its task: before the lock is taken again.

@@ -22,8 +22,7 @@ impl<T: Drop> AsyncCell<T> {
     pub(crate) fn end_guard<R: Wait>(&self, cancel: Option<T>, rt: &R) {
         let mut core = self.core.lock(rt);
         let ended = core.end_guard(cancel);
-        let unused = core.unlock(ended);
-        drop(unused);
+        drop(core.unlock_and_wake(ended));
     }
 
     /// Adds an owner. Fails with `Closed` or `OwnersFull`.

@@ -5,7 +5,7 @@ ghost use Rattle.std.specs.Sync.Mutex.{mutex_guard_value};
 ghost use Rattle.async_cell_model.specs.Cell.{is_vacant};
 ghost use Rattle.async_cell_model.specs.Refusal.{FailsWithClosed, FailsWithMemory};
 
-use super::{Held, Locked};
+use super::{Held, Locked, Waking};
 use async_cell_core::{Poll, Refusal, Wakes, end_guard};
 use std::alloc::Global;
 use std::fmt;
@@ -29,24 +29,34 @@ impl<T: Drop, W: Wakes> Locked<'_, T, W> {
     }
 
     #[inline(always)]
-    pub(crate) fn overwrite(&mut self, value: T) -> Held<Result<T, T>, W>
+    pub(crate) fn is_closed(&self) -> bool {
+        self.core.is_closed()
+    }
+
+    #[inline(always)]
+    pub(crate) fn waiting(&self) -> usize {
+        self.core.waiting()
+    }
+
+    #[inline(always)]
+    pub(crate) fn overwrite(&mut self, value: T) -> Held<Result<T, T>>
         ensures comes_back { IfErr result.answer (λ back. back ≡ value) }
     {
         Held::of(self.core.overwrite(value))
     }
 
     #[inline(always)]
-    pub(crate) fn replace(&mut self, value: T) -> Held<Result<Option<T>, T>, W>
+    pub(crate) fn replace(&mut self, value: T) -> Waking<Result<Option<T>, T>, W>
         ensures comes_back { IfErr result.answer (λ back. back ≡ value) }
     {
-        Held::of_result(self.core.replace(value))
+        Waking::of_result(self.core.replace(value))
     }
 
     #[inline(always)]
-    pub(crate) fn or_set(&mut self, value: T) -> Held<Result<Option<T>, T>, W>
+    pub(crate) fn or_set(&mut self, value: T) -> Waking<Result<Option<T>, T>, W>
         ensures comes_back { IfErr result.answer (λ back. back ≡ value) }
     {
-        Held::of_result(self.core.or_set(value))
+        Waking::of_result(self.core.or_set(value))
     }
 
     /// The closure is also held, if it was not called.
@@ -54,7 +64,7 @@ impl<T: Drop, W: Wakes> Locked<'_, T, W> {
     pub(crate) fn update<F: FnOnce(Option<T>) -> Option<T> + Drop>(
         &mut self,
         change: F,
-    ) -> Held<(Result<(), Refusal>, Option<F>), W>
+    ) -> Waking<(Result<(), Refusal>, Option<F>), W>
         requires { F.IsAlwaysCallable change }
         ensures called { OnOk result.answer.0 ((saw put : Option T) × F.post change saw put) }
         ensures refused { FailsWithClosed result.answer.0 }
@@ -72,8 +82,8 @@ impl<T: Drop, W: Wakes> Locked<'_, T, W> {
             },
         );
         match updated {
-            Ok(woken) => Held::waking((Ok(()), change), woken),
-            Err(why) => Held::of((Err(why), change)),
+            Ok(woken) => Waking::of((Ok(()), change), woken),
+            Err(why) => Waking::nobody((Err(why), change)),
         }
     }
 
@@ -82,7 +92,7 @@ impl<T: Drop, W: Wakes> Locked<'_, T, W> {
     pub(crate) fn update_some<F: FnOnce(T) -> T + Drop>(
         &mut self,
         change: F,
-    ) -> Held<(Result<(), Refusal>, Option<F>), W>
+    ) -> Held<(Result<(), Refusal>, Option<F>)>
         requires { F.IsAlwaysCallable change }
         ensures refused { FailsWithClosed result.answer.0 }
     {
@@ -101,32 +111,32 @@ impl<T: Drop, W: Wakes> Locked<'_, T, W> {
     }
 
     #[inline(always)]
-    pub(crate) fn try_take(&mut self) -> Held<Option<T>, W> {
+    pub(crate) fn try_take(&mut self) -> Held<Option<T>> {
         Held::of(self.core.try_take())
     }
 
     #[inline(always)]
-    pub(crate) fn poll_take(&mut self, waker: &W) -> Held<Result<Poll<Option<T>>, Refusal>, W>
+    pub(crate) fn poll_take(&mut self, waker: &W) -> Held<Result<Poll<Option<T>>, Refusal>>
         ensures refused { FailsWithMemory result.answer }
     {
         Held::of(self.core.poll_take(waker))
     }
 
     #[inline(always)]
-    pub(crate) fn reserve(&mut self, additional: usize) -> Held<Result<(), Refusal>, W>
+    pub(crate) fn reserve(&mut self, additional: usize) -> Held<Result<(), Refusal>>
         ensures refused { FailsWithMemory result.answer }
     {
         Held::of(self.core.reserve(additional))
     }
 
     #[inline(always)]
-    pub(crate) fn end_guard(&mut self, cancel: Option<T>) -> Held<Option<T>, W> {
+    pub(crate) fn end_guard(&mut self, cancel: Option<T>) -> Waking<Option<T>, W> {
         let (unused, woken) = end_guard(&mut *self.core, cancel);
-        Held::waking(unused, woken)
+        Waking::of(unused, woken)
     }
 
     #[inline(always)]
-    pub(crate) fn add_owner(&mut self) -> Held<Result<(), Refusal>, W>
+    pub(crate) fn add_owner(&mut self) -> Held<Result<(), Refusal>>
         ensures refused { IfErr result.answer (λ why.
             (why ≡ Refusal.Closed) ⊎ (why ≡ Refusal.OwnersFull)) }
     {
@@ -134,24 +144,24 @@ impl<T: Drop, W: Wakes> Locked<'_, T, W> {
     }
 
     #[inline(always)]
-    pub(crate) fn end_owner(&mut self) -> Held<Result<Option<T>, Refusal>, W>
+    pub(crate) fn end_owner(&mut self) -> Waking<Result<Option<T>, Refusal>, W>
         ensures refused { FailsWithClosed result.answer }
     {
-        Held::of_result(self.core.end_owner())
+        Waking::of_result(self.core.end_owner())
     }
 
     #[inline(always)]
-    pub(crate) fn take_inner(&mut self) -> Held<Result<Option<T>, Refusal>, W>
+    pub(crate) fn take_inner(&mut self) -> Waking<Result<Option<T>, Refusal>, W>
         ensures refused { IfErr result.answer (λ why.
             (why ≡ Refusal.Closed) ⊎ (why ≡ Refusal.StillShared)) }
     {
-        Held::of_result(self.core.take_inner())
+        Waking::of_result(self.core.take_inner())
     }
 }
 
 impl<T: Clone, W: Wakes> Locked<'_, T, W> {
     #[inline(always)]
-    pub(crate) fn try_get(&self) -> Held<Result<Option<T>, Refusal>, W>
+    pub(crate) fn try_get(&self) -> Held<Result<Option<T>, Refusal>>
         ensures sure { ((value : T) → T.is_infallible value) → IsOk result.answer }
         ensures refused { FailsWithMemory result.answer }
     {
@@ -159,7 +169,7 @@ impl<T: Clone, W: Wakes> Locked<'_, T, W> {
     }
 
     #[inline(always)]
-    pub(crate) fn poll_get(&mut self, waker: &W) -> Held<Result<Poll<Option<T>>, Refusal>, W>
+    pub(crate) fn poll_get(&mut self, waker: &W) -> Held<Result<Poll<Option<T>>, Refusal>>
         ensures refused { FailsWithMemory result.answer }
     {
         Held::of(self.core.poll_get(waker))
@@ -168,7 +178,7 @@ impl<T: Clone, W: Wakes> Locked<'_, T, W> {
 
 impl<T: fmt::Debug + Drop, W: Wakes> Locked<'_, T, W> {
     /// Returns the debug text of the core. Fails with `Memory`.
-    pub(crate) fn debug_text(&self, alloc: Global) -> Held<Result<String, Refusal>, W>
+    pub(crate) fn debug_text(&self, alloc: Global) -> Held<Result<String, Refusal>>
         ensures refused { FailsWithMemory result.answer }
     {
         match format!(in alloc; "{:?}", &*self.core) {

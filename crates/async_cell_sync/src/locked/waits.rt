@@ -10,14 +10,15 @@ use super::{Held, Locked};
 use async_cell_core::{Place, Refusal, TaskWaker};
 use futures::task::{Context, Source, Waker};
 
-/// Whether a waker was stored, and the one that was not, or that another one took the place of.
+/// Whether a waker was stored; and a waker to be dropped: the one that was not stored, or that
+/// whose place it took.
 type Stored = (Result<(), Refusal>, Option<TaskWaker>);
 
 impl<T: Drop> Locked<'_, T, TaskWaker> {
     /// Registers the task, and adds its waker, a new one, as the last. The core must be vacant.
     /// Fails with `Memory` if there is no memory for the waker or for the growth of the list.
     #[inline(always)]
-    pub(crate) fn add(&mut self, cx: &mut Context<'_>, source: &Source) -> Held<Stored, TaskWaker>
+    pub(crate) fn add(&mut self, cx: &mut Context<'_>, source: &Source) -> Held<Stored>
         requires { is_vacant (mutex_guard_value self.old.core).cell ≡ true }
         ensures armed { IsArmed cx.new }
         ensures heard { Hears cx.new source.now.id }
@@ -40,7 +41,7 @@ impl<T: Drop> Locked<'_, T, TaskWaker> {
         place: &mut Place,
         cx: &mut Context<'_>,
         source: &Source,
-    ) -> Held<Stored, TaskWaker>
+    ) -> Held<Stored>
         requires { is_vacant (mutex_guard_value self.old.core).cell ≡ true }
         ensures armed { IsArmed cx.new }
         ensures heard { Hears cx.new source.now.id }
@@ -55,7 +56,7 @@ impl<T: Drop> Locked<'_, T, TaskWaker> {
 
     /// Takes the waker out of the place, or out of a free place that is taken over.
     #[inline(always)]
-    pub(crate) fn take_back(&mut self, place: &mut Place) -> Option<Held<Waker, TaskWaker>>
+    pub(crate) fn take_back(&mut self, place: &mut Place) -> Option<Held<Waker>>
         ensures unchanged { mutex_guard_value self.new.core ≡ mutex_guard_value self.old.core }
     {
         match self.core.take_back(place) {
@@ -64,26 +65,27 @@ impl<T: Drop> Locked<'_, T, TaskWaker> {
         }
     }
 
-    /// Stores a waker in the place, or as the last, of the core, which must be vacant. Fails with
-    /// `Memory` if there is no waker, or no memory for the growth of the list.
+    /// Stores the waker in the place, or as the last. The core must be vacant. Fails with `Memory`
+    /// if there is no waker, or no memory for the growth of the list.
     #[inline(always)]
     pub(crate) fn store(
         &mut self,
         place: &mut Place,
-        waker: Held<Option<Waker>, TaskWaker>,
-    ) -> Held<Stored, TaskWaker>
+        waker: Held<Option<Waker>>,
+    ) -> Held<Stored>
         requires { is_vacant (mutex_guard_value self.old.core).cell ≡ true }
         ensures refused { FailsWithMemory result.answer.0 }
     {
-        let Held { answer, woken: _ } = waker;
-        match answer {
+        let Held { answer: waker } = waker;
+        match waker {
             Some(waker) => self.put(place, TaskWaker::of(waker)),
             None => Held::of((Err(Refusal::Memory), None)),
         }
     }
 
+    /// `store`, of a waker as it is stored.
     #[inline(always)]
-    fn put(&mut self, place: &mut Place, waker: TaskWaker) -> Held<Stored, TaskWaker>
+    fn put(&mut self, place: &mut Place, waker: TaskWaker) -> Held<Stored>
         requires { is_vacant (mutex_guard_value self.old.core).cell ≡ true }
         ensures refused { FailsWithMemory result.answer.0 }
     {
@@ -94,13 +96,13 @@ impl<T: Drop> Locked<'_, T, TaskWaker> {
     }
 
     /// Leaves the place free. Its waker stays there.
-    pub(crate) fn leave(&mut self, place: Place) -> Held<(), TaskWaker> {
+    pub(crate) fn leave(&mut self, place: Place) -> Held<()> {
         let _ = self.core.leave(place);
         Held::of(())
     }
 
     /// Leaves the place free, and takes its waker out.
-    pub(crate) fn cancel(&mut self, place: Place) -> Held<Option<Waker>, TaskWaker> {
+    pub(crate) fn cancel(&mut self, place: Place) -> Held<Option<Waker>> {
         match self.core.leave(place) {
             Some(index) => self.take_left(index),
             None => Held::of(None),
@@ -108,7 +110,7 @@ impl<T: Drop> Locked<'_, T, TaskWaker> {
     }
 
     /// Takes the waker out of the place at `index`, if that place is free.
-    pub(crate) fn take_left(&mut self, index: usize) -> Held<Option<Waker>, TaskWaker> {
+    pub(crate) fn take_left(&mut self, index: usize) -> Held<Option<Waker>> {
         Held::of(self.core.take_left(index))
     }
 }
