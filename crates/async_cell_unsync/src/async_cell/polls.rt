@@ -70,11 +70,7 @@ impl<T: Drop> AsyncCell<T> {
 
     /// Adds a waker of the task to the wait list of the core, which must be vacant. It is a new
     /// one: so nothing is dropped, and nobody woken, while the core is lent.
-    fn add(
-        &self,
-        mut core: Lent<'_, T>,
-        cx: &mut Context<'_>,
-    ) -> Poll<Result<T, Refusal>>
+    fn add(&self, mut core: Lent<'_, T>, cx: &mut Context<'_>) -> Poll<Result<T, Refusal>>
         requires { is_vacant (ref_mut_value core.core).cell ≡ true }
         ensures armed { IsArmed cx.new }
         ensures heard { Hears cx.new (source_of self.now) }
