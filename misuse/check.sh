@@ -1,15 +1,17 @@
 #!/usr/bin/env bash
-# Tries each snippet that FOLDER/cases.tsv names. FOLDER is the first argument, or misuse if there
-# is none. The snippets of a crate are added to a copy of it as test modules, and read together as
-# `rt try --test` reads them, which proves nothing and so needs no library's proof. A case is either
-# refused, by one error at one line of its snippet, or accepted, and then the tests of its snippet
-# pass. An error of one kind hides those that are looked for after it: what a reading says nothing
-# of is read again without what was refused, until a reading refuses none of it. Prints a line for
-# each reading and each case, and at the end how many passed and failed; the status is 0 if none
-# failed.
+# Tries each snippet that FOLDER/cases.tsv names: `bash misuse/check.sh [FOLDER [NAME..]]`. FOLDER is
+# misuse if none is named; with NAMEs only those cases are tried. The snippets of a crate are added
+# to a copy of it as test modules, and read together as `rt try --test` reads them, which proves
+# nothing and so needs no library's proof. As modules of the crate they may use what is private in
+# it. A case is either refused, by one error at one line of its snippet, or accepted, and then the
+# tests of its snippet pass. An error of one kind hides those that are looked for after it: what a
+# reading says nothing of is read again without what was refused, until a reading refuses none of
+# it. Prints a line for each reading and each case, and at the end how many passed and failed; the
+# status is 0 if none failed.
 set -u
 top=$(cd "$(dirname "$0")/.." && pwd)
 cases=$top/${1:-misuse}
+only=" ${*:2} "
 work=$(mktemp -d)
 trap 'rm -rf "$work"' EXIT
 log=$work/log
@@ -29,6 +31,7 @@ declare -A expected line
 crates=()
 while IFS=$'\t' read -r name crate error at; do
     case $name in '' | '#'*) continue ;; esac
+    case $only in '  ' | *" $name "*) ;; *) continue ;; esac
     expected[$name]=$error line[$name]=$at
     case " ${crates[*]} " in *" $crate "*) ;; *) crates+=("$crate") ;; esac
 done <"$cases/cases.tsv"
@@ -40,9 +43,9 @@ done
 
 # The cases of a crate that must be `accepted`, or `refused`, in the order of the list.
 cases_of() {
-    awk -F '\t' -v crate="$1" -v kind="$2" \
-        '/^[^#]/ && $2 == crate && ($3 == "accepted") == (kind == "accepted") { print $1 }' \
-        "$cases/cases.tsv"
+    awk -F '\t' -v crate="$1" -v kind="$2" -v only="$only" \
+        '/^[^#]/ && $2 == crate && ($3 == "accepted") == (kind == "accepted") &&
+        (only == "  " || index(only, " " $1 " ")) { print $1 }' "$cases/cases.tsv"
 }
 
 # Reads the crate with the snippets, as modules below one that has a test, since a try reads what

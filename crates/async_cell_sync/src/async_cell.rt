@@ -1,4 +1,5 @@
 ghost use Rattle.std.specs.Prelude.{◌≡◌, IsOk, IfOk, IfErr};
+ghost use Rattle.async_cell_model.specs.Refusal.{FailsWithMemory};
 ghost use Rattle.async_cell_sync.specs.Names.{cell_of};
 
 mod debug;
@@ -47,7 +48,7 @@ impl<T: Drop> AsyncCell<T> {
 
     /// Makes a cell without a value, with one counted owner. Fails with `Memory`.
     pub fn shared(alloc: Global) -> Result<Shared<T>, Refusal>
-        ensures refused { IfErr result (λ why. why ≡ Refusal.Memory) }
+        ensures refused { FailsWithMemory result }
     {
         Shared::shared(alloc)
     }
@@ -109,7 +110,7 @@ impl<T: Drop> AsyncCell<T> {
     where
         T: Clone,
         ensures sure { ((value : T) → T.is_infallible value) → IsOk result }
-        ensures refused { IfErr result (λ why. why ≡ Refusal.Memory) }
+        ensures refused { FailsWithMemory result }
     {
         self.core.try_get(rt)
     }

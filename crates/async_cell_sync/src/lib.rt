@@ -7,6 +7,7 @@ mod debug;
 mod get;
 mod guard;
 mod guarded_cell;
+mod locked;
 mod locked_core;
 mod owner;
 mod shared;

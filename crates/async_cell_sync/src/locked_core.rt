@@ -1,9 +1,11 @@
-ghost use Rattle.std.specs.Prelude.{◌≡◌, ◌⊎◌, Option, None, true, IsOk, IfErr, IfSome, IsSomeAnd, OnOk};
+ghost use Rattle.std.specs.Prelude.{◌≡◌, ◌⊎◌, Option, IsOk, IfErr, OnOk};
 ghost use Rattle.std.specs.Sync.Mutex.{mutex_guard_value};
 ghost use Rattle.async_cell_model.specs.History.{IsSound};
+ghost use Rattle.async_cell_model.specs.Refusal.{FailsWithClosed, FailsWithMemory};
 
+use crate::locked::{Held, Lock, Locked};
 use async_cell_core::{Core, Poll, Refusal, Wakes};
-use std::sync::{Mutex, MutexGuard, Wait};
+use std::sync::Wait;
 
 /// A core behind a lock. Each call makes one call of the core while the lock is held. Wakers are
 /// woken, and old values, unused values and the value of a closed cell are dropped, after the lock
@@ -11,30 +13,23 @@ use std::sync::{Mutex, MutexGuard, Wait};
 /// that calls its own cell waits forever.
 #[derive(Drop)]
 pub struct LockedCore<T, W: Wakes> {
-    core: Mutex<Core<T, W>>,
+    core: Lock<T, W>,
 }
 
 impl<T: Drop, W: Wakes> LockedCore<T, W> {
     /// Puts the core behind a lock, whatever its state.
     pub fn new(core: Core<T, W>) -> Self {
         LockedCore {
-            core: Mutex::new(core),
+            core: Lock::new(core),
         }
     }
 
-    /// Internal: may change without notice. Waits for the lock. Ensures what holds of every core,
-    /// whatever other threads did.
+    /// Waits for the lock. Ensures what holds of every core, whatever other threads did.
     #[inline(always)]
-    pub fn lock<R: Wait>(&self, rt: &R) -> MutexGuard<'_, Core<T, W>>
-        ensures kept { IsSound W.will_wake (mutex_guard_value result) }
+    pub(crate) fn lock<R: Wait>(&self, rt: &R) -> Locked<'_, T, W>
+        ensures kept { IsSound W.will_wake (mutex_guard_value result.core) }
     {
-        // To try first costs less while nobody holds the lock.
-        let core = match self.core.try_lock() {
-            Some(core) => core,
-            None => self.core.lock(rt),
-        };
-        core.soundness();
-        core
+        self.core.lock(rt)
     }
 
     /// Sets the value, drops the old one and wakes all waiters. Fails on a closed cell; the value
@@ -54,13 +49,11 @@ impl<T: Drop, W: Wakes> LockedCore<T, W> {
     {
         let mut core = self.lock(rt);
         if core.is_set() {
-            let old = core.overwrite(value)?; // Nobody waits on a cell that holds a value.
-            return Ok(Some(old));
+            let old = core.overwrite(value); // Nobody waits on a cell that holds a value.
+            return Ok(Some(core.unlock(old)?));
         }
-        let (old, woken) = core.replace(value)?;
-        drop(core); // What is woken or dropped may call this cell: never under the lock.
-        woken.wake_all();
-        Ok(old)
+        let replaced = core.replace(value);
+        core.unlock_and_wake(replaced)
     }
 
     /// Sets the value and wakes all waiters, if the cell holds no value. Drops `value` otherwise.
@@ -70,9 +63,7 @@ impl<T: Drop, W: Wakes> LockedCore<T, W> {
     {
         let mut core = self.lock(rt);
         let written = core.or_set(value);
-        drop(core); // What is woken or dropped may call this cell: never under the lock.
-        let (unused, woken) = written?;
-        woken.wake_all();
+        let unused = core.unlock_and_wake(written)?;
         drop(unused);
         Ok(())
     }
@@ -87,25 +78,12 @@ impl<T: Drop, W: Wakes> LockedCore<T, W> {
         R: Wait,
         requires { F.IsAlwaysCallable change }
         ensures called { OnOk result ((saw put : Option T) × F.post change saw put) }
-        ensures refused { IfErr result (λ why. why ≡ Refusal.Closed) }
+        ensures refused { FailsWithClosed result }
     {
-        let mut change = Some(change);
         let mut core = self.lock(rt);
-        let updated = core.update(
-            |content: Option<T>| -> Option<T>
-                requires { IsSomeAnd change (λ f. F.IsAlwaysCallable f) }
-                ensures { IfSome change.entry (λ f. F.post f content result) }
-            {
-                match change.take() {
-                    Some(change) => change(content),
-                    None => content,
-                }
-            },
-        );
-        drop(core); // What is woken or dropped may call this cell: never under the lock.
-        drop(change);
-        updated?.wake_all();
-        Ok(())
+        let updated = core.update(change);
+        let (updated, _not_called) = core.unlock_and_wake(updated);
+        updated
     }
 
     /// Calls the closure on the value, if there is one, and stores what it returns, all while the
@@ -116,51 +94,48 @@ impl<T: Drop, W: Wakes> LockedCore<T, W> {
         F: FnOnce(T) -> T + Drop,
         R: Wait,
         requires { F.IsAlwaysCallable change }
-        ensures refused { IfErr result (λ why. why ≡ Refusal.Closed) }
+        ensures refused { FailsWithClosed result }
     {
-        let mut change = Some(change);
         let mut core = self.lock(rt);
-        let updated = core.update_some(
-            |value: T| -> T
-                requires { IsSomeAnd change (λ f. F.IsAlwaysCallable f) }
-            {
-                match change.take() {
-                    Some(change) => change(value),
-                    None => value,
-                }
-            },
-        );
-        drop(core); // What is woken or dropped may call this cell: never under the lock.
-        drop(change);
+        let updated = core.update_some(change);
+        let (updated, _not_called) = core.unlock(updated);
         updated
     }
 
     /// Takes the value, if there is one. The waiters stay registered.
     pub fn try_take<R: Wait>(&self, rt: &R) -> Option<T> {
-        self.lock(rt).try_take()
+        let mut core = self.lock(rt);
+        let taken = core.try_take();
+        core.unlock(taken)
     }
 
     /// Returns whether the cell holds a value.
     pub fn is_set<R: Wait>(&self, rt: &R) -> bool {
-        self.lock(rt).is_set()
+        let core = self.lock(rt);
+        let is_set = core.is_set();
+        core.unlock(Held::of(is_set))
     }
 
     /// Takes the value, or waits for one: registers the waker (see `WaitList::skips`). Returns
     /// `Ready(None)` on a closed cell. Fails with `Memory` if there is no memory for the waker's
     /// clone or for the growth of the list.
     pub fn poll_take<R: Wait>(&self, waker: &W, rt: &R) -> Result<Poll<Option<T>>, Refusal>
-        ensures refused { IfErr result (λ why. why ≡ Refusal.Memory) }
+        ensures refused { FailsWithMemory result }
     {
-        self.lock(rt).poll_take(waker)
+        let mut core = self.lock(rt);
+        let polled = core.poll_take(waker);
+        core.unlock(polled)
     }
 
     /// Makes room: the next `additional` wakers that are added need no memory beyond their clones,
     /// until a fill or a close gives the room up. Fails with `Memory` if there is no memory for so
     /// many. Does nothing on a closed cell.
     pub fn reserve<R: Wait>(&self, additional: usize, rt: &R) -> Result<(), Refusal>
-        ensures refused { IfErr result (λ why. why ≡ Refusal.Memory) }
+        ensures refused { FailsWithMemory result }
     {
-        self.lock(rt).reserve(additional)
+        let mut core = self.lock(rt);
+        let reserved = core.reserve(additional);
+        core.unlock(reserved)
     }
 
     /// Adds an owner. Fails with `Closed` on a closed cell, and with `OwnersFull` beyond
@@ -169,30 +144,31 @@ impl<T: Drop, W: Wakes> LockedCore<T, W> {
         ensures refused { IfErr result (λ why.
             (why ≡ Refusal.Closed) ⊎ (why ≡ Refusal.OwnersFull)) }
     {
-        self.lock(rt).add_owner()
+        let mut core = self.lock(rt);
+        let added = core.add_owner();
+        core.unlock(added)
     }
 
     /// Ends one owner. The last one closes the cell, drops its value and wakes all waiters. Fails
     /// with `Closed` on a closed cell.
     pub fn end_owner<R: Wait>(&self, rt: &R) -> Result<(), Refusal>
-        ensures refused { IfErr result (λ why. why ≡ Refusal.Closed) }
+        ensures refused { FailsWithClosed result }
     {
         let mut core = self.lock(rt);
         if core.owners() > 1 {
-            core.end_owner()?; // Nobody is woken, and there is nothing to drop.
+            let ended = core.end_owner(); // Nobody is woken, and there is nothing to drop.
+            core.unlock_and_wake(ended)?;
             return Ok(());
         }
         LockedCore::end_last(core)
     }
 
     /// Ends the last owner, of a core that is locked.
-    fn end_last(mut core: MutexGuard<'_, Core<T, W>>) -> Result<(), Refusal>
-        ensures refused { IfErr result (λ why. why ≡ Refusal.Closed) }
+    fn end_last(mut core: Locked<'_, T, W>) -> Result<(), Refusal>
+        ensures refused { FailsWithClosed result }
     {
         let ended = core.end_owner();
-        drop(core); // What is woken or dropped may call this cell: never under the lock.
-        let (value, woken) = ended?;
-        woken.wake_all();
+        let value = core.unlock_and_wake(ended)?;
         drop(value);
         Ok(())
     }
@@ -205,34 +181,35 @@ impl<T: Drop, W: Wakes> LockedCore<T, W> {
     {
         let mut core = self.lock(rt);
         let closed = core.take_inner();
-        drop(core); // What is woken or dropped may call this cell: never under the lock.
-        let (value, woken) = closed?;
-        woken.wake_all();
-        Ok(value)
+        core.unlock_and_wake(closed)
     }
 
     /// Returns the number of owners: 0 once the cell is closed.
     pub fn owners<R: Wait>(&self, rt: &R) -> u32 {
-        self.lock(rt).owners()
+        let core = self.lock(rt);
+        let owners = core.owners();
+        core.unlock(Held::of(owners))
     }
 
     /// Returns whether the cell is closed.
     pub fn is_closed<R: Wait>(&self, rt: &R) -> bool {
-        self.lock(rt).is_closed()
+        let core = self.lock(rt);
+        let is_closed = core.is_closed();
+        core.unlock(Held::of(is_closed))
     }
 
     /// Returns how many wakers wait.
     pub fn waiting<R: Wait>(&self, rt: &R) -> usize {
-        self.lock(rt).waiting()
+        let core = self.lock(rt);
+        let waiting = core.waiting();
+        core.unlock(Held::of(waiting))
     }
 
     /// Returns the content, whatever the number of owners. Wakes all waiters. Does not take the
     /// lock.
     pub fn into_inner(self) -> Option<T> {
         let LockedCore { core } = self;
-        let (value, woken) = core.into_inner().into_inner();
-        woken.wake_all();
-        value
+        core.into_inner()
     }
 }
 
@@ -241,17 +218,21 @@ impl<T: Clone, W: Wakes> LockedCore<T, W> {
     /// `Memory` if there is no memory for the clone.
     pub fn try_get<R: Wait>(&self, rt: &R) -> Result<Option<T>, Refusal>
         ensures sure { ((value : T) → T.is_infallible value) → IsOk result }
-        ensures refused { IfErr result (λ why. why ≡ Refusal.Memory) }
+        ensures refused { FailsWithMemory result }
     {
-        self.lock(rt).try_get()
+        let core = self.lock(rt);
+        let copied = core.try_get();
+        core.unlock(copied)
     }
 
     /// Returns a clone of the value, made while the lock is held, or waits for one as `poll_take`
     /// does. Returns `Ready(None)` on a closed cell. Fails with `Memory` if there is no memory for
     /// the value's clone, the waker's clone or the growth of the list.
     pub fn poll_get<R: Wait>(&self, waker: &W, rt: &R) -> Result<Poll<Option<T>>, Refusal>
-        ensures refused { IfErr result (λ why. why ≡ Refusal.Memory) }
+        ensures refused { FailsWithMemory result }
     {
-        self.lock(rt).poll_get(waker)
+        let mut core = self.lock(rt);
+        let polled = core.poll_get(waker);
+        core.unlock(polled)
     }
 }

@@ -1,7 +1,7 @@
 ghost use Rattle.std.specs.Prelude.{◌≡◌, IfOk, IfErr};
+ghost use Rattle.async_cell_model.specs.Refusal.{FailsWithMemory, IsOwnerRefusal};
 ghost use Rattle.async_cell_sync.specs.Names.{NamesAtMost};
 ghost use Rattle.async_cell_sync.specs.Owned.{cell_owned};
-ghost use Rattle.async_cell_sync.specs.Refused.{IsOwnerRefusal};
 ghost use Rattle.async_cell_sync.specs.Source.{source_of};
 
 mod calls;
@@ -53,7 +53,7 @@ impl<T: Drop, R: Wait + Copy> Owner<T, R> {
     /// For a cell that you have already, as one that `AsyncCell::new_with` made, call
     /// `AsyncCell::into_owner`.
     pub fn new(alloc: Global, rt: R) -> Result<Self, Refusal>
-        ensures refused { IfErr result (λ why. why ≡ Refusal.Memory) }
+        ensures refused { FailsWithMemory result }
     {
         Ok(Shared::shared(alloc)?.with(rt))
     }

@@ -1,7 +1,7 @@
 ghost use Rattle.std.specs.Prelude.{◌≡◌, IfOk, IfErr};
 ghost use Rattle.std.specs.Arc.{arc_value};
+ghost use Rattle.async_cell_model.specs.Refusal.{FailsWithMemory, IsOwnerRefusal};
 ghost use Rattle.async_cell_sync.specs.Names.{cell_of, NamesAtMost};
-ghost use Rattle.async_cell_sync.specs.Refused.{IsOwnerRefusal};
 
 use crate::async_cell::AsyncCell;
 use crate::get::Get;
@@ -24,7 +24,7 @@ pub struct Shared<T> {
 impl<T: Drop> Shared<T> {
     /// Makes a cell without a value, and its first owner. Fails with `Memory`.
     pub fn shared(alloc: Global) -> Result<Self, Refusal>
-        ensures refused { IfErr result (λ why. why ≡ Refusal.Memory) }
+        ensures refused { FailsWithMemory result }
     {
         Shared::into_shared(AsyncCell::new(alloc)).map_err(|(why, _)| why)
     }

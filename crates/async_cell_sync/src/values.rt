@@ -1,6 +1,6 @@
 ghost use Rattle.std.specs.Prelude.{◌≡◌, IfSome};
 ghost use Rattle.std.specs.List.{AllByRecursion};
-ghost use Rattle.async_cell_sync.specs.Refused.{FailsWithMemory};
+ghost use Rattle.async_cell_model.specs.Refusal.{FailsWithMemory};
 ghost use Rattle.async_cell_sync.specs.Source.{IsSourceOf};
 
 use crate::weak::TakeWeak;

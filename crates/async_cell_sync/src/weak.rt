@@ -2,6 +2,7 @@ ghost use Rattle.std.specs.Prelude.{◌≡◌, ◌⊎◌, ℕ, Err, IfOk, IfErr,
 ghost use Rattle.std.specs.Arc.{arc_value};
 ghost use Rattle.futures.specs.Poll.{IfReady, OnPending};
 ghost use Rattle.futures.specs.Task.{Covers, Keeps};
+ghost use Rattle.async_cell_model.specs.Refusal.{FailsWithMemory};
 ghost use Rattle.async_cell_sync.specs.Names.{
   IsLost,
   NameAtMostTheSame,
@@ -43,7 +44,7 @@ impl<T: Drop> Weak<T> {
     pub(crate) fn cell(&self) -> Result<&AsyncCell<T>, Refusal>
         ensures source { IfOk result (λ c. (s : ℕ) → IsSourceOf self.now s → s ≡ source_of c.now) }
         ensures lost { IsLost self.now → result ≡ Err Refusal.Memory }
-        ensures refused { IfErr result (λ why. why ≡ Refusal.Memory) }
+        ensures refused { FailsWithMemory result }
     {
         match &self.cell {
             Some(cell) => Ok(cell.as_ref()),
@@ -109,7 +110,7 @@ impl<T: Drop> TakeWeak<T> {
         ensures lost { IsLost self.now.0 → result ≡ Poll.Ready (Err Refusal.Memory) }
         ensures registered { OnPending result (Covers cx.new (IsSourceOf self.now.0)) }
         ensures kept { Keeps cx.old cx.new }
-        ensures refused { IfReady result (λ answer. IfErr answer (λ why. why ≡ Refusal.Memory)) }
+        ensures refused { IfReady result FailsWithMemory }
     {
         self.poll_at(None, cx, rt)
     }
@@ -124,7 +125,7 @@ impl<T: Drop> TakeWeak<T> {
         ensures lost { IsLost self.now.0 → result ≡ Poll.Ready (Err Refusal.Memory) }
         ensures registered { OnPending result (Covers cx.new (IsSourceOf self.now.0)) }
         ensures kept { Keeps cx.old cx.new }
-        ensures refused { IfReady result (λ answer. IfErr answer (λ why. why ≡ Refusal.Memory)) }
+        ensures refused { IfReady result FailsWithMemory }
     {
         let polled = match self.0.cell() {
             Ok(cell) => cell.poll_take(place, cx, rt),
@@ -186,7 +187,7 @@ impl<T: Clone> GetWeak<T> {
         ensures lost { IsLost self.now.0 → result ≡ Poll.Ready (Err Refusal.Memory) }
         ensures registered { OnPending result (Covers cx.new (IsSourceOf self.now.0)) }
         ensures kept { Keeps cx.old cx.new }
-        ensures refused { IfReady result (λ answer. IfErr answer (λ why. why ≡ Refusal.Memory)) }
+        ensures refused { IfReady result FailsWithMemory }
     {
         self.poll_at(None, cx, rt)
     }
@@ -201,7 +202,7 @@ impl<T: Clone> GetWeak<T> {
         ensures lost { IsLost self.now.0 → result ≡ Poll.Ready (Err Refusal.Memory) }
         ensures registered { OnPending result (Covers cx.new (IsSourceOf self.now.0)) }
         ensures kept { Keeps cx.old cx.new }
-        ensures refused { IfReady result (λ answer. IfErr answer (λ why. why ≡ Refusal.Memory)) }
+        ensures refused { IfReady result FailsWithMemory }
     {
         let polled = match self.0.cell() {
             Ok(cell) => cell.poll_get(place, cx, rt),

@@ -1,7 +1,8 @@
 ghost use Rattle.std.specs.Prelude.{◌≡◌, ◌⊎◌, Err, IfOk, IfErr, IfSome};
+ghost use Rattle.async_cell_model.specs.Refusal.{FailsWithMemoryOrClosed};
 ghost use Rattle.async_cell_sync.specs.Names.{IsLost, Names};
 ghost use Rattle.async_cell_sync.specs.Owned.{cell_owned};
-ghost use Rattle.async_cell_sync.specs.Refused.{FailsWithMemoryOrClosed, GivesWeakly};
+ghost use Rattle.async_cell_sync.specs.Refused.{GivesWeakly};
 ghost use Rattle.async_cell_sync.specs.Source.{IsSourceOf};
 
 use crate::async_cell::AsyncCell;

@@ -1,5 +1,6 @@
 ghost use Rattle.std.specs.Prelude.{◌≡◌, IsOk, IfOk, IfErr, Some};
 ghost use Rattle.async_cell_model.specs.History.{IsSound};
+ghost use Rattle.async_cell_model.specs.Refusal.{FailsWithMemory};
 ghost use Rattle.async_cell_unsync.specs.Names.{cell_of};
 
 mod debug;
@@ -9,12 +10,12 @@ mod steps;
 
 use crate::get::Get;
 use crate::guarded_cell::GuardedCell;
+use crate::lent::{Held, Lender};
 use crate::shared::Shared;
 use crate::take::Take;
 use async_cell_core::{Core, Refusal, TaskWaker, Wakes};
 use futures::task::Source;
 use std::alloc::Global;
-use std::cell::RefCell;
 
 /// A cell of one thread. It holds an optional value, and futures wait on it for a value.
 ///
@@ -30,7 +31,7 @@ use std::cell::RefCell;
 /// the future is dropped.
 #[derive(Drop)]
 pub struct AsyncCell<T> {
-    core: RefCell<Core<T, TaskWaker>>,
+    core: Lender<T>,
     /// The source that waiting tasks register with.
     source: Source,
     alloc: Global,
@@ -49,7 +50,7 @@ impl<T: Drop> AsyncCell<T> {
 
     /// Makes a cell without a value, with one counted owner. Fails with `Memory`.
     pub fn shared(alloc: Global) -> Result<Shared<T>, Refusal>
-        ensures refused { IfErr result (λ why. why ≡ Refusal.Memory) }
+        ensures refused { FailsWithMemory result }
     {
         Shared::shared(alloc)
     }
@@ -74,11 +75,7 @@ impl<T: Drop> AsyncCell<T> {
             return;
         };
         let written = core.or_set(value);
-        drop(core); // What is woken or dropped may call this cell: never while the core is lent.
-        if let Ok((unused, woken)) = written {
-            woken.wake_all();
-            drop(unused);
-        }
+        let _ = core.give_back_and_wake(written);
     }
 
     /// Sets the value and returns the old one. Wakes all waiters.
@@ -86,14 +83,11 @@ impl<T: Drop> AsyncCell<T> {
     pub fn replace(&self, value: T) -> Option<T> {
         let mut core = self.lend()?;
         if core.is_set() {
-            return core.overwrite(value).ok(); // Nobody waits on a cell that holds a value.
+            let old = core.overwrite(value); // Nobody waits on a cell that holds a value.
+            return core.give_back(old).ok();
         }
         let replaced = core.replace(value);
-        // What is woken or dropped may call this cell: never while the core is lent.
-        drop(core);
-        let (old, woken) = replaced.ok()?;
-        woken.wake_all();
-        old
+        core.give_back_and_wake(replaced).unwrap_or(None)
     }
 
     /// Calls the closure on the content and stores what it returns, over whatever calls made from
@@ -121,7 +115,8 @@ impl<T: Drop> AsyncCell<T> {
     /// Takes the value, if there is one. The waiters stay registered.
     pub fn try_take(&self) -> Option<T> {
         let mut core = self.lend()?;
-        core.try_take()
+        let taken = core.try_take();
+        core.give_back(taken)
     }
 
     /// Returns a clone of the value, if there is one. Fails with `Memory` if the clone fails; the
@@ -130,7 +125,7 @@ impl<T: Drop> AsyncCell<T> {
     where
         T: Clone,
         ensures sure { ((value : T) → T.is_infallible value) → IsOk result }
-        ensures refused { IfErr result (λ why. why ≡ Refusal.Memory) }
+        ensures refused { FailsWithMemory result }
     {
         match self.try_take() {
             Some(value) => Ok(Some(self.copy_back(value)?)),
@@ -140,14 +135,21 @@ impl<T: Drop> AsyncCell<T> {
 
     /// Returns whether the cell holds a value.
     pub fn is_set(&self) -> bool {
-        self.lend().is_some_and(|core| core.is_set())
+        let Some(core) = self.lend() else {
+            return false;
+        };
+        let is_set = core.is_set();
+        core.give_back(Held::of(is_set))
     }
 
     /// Returns the content. Wakes all waiters.
     pub fn into_inner(self) -> Option<T> {
-        let (content, woken) = self.into_core().into_inner();
-        woken.wake_all();
-        content
+        let AsyncCell {
+            core,
+            source: _,
+            alloc: _,
+        } = self;
+        core.into_inner()
     }
 
     /// Internal: may change without notice. Returns the core of the cell. Ensures what holds of
@@ -160,9 +162,7 @@ impl<T: Drop> AsyncCell<T> {
             source: _,
             alloc: _,
         } = self;
-        let core = core.into_inner();
-        core.soundness();
-        core
+        core.into_core()
     }
 
     /// Returns a future that takes the value.

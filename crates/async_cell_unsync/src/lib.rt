@@ -7,6 +7,7 @@ mod debug;
 mod get;
 mod guarded_cell;
 mod in_place;
+mod lent;
 mod shared;
 mod take;
 mod values;

@@ -1,4 +1,4 @@
-ghost use Rattle.std.specs.Prelude.{◌≡◌, IfErr};
+ghost use Rattle.async_cell_model.specs.Refusal.{FailsWithMemory};
 
 use super::AsyncCell;
 use async_cell_core::Refusal;
@@ -10,11 +10,10 @@ impl<T: fmt::Debug + Drop> AsyncCell<T> {
     /// the value's own text, or `AsyncCell::Closed`. Makes no clone: the value prints while the
     /// lock is held. Fails with `Memory`.
     pub fn debug_text<R: Wait>(&self, rt: &R) -> Result<String, Refusal>
-        ensures refused { IfErr result (λ why. why ≡ Refusal.Memory) }
+        ensures refused { FailsWithMemory result }
     {
         let core = self.core.lock(rt);
-        let text = format!(in self.alloc; "{:?}", &*core);
-        drop(core);
-        Ok(text?)
+        let text = core.debug_text(self.alloc);
+        core.unlock(text)
     }
 }

@@ -13,8 +13,9 @@ impl<T: Drop> AsyncCell<T> {
     /// lives on. It takes the lock once for each place, and needs no memory.
     pub fn purge<R: Wait>(&self, rt: &R) {
         for index in 0..self.waiting(rt) {
-            let left = self.core.lock(rt).take_left(index);
-            drop(left);
+            let mut core = self.core.lock(rt);
+            let left = core.take_left(index);
+            drop(core.unlock(left));
         }
     }
 
@@ -29,7 +30,9 @@ impl<T: Drop> AsyncCell<T> {
     /// `leave`, of a place that may still be held.
     #[inline(never)]
     fn leave_held<R: Wait>(&self, place: Place, rt: &R) {
-        let _ = self.core.lock(rt).leave(place);
+        let mut core = self.core.lock(rt);
+        let left = core.leave(place);
+        core.unlock(left);
     }
 
     /// Leaves the place of a future that is cancelled, and lets go of its waker.
@@ -38,11 +41,7 @@ impl<T: Drop> AsyncCell<T> {
             return;
         }
         let mut core = self.core.lock(rt);
-        let left = match core.leave(place) {
-            Some(index) => core.take_left(index),
-            None => None,
-        };
-        drop(core);
-        drop(left);
+        let left = core.cancel(place);
+        drop(core.unlock(left));
     }
 }

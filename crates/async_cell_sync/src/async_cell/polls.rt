@@ -1,16 +1,18 @@
 //! Polls: each either returns `Ready`, or registers the task and adds its waker to the wait list.
 //! The waker of a future that keeps a place is stored in that place.
-ghost use Rattle.std.specs.Prelude.{◌≡◌, ◌⊎◌, true, Err, IfErr};
+ghost use Rattle.std.specs.Prelude.{◌≡◌, true, Err, IfErr};
 ghost use Rattle.std.specs.Sync.Mutex.{mutex_guard_value};
 ghost use Rattle.futures.specs.Poll.{IfReady, OnPending};
 ghost use Rattle.futures.specs.Task.{Hears, IsArmed, Keeps};
 ghost use Rattle.async_cell_model.specs.Cell.{is_vacant};
+ghost use Rattle.async_cell_model.specs.Refusal.{FailsWithMemory, FailsWithMemoryOrClosed};
 ghost use Rattle.async_cell_sync.specs.Source.{source_of};
 
 use super::AsyncCell;
-use async_cell_core::{Core, Place, Refusal, TaskWaker};
+use crate::locked::{Held, Locked};
+use async_cell_core::{Place, Refusal, TaskWaker};
 use futures::task::{Context, Poll, Waker};
-use std::sync::{MutexGuard, Wait};
+use std::sync::Wait;
 
 impl<T: Drop> AsyncCell<T> {
     /// Takes the value, or waits for one, in the place if any. Fails with `Memory` if there is no
@@ -25,11 +27,13 @@ impl<T: Drop> AsyncCell<T> {
         ensures armed { OnPending result (IsArmed cx.new) }
         ensures heard { OnPending result (Hears cx.new (source_of self.now)) }
         ensures kept { Keeps cx.old cx.new }
-        ensures refused { IfReady result (λ answer. IfErr answer (λ why.
-            (why ≡ Refusal.Memory) ⊎ (why ≡ Refusal.Closed))) }
+        ensures refused { IfReady result FailsWithMemoryOrClosed }
     {
         match self.lock_or_wait(place, cx, rt) {
-            Poll::Ready(Ok(mut core)) => Poll::Ready(core.try_take().ok_or(Refusal::Closed)),
+            Poll::Ready(Ok(mut core)) => {
+                let taken = core.try_take();
+                Poll::Ready(core.unlock(taken).ok_or(Refusal::Closed))
+            }
             Poll::Ready(Err(why)) => Poll::Ready(Err(why)),
             Poll::Pending => Poll::Pending,
         }
@@ -48,14 +52,16 @@ impl<T: Drop> AsyncCell<T> {
         ensures armed { OnPending result (IsArmed cx.new) }
         ensures heard { OnPending result (Hears cx.new (source_of self.now)) }
         ensures kept { Keeps cx.old cx.new }
-        ensures refused { IfReady result (λ answer. IfErr answer (λ why.
-            (why ≡ Refusal.Memory) ⊎ (why ≡ Refusal.Closed))) }
+        ensures refused { IfReady result FailsWithMemoryOrClosed }
     {
         match self.lock_or_wait(place, cx, rt) {
-            Poll::Ready(Ok(core)) => match core.try_get() {
-                Ok(copy) => Poll::Ready(copy.ok_or(Refusal::Closed)),
-                Err(why) => Poll::Ready(Err(why)),
-            },
+            Poll::Ready(Ok(core)) => {
+                let copied = core.try_get();
+                match core.unlock(copied) {
+                    Ok(copy) => Poll::Ready(copy.ok_or(Refusal::Closed)),
+                    Err(why) => Poll::Ready(Err(why)),
+                }
+            }
             Poll::Ready(Err(why)) => Poll::Ready(Err(why)),
             Poll::Pending => Poll::Pending,
         }
@@ -69,11 +75,11 @@ impl<T: Drop> AsyncCell<T> {
         place: Option<&mut Place>,
         cx: &mut Context<'_>,
         rt: &R,
-    ) -> Poll<Result<MutexGuard<'a, Core<T, TaskWaker>>, Refusal>>
+    ) -> Poll<Result<Locked<'a, T, TaskWaker>, Refusal>>
         ensures armed { OnPending result (IsArmed cx.new) }
         ensures heard { OnPending result (Hears cx.new (source_of self.now)) }
         ensures kept { Keeps cx.old cx.new }
-        ensures refused { IfReady result (λ answer. IfErr answer (λ why. why ≡ Refusal.Memory)) }
+        ensures refused { IfReady result FailsWithMemory }
     {
         let mut core = self.core.lock(rt);
         if !core.is_vacant() {
@@ -95,39 +101,36 @@ impl<T: Drop> AsyncCell<T> {
     /// one: so nothing is dropped, and nobody woken, while the lock is held.
     fn add(
         &self,
-        mut core: MutexGuard<'_, Core<T, TaskWaker>>,
+        mut core: Locked<'_, T, TaskWaker>,
         cx: &mut Context<'_>,
     ) -> Result<(), Refusal>
-        requires { is_vacant (mutex_guard_value core).cell ≡ true }
+        requires { is_vacant (mutex_guard_value core.core).cell ≡ true }
         ensures armed { IsArmed cx.new }
         ensures heard { Hears cx.new (source_of self.now) }
         ensures kept { Keeps cx.old cx.new }
-        ensures refused { IfErr result (λ why. why ≡ Refusal.Memory) }
+        ensures refused { FailsWithMemory result }
     {
-        let new = TaskWaker::register(cx, &self.source).ok_or(Refusal::Memory)?;
-        if let Err(unused) = core.add(new) {
-            drop(core); // A waker that is dropped wakes its task: never under the lock.
-            drop(unused);
-            return Err(Refusal::Memory);
-        }
-        Ok(())
+        let added = core.add(cx, &self.source);
+        let (added, _unused) = core.unlock(added);
+        added
     }
 
     /// `add`, in a place that has no waker: the place is then that of the waker.
     fn wait_at(
         &self,
-        core: MutexGuard<'_, Core<T, TaskWaker>>,
+        mut core: Locked<'_, T, TaskWaker>,
         place: &mut Place,
         cx: &mut Context<'_>,
     ) -> Result<(), Refusal>
-        requires { is_vacant (mutex_guard_value core).cell ≡ true }
+        requires { is_vacant (mutex_guard_value core.core).cell ≡ true }
         ensures armed { IsArmed cx.new }
         ensures heard { Hears cx.new (source_of self.now) }
         ensures kept { Keeps cx.old cx.new }
-        ensures refused { IfErr result (λ why. why ≡ Refusal.Memory) }
+        ensures refused { FailsWithMemory result }
     {
-        let waker = TaskWaker::register(cx, &self.source).ok_or(Refusal::Memory)?;
-        store(core, place, waker)
+        let stored = core.wait_at(place, cx, &self.source);
+        let (stored, _left) = core.unlock(stored);
+        stored
     }
 
     /// Registers the task with the waker of its place, which was taken out, and stores it again. If
@@ -135,31 +138,29 @@ impl<T: Drop> AsyncCell<T> {
     #[inline(never)]
     fn renew<'a, R: Wait>(
         &'a self,
-        core: MutexGuard<'a, Core<T, TaskWaker>>,
-        waker: Waker,
+        core: Locked<'a, T, TaskWaker>,
+        waker: Held<Waker>,
         place: &mut Place,
         cx: &mut Context<'_>,
         rt: &R,
-    ) -> Poll<Result<MutexGuard<'a, Core<T, TaskWaker>>, Refusal>>
+    ) -> Poll<Result<Locked<'a, T, TaskWaker>, Refusal>>
         ensures armed { OnPending result (IsArmed cx.new) }
         ensures heard { OnPending result (Hears cx.new (source_of self.now)) }
         ensures kept { Keeps cx.old cx.new }
-        ensures refused { IfReady result (λ answer. IfErr answer (λ why. why ≡ Refusal.Memory)) }
+        ensures refused { IfReady result FailsWithMemory }
     {
-        drop(core);
-        let mut slot = Some(waker);
+        let mut slot = Some(core.unlock(waker));
         let _ = cx.register::<()>(&self.source, &mut slot);
-        let core = self.core.lock(rt);
+        let slot = Held::of(slot);
+        let mut core = self.core.lock(rt);
         // Another thread may have filled or closed the cell while the lock was free.
         if !core.is_vacant() {
-            drop(core);
-            drop(slot); // A waker that is dropped wakes its task: never under the lock.
+            drop(core.unlock(slot)); // It wakes its task: before the lock is taken again.
             return self.wait_again(place, cx, rt);
         }
-        match slot {
-            Some(waker) => waits(store(core, place, TaskWaker::of(waker))),
-            None => Poll::Ready(Err(Refusal::Memory)),
-        }
+        let stored = core.store(place, slot);
+        let (stored, _left) = core.unlock(stored);
+        waits(stored)
     }
 
     /// `lock_or_wait`, with a place that was given up while the lock was free.
@@ -168,11 +169,11 @@ impl<T: Drop> AsyncCell<T> {
         place: &mut Place,
         cx: &mut Context<'_>,
         rt: &R,
-    ) -> Poll<Result<MutexGuard<'a, Core<T, TaskWaker>>, Refusal>>
+    ) -> Poll<Result<Locked<'a, T, TaskWaker>, Refusal>>
         ensures armed { OnPending result (IsArmed cx.new) }
         ensures heard { OnPending result (Hears cx.new (source_of self.now)) }
         ensures kept { Keeps cx.old cx.new }
-        ensures refused { IfReady result (λ answer. IfErr answer (λ why. why ≡ Refusal.Memory)) }
+        ensures refused { IfReady result FailsWithMemory }
     {
         let core = self.core.lock(rt);
         if core.is_vacant() {
@@ -180,31 +181,6 @@ impl<T: Drop> AsyncCell<T> {
         }
         place.forget();
         Poll::Ready(Ok(core))
-    }
-}
-
-/// Stores a waker in the place, or as the last, of the core, which must be vacant. What is dropped
-/// then wakes its task, so the lock is released before.
-#[inline(always)]
-fn store<T: Drop>(
-    mut core: MutexGuard<'_, Core<T, TaskWaker>>,
-    place: &mut Place,
-    waker: TaskWaker,
-) -> Result<(), Refusal>
-    requires { is_vacant (mutex_guard_value core).cell ≡ true }
-    ensures refused { IfErr result (λ why. why ≡ Refusal.Memory) }
-{
-    let stored = core.store(place, waker);
-    drop(core);
-    match stored {
-        Ok(before) => {
-            drop(before);
-            Ok(())
-        }
-        Err(unused) => {
-            drop(unused);
-            Err(Refusal::Memory)
-        }
     }
 }
 

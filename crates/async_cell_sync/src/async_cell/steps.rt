@@ -3,7 +3,7 @@ ghost use Rattle.std.specs.Prelude.{◌≡◌, IfErr, ◌⊎◌};
 
 use super::AsyncCell;
 use crate::locked_core::LockedCore;
-use async_cell_core::{Core, Refusal, TaskWaker, end_guard};
+use async_cell_core::{Core, Refusal, TaskWaker};
 use futures::task::Source;
 use std::alloc::Global;
 use std::sync::Wait;
@@ -21,10 +21,8 @@ impl<T: Drop> AsyncCell<T> {
     /// Ends a guard: `cancel` is its cancel value, or `None` if it was released.
     pub(crate) fn end_guard<R: Wait>(&self, cancel: Option<T>, rt: &R) {
         let mut core = self.core.lock(rt);
-        let (unused, woken) = end_guard(&mut *core, cancel);
-        drop(core); // What is woken or dropped may call this cell: never under the lock.
-        woken.wake_all();
-        drop(unused);
+        let ended = core.end_guard(cancel);
+        drop(core.unlock_and_wake(ended));
     }
 
     /// Adds an owner. Fails with `Closed` or `OwnersFull`.

@@ -1,5 +1,6 @@
 //! The calls of the cell, by an owner that keeps its right to wait.
-ghost use Rattle.std.specs.Prelude.{◌≡◌, IsOk, IfErr};
+ghost use Rattle.std.specs.Prelude.{IsOk};
+ghost use Rattle.async_cell_model.specs.Refusal.{FailsWithMemory};
 
 use super::Owner;
 use async_cell_core::Refusal;
@@ -60,7 +61,7 @@ impl<T: Drop, R: Wait + Drop> Owner<T, R> {
     where
         T: Clone,
         ensures sure { ((value : T) → T.is_infallible value) → IsOk result }
-        ensures refused { IfErr result (λ why. why ≡ Refusal.Memory) }
+        ensures refused { FailsWithMemory result }
     {
         self.cell().try_get(&self.rt)
     }
@@ -74,7 +75,7 @@ impl<T: Drop, R: Wait + Drop> Owner<T, R> {
     pub fn debug_text(&self) -> Result<String, Refusal>
     where
         T: fmt::Debug,
-        ensures refused { IfErr result (λ why. why ≡ Refusal.Memory) }
+        ensures refused { FailsWithMemory result }
     {
         self.cell().debug_text(&self.rt)
     }

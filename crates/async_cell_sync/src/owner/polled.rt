@@ -1,8 +1,8 @@
 //! The futures and guards of an owner that keeps its right to wait. Each keeps a copy of it.
 ghost use Rattle.std.specs.Prelude.{◌≡◌, IfOk, IfErr};
+ghost use Rattle.async_cell_model.specs.Refusal.{IsOwnerRefusal};
 ghost use Rattle.async_cell_sync.specs.Names.{NamesAtMost};
 ghost use Rattle.async_cell_sync.specs.Owned.{cell_owned};
-ghost use Rattle.async_cell_sync.specs.Refused.{IsOwnerRefusal};
 
 use super::Owner;
 use crate::async_cell::AsyncCell;

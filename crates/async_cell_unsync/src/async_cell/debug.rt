@@ -1,4 +1,5 @@
 use super::AsyncCell;
+use crate::lent::Held;
 use std::fmt;
 
 /// Prints `AsyncCell::Empty`, `AsyncCell::Pending` if a task waits, `AsyncCell::Full(..)` with the
@@ -18,12 +19,10 @@ impl<T: fmt::Debug + Drop> fmt::Debug for AsyncCell<T> {
 impl<T: Drop> AsyncCell<T> {
     /// Returns how a cell that holds no value prints.
     fn text_without_value(&self) -> &'static str {
-        match self.lend() {
-            Some(core) if core.is_vacant() => match core.wakes_nobody() {
-                true => "AsyncCell::Empty",
-                false => "AsyncCell::Pending",
-            },
-            _ => "AsyncCell::Closed",
-        }
+        let Some(core) = self.lend() else {
+            return "AsyncCell::Closed";
+        };
+        let text = core.text_without_value();
+        core.give_back(Held::of(text))
     }
 }

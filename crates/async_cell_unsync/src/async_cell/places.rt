@@ -13,11 +13,10 @@ impl<T: Drop> AsyncCell<T> {
     /// `InPlace`).
     pub fn purge(&self) {
         for index in 0..self.waiting() {
-            let left = match self.lend() {
-                Some(mut core) => core.take_left(index),
-                None => None,
-            };
-            drop(left);
+            if let Some(mut core) = self.lend() {
+                let left = core.take_left(index);
+                drop(core.give_back(left));
+            }
         }
     }
 
@@ -33,7 +32,8 @@ impl<T: Drop> AsyncCell<T> {
     #[inline(never)]
     fn leave_held(&self, place: Place) {
         if let Some(mut core) = self.lend() {
-            let _ = core.leave(place);
+            let left = core.leave(place);
+            core.give_back(left);
         }
     }
 
@@ -45,11 +45,7 @@ impl<T: Drop> AsyncCell<T> {
         let Some(mut core) = self.lend() else {
             return;
         };
-        let left = match core.leave(place) {
-            Some(index) => core.take_left(index),
-            None => None,
-        };
-        drop(core);
-        drop(left);
+        let left = core.cancel(place);
+        drop(core.give_back(left));
     }
 }

@@ -1,16 +1,17 @@
 //! Polls: each either returns `Ready`, or registers the task and adds its waker to the wait list.
 //! The waker of a future that keeps a place is stored in that place.
-ghost use Rattle.std.specs.Prelude.{◌≡◌, ◌⊎◌, true, Err, IfErr};
+ghost use Rattle.std.specs.Prelude.{◌≡◌, true, Err, IsErrAnd};
 ghost use Rattle.std.specs.RefCell.{ref_mut_value};
 ghost use Rattle.futures.specs.Poll.{IfReady, OnPending};
 ghost use Rattle.futures.specs.Task.{Hears, IsArmed, Keeps};
 ghost use Rattle.async_cell_model.specs.Cell.{is_vacant};
+ghost use Rattle.async_cell_model.specs.Refusal.{FailsWithMemoryOrClosed};
 ghost use Rattle.async_cell_unsync.specs.Source.{source_of};
 
 use super::AsyncCell;
-use async_cell_core::{Core, Place, Refusal, TaskWaker};
+use crate::lent::{Held, Lent};
+use async_cell_core::{Place, Refusal};
 use futures::task::{Context, Poll, Waker};
-use std::cell::RefMut;
 
 impl<T: Drop> AsyncCell<T> {
     /// Takes the value, or waits for one, in the place if any. Fails with `Memory` if there is no
@@ -25,8 +26,7 @@ impl<T: Drop> AsyncCell<T> {
         ensures armed { OnPending result (IsArmed cx.new) }
         ensures heard { OnPending result (Hears cx.new (source_of self.now)) }
         ensures kept { Keeps cx.old cx.new }
-        ensures refused { IfReady result (λ answer. IfErr answer (λ why.
-            (why ≡ Refusal.Memory) ⊎ (why ≡ Refusal.Closed))) }
+        ensures refused { IfReady result FailsWithMemoryOrClosed }
     {
         let Some(mut core) = self.lend() else {
             return Poll::Ready(Err(Refusal::Closed));
@@ -35,7 +35,8 @@ impl<T: Drop> AsyncCell<T> {
             if let Some(place) = place {
                 place.forget();
             }
-            return Poll::Ready(core.try_take().ok_or(Refusal::Closed));
+            let taken = core.try_take();
+            return Poll::Ready(core.give_back(taken).ok_or(Refusal::Closed));
         }
         let Some(place) = place else {
             return self.add(core, cx);
@@ -59,8 +60,7 @@ impl<T: Drop> AsyncCell<T> {
         ensures armed { OnPending result (IsArmed cx.new) }
         ensures heard { OnPending result (Hears cx.new (source_of self.now)) }
         ensures kept { Keeps cx.old cx.new }
-        ensures refused { IfReady result (λ answer. IfErr answer (λ why.
-            (why ≡ Refusal.Memory) ⊎ (why ≡ Refusal.Closed))) }
+        ensures refused { IfReady result FailsWithMemoryOrClosed }
     {
         match self.poll_take(place, cx) {
             Poll::Ready(Ok(value)) => Poll::Ready(self.copy_back(value)),
@@ -70,45 +70,34 @@ impl<T: Drop> AsyncCell<T> {
 
     /// Adds a waker of the task to the wait list of the core, which must be vacant. It is a new
     /// one: so nothing is dropped, and nobody woken, while the core is lent.
-    fn add(
-        &self,
-        mut core: RefMut<'_, Core<T, TaskWaker>>,
-        cx: &mut Context<'_>,
-    ) -> Poll<Result<T, Refusal>>
-        requires { is_vacant (ref_mut_value core).cell ≡ true }
+    fn add(&self, mut core: Lent<'_, T>, cx: &mut Context<'_>) -> Poll<Result<T, Refusal>>
+        requires { is_vacant (ref_mut_value core.core).cell ≡ true }
         ensures armed { IsArmed cx.new }
         ensures heard { Hears cx.new (source_of self.now) }
         ensures kept { Keeps cx.old cx.new }
         ensures refused { IfReady result (λ answer. answer ≡ Err Refusal.Memory) }
     {
-        let Some(new) = TaskWaker::register(cx, &self.source) else {
-            return Poll::Ready(Err(Refusal::Memory));
-        };
-        if let Err(unused) = core.add(new) {
-            drop(core); // A waker that is dropped wakes its task: never while the core is lent.
-            drop(unused);
-            return Poll::Ready(Err(Refusal::Memory));
-        }
-        Poll::Pending
+        let added = core.add(cx, &self.source);
+        let (added, _unused) = core.give_back(added);
+        waits(added)
     }
 
     /// `add`, in a place that has no waker: the place is then that of the waker.
     fn wait_at(
         &self,
-        core: RefMut<'_, Core<T, TaskWaker>>,
+        mut core: Lent<'_, T>,
         place: &mut Place,
         cx: &mut Context<'_>,
     ) -> Poll<Result<T, Refusal>>
-        requires { is_vacant (ref_mut_value core).cell ≡ true }
+        requires { is_vacant (ref_mut_value core.core).cell ≡ true }
         ensures armed { IsArmed cx.new }
         ensures heard { Hears cx.new (source_of self.now) }
         ensures kept { Keeps cx.old cx.new }
         ensures refused { IfReady result (λ answer. answer ≡ Err Refusal.Memory) }
     {
-        let Some(waker) = TaskWaker::register(cx, &self.source) else {
-            return Poll::Ready(Err(Refusal::Memory));
-        };
-        store(core, place, waker)
+        let stored = core.wait_at(place, cx, &self.source);
+        let (stored, _left) = core.give_back(stored);
+        waits(stored)
     }
 
     /// Registers the task with the waker of its place, which was taken out, and stores it again. If
@@ -117,59 +106,42 @@ impl<T: Drop> AsyncCell<T> {
     #[inline(never)]
     fn renew(
         &self,
-        core: RefMut<'_, Core<T, TaskWaker>>,
-        waker: Waker,
+        core: Lent<'_, T>,
+        waker: Held<Waker>,
         place: &mut Place,
         cx: &mut Context<'_>,
     ) -> Poll<Result<T, Refusal>>
         ensures armed { OnPending result (IsArmed cx.new) }
         ensures heard { OnPending result (Hears cx.new (source_of self.now)) }
         ensures kept { Keeps cx.old cx.new }
-        ensures refused { IfReady result (λ answer. IfErr answer (λ why.
-            (why ≡ Refusal.Memory) ⊎ (why ≡ Refusal.Closed))) }
+        ensures refused { IfReady result FailsWithMemoryOrClosed }
     {
-        drop(core);
-        let mut slot = Some(waker);
+        let mut slot = Some(core.give_back(waker));
         let _ = cx.register::<()>(&self.source, &mut slot);
         let Some(mut core) = self.lend() else {
             return Poll::Ready(Err(Refusal::Closed));
         };
+        let slot = Held::of(slot);
         // What a drop of the waker ran may have filled or closed the cell.
         if !core.is_vacant() {
             place.forget();
-            let content = core.try_take();
-            drop(core); // A waker that is dropped wakes its task: never while the core is lent.
-            drop(slot);
+            let taken = core.try_take();
+            let (content, _left) = core.give_back(taken.and(slot));
             return Poll::Ready(content.ok_or(Refusal::Closed));
         }
-        match slot {
-            Some(waker) => store(core, place, TaskWaker::of(waker)),
-            None => Poll::Ready(Err(Refusal::Memory)),
-        }
+        let renewed = core.store(place, slot);
+        let (renewed, _left) = core.give_back(renewed);
+        waits(renewed)
     }
 }
 
-/// Stores a waker in the place, or as the last, of the core, which must be vacant. What is dropped
-/// then wakes its task, so the core is no longer lent before.
+/// The answer of a poll that has to wait.
 #[inline(always)]
-fn store<T: Drop>(
-    mut core: RefMut<'_, Core<T, TaskWaker>>,
-    place: &mut Place,
-    waker: TaskWaker,
-) -> Poll<Result<T, Refusal>>
-    requires { is_vacant (ref_mut_value core).cell ≡ true }
-    ensures refused { IfReady result (λ answer. answer ≡ Err Refusal.Memory) }
+fn waits<A>(waited: Result<(), Refusal>) -> Poll<Result<A, Refusal>>
+    ensures refused { IfReady result (λ answer. IsErrAnd waited (λ why. answer ≡ Err why)) }
 {
-    let stored = core.store(place, waker);
-    drop(core);
-    match stored {
-        Ok(before) => {
-            drop(before);
-            Poll::Pending
-        }
-        Err(unused) => {
-            drop(unused);
-            Poll::Ready(Err(Refusal::Memory))
-        }
+    match waited {
+        Ok(()) => Poll::Pending,
+        Err(why) => Poll::Ready(Err(why)),
     }
 }

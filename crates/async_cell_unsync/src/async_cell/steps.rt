@@ -1,20 +1,19 @@
 //! The steps on the core. Between two steps the cell is consistent, and only then are wakers woken
 //! and values dropped.
-ghost use Rattle.std.specs.Prelude.{◌≡◌, ◌⊎◌, IsOk, IfSome, IfErr};
-ghost use Rattle.std.specs.RefCell.{ref_mut_value};
-ghost use Rattle.async_cell_model.specs.History.{IsSound};
+ghost use Rattle.std.specs.Prelude.{◌≡◌, ◌⊎◌, IsOk, IfErr};
+ghost use Rattle.async_cell_model.specs.Refusal.{FailsWithMemory};
 
 use super::AsyncCell;
-use async_cell_core::{Core, Refusal, TaskWaker, Wakes, end_guard};
+use crate::lent::{Held, Lender, Lent};
+use async_cell_core::{Core, Refusal, TaskWaker};
 use futures::task::Source;
 use std::alloc::{AllocError, Global};
-use std::cell::{RefCell, RefMut};
 
 impl<T: Drop> AsyncCell<T> {
     /// Wraps a core in a cell.
     pub(super) fn of(alloc: Global, core: Core<T, TaskWaker>) -> Self {
         AsyncCell {
-            core: RefCell::new(core),
+            core: Lender::new(core),
             source: Source::new(),
             alloc,
         }
@@ -23,22 +22,15 @@ impl<T: Drop> AsyncCell<T> {
     /// Borrows the core for one step. Returns `None` during another step, which no caller ever
     /// sees: a step calls nothing that could call the cell.
     #[inline(always)]
-    pub(super) fn lend(&self) -> Option<RefMut<'_, Core<T, TaskWaker>>>
-        ensures { IfSome result (λ core.
-            IsSound ⟦<TaskWaker as Wakes>⟧.will_wake (ref_mut_value core)) }
-    {
-        let core = self.core.try_borrow_mut().ok()?;
-        core.soundness();
-        Some(core)
+    pub(super) fn lend(&self) -> Option<Lent<'_, T>> {
+        self.core.lend()
     }
 
     /// Takes the content out of an open cell. Returns `None` if the cell is closed.
     pub(super) fn take_out(&self) -> Option<Option<T>> {
         let mut core = self.lend()?;
-        if core.is_closed() {
-            return None;
-        }
-        Some(core.try_take())
+        let content = core.take_out();
+        core.give_back(content)
     }
 
     /// Stores a content that was taken out, over whatever was stored in the meantime. A cell that
@@ -58,7 +50,7 @@ impl<T: Drop> AsyncCell<T> {
     where
         T: Clone,
         ensures sure { ((value : T) → T.is_infallible value) → IsOk result }
-        ensures refused { IfErr result (λ why. why ≡ Refusal.Memory) }
+        ensures refused { FailsWithMemory result }
     {
         let copy: Result<T, AllocError> = value.clone();
         self.set(value);
@@ -70,10 +62,8 @@ impl<T: Drop> AsyncCell<T> {
         let Some(mut core) = self.lend() else {
             return;
         };
-        let (unused, woken) = end_guard(&mut *core, cancel);
-        drop(core); // What is woken or dropped may call this cell: never while the core is lent.
-        woken.wake_all();
-        drop(unused);
+        let ended = core.end_guard(cancel);
+        drop(core.give_back_and_wake(ended));
     }
 
     /// Adds an owner. Fails with `Closed` or `OwnersFull`.
@@ -82,7 +72,8 @@ impl<T: Drop> AsyncCell<T> {
             (why ≡ Refusal.Closed) ⊎ (why ≡ Refusal.OwnersFull)) }
     {
         let mut core = self.lend().ok_or(Refusal::Closed)?;
-        core.add_owner()
+        let added = core.add_owner();
+        core.give_back(added)
     }
 
     /// Ends one owner. The last one closes the cell, drops the value and wakes all waiters.
@@ -91,12 +82,7 @@ impl<T: Drop> AsyncCell<T> {
             return;
         };
         let ended = core.end_owner();
-        // What is woken or dropped may call this cell: never while the core is lent.
-        drop(core);
-        if let Ok((last, woken)) = ended {
-            woken.wake_all();
-            drop(last);
-        }
+        let _ = core.give_back_and_wake(ended);
     }
 
     /// Closes the cell and returns its content, if there is one owner. Wakes all waiters. Fails
@@ -104,16 +90,16 @@ impl<T: Drop> AsyncCell<T> {
     pub(crate) fn take_inner(&self) -> Result<Option<T>, Refusal> {
         let mut core = self.lend().ok_or(Refusal::Closed)?;
         let taken = core.take_inner();
-        // What is woken or dropped may call this cell: never while the core is lent.
-        drop(core);
-        let (content, woken) = taken?;
-        woken.wake_all();
-        Ok(content)
+        core.give_back_and_wake(taken)
     }
 
     /// Internal: may change without notice. Returns the number of places in the wait list.
     pub fn waiting(&self) -> usize {
-        self.lend().map_or(0, |core| core.waiting())
+        let Some(core) = self.lend() else {
+            return 0;
+        };
+        let waiting = core.waiting();
+        core.give_back(Held::of(waiting))
     }
 
     /// Returns the allocator that the cell was made with.
