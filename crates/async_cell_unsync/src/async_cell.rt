@@ -1,5 +1,6 @@
 ghost use Rattle.std.specs.Prelude.{◌≡◌, IsOk, IfOk, IfErr, Some};
 ghost use Rattle.async_cell_model.specs.History.{IsSound};
+ghost use Rattle.async_cell_model.specs.Refusal.{FailsWithMemory};
 ghost use Rattle.async_cell_unsync.specs.Names.{cell_of};
 
 mod debug;
@@ -24,8 +25,8 @@ use std::cell::RefCell;
 /// inside are counted. Afterwards the value is stored over whatever was stored in the meantime. No
 /// call waits. Dropping a cell wakes all waiters.
 ///
-/// A future made by `in_place` holds one place in the wait list while it waits (see `InPlace`), so
-/// the list is no longer than the number of such futures that were alive at once. Each poll of any
+/// A future made by `with` holds one place in the wait list while it waits (see `With`), so the
+/// list is no longer than the number of such futures that were alive at once. Each poll of any
 /// other future that waits may add one waker, which stays until the next fill or close, also when
 /// the future is dropped.
 #[derive(Drop)]
@@ -49,7 +50,7 @@ impl<T: Drop> AsyncCell<T> {
 
     /// Makes a cell without a value, with one counted owner. Fails with `Memory`.
     pub fn shared(alloc: Global) -> Result<Shared<T>, Refusal>
-        ensures refused { IfErr result (λ why. why ≡ Refusal.Memory) }
+        ensures refused { FailsWithMemory result }
     {
         Shared::shared(alloc)
     }
@@ -79,6 +80,21 @@ impl<T: Drop> AsyncCell<T> {
             woken.wake_all();
             drop(unused);
         }
+    }
+
+    /// Sets the value and wakes all waiters, if the cell is open and holds no value. Otherwise
+    /// nothing changes, and `value` is returned in the error.
+    pub fn try_set(&self, value: T) -> Result<(), T>
+        ensures comes_back { IfErr result (λ back. back ≡ value) }
+    {
+        let Some(mut core) = self.lend() else {
+            return Err(value);
+        };
+        let written = core.or_set(value);
+        drop(core); // What is woken or dropped may call this cell: never while the core is lent.
+        let (unused, woken) = written?;
+        woken.wake_all();
+        unused.map_or(Ok(()), Err)
     }
 
     /// Sets the value and returns the old one. Wakes all waiters.
@@ -130,7 +146,7 @@ impl<T: Drop> AsyncCell<T> {
     where
         T: Clone,
         ensures sure { ((value : T) → T.is_infallible value) → IsOk result }
-        ensures refused { IfErr result (λ why. why ≡ Refusal.Memory) }
+        ensures refused { FailsWithMemory result }
     {
         match self.try_take() {
             Some(value) => Ok(Some(self.copy_back(value)?)),
@@ -141,6 +157,11 @@ impl<T: Drop> AsyncCell<T> {
     /// Returns whether the cell holds a value.
     pub fn is_set(&self) -> bool {
         self.lend().is_some_and(|core| core.is_set())
+    }
+
+    /// Returns whether the cell is closed.
+    pub fn is_closed(&self) -> bool {
+        self.lend().is_some_and(|core| core.is_closed())
     }
 
     /// Returns the content. Wakes all waiters.

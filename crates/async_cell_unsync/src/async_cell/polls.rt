@@ -1,10 +1,11 @@
 //! Polls: each either returns `Ready`, or registers the task and adds its waker to the wait list.
 //! The waker of a future that keeps a place is stored in that place.
-ghost use Rattle.std.specs.Prelude.{◌≡◌, ◌⊎◌, true, Err, IfErr};
+ghost use Rattle.std.specs.Prelude.{◌≡◌, true, Err};
 ghost use Rattle.std.specs.RefCell.{ref_mut_value};
 ghost use Rattle.futures.specs.Poll.{IfReady, OnPending};
 ghost use Rattle.futures.specs.Task.{Hears, IsArmed, Keeps};
 ghost use Rattle.async_cell_model.specs.Cell.{is_vacant};
+ghost use Rattle.async_cell_model.specs.Refusal.{FailsWithMemoryOrClosed};
 ghost use Rattle.async_cell_unsync.specs.Source.{source_of};
 
 use super::AsyncCell;
@@ -25,8 +26,7 @@ impl<T: Drop> AsyncCell<T> {
         ensures armed { OnPending result (IsArmed cx.new) }
         ensures heard { OnPending result (Hears cx.new (source_of self.now)) }
         ensures kept { Keeps cx.old cx.new }
-        ensures refused { IfReady result (λ answer. IfErr answer (λ why.
-            (why ≡ Refusal.Memory) ⊎ (why ≡ Refusal.Closed))) }
+        ensures refused { IfReady result FailsWithMemoryOrClosed }
     {
         let Some(mut core) = self.lend() else {
             return Poll::Ready(Err(Refusal::Closed));
@@ -59,8 +59,7 @@ impl<T: Drop> AsyncCell<T> {
         ensures armed { OnPending result (IsArmed cx.new) }
         ensures heard { OnPending result (Hears cx.new (source_of self.now)) }
         ensures kept { Keeps cx.old cx.new }
-        ensures refused { IfReady result (λ answer. IfErr answer (λ why.
-            (why ≡ Refusal.Memory) ⊎ (why ≡ Refusal.Closed))) }
+        ensures refused { IfReady result FailsWithMemoryOrClosed }
     {
         match self.poll_take(place, cx) {
             Poll::Ready(Ok(value)) => Poll::Ready(self.copy_back(value)),
@@ -125,8 +124,7 @@ impl<T: Drop> AsyncCell<T> {
         ensures armed { OnPending result (IsArmed cx.new) }
         ensures heard { OnPending result (Hears cx.new (source_of self.now)) }
         ensures kept { Keeps cx.old cx.new }
-        ensures refused { IfReady result (λ answer. IfErr answer (λ why.
-            (why ≡ Refusal.Memory) ⊎ (why ≡ Refusal.Closed))) }
+        ensures refused { IfReady result FailsWithMemoryOrClosed }
     {
         drop(core);
         let mut slot = Some(waker);

@@ -3,6 +3,7 @@
 ghost use Rattle.std.specs.Prelude.{◌≡◌, ◌⊎◌, IsOk, IfSome, IfErr};
 ghost use Rattle.std.specs.RefCell.{ref_mut_value};
 ghost use Rattle.async_cell_model.specs.History.{IsSound};
+ghost use Rattle.async_cell_model.specs.Refusal.{FailsWithMemory};
 
 use super::AsyncCell;
 use async_cell_core::{Core, Refusal, TaskWaker, Wakes, end_guard};
@@ -58,7 +59,7 @@ impl<T: Drop> AsyncCell<T> {
     where
         T: Clone,
         ensures sure { ((value : T) → T.is_infallible value) → IsOk result }
-        ensures refused { IfErr result (λ why. why ≡ Refusal.Memory) }
+        ensures refused { FailsWithMemory result }
     {
         let copy: Result<T, AllocError> = value.clone();
         self.set(value);
