@@ -4,28 +4,43 @@ use async_cell::Refusal;
 use async_cell::sync::{AsyncCell, Get, Owner};
 use futures::StreamExt;
 use futures::executor::block_on;
+use std::alloc::AllocGlobal;
 use std::io;
+use std::random::RandomSource;
+use std::sync::Wait;
 
-pub fn replies(rt: HostRuntime) -> io::Result<u32> {
+pub fn replies<R>(rt: R) -> io::Result<u32>
+where
+    R: Wait + Copy + RandomSource + AllocGlobal,
+{
     replies!(rt, rt)
 }
 
 /// A state that was followed, and why there is none.
 type State = Option<Result<u32, Refusal>>;
 
-pub fn follows(rt: HostRuntime) -> io::Result<(State, State, State)> {
+pub fn follows<R>(rt: R) -> io::Result<(State, State, State)>
+where
+    R: Wait + Copy + RandomSource + AllocGlobal,
+{
     follows!(rt, rt)
 }
 
-fn read(setting: &Owner<u32, HostRuntime>, text: &str) -> Option<()> {
+fn read<R: Wait + Copy>(setting: &Owner<u32, R>, text: &str) -> Option<()> {
     reads!(setting, text)
 }
 
-pub fn guards(rt: HostRuntime) -> io::Result<(Option<u32>, Option<u32>)> {
+pub fn guards<R>(rt: R) -> io::Result<(Option<u32>, Option<u32>)>
+where
+    R: Wait + Copy + RandomSource + AllocGlobal,
+{
     guards!(rt, rt)
 }
 
-pub fn notices(rt: HostRuntime) -> io::Result<(bool, Option<()>)> {
+pub fn notices<R>(rt: R) -> io::Result<(bool, Option<()>)>
+where
+    R: Wait + Copy + RandomSource + AllocGlobal,
+{
     notices!(rt, rt)
 }
 
@@ -39,10 +54,16 @@ type Returned = (
     Option<Option<u32>>,
 );
 
-pub fn calls(rt: HostRuntime) -> io::Result<Returned> {
+pub fn calls<R>(rt: R) -> io::Result<Returned>
+where
+    R: Wait + Copy + RandomSource + AllocGlobal,
+{
     calls!(rt, rt)
 }
 
-pub fn cells(rt: HostRuntime) -> io::Result<(u32, u32, Option<u32>)> {
+pub fn cells<R>(rt: R) -> io::Result<(u32, u32, Option<u32>)>
+where
+    R: Wait + Copy + RandomSource + AllocGlobal,
+{
     cells!(rt, rt)
 }
