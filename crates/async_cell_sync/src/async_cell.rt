@@ -72,6 +72,14 @@ impl<T: Drop> AsyncCell<T> {
         let _ = self.core.or_set(value, rt);
     }
 
+    /// Sets the value and wakes all waiters, if the cell is open and holds no value. Otherwise
+    /// nothing changes, and `value` is returned in the error.
+    pub fn try_set<R: Wait>(&self, value: T, rt: &R) -> Result<(), T>
+        ensures comes_back { IfErr result (λ back. back ≡ value) }
+    {
+        self.core.try_set(value, rt)
+    }
+
     /// Sets the value and returns the old one. Wakes all waiters.
     pub fn replace<R: Wait>(&self, value: T, rt: &R) -> Option<T> {
         self.core.replace(value, rt).unwrap_or(None)
@@ -118,6 +126,11 @@ impl<T: Drop> AsyncCell<T> {
     /// Returns whether the cell holds a value.
     pub fn is_set<R: Wait>(&self, rt: &R) -> bool {
         self.core.is_set(rt)
+    }
+
+    /// Returns whether the cell is closed.
+    pub fn is_closed<R: Wait>(&self, rt: &R) -> bool {
+        self.core.is_closed(rt)
     }
 
     /// Returns the content. Wakes all waiters. Does not take the lock.

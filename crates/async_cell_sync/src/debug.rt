@@ -10,7 +10,7 @@ use crate::take::Take;
 use crate::values::Values;
 use crate::weak::{GetWeak, TakeWeak, Weak};
 use crate::weak_owner::WeakOwner;
-use crate::with::{Waits, With};
+use crate::with::{Request, With};
 use std::fmt;
 use std::sync::Wait;
 
@@ -56,7 +56,7 @@ impl<T> fmt::Debug for GetWeak<T> {
     }
 }
 
-impl<P: Waits, R: Wait> fmt::Debug for With<P, R> {
+impl<P: Request, R: Wait> fmt::Debug for With<P, R> {
     fn fmt<F: fmt::Write>(&self, f: &mut fmt::Formatter<F>) -> fmt::Result {
         f.debug_struct("With").finish_non_exhaustive()
     }

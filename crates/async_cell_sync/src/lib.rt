@@ -30,4 +30,6 @@ pub use take::Take;
 pub use values::Values;
 pub use weak::{GetWeak, TakeWeak, Weak};
 pub use weak_owner::WeakOwner;
-pub use with::{Waits, With};
+#[doc(hidden)]
+pub use with::Request;
+pub use with::With;

@@ -68,6 +68,19 @@ impl<T: Drop, W: Wakes> LockedCore<T, W> {
         Ok(())
     }
 
+    /// Sets the value and wakes all waiters, if the cell is open and holds no value. Otherwise
+    /// nothing changes, and the value is returned in the error.
+    pub fn try_set<R: Wait>(&self, value: T, rt: &R) -> Result<(), T>
+        ensures comes_back { IfErr result (λ back. back ≡ value) }
+    {
+        let mut core = self.lock(rt);
+        let written = core.or_set(value);
+        drop(core); // What is woken or dropped may call this cell: never under the lock.
+        let (refused, woken) = written?;
+        woken.wake_all();
+        refused.map_or(Ok(()), Err)
+    }
+
     /// Calls the closure on the content and stores what it returns, all while the lock is held.
     /// Wakes all waiters if that puts a value into an empty cell. Fails with `Closed` on a closed
     /// cell, without calling the closure. A closure that was not called is dropped after the lock

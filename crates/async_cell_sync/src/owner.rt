@@ -50,12 +50,20 @@ impl<T: Drop> AsyncCell<T> {
 impl<T: Drop, R: Wait + Copy> Owner<T, R> {
     /// Makes a cell without a value, and its first owner. Fails with `Memory`.
     ///
-    /// For a cell that you have already, as one that `AsyncCell::new_with` made, call
-    /// `AsyncCell::into_owner`.
+    /// For a cell that you have already, call `AsyncCell::into_owner`.
     pub fn new(alloc: Global, rt: R) -> Result<Self, Refusal>
         ensures refused { FailsWithMemory result }
     {
         Ok(Shared::shared(alloc)?.with(rt))
+    }
+
+    /// Makes a cell that holds a value, and its first owner. Fails with `Memory`, and then drops
+    /// the value: `AsyncCell::new_with` and `AsyncCell::into_owner` return it instead.
+    pub fn new_with(alloc: Global, value: T, rt: R) -> Result<Self, Refusal>
+        ensures refused { IfErr result (λ why. why ≡ Refusal.Memory) }
+    {
+        let cell = AsyncCell::new_with(alloc, value);
+        cell.into_owner(rt).map_err(|(why, _)| why)
     }
 
     /// Adds an owner, in place of a clone. Fails with `Memory` if the pointer cannot be counted, or
@@ -113,6 +121,18 @@ impl<T: Drop, R: Wait + Drop> CellRef for Owner<T, R> {
 
     fn cell(&self) -> &AsyncCell<T> {
         Owner::cell(self)
+    }
+
+    fn leave<S: Wait>(self, _: &S) {}
+}
+
+impl<T: Drop, R: Wait + Drop> CellRef for &Owner<T, R> {
+    type Value = T;
+
+    ghost waits_for = { λ p s. s ≡ source_of (cell_owned p.now) };
+
+    fn cell(&self) -> &AsyncCell<T> {
+        Owner::cell(*self)
     }
 
     fn leave<S: Wait>(self, _: &S) {}

@@ -17,42 +17,42 @@ use futures::task::{Context, Poll};
 use std::sync::Wait;
 
 /// A `Take`, a `Get`, a `TakeWeak` or a `GetWeak`: what `With` makes a future of.
-pub trait Waits: Drop {
+pub trait Request: Drop {
     /// The type of the value in the cell.
     type Value: Drop;
 
     /// Returns the cell, unless there is no pointer to it.
-    fn waits_on(&self) -> Option<&AsyncCell<Self::Value>>;
+    fn cell(&self) -> Option<&AsyncCell<Self::Value>>;
 }
 
-impl<C: CellRef + Drop> Waits for Take<C> {
+impl<C: CellRef + Drop> Request for Take<C> {
     type Value = C::Value;
 
-    fn waits_on(&self) -> Option<&AsyncCell<C::Value>> {
+    fn cell(&self) -> Option<&AsyncCell<C::Value>> {
         Some(self.0.cell())
     }
 }
 
-impl<C: CellRef + Drop> Waits for Get<C> {
+impl<C: CellRef + Drop> Request for Get<C> {
     type Value = C::Value;
 
-    fn waits_on(&self) -> Option<&AsyncCell<C::Value>> {
+    fn cell(&self) -> Option<&AsyncCell<C::Value>> {
         Some(self.0.cell())
     }
 }
 
-impl<T: Drop> Waits for TakeWeak<T> {
+impl<T: Drop> Request for TakeWeak<T> {
     type Value = T;
 
-    fn waits_on(&self) -> Option<&AsyncCell<T>> {
+    fn cell(&self) -> Option<&AsyncCell<T>> {
         self.0.cell().ok()
     }
 }
 
-impl<T: Drop> Waits for GetWeak<T> {
+impl<T: Drop> Request for GetWeak<T> {
     type Value = T;
 
-    fn waits_on(&self) -> Option<&AsyncCell<T>> {
+    fn cell(&self) -> Option<&AsyncCell<T>> {
         self.0.cell().ok()
     }
 }
@@ -65,13 +65,13 @@ impl<T: Drop> Waits for GetWeak<T> {
 /// The place is then free for the next such future, and the task that polled the dropped one may be
 /// woken once more. So keep a future that you poll again: two tasks that each make, poll and drop
 /// one within every poll wake each other each time.
-pub struct With<P: Waits, R: Wait> {
+pub struct With<P: Request, R: Wait> {
     polled: P,
     rt: R,
     place: Place,
 }
 
-impl<P: Waits, R: Wait> With<P, R> {
+impl<P: Request, R: Wait> With<P, R> {
     pub(crate) fn new(polled: P, rt: R) -> Self
         ensures polls { result.polled ≡ polled }
     {
@@ -83,13 +83,13 @@ impl<P: Waits, R: Wait> With<P, R> {
     }
 }
 
-impl<P: Waits, R: Wait + Drop> With<P, R> {
+impl<P: Request, R: Wait + Drop> With<P, R> {
     /// Drops the future, and the waker that it left in the cell: the task that polled it last is
     /// polled once more. A waker keeps what its executor needs to wake the task, so cancel a wait
     /// that came to nothing on a cell that lives on, as when its time is up. May wait for the lock.
     pub fn cancel(self) {
         let With { polled, rt, place } = self;
-        if let Some(cell) = polled.waits_on() {
+        if let Some(cell) = polled.cell() {
             cell.cancel(place, &rt);
         }
     }
@@ -128,10 +128,10 @@ impl<T: Drop, R: Wait + Copy> With<GetWeak<T>, R> {
 }
 
 /// Leaves its place in the wait list free.
-impl<P: Waits, R: Wait + Drop> Drop for With<P, R> {
+impl<P: Request, R: Wait + Drop> Drop for With<P, R> {
     fn drop(self) {
         let With { polled, rt, place } = self;
-        if let Some(cell) = polled.waits_on() {
+        if let Some(cell) = polled.cell() {
             cell.leave(place, &rt);
         }
     }

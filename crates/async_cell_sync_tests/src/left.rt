@@ -4,7 +4,7 @@ use crate::checks::{holds, same};
 use crate::owner::{end, first, waits};
 use crate::owning::{first_owner, weak_getter, weak_taker};
 use crate::ticks::{Tick, task, tick_mut};
-use async_cell_sync::{AsyncCell, Owner, Shared, Take, Waits, With};
+use async_cell_sync::{AsyncCell, Owner, Request, Shared, Take, With};
 use futures::task::Poll;
 use futures::test::MockTask;
 use std::alloc::AllocGlobal;
@@ -368,7 +368,7 @@ fn a_purge_of_a_closed_cell_wakes_nobody(rt: HostRuntime) {
     shared.end(&rt);
     holds(&rt, flag.is_woken());
     rest(&flag);
-    let cell = weak.waits_on().expect(&rt, "a pointer");
+    let cell = weak.cell().expect(&rt, "a pointer");
     cell.purge(&rt);
     holds(&rt, !flag.is_woken());
     prints(cell, "AsyncCell::Closed", &rt);

@@ -49,6 +49,8 @@ mod threads;
 #[cfg(test)]
 mod ticks;
 #[cfg(test)]
+mod try_set;
+#[cfg(test)]
 mod when_unlocked;
 #[cfg(test)]
 mod writes;

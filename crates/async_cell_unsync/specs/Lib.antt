@@ -1,3 +1,4 @@
 pub mod Names
+pub mod Owned
 pub mod Refused
 pub mod Source

@@ -24,6 +24,12 @@ module _ {T : Type 0} where
   NameTheSame weak copy =
       MatchOption weak.cell (copy.cell ≡ None) (λ pointer. Names copy (rc_value pointer))
 
+  -- the second weak pointer points to what the first one points to, or to none because it could
+  -- not be counted when it was made
+  abbrev pub NameAtMostTheSame : Weak T → Weak T → Type 0
+  NameAtMostTheSame weak copy =
+      MatchOption weak.cell (copy.cell ≡ None) (λ pointer. NamesAtMost copy (rc_value pointer))
+
   -- the owner is of the cell that the weak pointer points to
   abbrev pub OwnsNamed : Weak T → Shared T → Type 0
   OwnsNamed weak owner = Names weak (cell_of owner)

@@ -25,8 +25,8 @@ use std::alloc::Global;
 /// inside are counted. Afterwards the value is stored over whatever was stored in the meantime. No
 /// call waits. Dropping a cell wakes all waiters.
 ///
-/// A future made by `in_place` holds one place in the wait list while it waits (see `InPlace`), so
-/// the list is no longer than the number of such futures that were alive at once. Each poll of any
+/// A future made by `with` holds one place in the wait list while it waits (see `With`), so the
+/// list is no longer than the number of such futures that were alive at once. Each poll of any
 /// other future that waits may add one waker, which stays until the next fill or close, also when
 /// the future is dropped.
 #[derive(Drop)]
@@ -76,6 +76,21 @@ impl<T: Drop> AsyncCell<T> {
         };
         let written = core.or_set(value);
         let _ = core.give_back_and_wake(written);
+    }
+
+    /// Sets the value and wakes all waiters, if the cell is open and holds no value. Otherwise
+    /// nothing changes, and `value` is returned in the error.
+    pub fn try_set(&self, value: T) -> Result<(), T>
+        ensures comes_back { IfErr result (λ back. back ≡ value) }
+    {
+        let Some(mut core) = self.lend() else {
+            return Err(value);
+        };
+        let written = core.or_set(value);
+        drop(core); // What is woken or dropped may call this cell: never while the core is lent.
+        let (unused, woken) = written?;
+        woken.wake_all();
+        unused.map_or(Ok(()), Err)
     }
 
     /// Sets the value and returns the old one. Wakes all waiters.
@@ -140,6 +155,11 @@ impl<T: Drop> AsyncCell<T> {
         };
         let is_set = core.is_set();
         core.give_back(Held::of(is_set))
+    }
+
+    /// Returns whether the cell is closed.
+    pub fn is_closed(&self) -> bool {
+        self.lend().is_some_and(|core| core.is_closed())
     }
 
     /// Returns the content. Wakes all waiters.

@@ -3,11 +3,13 @@
 use crate::cell_ref::CellRef;
 use crate::get::Get;
 use crate::guarded_cell::GuardedCell;
-use crate::in_place::{InPlace, Waits};
+use crate::owner::Owner;
 use crate::shared::Shared;
 use crate::take::Take;
 use crate::values::Values;
 use crate::weak::{GetWeak, TakeWeak, Weak};
+use crate::weak_owner::WeakOwner;
+use crate::with::{Request, With};
 use std::fmt;
 
 impl<T> fmt::Debug for Shared<T> {
@@ -52,9 +54,21 @@ impl<T> fmt::Debug for GetWeak<T> {
     }
 }
 
-impl<P: Waits> fmt::Debug for InPlace<P> {
+impl<P: Request> fmt::Debug for With<P> {
     fn fmt<F: fmt::Write>(&self, f: &mut fmt::Formatter<F>) -> fmt::Result {
-        f.debug_struct("InPlace").finish_non_exhaustive()
+        f.debug_struct("With").finish_non_exhaustive()
+    }
+}
+
+impl<T: Drop> fmt::Debug for Owner<T> {
+    fn fmt<F: fmt::Write>(&self, f: &mut fmt::Formatter<F>) -> fmt::Result {
+        f.debug_struct("Owner").finish_non_exhaustive()
+    }
+}
+
+impl<T> fmt::Debug for WeakOwner<T> {
+    fn fmt<F: fmt::Write>(&self, f: &mut fmt::Formatter<F>) -> fmt::Result {
+        f.debug_struct("WeakOwner").finish_non_exhaustive()
     }
 }
 

@@ -1,16 +1,16 @@
-ghost use Rattle.std.specs.Prelude.{◌≡◌, ◌⊎◌, IfErr};
+ghost use Rattle.std.specs.Prelude.{◌≡◌};
 ghost use Rattle.futures.specs.Poll.{IfReady, OnPending};
 ghost use Rattle.futures.specs.Task.{Covers, Keeps};
-ghost use Rattle.async_cell_unsync.specs.Refused.{FailsWithMemoryOrClosed};
+ghost use Rattle.async_cell_model.specs.Refusal.{FailsWithMemoryOrClosed};
 
 use crate::cell_ref::CellRef;
-use crate::in_place::InPlace;
+use crate::with::{InPlace, With};
 use async_cell_core::Refusal;
 use futures::future::Future;
 use futures::task::{Context, Poll};
 
 /// A future that clones the value of a cell and leaves it. It may be polled again after it was
-/// ready, and then returns further values. Each poll that waits may add a waker: `in_place` makes a
+/// ready, and then returns further values. Each poll that waits may add a waker: `with` makes a
 /// future that does not.
 #[derive(Clone, Copy, Drop)]
 pub struct Get<C>(pub C);
@@ -26,8 +26,7 @@ where
     pub fn poll_shared(&self, cx: &mut Context<'_>) -> Poll<Result<C::Value, Refusal>>
         ensures registered { OnPending result (Covers cx.new (C.waits_for self.now.0)) }
         ensures kept { Keeps cx.old cx.new }
-        ensures refused { IfReady result (λ answer. IfErr answer (λ why.
-            (why ≡ Refusal.Memory) ⊎ (why ≡ Refusal.Closed))) }
+        ensures refused { IfReady result FailsWithMemoryOrClosed }
     {
         self.0.cell().poll_get(None, cx)
     }
@@ -35,10 +34,17 @@ where
 
 impl<C: CellRef> Get<C> {
     /// Returns the future that holds one place in the wait list while it waits.
+    pub fn with(self) -> With<Self>
+        ensures polls { result.polled ≡ self }
+    {
+        With::new(self)
+    }
+
+    /// Returns the future that holds one place in the wait list while it waits, as `with` does.
     pub fn in_place(self) -> InPlace<Self>
         ensures polls { result.polled ≡ self }
     {
-        InPlace::new(self)
+        self.with()
     }
 }
 

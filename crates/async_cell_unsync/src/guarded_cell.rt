@@ -12,6 +12,9 @@ pub struct GuardedCell<T, C: CellRef<Value = T>> {
     cancel: Option<T>,
 }
 
+/// The name of a guard that is made by `with` or by an `Owner`: every guard ends by its drop here.
+pub type Guard<T, C> = GuardedCell<T, C>;
+
 impl<T: Drop, C: CellRef<Value = T>> GuardedCell<T, C> {
     pub(crate) fn new(pointer: C, cancel: T) -> Self
         ensures of_this { result.pointer ≡ pointer }
@@ -28,6 +31,18 @@ impl<T: Drop, C: CellRef<Value = T>> GuardedCell<T, C> {
         ensures { (s : ℕ) → C.waits_for self.now.pointer s → s ≡ source_of result.now }
     {
         self.pointer.cell()
+    }
+
+    /// Returns whether the cell holds a value.
+    pub fn is_set(&self) -> bool {
+        self.cell().is_set()
+    }
+
+    /// Returns this guard as it is.
+    pub fn with(self) -> Guard<T, C>
+        ensures guards { result ≡ self }
+    {
+        self
     }
 
     /// Ends the guard without a write. Drops its cancel value.

@@ -1,7 +1,7 @@
 ghost use Rattle.std.specs.Prelude.{◌≡◌, IfOk, IfErr, Some};
 ghost use Rattle.std.specs.Rc.{rc_value};
+ghost use Rattle.async_cell_model.specs.Refusal.{FailsWithMemory, IsOwnerRefusal};
 ghost use Rattle.async_cell_unsync.specs.Names.{cell_of, NamesAtMost};
-ghost use Rattle.async_cell_unsync.specs.Refused.{IsOwnerRefusal};
 
 use crate::async_cell::AsyncCell;
 use crate::get::Get;
@@ -21,7 +21,7 @@ pub struct Shared<T> {
 impl<T: Drop> Shared<T> {
     /// Makes a cell without a value, and its first owner. Fails with `Memory`.
     pub fn shared(alloc: Global) -> Result<Self, Refusal>
-        ensures refused { IfErr result (λ why. why ≡ Refusal.Memory) }
+        ensures refused { FailsWithMemory result }
     {
         Shared::into_shared(AsyncCell::new(alloc)).map_err(|(why, _)| why)
     }

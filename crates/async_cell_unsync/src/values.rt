@@ -1,10 +1,10 @@
 ghost use Rattle.std.specs.Prelude.{◌≡◌, IfSome};
 ghost use Rattle.std.specs.List.{AllByRecursion};
-ghost use Rattle.async_cell_unsync.specs.Refused.{FailsWithMemory};
+ghost use Rattle.async_cell_model.specs.Refusal.{FailsWithMemory};
 ghost use Rattle.async_cell_unsync.specs.Source.{IsSourceOf};
 
-use crate::in_place::InPlace;
 use crate::weak::TakeWeak;
+use crate::with::With;
 use async_cell_core::Refusal;
 use futures::future::Future;
 use futures::stream::Stream;
@@ -18,10 +18,10 @@ use futures::task::{Context, Poll};
 /// An item is an error (`Memory`) if a poll was refused; the stream may be polled on.
 #[derive(Drop)]
 pub struct Values<T: Drop> {
-    taker: InPlace<TakeWeak<T>>,
+    taker: With<TakeWeak<T>>,
 }
 
-impl<T: Drop> InPlace<TakeWeak<T>> {
+impl<T: Drop> With<TakeWeak<T>> {
     /// Returns the stream of the values that this future would take, one after another.
     pub fn values(self) -> Values<T>
         ensures takes { result.taker ≡ self }

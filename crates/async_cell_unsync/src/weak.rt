@@ -2,23 +2,30 @@ ghost use Rattle.std.specs.Prelude.{◌≡◌, ◌⊎◌, ℕ, Err, IfOk, IfErr,
 ghost use Rattle.std.specs.Rc.{rc_value};
 ghost use Rattle.futures.specs.Poll.{IfReady, OnPending};
 ghost use Rattle.futures.specs.Task.{Covers, Keeps};
-ghost use Rattle.async_cell_unsync.specs.Names.{IsLost, NamesAtMost, NameTheSame, OwnsNamed};
+ghost use Rattle.async_cell_model.specs.Refusal.{FailsWithMemory};
+ghost use Rattle.async_cell_unsync.specs.Names.{
+  IsLost,
+  NameAtMostTheSame,
+  NamesAtMost,
+  NameTheSame,
+  OwnsNamed,
+};
 ghost use Rattle.async_cell_unsync.specs.Refused.{GivesWeakly};
 ghost use Rattle.async_cell_unsync.specs.Source.{source_of, IsSourceOf};
 
 use crate::async_cell::AsyncCell;
 use crate::get::Get;
-use crate::in_place::InPlace;
 use crate::shared::Shared;
 use crate::take::Take;
+use crate::with::{InPlace, With};
 use async_cell_core::{Place, Refusal};
 use futures::future::Future;
 use futures::task::{Context, Poll};
 use std::alloc::AllocError;
 use std::rc::Rc;
 
-/// A weak pointer to a cell. It does not count as an owner. `Shared::downgrade` makes one, and
-/// `TakeWeak` and `GetWeak` make a future of it.
+/// A weak pointer to a cell. It does not count as an owner. `Shared::downgrade` makes one.
+/// `TakeWeak` and `GetWeak` make a future of it, and `with` a `WeakOwner`.
 #[derive(Drop)]
 pub struct Weak<T> {
     /// `None` if the pointer could not be counted when it was made.
@@ -37,11 +44,21 @@ impl<T: Drop> Weak<T> {
     pub(crate) fn cell(&self) -> Result<&AsyncCell<T>, Refusal>
         ensures source { IfOk result (λ c. (s : ℕ) → IsSourceOf self.now s → s ≡ source_of c.now) }
         ensures lost { IsLost self.now → result ≡ Err Refusal.Memory }
-        ensures refused { IfErr result (λ why. why ≡ Refusal.Memory) }
+        ensures refused { FailsWithMemory result }
     {
         match &self.cell {
             Some(cell) => Ok(cell.as_ref()),
             None => Err(Refusal::Memory),
+        }
+    }
+
+    /// Returns a pointer to the same cell, or to none if it cannot be counted.
+    pub(crate) fn again(&self) -> Self
+        ensures of_this { NameAtMostTheSame self.now result }
+    {
+        match &self.cell {
+            Some(cell) => Weak::of(cell),
+            None => Weak { cell: None },
         }
     }
 
@@ -78,7 +95,7 @@ impl<T: Drop> Clone for Weak<T> {
 }
 
 /// A future that takes the value of a cell and is not an owner of it. It may be polled again after
-/// it was ready. Each poll that waits may add a waker: `in_place` makes a future that does not.
+/// it was ready. Each poll that waits may add a waker: `with` makes a future that does not.
 #[derive(Drop)]
 pub struct TakeWeak<T>(pub Weak<T>);
 
@@ -90,7 +107,7 @@ impl<T: Drop> TakeWeak<T> {
         ensures lost { IsLost self.now.0 → result ≡ Poll.Ready (Err Refusal.Memory) }
         ensures registered { OnPending result (Covers cx.new (IsSourceOf self.now.0)) }
         ensures kept { Keeps cx.old cx.new }
-        ensures refused { IfReady result (λ answer. IfErr answer (λ why. why ≡ Refusal.Memory)) }
+        ensures refused { IfReady result FailsWithMemory }
     {
         self.poll_at(None, cx)
     }
@@ -104,7 +121,7 @@ impl<T: Drop> TakeWeak<T> {
         ensures lost { IsLost self.now.0 → result ≡ Poll.Ready (Err Refusal.Memory) }
         ensures registered { OnPending result (Covers cx.new (IsSourceOf self.now.0)) }
         ensures kept { Keeps cx.old cx.new }
-        ensures refused { IfReady result (λ answer. IfErr answer (λ why. why ≡ Refusal.Memory)) }
+        ensures refused { IfReady result FailsWithMemory }
     {
         let polled = match self.0.cell() {
             Ok(cell) => cell.poll_take(place, cx),
@@ -119,10 +136,17 @@ impl<T: Drop> TakeWeak<T> {
     }
 
     /// Returns the future that holds one place in the wait list while it waits.
+    pub fn with(self) -> With<Self>
+        ensures polls { result.polled ≡ self }
+    {
+        With::new(self)
+    }
+
+    /// Returns the future that holds one place in the wait list while it waits, as `with` does.
     pub fn in_place(self) -> InPlace<Self>
         ensures polls { result.polled ≡ self }
     {
-        InPlace::new(self)
+        self.with()
     }
 
     /// Makes a `Take` that is a new owner; `Ok(None)` if the cell is closed. Fails with `Memory`
@@ -160,8 +184,8 @@ impl<T: Drop> Future for TakeWeak<T> {
 }
 
 /// A future that clones the value of a cell, leaves it, and is not an owner of the cell. It may be
-/// polled again after it was ready. Each poll that waits may add a waker: `in_place` makes a future
-/// that does not.
+/// polled again after it was ready. Each poll that waits may add a waker: `with` makes a future that
+/// does not.
 #[derive(Drop)]
 pub struct GetWeak<T>(pub Weak<T>);
 
@@ -173,7 +197,7 @@ impl<T: Clone> GetWeak<T> {
         ensures lost { IsLost self.now.0 → result ≡ Poll.Ready (Err Refusal.Memory) }
         ensures registered { OnPending result (Covers cx.new (IsSourceOf self.now.0)) }
         ensures kept { Keeps cx.old cx.new }
-        ensures refused { IfReady result (λ answer. IfErr answer (λ why. why ≡ Refusal.Memory)) }
+        ensures refused { IfReady result FailsWithMemory }
     {
         self.poll_at(None, cx)
     }
@@ -187,7 +211,7 @@ impl<T: Clone> GetWeak<T> {
         ensures lost { IsLost self.now.0 → result ≡ Poll.Ready (Err Refusal.Memory) }
         ensures registered { OnPending result (Covers cx.new (IsSourceOf self.now.0)) }
         ensures kept { Keeps cx.old cx.new }
-        ensures refused { IfReady result (λ answer. IfErr answer (λ why. why ≡ Refusal.Memory)) }
+        ensures refused { IfReady result FailsWithMemory }
     {
         let polled = match self.0.cell() {
             Ok(cell) => cell.poll_get(place, cx),
@@ -204,10 +228,17 @@ impl<T: Clone> GetWeak<T> {
 
 impl<T: Drop> GetWeak<T> {
     /// Returns the future that holds one place in the wait list while it waits.
+    pub fn with(self) -> With<Self>
+        ensures polls { result.polled ≡ self }
+    {
+        With::new(self)
+    }
+
+    /// Returns the future that holds one place in the wait list while it waits, as `with` does.
     pub fn in_place(self) -> InPlace<Self>
         ensures polls { result.polled ≡ self }
     {
-        InPlace::new(self)
+        self.with()
     }
 
     /// Makes a `Get` that is a new owner; `Ok(None)` if the cell is closed. Fails with `Memory`

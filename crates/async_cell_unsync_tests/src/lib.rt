@@ -13,6 +13,8 @@ mod guards;
 #[cfg(test)]
 mod memory;
 #[cfg(test)]
+mod owner;
+#[cfg(test)]
 mod owners;
 #[cfg(test)]
 mod owning;

@@ -67,7 +67,7 @@ fn handles_print_by_their_names(rt: HostRuntime) {
     prints(&rt, &owner, "Shared { .. }");
     prints(&rt, &owner.downgrade(), "Weak { .. }");
     prints(&rt, &owner.cell().guard(1), "GuardedCell { .. }");
-    prints(&rt, &owner.take_weak().in_place(), "InPlace { .. }");
+    prints(&rt, &owner.take_weak().in_place(), "With { .. }");
 }
 
 #[test]

@@ -18,6 +18,14 @@ impl<T: Drop, R: Wait + Drop> Owner<T, R> {
         self.cell().or_set(value, &self.rt);
     }
 
+    /// Sets the value and wakes all waiters, if the cell is open and holds no value. Otherwise
+    /// nothing changes, and `value` is returned in the error.
+    pub fn try_set(&self, value: T) -> Result<(), T>
+        ensures comes_back { IfErr result (λ back. back ≡ value) }
+    {
+        self.cell().try_set(value, &self.rt)
+    }
+
     /// Sets the value and returns the old one. Wakes all waiters.
     pub fn replace(&self, value: T) -> Option<T> {
         self.cell().replace(value, &self.rt)
@@ -69,6 +77,11 @@ impl<T: Drop, R: Wait + Drop> Owner<T, R> {
     /// Returns whether the cell holds a value.
     pub fn is_set(&self) -> bool {
         self.cell().is_set(&self.rt)
+    }
+
+    /// Returns whether the cell is closed. It is open as long as an owner lives.
+    pub fn is_closed(&self) -> bool {
+        self.cell().is_closed(&self.rt)
     }
 
     /// Returns the text of the cell as `AsyncCell::debug_text` does. Fails with `Memory`.

@@ -1,5 +1,8 @@
+ghost use Rattle.async_cell_model.specs.Refusal.{FailsWithMemory};
+
 use super::AsyncCell;
 use crate::lent::Held;
+use async_cell_core::Refusal;
 use std::fmt;
 
 /// Prints `AsyncCell::Empty`, `AsyncCell::Pending` if a task waits, `AsyncCell::Full(..)` with the
@@ -13,6 +16,15 @@ impl<T: fmt::Debug + Drop> fmt::Debug for AsyncCell<T> {
         let printed = write!(f, "AsyncCell::Full({value:?})");
         self.put_back(Some(value));
         printed
+    }
+}
+
+impl<T: fmt::Debug + Drop> AsyncCell<T> {
+    /// Returns the text that this cell prints. Fails with `Memory`.
+    pub fn debug_text(&self) -> Result<String, Refusal>
+        ensures refused { FailsWithMemory result }
+    {
+        Ok(format!(in self.alloc; "{self:?}")?)
     }
 }
 

@@ -10,7 +10,7 @@ impl<T: Drop> AsyncCell<T> {
     /// A future that is dropped while it waits leaves its waker in the cell, and a waker keeps what
     /// its executor needs to wake the task. Call this where many waits end early on a cell that
     /// lives on. It needs no memory. It lets go of what futures that hold a place left (see
-    /// `InPlace`).
+    /// `With`).
     pub fn purge(&self) {
         for index in 0..self.waiting() {
             if let Some(mut core) = self.lend() {

@@ -1,0 +1,95 @@
+//! The calls of the cell, by an owner.
+ghost use Rattle.std.specs.Prelude.{◌≡◌, IsOk, IfErr};
+ghost use Rattle.async_cell_model.specs.Refusal.{FailsWithMemory};
+
+use super::Owner;
+use async_cell_core::Refusal;
+use std::fmt;
+
+impl<T: Drop> Owner<T> {
+    /// Sets the value and drops the old one. Wakes all waiters.
+    pub fn set(&self, value: T) {
+        self.cell().set(value);
+    }
+
+    /// Sets the value and wakes all waiters, if the cell holds no value. Drops `value` otherwise.
+    pub fn or_set(&self, value: T) {
+        self.cell().or_set(value);
+    }
+
+    /// Sets the value and wakes all waiters, if the cell is open and holds no value. Otherwise
+    /// nothing changes, and `value` is returned in the error.
+    pub fn try_set(&self, value: T) -> Result<(), T>
+        ensures comes_back { IfErr result (λ back. back ≡ value) }
+    {
+        self.cell().try_set(value)
+    }
+
+    /// Sets the value and returns the old one. Wakes all waiters.
+    pub fn replace(&self, value: T) -> Option<T> {
+        self.cell().replace(value)
+    }
+
+    /// Calls the closure on the content and stores what it returns, over whatever calls made from
+    /// inside have left. Wakes all waiters if the closure returns a value.
+    pub fn update<F: FnOnce(Option<T>) -> Option<T> + Drop>(&self, change: F)
+        requires { F.IsAlwaysCallable change }
+    {
+        self.cell().update(change);
+    }
+
+    /// Calls the closure on the value, if there is one, and stores what it returns, over whatever
+    /// calls made from inside have left.
+    pub fn update_some<F: FnOnce(T) -> T + Drop>(&self, change: F)
+        requires { F.IsAlwaysCallable change }
+    {
+        self.cell().update_some(change);
+    }
+
+    /// Lets go of all wakers that dropped futures left in the cell (see `AsyncCell::purge`).
+    pub fn purge(&self) {
+        self.cell().purge();
+    }
+
+    /// Takes the value, if there is one. The waiters stay registered.
+    pub fn try_take(&self) -> Option<T> {
+        self.cell().try_take()
+    }
+
+    /// Returns a clone of the value, if there is one. Fails with `Memory` if the clone fails; the
+    /// value then stays in the cell.
+    pub fn try_get(&self) -> Result<Option<T>, Refusal>
+    where
+        T: Clone,
+        ensures sure { ((value : T) → T.is_infallible value) → IsOk result }
+        ensures refused { FailsWithMemory result }
+    {
+        self.cell().try_get()
+    }
+
+    /// Returns whether the cell holds a value.
+    pub fn is_set(&self) -> bool {
+        self.cell().is_set()
+    }
+
+    /// Returns the text of the cell as `AsyncCell::debug_text` does. Fails with `Memory`.
+    pub fn debug_text(&self) -> Result<String, Refusal>
+    where
+        T: fmt::Debug,
+        ensures refused { FailsWithMemory result }
+    {
+        self.cell().debug_text()
+    }
+
+    /// Returns whether the cell is closed. It is open as long as an owner lives.
+    pub fn is_closed(&self) -> bool {
+        self.cell().is_closed()
+    }
+}
+
+impl Owner<()> {
+    /// Wakes all waiters: the next `take` or `get` is ready.
+    pub fn notify(&self) {
+        self.set(());
+    }
+}

@@ -1,0 +1,73 @@
+ghost use Rattle.std.specs.Prelude.{◌≡◌, ◌⊎◌, Err, IfOk, IfErr, IfSome};
+ghost use Rattle.async_cell_unsync.specs.Names.{
+  IsLost,
+  NameAtMostTheSame,
+  Names,
+  NameTheSame,
+};
+ghost use Rattle.async_cell_unsync.specs.Owned.{cell_owned};
+
+use crate::owner::Owner;
+use crate::weak::{GetWeak, TakeWeak, Weak};
+use crate::with::With;
+use async_cell_core::Refusal;
+use std::alloc::AllocError;
+
+/// A weak pointer to a cell, which makes owners and futures with the cell's calls. It does not
+/// count as an owner, and keeps the cell's memory alive, not its value. `Owner::downgrade` makes
+/// one.
+#[derive(Drop)]
+pub struct WeakOwner<T> {
+    weak: Weak<T>,
+}
+
+impl<T: Drop> Weak<T> {
+    /// Makes this pointer a weak owner: what it upgrades to is an `Owner`.
+    pub fn with(self) -> WeakOwner<T>
+        ensures points { result.weak ≡ self }
+    {
+        WeakOwner { weak: self }
+    }
+}
+
+impl<T: Drop> WeakOwner<T> {
+    /// Makes a new owner; `Ok(None)` if the cell is closed. Fails with `Memory` (checked first) or
+    /// `OwnersFull`.
+    pub fn upgrade(&self) -> Result<Option<Owner<T>>, Refusal>
+        ensures of_this { IfOk result (λ found. IfSome found (λ owner.
+            Names self.now.weak (cell_owned owner))) }
+        ensures lost { IsLost self.now.weak → result ≡ Err Refusal.Memory }
+        ensures refused { IfErr result (λ why.
+            (why ≡ Refusal.Memory) ⊎ (why ≡ Refusal.OwnersFull)) }
+    {
+        Ok(self.weak.upgrade()?.map(|owner| owner.with()))
+    }
+
+    /// Returns a future that takes the value and is not an owner; it is ready with `None` once the
+    /// last owner has ended. If the pointer cannot be counted, the future fails with `Memory`.
+    pub fn take(&self) -> With<TakeWeak<T>>
+        ensures of_this { NameAtMostTheSame self.now.weak result.polled.0 }
+    {
+        TakeWeak(self.weak.again()).with()
+    }
+
+    /// Returns a future that clones the value, leaves it, and is not an owner; it is ready with
+    /// `None` once the last owner has ended. If the pointer cannot be counted, the future fails
+    /// with `Memory`.
+    pub fn get(&self) -> With<GetWeak<T>>
+        ensures of_this { NameAtMostTheSame self.now.weak result.polled.0 }
+    {
+        GetWeak(self.weak.again()).with()
+    }
+}
+
+/// A clone points to the same cell.
+impl<T: Drop> Clone for WeakOwner<T> {
+    ghost is_clone = { λ weak copy. NameTheSame weak.weak copy.weak };
+
+    fn clone(&self) -> Result<WeakOwner<T>, AllocError> {
+        Ok(WeakOwner {
+            weak: self.weak.clone()?,
+        })
+    }
+}
