@@ -1,0 +1,4 @@
+pub mod History
+pub mod IsStep
+pub mod State
+pub mod Step
