@@ -53,8 +53,9 @@ impl<T: Drop, W: Wakes> Latest<T, W> {
     }
 
     /// Replaces the value and moves the version on by one. Returns the old value and all waiting
-    /// wakers, to be woken by the caller. Fails if the state is closed; the value is returned in the
-    /// error. Fails in the same way at the version 18,446,744,073,709,551,615, which is the last.
+    /// wakers, to be woken by the caller. Fails if the state is closed; the value is returned in
+    /// the error. Fails in the same way at the version 18,446,744,073,709,551,615, which is the
+    /// last.
     pub fn write(&mut self, value: T) -> Result<(T, Wakers<W>), T>
         ensures model { IsStep W.Wakes self.old (Write value) (write_answer result) self.new }
 
@@ -107,5 +108,14 @@ impl<T: Drop, W: Wakes> Latest<T, W> {
         ensures { result ≡ length self.now.waiting }
     {
         self.waiting.len()
+    }
+}
+
+/// Dropping a `Latest` wakes all waiting wakers, in order.
+impl<T: Drop, W: Wakes> Drop for Latest<T, W> {
+    fn drop(self) {
+        let (value, woken) = self.into_inner();
+        drop(value);
+        woken.wake_all();
     }
 }

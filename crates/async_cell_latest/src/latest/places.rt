@@ -11,9 +11,9 @@ use futures::task::Waker;
 impl<T: Drop, W: Wakes> Latest<T, W> {
     /// Internal: may change without notice.
     ///
-    /// Adds a waker, by value, as the last, for a poll that has to wait. The state must be open, and
-    /// the waker of a type of which none would wake another, so it is never skipped. If there is no
-    /// memory to grow the list, fails and returns the waker in the error.
+    /// Adds a waker, by value, as the last, for a poll that has to wait. The state must be open,
+    /// and the waker of a type of which none would wake another, so it is never skipped. If there
+    /// is no memory to grow the list, fails and returns the waker in the error.
     #[doc(hidden)]
     pub fn add(&mut self, waker: W) -> Result<(), W>
         requires open { is_closed self.old ≡ false }

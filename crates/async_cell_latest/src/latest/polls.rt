@@ -1,5 +1,5 @@
 //! Polls: what a follower is told, and what waits.
-ghost use Rattle.std.specs.Prelude.{◌≡◌, ◌≢◌, ◌≤◌, ◌<◌, [], None, Some, Ok, true, false, IsOk, IfOk, IfErr, OnOk, OnErr};
+ghost use Rattle.std.specs.Prelude.{◌≡◌, ◌≢◌, ◌≤◌, ◌<◌, ◌↔◌, [], None, Some, Ok, true, false, IsOk, IfOk, IfErr, OnOk, OnErr};
 ghost use Rattle.async_cell_model.specs.WaitList.{with_one_more};
 ghost use Rattle.async_cell_latest.specs.State.{IsSound, Stays, is_closed, is_waited_for};
 ghost use Rattle.async_cell_latest.specs.Step.{PollChanged};
@@ -13,13 +13,13 @@ use futures::task::Poll;
 
 impl<T: Drop, W: Wakes> Latest<T, W> {
     /// Returns what a follower is told that has seen this version: `Ready(Some(version))` if the
-    /// state has another version, `Ready(None)` if it has this one and is closed, and `Pending` if a
-    /// poll would wait. Registers nothing.
+    /// state has another version, `Ready(None)` if it has this one and is closed, and `Pending` if
+    /// a poll would wait. Registers nothing.
     pub fn changed_since(&self, seen: u64) -> Poll<Option<u64>>
         ensures ready { seen ≢ self.now.version → result ≡ Poll.Ready (Some self.now.version) }
         ensures ended { seen ≡ self.now.version → is_closed self.now ≡ true
             → result ≡ Poll.Ready None }
-        ensures pending { is_waited_for self.now seen ≡ true → result ≡ Poll.Pending }
+        ensures pending { (result ≡ Poll.Pending) ↔ (is_waited_for self.now seen ≡ true) }
     {
         if seen != self.version {
             return Poll::Ready(Some(self.version));
@@ -31,10 +31,10 @@ impl<T: Drop, W: Wakes> Latest<T, W> {
     }
 
     /// Polls for another version than `seen`, and returns it. The value can then be read. If the
-    /// state has no other version, returns `Pending` and registers the waker: a clone of it is added
-    /// as the last, unless it is skipped (see `WaitList::skips`). Returns `Ready(None)` if the state
-    /// has no other version and is closed. Fails with `Memory` if there is no memory for the clone
-    /// or to grow the wait list.
+    /// state has no other version, returns `Pending` and registers the waker: a clone of it is
+    /// added as the last, unless it is skipped (see `WaitList::skips`). Returns `Ready(None)` if
+    /// the state has no other version and is closed. Fails with `Memory` if there is no memory for
+    /// the clone or to grow the wait list.
     pub fn poll_changed(&mut self, seen: u64, waker: &W) -> Result<Poll<Option<u64>>, Refusal>
         ensures model { IsStep W.Wakes self.old
             (PollChanged seen waker.now) (changed_answer self.old.value result) self.new }

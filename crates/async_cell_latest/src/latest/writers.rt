@@ -27,8 +27,8 @@ impl<T: Drop, W: Wakes> Latest<T, W> {
         Ok(())
     }
 
-    /// Ends one writer. The last one closes the state and returns all waiting wakers, to be woken by
-    /// the caller; the value and its version stay. Fails with `Closed` if the state is closed.
+    /// Ends one writer. The last one closes the state and returns all waiting wakers, to be woken
+    /// by the caller; the value and its version stay. Fails with `Closed` if the state is closed.
     pub fn end_writer(&mut self) -> Result<Wakers<W>, Refusal>
         ensures model { IsStep W.Wakes self.old EndWriter (end_answer result) self.new }
 
@@ -60,8 +60,8 @@ impl<T: Drop, W: Wakes> Latest<T, W> {
         self.writers
     }
 
-    /// Consumes the state, whatever its number of writers. Returns its value and all waiting wakers,
-    /// to be woken by the caller.
+    /// Consumes the state, whatever its number of writers. Returns its value and all waiting
+    /// wakers, to be woken by the caller.
     pub fn into_inner(self) -> (T, Wakers<W>)
         ensures gives { result.0 ≡ self.value }
         ensures hands_out_all { result.1 ≡ self.waiting }
@@ -73,14 +73,5 @@ impl<T: Drop, W: Wakes> Latest<T, W> {
             mut waiting,
         } = self;
         (value, waiting.hand_out())
-    }
-}
-
-/// Dropping a `Latest` wakes all waiting wakers, in order.
-impl<T: Drop, W: Wakes> Drop for Latest<T, W> {
-    fn drop(self) {
-        let (value, woken) = self.into_inner();
-        drop(value);
-        woken.wake_all();
     }
 }
