@@ -1,3 +1,4 @@
+pub mod Follower
 pub mod History
 pub mod IsStep
 pub mod State

@@ -4,6 +4,7 @@
 #![tactic(auto)]
 
 mod latest;
+pub mod laws;
 
 pub use async_cell_cons::{Named, Place, TaskWaker, Wakers, Wakes};
 pub use async_cell_model::Refusal;

@@ -16,6 +16,9 @@ impl<T: Drop, W: Wakes> Latest<T, W> {
     /// state has another version, `Ready(None)` if it has this one and is closed, and `Pending` if
     /// a poll would wait. Registers nothing.
     pub fn changed_since(&self, seen: u64) -> Poll<Option<u64>>
+        ensures model { (w : W) → is_waited_for self.now seen ≡ false → IsStep W.Wakes self.now
+            (PollChanged seen w) (changed_answer self.now.value (Ok result)) self.now }
+
         ensures ready { seen ≢ self.now.version → result ≡ Poll.Ready (Some self.now.version) }
         ensures ended { seen ≡ self.now.version → is_closed self.now ≡ true
             → result ≡ Poll.Ready None }
@@ -57,11 +60,13 @@ impl<T: Drop, W: Wakes> Latest<T, W> {
         ensures unchanged { OnErr result (self.new.waiting ≡ self.old.waiting) }
         ensures keeps_room { OnErr result (self.old.room ≤ self.new.room) }
     {
-        let told = self.changed_since(seen);
-        if told.is_pending() {
-            self.wait(waker)?;
+        match self.changed_since(seen) {
+            Poll::Ready(told) => Ok(Poll::Ready(told)),
+            Poll::Pending => {
+                self.wait(waker)?;
+                Ok(Poll::Pending)
+            }
         }
-        Ok(told)
     }
 
     /// Makes room: the next `additional` wakers that are added need no memory beyond their clones,
