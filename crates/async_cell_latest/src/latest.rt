@@ -1,4 +1,4 @@
-ghost use Rattle.std.specs.Prelude.{◌≡◌, ◌+◌, [], length, true, IsOk, IfOk, IfErr, OnOk, OnErr, ◌↔◌};
+ghost use Rattle.std.specs.Prelude.{◌≡◌, ◌≤◌, ◌+◌, [], length, true, IsOk, IfOk, IfErr, OnOk, OnErr, ◌↔◌};
 ghost use Rattle.async_cell_latest.specs.State.{IsSound, is_closed, is_writable};
 ghost use Rattle.async_cell_latest.specs.Step.{Write, Read, Shown};
 ghost use Rattle.async_cell_latest.specs.IsStep.{IsStep, replies, write_answer};
@@ -44,10 +44,21 @@ impl<T: Drop, W: Wakes> Latest<T, W> {
         ensures { result ≡ record
             { value = value; version = 1; writers = 1; waiting = []; room = 0 } }
     {
+        Latest::from_parts(alloc, value, 1, 1)
+    }
+
+    /// Creates an open state that holds `value` as this version, with this number of writers: at
+    /// least 1 each.
+    pub fn from_parts(alloc: Global, value: T, version: u64, writers: u32) -> Self
+        requires versioned { 1 ≤ version }
+        requires counted { 1 ≤ writers }
+        ensures { result ≡ record
+            { value = value; version = version; writers = writers; waiting = []; room = 0 } }
+    {
         Latest {
             value,
-            version: 1,
-            writers: 1,
+            version,
+            writers,
             waiting: WaitList::new(alloc),
         }
     }
