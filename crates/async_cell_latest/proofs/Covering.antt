@@ -15,10 +15,14 @@ abbrev is_pending : {T : Type 0} → Reply T → Bool
 is_pending Pending = true
 is_pending _ = false
 
+not_memory_if : {T : Type 0} (b : Bool) (p q : Reply T) → is_memory p ≡ false → is_memory q ≡ false → is_memory (if b then p else q) ≡ false
+not_memory_if true p q first second = first
+not_memory_if false p q first second = second
+
 or_left : (a b : Bool) → a ≡ true → (a || b) ≡ true
 or_left a b is = rw is refl
 
-module _ {T W : Type 0} (will_wake : W → W → Bool) where
+module _ {W : Type 0} (will_wake : W → W → Bool) where
   -- whoever is covered stays covered when one more is registered
   covered_if : (m : List W) (v w : W) (b : Bool) → IsCovered will_wake m w → IsCovered will_wake (if b then m else m ++ v ∷ []) w
   covered_if m v w true covered = covered
@@ -32,6 +36,28 @@ module _ {T W : Type 0} (will_wake : W → W → Bool) where
   covers_one m w true is = inr is
   covers_one m w false is = inl (Contains-push m w)
 
+module _ {T W : Type 0} where
+  refused_waits : (call : Call T W) (w : W) → pending_waker call (Refused why.Memory None) ≡ Some w → ⊥
+  refused_waits (PollChanged seen v) w is = cc
+  refused_waits call w is = cc
+
+  write_ends : (b : Bool) (s : State T W) (x : T) → b ≡ true → (if b then written s x else s).waiting ≡ []
+  write_ends true s x ends = refl
+  write_ends false s x ends = cc
+
+  close_ends : (b : Bool) (s : State T W) → b ≡ true → (if b then closed s else record s { writers = s.writers - 1 }).waiting ≡ []
+  close_ends true s ends = refl
+  close_ends false s ends = cc
+
+  -- a call that ends all waiting needs no memory
+  ends_sure : (s : State T W) (call : Call T W) → ends_waiting s call ≡ true → is_memory (reply s call) ≡ false
+  ends_sure s (Write x) ends = not_memory_if (is_writable s) _ _ refl refl
+  ends_sure s EndWriter ends = not_memory_if (is_closed s) _ _ refl refl
+  ends_sure s Read ends = cc
+  ends_sure s (PollChanged seen w) ends = cc
+  ends_sure s AddWriter ends = cc
+
+module _ {T W : Type 0} (will_wake : W → W → Bool) where
   write_covers : (b : Bool) (s : State T W) (x : T) (w : W) → b ≡ false → IsCovered will_wake s.waiting w → IsCovered will_wake (if b then written s x else s).waiting w
   write_covers true s x w quiet covered = cc
   write_covers false s x w quiet covered = covered
@@ -58,8 +84,8 @@ module _ {T W : Type 0} (will_wake : W → W → Bool) where
   -- a poll that is told to wait is registered
   poll_covers : (s : State T W) (v w : W) (same over : Bool) → (if not same then Shown s.version s.value else if over then Ended else Pending) ≡ Pending → Some v ≡ Some w
       → IsCovered will_wake (if same && not over then registered will_wake s v else s).waiting w
-  poll_covers s v w false over waits is = let no = ap is_pending waits in cc
-  poll_covers s v w true true waits is = let no = ap is_pending waits in cc
+  poll_covers s v w false over waits is = let off = ap is_pending waits in cc
+  poll_covers s v w true true waits is = let off = ap is_pending waits in cc
   poll_covers s v w true false waits is =
       let same : v ≡ w = cc in
       subst (λ (u : W). IsCovered will_wake (registered will_wake s v).waiting u) same (covers_one s.waiting v (skips will_wake s.waiting v) refl)
@@ -68,14 +94,11 @@ module _ {T W : Type 0} (will_wake : W → W → Bool) where
   pending_covers s (PollChanged seen v) Pending w own is = poll_covers s v w (nat_eq seen s.version) (is_closed s) (sym own) is
   pending_covers s call r w own is = cc
 
-  refused_waits : (call : Call T W) (w : W) → pending_waker call (Refused why.Memory None) ≡ Some w → ⊥
-  refused_waits call w is = cc
-
 module _ {T W : Type 0} (will_wake : W → W → Bool) (sure : Bool) where
   then_covers : (s : State T W) (e : Entry T W) (w : W) → MayFollow will_wake sure s e → pending_waker e.call e.reply ≡ Some w → IsCovered will_wake (then_state will_wake s e).waiting w
   then_covers s e w may is = elim may [
     | inl same ↦ pending_covers will_wake s e.call e.reply w same is
-    | inr refused ↦ absurd (refused_waits will_wake e.call w (ap (λ (r : Reply T). pending_waker e.call r) (sym refused.0) ∙ is))
+    | inr refused ↦ absurd (refused_waits e.call w (ap (λ (r : Reply T). pending_waker e.call r) (sym refused.0) ∙ is))
   ]
 
   -- until all waiting ends, the waker of a pending poll is covered
@@ -94,32 +117,12 @@ module _ {T W : Type 0} (will_wake : W → W → Bool) (sure : Bool) where
       → IsCovered will_wake (wakes (after will_wake b (g ++ e ∷ rest)) last.call) w
   is_woken b g e rest last w legal is quiet ends = rw ends (stays_covered b g e rest w legal is quiet)
 
-  write_ends : (b : Bool) (s : State T W) (x : T) → b ≡ true → (if b then written s x else s).waiting ≡ []
-  write_ends true s x ends = refl
-  write_ends false s x ends = cc
-
-  close_ends : (b : Bool) (s : State T W) → b ≡ true → (if b then closed s else record s { writers = s.writers - 1 }).waiting ≡ []
-  close_ends true s ends = refl
-  close_ends false s ends = cc
-
   next_ends : (s : State T W) (call : Call T W) → ends_waiting s call ≡ true → (next will_wake s call).waiting ≡ []
   next_ends s (Write x) ends = write_ends (is_writable s) s x ends
   next_ends s EndWriter ends = close_ends (nat_eq s.writers 1) s ends
   next_ends s Read ends = cc
   next_ends s (PollChanged seen w) ends = cc
   next_ends s AddWriter ends = cc
-
-  not_memory_if : (b : Bool) (p q : Reply T) → is_memory p ≡ false → is_memory q ≡ false → is_memory (if b then p else q) ≡ false
-  not_memory_if true p q no none = no
-  not_memory_if false p q no none = none
-
-  -- a call that ends all waiting needs no memory
-  ends_sure : (s : State T W) (call : Call T W) → ends_waiting s call ≡ true → is_memory (reply s call) ≡ false
-  ends_sure s (Write x) ends = not_memory_if (is_writable s) _ _ refl refl
-  ends_sure s EndWriter ends = not_memory_if (is_closed s) _ _ refl refl
-  ends_sure s Read ends = cc
-  ends_sure s (PollChanged seen w) ends = cc
-  ends_sure s AddWriter ends = cc
 
   never_refused : (s : State T W) (call : Call T W) → ends_waiting s call ≡ true → may_refuse will_wake sure s call ≡ true → ⊥
   never_refused s (PollChanged seen w) ends refused = cc

@@ -1,3 +1,4 @@
+pub mod Closing
 pub mod Covering
 pub mod Joining
 pub mod Keeping

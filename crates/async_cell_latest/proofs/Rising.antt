@@ -12,7 +12,7 @@ use Rattle.async_cell_latest.proofs.Versions.{then-later}
 
 module _ {T W : Type 0} where
   poll_newer : (s : State T W) (seen passed : ℕ) (w : W) (same over : Bool) → nat_eq passed s.version ≡ same → passed ≡ seen → seen ≤ s.version
-      → IsNewer seen (PollChanged {T = T} passed w) (if not same then Shown s.version s.value else if over then Ended else Pending)
+      → IsNewer {T = T} {W = W} seen (PollChanged passed w) (if not same then Shown s.version s.value else if over then Ended else Pending)
       × (seen_then seen (if not same then Shown s.version s.value else if over then Ended else Pending) ≤ s.version)
   poll_newer s seen passed w false over is by below = (grind (arith, nat_tests), le_refl _)
   poll_newer s seen passed w true true is by below = (tt, below)

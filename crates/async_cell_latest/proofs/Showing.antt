@@ -21,10 +21,21 @@ abbrev shown_value : {T : Type 0} → T → Reply T → T
 shown_value other (Shown version value) = value
 shown_value other _ = other
 
+or_false : (p q : Bool) → p ≡ false → q ≡ false → (p || q) ≡ false
+or_false p q first second = rw first second
+
+other_shown : {T : Type 0} (b : Bool) (p q : Reply T) (v : T) (version : ℕ) → is_shown p ≡ false → is_shown q ≡ false → (if b then p else q) ≡ Shown version v → ⊥
+other_shown true p q v version first second shows = let yes = ap is_shown shows in cc
+other_shown false p q v version first second shows = let yes = ap is_shown shows in cc
+
+add_not_shown : (T : Type 0) (b : Bool) → is_shown {T = T} (if b then Refused why.OwnersFull None else Done) ≡ false
+add_not_shown T true = refl
+add_not_shown T false = refl
+
 module _ {T W : Type 0} where
   wrote : (b : Bool) (s : State T W) (x : T) (r : Reply T) → r ≡ (if b then Old s.value else Refused why.Closed (Some x)) → is_old r ≡ true → (if is_memory r then s else if b then written s x else s).value ≡ x
   wrote true s x r is old = rw is refl
-  wrote false s x r is old = let no : is_old r ≡ false = ap is_old is in cc
+  wrote false s x r is old = let off : is_old r ≡ false = ap is_old is in cc
 
   poll_shows_if : (s : State T W) (seen : ℕ) (r : Reply T) (same over : Bool) → nat_eq seen s.version ≡ same → r ≡ (if not same then Shown s.version s.value else if over then Ended else Pending) → (r ≡ Shown s.version s.value) ⊎ (seen ≡ s.version)
   poll_shows_if s seen r false over is shows = inl shows
@@ -67,32 +78,21 @@ module _ {T W : Type 0} where
   seen_after-push start [] e = refl
   seen_after-push start (f ∷ mine) e = seen_after-push (seen_then start f.reply) mine e
 
-  or_false : (p q : Bool) → p ≡ false → q ≡ false → (p || q) ≡ false
-  or_false p q no none = rw no none
-
   -- what a reply shows is what is there
   write_shows : (b : Bool) (s : State T W) (x v : T) (version : ℕ) → (if b then Old s.value else Refused why.Closed (Some x)) ≡ Shown version v → ⊥
-  write_shows true s x v version shows = let no = ap is_shown shows in cc
-  write_shows false s x v version shows = let no = ap is_shown shows in cc
+  write_shows true s x v version shows = let off = ap is_shown shows in cc
+  write_shows false s x v version shows = let off = ap is_shown shows in cc
 
   poll_shown : (s : State T W) (v : T) (version : ℕ) (same over : Bool) → (if not same then Shown s.version s.value else if over then Ended else Pending) ≡ Shown version v → (version ≡ s.version) × (v ≡ s.value)
   poll_shown s v version false over shows = (sym (ap (shown_version 0) shows), sym (ap (shown_value v) shows))
-  poll_shown s v version true true shows = let no = ap is_shown shows in cc
-  poll_shown s v version true false shows = let no = ap is_shown shows in cc
-
-  other_shown : (b : Bool) (p q : Reply T) (v : T) (version : ℕ) → is_shown p ≡ false → is_shown q ≡ false → (if b then p else q) ≡ Shown version v → ⊥
-  other_shown true p q v version no none shows = let yes = ap is_shown shows in cc
-  other_shown false p q v version no none shows = let yes = ap is_shown shows in cc
-
-  add_not_shown : (b : Bool) → is_shown {T = T} (if b then Refused why.OwnersFull None else Done) ≡ false
-  add_not_shown true = refl
-  add_not_shown false = refl
+  poll_shown s v version true true shows = let off = ap is_shown shows in cc
+  poll_shown s v version true false shows = let off = ap is_shown shows in cc
 
   own_shown : (s : State T W) (call : Call T W) (v : T) (version : ℕ) → reply s call ≡ Shown version v → (version ≡ s.version) × (v ≡ s.value)
   own_shown s (Write x) v version shows = absurd (write_shows (is_writable s) s x v version shows)
   own_shown s Read v version shows = (sym (ap (shown_version 0) shows), sym (ap (shown_value v) shows))
   own_shown s (PollChanged seen w) v version shows = poll_shown s v version (nat_eq seen s.version) (is_closed s) shows
-  own_shown s AddWriter v version shows = absurd (other_shown (is_closed s) _ _ v version refl (add_not_shown (nat_eq s.writers writers_limit)) shows)
+  own_shown s AddWriter v version shows = absurd (other_shown (is_closed s) _ _ v version refl (add_not_shown T (nat_eq s.writers writers_limit)) shows)
   own_shown s EndWriter v version shows = absurd (other_shown (is_closed s) _ _ v version refl refl shows)
 
 module _ {T W : Type 0} (will_wake : W → W → Bool) (sure : Bool) where
@@ -100,7 +100,7 @@ module _ {T W : Type 0} (will_wake : W → W → Bool) (sure : Bool) where
   own_reply : (s : State T W) (e : Entry T W) → MayFollow will_wake sure s e → is_memory e.reply ≡ false → e.reply ≡ reply s e.call
   own_reply s e may not = elim may [
     | inl same ↦ same
-    | inr refused ↦ let no : is_memory e.reply ≡ true = ap is_memory refused.0 in cc
+    | inr refused ↦ let off : is_memory e.reply ≡ true = ap is_memory refused.0 in cc
   ]
 
   wrote_entry : (s : State T W) (x : T) (c : Call T W) (r : Reply T) → c ≡ Write x → r ≡ reply s c → is_old r ≡ true → (if is_memory r then s else next will_wake s c).value ≡ x
@@ -115,7 +115,7 @@ module _ {T W : Type 0} (will_wake : W → W → Bool) (sure : Bool) where
       let s : State T W = after will_wake b g in
       let begun = IsLegal-rest will_wake sure b g (e ∷ rest) legal in
       let t : State T W = then_state will_wake s e in
-      let own : e.reply ≡ reply s e.call = elim begun.0 [ inl same ↦ same | inr refused ↦ let no : is_old e.reply ≡ false = ap is_old refused.0 in cc ] in
+      let own : e.reply ≡ reply s e.call = elim begun.0 [ inl same ↦ same | inr refused ↦ let off : is_old e.reply ≡ false = ap is_old refused.0 in cc ] in
       let value : t.value ≡ x = wrote_entry s x e.call e.reply is own old in
       let kept : (after will_wake t rest).version ≡ t.version = after-kept will_wake sure t rest begun.1 none in
       ap (λ (u : State T W). u.value) (after-append will_wake b g (e ∷ rest)) ∙ (after-same will_wake t rest kept ∙ value)
@@ -140,7 +140,7 @@ module _ {T W : Type 0} (will_wake : W → W → Bool) (sure : Bool) where
       let own : e.reply ≡ reply s (PollChanged seen w) = own_reply s e begun.0 memory ∙ ap (λ (c : Call T W). reply s c) is in
       let not_old : is_old e.reply ≡ false = ap is_old own ∙ by_not_old s seen (PollChanged seen w) refl in
       let kept = kept_from b g e rest legal not_old none in
-      elim poll_shows s seen w e.reply own [
+      elim (poll_shows s seen w e.reply own) [
         | inl shows ↦ inl (shows ∙ (λ i. Shown (sym kept.0 i) (sym kept.1 i)))
         | inr same ↦ inr (same ∙ sym kept.0)
       ]

@@ -8,12 +8,12 @@ use Rattle.async_cell_latest.specs.History.{Entry, History, is_memory, then_stat
 use Rattle.async_cell_latest.specs.Follower.{is_old, has_write}
 
 pub first_false : (p q : Bool) → (p || q) ≡ false → p ≡ false
-first_false true q no = no
-first_false false q no = refl
+first_false true q off = off
+first_false false q off = refl
 
 pub rest_false : (p q : Bool) → (p || q) ≡ false → q ≡ false
-rest_false true q no = cc
-rest_false false q no = no
+rest_false true q off = cc
+rest_false false q off = off
 
 module _ {T W : Type 0} where
   -- what holds of both states holds of the one that is taken

@@ -3,7 +3,7 @@
 ghost use Rattle.std.specs.Prelude.{◌≡◌, ◌≤◌, ◌⊎◌, ◌++◌, ◌∷◌, [], ℕ, List, Bool, Some, true, false};
 ghost use Rattle.async_cell_model.specs.Taken.{IsSubsequence};
 ghost use Rattle.async_cell_model.specs.WaitList.{IsCovered};
-ghost use Rattle.async_cell_latest.specs.State.{State, IsSound};
+ghost use Rattle.async_cell_latest.specs.State.{State, IsSound, Stays, is_closed};
 ghost use Rattle.async_cell_latest.specs.Step.{Write, PollChanged, Shown, ends_waiting, wakes};
 ghost use Rattle.async_cell_latest.specs.History.{Entry, History, IsLegal, Runs, after, is_memory};
 ghost use Rattle.async_cell_latest.specs.Follower.{IsFollower, IsRising, is_old, seen_after, has_write, has_end, pending_waker};
@@ -38,6 +38,13 @@ pub fn a_poll_shows_the_last_state<T, W>()
         (start : ℕ) → IsLegal will_wake sure b (g ++ e ∷ rest)
         → IsFollower start (mine ++ e ∷ []) → is_memory e.reply ≡ false → has_write rest ≡ false
         → seen_after start (mine ++ e ∷ []) ≡ (after will_wake b (g ++ e ∷ rest)).version }
+{}
+
+/// The last state stays. Once a state is closed, it keeps its value and its version, and stays
+/// closed, whatever calls come.
+pub fn the_last_state_stays<T, W>()
+    ensures { (will_wake : W → W → Bool) (b : State T W) (h : History T W)
+        → is_closed b ≡ true → Stays b (after will_wake b h) }
 {}
 
 /// A version is the name of one value: whoever is shown the same version is shown the same value.
