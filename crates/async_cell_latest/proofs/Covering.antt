@@ -51,8 +51,8 @@ module _ {T W : Type 0} where
 
   -- a call that ends all waiting needs no memory
   ends_sure : (s : State T W) (call : Call T W) → ends_waiting s call ≡ true → is_memory (reply s call) ≡ false
-  ends_sure s (Write x) ends = not_memory_if (is_writable s) _ _ refl refl
-  ends_sure s EndWriter ends = not_memory_if (is_closed s) _ _ refl refl
+  ends_sure s (Write x) ends = not_memory_if (is_writable s) (Old s.value) (Refused why.Closed (Some x)) refl refl
+  ends_sure s EndWriter ends = not_memory_if (is_closed s) (Refused why.Closed None) Done refl refl
   ends_sure s Read ends = cc
   ends_sure s (PollChanged seen w) ends = cc
   ends_sure s AddWriter ends = cc

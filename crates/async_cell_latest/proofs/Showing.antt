@@ -21,6 +21,9 @@ abbrev shown_value : {T : Type 0} → T → Reply T → T
 shown_value other (Shown version value) = value
 shown_value other _ = other
 
+shown_same : {T : Type 0} (v u : ℕ) (x y : T) → v ≡ u → x ≡ y → Shown v x ≡ Shown u y
+shown_same v u x y first second = λ i. Shown (first i) (second i)
+
 or_false : (p q : Bool) → p ≡ false → q ≡ false → (p || q) ≡ false
 or_false p q first second = rw first second
 
@@ -92,8 +95,8 @@ module _ {T W : Type 0} where
   own_shown s (Write x) v version shows = absurd (write_shows (is_writable s) s x v version shows)
   own_shown s Read v version shows = (sym (ap (shown_version 0) shows), sym (ap (shown_value v) shows))
   own_shown s (PollChanged seen w) v version shows = poll_shown s v version (nat_eq seen s.version) (is_closed s) shows
-  own_shown s AddWriter v version shows = absurd (other_shown (is_closed s) _ _ v version refl (add_not_shown T (nat_eq s.writers writers_limit)) shows)
-  own_shown s EndWriter v version shows = absurd (other_shown (is_closed s) _ _ v version refl refl shows)
+  own_shown s AddWriter v version shows = absurd (other_shown (is_closed s) (Refused why.Closed None) (if nat_eq s.writers writers_limit then Refused why.OwnersFull None else Done) v version refl (add_not_shown T (nat_eq s.writers writers_limit)) shows)
+  own_shown s EndWriter v version shows = absurd (other_shown (is_closed s) (Refused why.Closed None) Done v version refl refl shows)
 
 module _ {T W : Type 0} (will_wake : W → W → Bool) (sure : Bool) where
   -- the reply to a call that found memory is the model's own
@@ -141,7 +144,7 @@ module _ {T W : Type 0} (will_wake : W → W → Bool) (sure : Bool) where
       let not_old : is_old e.reply ≡ false = ap is_old own ∙ by_not_old s seen (PollChanged seen w) refl in
       let kept = kept_from b g e rest legal not_old none in
       elim (poll_shows s seen w e.reply own) [
-        | inl shows ↦ inl (shows ∙ (λ i. Shown (sym kept.0 i) (sym kept.1 i)))
+        | inl shows ↦ inl (shows ∙ shown_same _ _ _ _ (sym kept.0) (sym kept.1))
         | inr same ↦ inr (same ∙ sym kept.0)
       ]
 

@@ -84,7 +84,7 @@ pub fn latest_of<W: Wakes>(alloc: Global, state: Seen) -> Latest<u64, W> {
 }
 
 /// The state of a `Latest`.
-pub fn seen<W: Wakes>(latest: &Latest<u64, W>) -> Seen {
+pub fn state_of<W: Wakes>(latest: &Latest<u64, W>) -> Seen {
     let (version, value) = latest.read();
     Seen {
         value: *value,

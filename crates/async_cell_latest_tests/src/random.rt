@@ -1,5 +1,5 @@
 //! Random lists of calls, as `Latest` answers them and as the oracle does.
-use crate::calls::{Call, Seen, latest_of, seen, step};
+use crate::calls::{Call, Seen, latest_of, state_of, step};
 use crate::oracle::Oracle;
 use crate::shared::{LAST_VERSION, MOST_WRITERS, WakesIfEven, assert_wakers, same};
 use async_cell_latest::{Latest, Named, Wakes};
@@ -94,7 +94,7 @@ fn a_list_goes<W: FromNumber>(rt: &impl Abort, alloc: Global, seed: u64) -> Resu
             Some(wakers) => assert_wakers(rt, name.as_str(), wakers, &woken),
             None => same(rt, name.as_str(), woken.len(), 0),
         }
-        same(rt, name.as_str(), seen(&latest), oracle.seen());
+        same(rt, name.as_str(), state_of(&latest), oracle.seen());
         same(rt, name.as_str(), latest.waiting(), oracle.waiting()?.len());
     }
     let name = format!(in alloc; "list {seed}, at its end")?;

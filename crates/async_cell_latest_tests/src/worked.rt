@@ -1,5 +1,5 @@
 //! Histories worked by hand, from the rules of the state in words.
-use crate::calls::{Call, Reply, Seen, latest_of, seen, step};
+use crate::calls::{Call, Reply, Seen, latest_of, state_of, step};
 use crate::oracle::Oracle;
 use crate::shared::{LAST_VERSION, MOST_WRITERS, ONE, THREE, TWO, assert_wakers, same};
 use async_cell_latest::{Latest, Named, Refusal};
@@ -16,7 +16,7 @@ struct Row<'a> {
     waiting: usize,
 }
 
-fn row<'a>(call: Call<Named>, reply: Reply, woken: &'a [Named], waiting: usize) -> Row<'a> {
+fn then<'a>(call: Call<Named>, reply: Reply, woken: &'a [Named], waiting: usize) -> Row<'a> {
     Row {
         call,
         reply,
@@ -27,7 +27,7 @@ fn row<'a>(call: Call<Named>, reply: Reply, woken: &'a [Named], waiting: usize) 
 
 /// A poll that waits, and how many wait after it.
 fn waits<'a>(seen: u64, waker: Named, waiting: usize) -> Row<'a> {
-    row(
+    then(
         Call::PollChanged(seen, waker),
         Reply::Pending,
         &[],
@@ -37,7 +37,7 @@ fn waits<'a>(seen: u64, waker: Named, waiting: usize) -> Row<'a> {
 
 /// A poll that need not wait.
 fn polls<'a>(seen: u64, reply: Reply) -> Row<'a> {
-    row(Call::PollChanged(seen, ONE), reply, &[], 0)
+    then(Call::PollChanged(seen, ONE), reply, &[], 0)
 }
 
 /// Makes the calls of a history on a `Latest` and on the oracle.
@@ -65,7 +65,7 @@ fn goes(
         same(rt, name, latest.waiting(), row.waiting);
     }
     same(rt, name, oracle.seen(), end);
-    same(rt, name, seen(&latest), end);
+    same(rt, name, state_of(&latest), end);
     Ok(())
 }
 
@@ -80,7 +80,7 @@ fn state(value: u64, version: u64, writers: u32) -> Seen {
 #[test]
 fn a_new_state_is_shown_to_all_that_have_seen_nothing(rt: HostRuntime) -> Result<(), Fail> {
     let latest: Latest<u64, Named> = Latest::new(rt.alloc(), 5);
-    same(&rt, "new", seen(&latest), state(5, 1, 1));
+    same(&rt, "new", state_of(&latest), state(5, 1, 1));
     goes(
         &rt,
         rt.alloc(),
@@ -89,7 +89,7 @@ fn a_new_state_is_shown_to_all_that_have_seen_nothing(rt: HostRuntime) -> Result
         &[
             polls(0, Reply::Shown(1, 5)),
             polls(0, Reply::Shown(1, 5)),
-            row(Call::Read, Reply::Shown(1, 5), &[], 0),
+            then(Call::Read, Reply::Shown(1, 5), &[], 0),
         ],
         state(5, 1, 1),
     )
@@ -106,8 +106,8 @@ fn a_write_hands_out_all_that_wait_and_is_shown_to_each(rt: HostRuntime) -> Resu
             waits(1, ONE, 1),
             waits(1, TWO, 2),
             waits(1, ONE, 2),
-            row(Call::Write(6), Reply::Old(5), &[ONE, TWO], 0),
-            row(Call::Write(7), Reply::Old(6), &[], 0),
+            then(Call::Write(6), Reply::Old(5), &[ONE, TWO], 0),
+            then(Call::Write(7), Reply::Old(6), &[], 0),
             polls(1, Reply::Shown(3, 7)),
             polls(1, Reply::Shown(3, 7)),
             waits(3, THREE, 1),
@@ -124,14 +124,14 @@ fn the_last_state_is_shown_once_to_each_and_then_the_end(rt: HostRuntime) -> Res
         "the last writer ends while one waits and one is behind",
         state(5, 1, 2),
         &[
-            row(Call::EndWriter, Reply::Done, &[], 0),
-            row(Call::Write(6), Reply::Old(5), &[], 0),
+            then(Call::EndWriter, Reply::Done, &[], 0),
+            then(Call::Write(6), Reply::Old(5), &[], 0),
             waits(2, ONE, 1),
-            row(Call::EndWriter, Reply::Done, &[ONE], 0),
+            then(Call::EndWriter, Reply::Done, &[ONE], 0),
             polls(2, Reply::Ended),
             polls(1, Reply::Shown(2, 6)),
             polls(2, Reply::Ended),
-            row(Call::Read, Reply::Shown(2, 6), &[], 0),
+            then(Call::Read, Reply::Shown(2, 6), &[], 0),
         ],
         state(6, 2, 0),
     )
@@ -146,9 +146,9 @@ fn a_closed_state_refuses_writers_and_writes(rt: HostRuntime) -> Result<(), Fail
         "each is refused, and a value comes back",
         state(5, 4, 0),
         &[
-            row(Call::Write(6), closed(Some(6)), &[], 0),
-            row(Call::AddWriter, closed(None), &[], 0),
-            row(Call::EndWriter, closed(None), &[], 0),
+            then(Call::Write(6), closed(Some(6)), &[], 0),
+            then(Call::AddWriter, closed(None), &[], 0),
+            then(Call::EndWriter, closed(None), &[], 0),
         ],
         state(5, 4, 0),
     )
@@ -163,16 +163,16 @@ fn the_last_version_is_written_and_no_other_after_it(rt: HostRuntime) -> Result<
         "one write succeeds, and one is refused while a follower waits",
         state(5, before, 1),
         &[
-            row(Call::Write(6), Reply::Old(5), &[], 0),
+            then(Call::Write(6), Reply::Old(5), &[], 0),
             waits(LAST_VERSION, ONE, 1),
-            row(
+            then(
                 Call::Write(7),
                 Reply::Refused(Refusal::Closed, Some(7)),
                 &[],
                 1,
             ),
             polls_beside(before, Reply::Shown(LAST_VERSION, 6), 1),
-            row(Call::EndWriter, Reply::Done, &[ONE], 0),
+            then(Call::EndWriter, Reply::Done, &[ONE], 0),
         ],
         state(6, LAST_VERSION, 0),
     )
@@ -180,7 +180,7 @@ fn the_last_version_is_written_and_no_other_after_it(rt: HostRuntime) -> Result<
 
 /// A poll that need not wait, while others do.
 fn polls_beside<'a>(seen: u64, reply: Reply, waiting: usize) -> Row<'a> {
-    row(Call::PollChanged(seen, TWO), reply, &[], waiting)
+    then(Call::PollChanged(seen, TWO), reply, &[], waiting)
 }
 
 #[test]
@@ -191,14 +191,14 @@ fn writers_are_counted_up_to_the_most(rt: HostRuntime) -> Result<(), Fail> {
         "one more is added, and one more is refused",
         state(5, 1, MOST_WRITERS - 1),
         &[
-            row(Call::AddWriter, Reply::Done, &[], 0),
-            row(
+            then(Call::AddWriter, Reply::Done, &[], 0),
+            then(
                 Call::AddWriter,
                 Reply::Refused(Refusal::OwnersFull, None),
                 &[],
                 0,
             ),
-            row(Call::EndWriter, Reply::Done, &[], 0),
+            then(Call::EndWriter, Reply::Done, &[], 0),
         ],
         state(5, 1, MOST_WRITERS - 1),
     )
