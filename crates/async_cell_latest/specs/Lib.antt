@@ -1,0 +1,5 @@
+pub mod Follower
+pub mod History
+pub mod IsStep
+pub mod State
+pub mod Step

@@ -1,0 +1,132 @@
+ghost use Rattle.std.specs.Prelude.{◌≡◌, ◌≤◌, ◌+◌, [], length, true, IsOk, IfOk, IfErr, OnOk, OnErr, ◌↔◌};
+ghost use Rattle.async_cell_latest.specs.State.{IsSound, is_closed, is_writable};
+ghost use Rattle.async_cell_latest.specs.Step.{Write, Read, Shown};
+ghost use Rattle.async_cell_latest.specs.IsStep.{IsStep, replies, write_answer};
+
+mod get;
+mod places;
+mod polls;
+mod writers;
+
+use async_cell_cons::{WaitList, Wakers, Wakes};
+use std::alloc::Global;
+use std::marker::Model;
+use std::mem;
+
+/// A value that is always there, with its version, counted writers, and the wait list of the wakers
+/// of followers that have seen this version.
+pub struct Latest<T, W: Wakes> {
+    value: T,
+    /// Begins with 1 and grows by 1 with each write.
+    version: u64,
+    /// 0 once the state is closed.
+    writers: u32,
+    waiting: WaitList<W>,
+}
+
+/// Contracts see the state: the value, its version, the number of writers, the wait list in order,
+/// and the room for more wakers.
+impl<T, W: Wakes> Model for Latest<T, W> {
+    ghost use Rattle.async_cell_latest.specs.State.{State, IsSound, state_of};
+
+    ghost Value = { State T W };
+
+    ghost view = { λ s. state_of s.value s.version s.writers s.waiting };
+
+    ghost invariant = { λ s. IsSound W.will_wake
+        (state_of s.value s.version s.writers s.waiting) };
+}
+
+impl<T: Drop, W: Wakes> Latest<T, W> {
+    /// Creates an open state that holds `value`, with one writer. Its version is 1. A follower that
+    /// has seen no version passes 0 as the one that it has seen.
+    pub fn new(alloc: Global, value: T) -> Self
+        ensures { result ≡ record
+            { value = value; version = 1; writers = 1; waiting = []; room = 0 } }
+    {
+        Latest::from_parts(alloc, value, 1, 1)
+    }
+
+    /// Creates an open state that holds `value` as this version, with this number of writers: at
+    /// least 1 each.
+    pub fn from_parts(alloc: Global, value: T, version: u64, writers: u32) -> Self
+        requires versioned { 1 ≤ version }
+        requires counted { 1 ≤ writers }
+        ensures { result ≡ record
+            { value = value; version = version; writers = writers; waiting = []; room = 0 } }
+    {
+        Latest {
+            value,
+            version,
+            writers,
+            waiting: WaitList::new(alloc),
+        }
+    }
+
+    /// Replaces the value and moves the version on by one. Returns the old value and all waiting
+    /// wakers, to be woken by the caller. Fails if the state is closed; the value is returned in
+    /// the error. Fails in the same way at the version 18,446,744,073,709,551,615, which is the
+    /// last.
+    pub fn write(&mut self, value: T) -> Result<(T, Wakers<W>), T>
+        ensures model { IsStep W.Wakes self.old (Write value) (write_answer result) self.new }
+
+        ensures if_open { IsOk result ↔ (is_writable self.old ≡ true) }
+        ensures holds { OnOk result (self.new.value ≡ value) }
+        ensures counted { OnOk result (self.new.version ≡ self.old.version + 1) }
+        ensures gives_old { IfOk result (λ answer. answer.0 ≡ self.old.value) }
+        ensures hands_out_all { IfOk result (λ answer. answer.1 ≡ self.old.waiting) }
+        ensures unchanged { OnErr result (self.new ≡ self.old) }
+        ensures comes_back { IfErr result (λ back. back ≡ value) }
+    {
+        if self.is_closed() {
+            return Err(value);
+        }
+        let Some(version) = self.version.checked_add(1) else {
+            return Err(value);
+        };
+        self.version = version;
+        let old = mem::replace(&mut self.value, value);
+        Ok((old, self.waiting.hand_out()))
+    }
+
+    /// Returns the version and the value.
+    pub fn read(&self) -> (u64, &T)
+        ensures model { IsStep W.Wakes
+            self.now Read (replies (Shown result.0 result.1.now)) self.now }
+        ensures version { result.0 ≡ self.now.version }
+        ensures gives { result.1.now ≡ self.now.value }
+    {
+        (self.version, &self.value)
+    }
+
+    /// Returns the version: 1 at first, and one more after each write.
+    pub fn version(&self) -> u64
+        ensures { result ≡ self.now.version }
+    {
+        self.version
+    }
+
+    /// Returns whether the state is closed: its last writer has ended, and no write will come.
+    pub fn is_closed(&self) -> bool
+        ensures closed { result ≡ is_closed self.now }
+        ensures sound { IsSound W.will_wake self.now }
+    {
+        self.writers == 0
+    }
+
+    /// Returns the number of waiting wakers.
+    pub fn waiting(&self) -> usize
+        ensures { result ≡ length self.now.waiting }
+    {
+        self.waiting.len()
+    }
+}
+
+/// Dropping a `Latest` wakes all waiting wakers, in order.
+impl<T: Drop, W: Wakes> Drop for Latest<T, W> {
+    fn drop(self) {
+        let (value, woken) = self.into_inner();
+        drop(value);
+        woken.wake_all();
+    }
+}

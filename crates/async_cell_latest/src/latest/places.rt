@@ -1,0 +1,93 @@
+//! Internal: may change without notice. Wakers by value, and the places of waiting futures.
+ghost use Rattle.std.specs.Prelude.{◌≡◌, ◌<◌, [], ◌∷◌, ◌++◌, true, false, IsOk, IfOk, IfErr, OnOk, OnErr, MatchOption};
+ghost use Rattle.async_cell_latest.specs.State.{Stays, is_closed};
+ghost use Rattle.async_cell_latest.specs.Step.{PollChanged};
+ghost use Rattle.async_cell_latest.specs.IsStep.{IsStep, wait_answer};
+
+use super::Latest;
+use async_cell_cons::{Place, TaskWaker, Wakes};
+use futures::task::Waker;
+
+impl<T: Drop, W: Wakes> Latest<T, W> {
+    /// Internal: may change without notice.
+    ///
+    /// Adds a waker, by value, as the last, for a poll that has to wait. The state must be open,
+    /// and the waker of a type of which none would wake another, so it is never skipped. If there
+    /// is no memory to grow the list, fails and returns the waker in the error.
+    #[doc(hidden)]
+    #[tactic(auto, using(async_cell_model::proofs::Adding::keep_added, async_cell_model::proofs::Adding::never_skipped))]
+    pub fn add(&mut self, waker: W) -> Result<(), W>
+        requires open { is_closed self.old ≡ false }
+        requires none_skipped { (a b : W) → W.will_wake a b ≡ false }
+        ensures model { IsStep W.Wakes self.old
+            (PollChanged self.old.version waker) (wait_answer result) self.new }
+
+        ensures added { OnOk result (self.new.waiting ≡ self.old.waiting ++ waker ∷ []) }
+        ensures state_stays { Stays self.old self.new }
+        ensures unchanged { OnErr result (self.new ≡ self.old) }
+        ensures comes_back { IfErr result (λ back. back ≡ waker) }
+        ensures first_waits { self.old.waiting ≡ [] → IsOk result }
+        ensures room_suffices { 0 < self.old.room → IsOk result }
+    {
+        self.waiting.add(waker)?;
+        Ok(())
+    }
+}
+
+impl<T: Drop> Latest<T, TaskWaker> {
+    /// Internal: may change without notice.
+    ///
+    /// Takes the waker out of the place, or out of a free place that is taken over. Returns `None`
+    /// if there is neither. The waker may be another task's.
+    #[doc(hidden)]
+    #[inline(always)]
+    pub fn take_back(&mut self, place: &mut Place) -> Option<Waker>
+        ensures unchanged { self.new ≡ self.old }
+    {
+        self.waiting.take_back(place)
+    }
+
+    /// Internal: may change without notice.
+    ///
+    /// Stores a waker in the place, in a free place that is taken over, or as the last of the list.
+    /// The state must be open. Returns the waker that was there, if any, which wakes its task when
+    /// it is dropped. If there is no memory to grow the list, the waker is returned in the error.
+    #[doc(hidden)]
+    #[inline(always)]
+    #[tactic(auto, using(async_cell_model::proofs::Adding::keep_added, async_cell_model::proofs::Adding::never_skipped))]
+    pub fn store(
+        &mut self,
+        place: &mut Place,
+        waker: TaskWaker,
+    ) -> Result<Option<TaskWaker>, TaskWaker>
+        requires open { is_closed self.old ≡ false }
+        ensures state_stays { Stays self.old self.new }
+        ensures stored { IfOk result (λ before. MatchOption before
+            (self.new.waiting ≡ self.old.waiting ++ waker ∷ [])
+            (λ _. (self.new ≡ self.old) × (self.old.waiting ≡ [] → ⊥))) }
+        ensures unchanged { OnErr result (self.new ≡ self.old) }
+    {
+        self.waiting.store(place, waker)
+    }
+
+    /// Internal: may change without notice.
+    ///
+    /// Leaves the place free. Its waker stays there: to drop it would wake the task. Returns the
+    /// index of the place, unless it was given up.
+    #[doc(hidden)]
+    pub fn leave(&mut self, place: Place) -> Option<usize>
+        ensures unchanged { self.new ≡ self.old }
+    {
+        self.waiting.leave(place)
+    }
+
+    /// Internal: may change without notice.
+    ///
+    /// Takes the waker out of the place at `index`, if that place is free.
+    #[doc(hidden)]
+    pub fn take_left(&mut self, index: usize) -> Option<Waker>
+        ensures unchanged { self.new ≡ self.old }
+    {
+        self.waiting.take_left(index)
+    }
+}

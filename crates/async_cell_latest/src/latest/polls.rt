@@ -1,0 +1,117 @@
+//! Polls: what a follower is told, and what waits.
+ghost use Rattle.std.specs.Prelude.{◌≡◌, ◌≢◌, ◌≤◌, ◌<◌, ◌↔◌, [], None, Some, Ok, true, false, IsOk, IfOk, IfErr, OnOk, OnErr};
+ghost use Rattle.async_cell_model.specs.WaitList.{with_one_more};
+ghost use Rattle.async_cell_latest.specs.State.{IsSound, Stays, is_closed, is_waited_for};
+ghost use Rattle.async_cell_latest.specs.Step.{PollChanged};
+ghost use Rattle.async_cell_latest.specs.History.{needs_no_memory};
+ghost use Rattle.async_cell_latest.specs.IsStep.{IsStep, changed_answer, wait_answer};
+
+use super::Latest;
+use async_cell_cons::Wakes;
+use async_cell_model::Refusal;
+use futures::task::Poll;
+
+impl<T: Drop, W: Wakes> Latest<T, W> {
+    /// Returns what a follower is told that has seen this version: `Ready(Some(version))` if the
+    /// state has another version, `Ready(None)` if it has this one and is closed, and `Pending` if
+    /// a poll would wait. Registers nothing.
+    pub fn changed_since(&self, seen: u64) -> Poll<Option<u64>>
+        ensures model { (w : W) → is_waited_for self.now seen ≡ false → IsStep W.Wakes self.now
+            (PollChanged seen w) (changed_answer self.now.value (Ok result)) self.now }
+
+        ensures ready { seen ≢ self.now.version → result ≡ Poll.Ready (Some self.now.version) }
+        ensures ended { seen ≡ self.now.version → is_closed self.now ≡ true
+            → result ≡ Poll.Ready None }
+        ensures pending { (result ≡ Poll.Pending) ↔ (is_waited_for self.now seen ≡ true) }
+    {
+        if seen != self.version {
+            return Poll::Ready(Some(self.version));
+        }
+        if self.is_closed() {
+            return Poll::Ready(None);
+        }
+        Poll::Pending
+    }
+
+    /// Polls for another version than `seen`, and returns it. The value can then be read. If the
+    /// state has no other version, returns `Pending` and registers the waker: a clone of it is
+    /// added as the last, unless it is skipped (see `WaitList::skips`). Returns `Ready(None)` if
+    /// the state has no other version and is closed. Fails with `Memory` if there is no memory for
+    /// the clone or to grow the wait list.
+    pub fn poll_changed(&mut self, seen: u64, waker: &W) -> Result<Poll<Option<u64>>, Refusal>
+        ensures model { IsStep W.Wakes self.old
+            (PollChanged seen waker.now) (changed_answer self.old.value result) self.new }
+
+        ensures ready { seen ≢ self.old.version
+            → result ≡ Ok (Poll.Ready (Some self.old.version)) }
+        ensures ended { seen ≡ self.old.version → is_closed self.old ≡ true
+            → result ≡ Ok (Poll.Ready None) }
+        ensures pending { is_waited_for self.old seen ≡ true
+            → IfOk result (λ polled. polled ≡ Poll.Pending) }
+        ensures waits { result ≡ Ok Poll.Pending
+            → self.new.waiting ≡ with_one_more W.will_wake self.old.waiting waker.now }
+        ensures spared { needs_no_memory W.will_wake W.SURE_CLONE self.old waker.now ≡ true
+            → IsOk result }
+        ensures first_waits { self.old.waiting ≡ [] → W.is_infallible waker.now → IsOk result }
+        ensures room_suffices { 0 < self.old.room → W.is_infallible waker.now → IsOk result }
+        ensures state_stays { Stays self.old self.new }
+        ensures others_stay { is_waited_for self.old seen ≡ false → self.new ≡ self.old }
+        ensures refused { IfErr result (λ why. why ≡ Refusal.Memory) }
+        ensures unchanged { OnErr result (self.new.waiting ≡ self.old.waiting) }
+        ensures keeps_room { OnErr result (self.old.room ≤ self.new.room) }
+    {
+        match self.changed_since(seen) {
+            Poll::Ready(told) => Ok(Poll::Ready(told)),
+            Poll::Pending => {
+                self.wait(waker)?;
+                Ok(Poll::Pending)
+            }
+        }
+    }
+
+    /// Makes room: the next `additional` wakers that are added need no memory beyond their clones,
+    /// until a write or the close gives the room up. A poll that adds no waker uses up none. Fails
+    /// with `Memory` if there is no memory for so many. Does nothing if the state is closed.
+    pub fn reserve(&mut self, additional: usize) -> Result<(), Refusal>
+        ensures state_stays { Stays self.old self.new }
+        ensures waiting_stay { self.new.waiting ≡ self.old.waiting }
+        ensures makes_room { is_closed self.old ≡ false
+            → OnOk result (additional ≤ self.new.room) }
+        ensures keeps_room { self.old.room ≤ self.new.room }
+        ensures refused { IfErr result (λ why. why ≡ Refusal.Memory) }
+        ensures closed { is_closed self.old ≡ true → IsOk result × (self.new ≡ self.old) }
+        ensures enough { additional ≤ self.old.room → IsOk result }
+        ensures unchanged { OnErr result (self.new ≡ self.old) }
+        ensures sound { IsSound W.will_wake self.new }
+    {
+        if self.is_closed() {
+            return Ok(());
+        }
+        self.waiting.reserve(additional)?;
+        Ok(())
+    }
+
+    /// Registers the waker, unless `skips` says that it need not be. The state must be open. Fails
+    /// with `Memory` if there is no memory for a clone of the waker or to grow the list.
+    fn wait(&mut self, waker: &W) -> Result<(), Refusal>
+        requires { is_closed self.old ≡ false }
+        ensures model { IsStep W.Wakes self.old
+            (PollChanged self.old.version waker.now) (wait_answer result) self.new }
+
+        ensures waits { OnOk result
+            (self.new.waiting ≡ with_one_more W.will_wake self.old.waiting waker.now) }
+        ensures spared { needs_no_memory W.will_wake W.SURE_CLONE self.old waker.now ≡ true
+            → IsOk result }
+        ensures first_waits { self.old.waiting ≡ [] → W.is_infallible waker.now → IsOk result }
+        ensures room_suffices { 0 < self.old.room → W.is_infallible waker.now → IsOk result }
+        ensures state_stays { Stays self.old self.new }
+        ensures refused { IfErr result (λ why. why ≡ Refusal.Memory) }
+        ensures unchanged { OnErr result (self.new.waiting ≡ self.old.waiting) }
+        ensures keeps_room { OnErr result (self.old.room ≤ self.new.room) }
+    {
+        if !self.waiting.skips(waker) {
+            self.waiting.push(waker)?;
+        }
+        Ok(())
+    }
+}

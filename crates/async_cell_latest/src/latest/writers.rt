@@ -1,0 +1,77 @@
+//! The writers of a state, and its end.
+ghost use Rattle.std.specs.Prelude.{◌≡◌, ◌↔◌, [], ◌+◌, ◌-◌, Err, true, false, IsOk, IfOk, OnOk, OnErr};
+ghost use Rattle.async_cell_latest.specs.State.{Stays, is_closed, writers_limit};
+ghost use Rattle.async_cell_latest.specs.Step.{AddWriter, EndWriter};
+ghost use Rattle.async_cell_latest.specs.IsStep.{IsStep, add_answer, end_answer};
+
+use super::Latest;
+use async_cell_cons::{Wakers, Wakes};
+use async_cell_model::Refusal;
+
+impl<T: Drop, W: Wakes> Latest<T, W> {
+    /// Adds a writer. Fails with `Closed` if the state is closed, and with `OwnersFull` if it has
+    /// 4,294,967,295 writers already.
+    pub fn add_writer(&mut self) -> Result<(), Refusal>
+        ensures model { IsStep W.Wakes self.old AddWriter (add_answer result) self.new }
+
+        ensures if_closed { (result ≡ Err Refusal.Closed) ↔ (is_closed self.old ≡ true) }
+        ensures if_full { (result ≡ Err Refusal.OwnersFull)
+            ↔ (self.old.writers ≡ writers_limit) }
+        ensures counted { OnOk result (self.new.writers ≡ self.old.writers + 1) }
+        ensures unchanged { OnErr result (self.new ≡ self.old) }
+    {
+        if self.is_closed() {
+            return Err(Refusal::Closed);
+        }
+        self.writers = self.writers.checked_add(1).ok_or(Refusal::OwnersFull)?;
+        Ok(())
+    }
+
+    /// Ends one writer. The last one closes the state and returns all waiting wakers, to be woken
+    /// by the caller; the value and its version stay. Fails with `Closed` if the state is closed.
+    pub fn end_writer(&mut self) -> Result<Wakers<W>, Refusal>
+        ensures model { IsStep W.Wakes self.old EndWriter (end_answer result) self.new }
+
+        ensures if_open { IsOk result ↔ (is_closed self.old ≡ false) }
+        ensures counted { self.new.writers ≡ self.old.writers - 1 }
+        ensures value_stays { self.new.value ≡ self.old.value }
+        ensures version_stays { self.new.version ≡ self.old.version }
+        ensures hands_out_all { self.old.writers ≡ 1
+            → IfOk result (λ woken. woken ≡ self.old.waiting) }
+        ensures unchanged { OnErr result (self.new ≡ self.old) }
+    {
+        match self.writers {
+            0 => Err(Refusal::Closed),
+            1 => {
+                self.writers = 0;
+                Ok(self.waiting.hand_out())
+            }
+            more => {
+                self.writers = more - 1;
+                Ok(self.waiting.no_wakers())
+            }
+        }
+    }
+
+    /// Returns the number of writers: 0 once the state is closed.
+    pub fn writers(&self) -> u32
+        ensures { result ≡ self.now.writers }
+    {
+        self.writers
+    }
+
+    /// Consumes the state, whatever its number of writers. Returns its value and all waiting
+    /// wakers, to be woken by the caller.
+    pub fn into_inner(self) -> (T, Wakers<W>)
+        ensures gives { result.0 ≡ self.value }
+        ensures hands_out_all { result.1 ≡ self.waiting }
+    {
+        let Latest {
+            value,
+            version: _,
+            writers: _,
+            mut waiting,
+        } = self;
+        (value, waiting.hand_out())
+    }
+}

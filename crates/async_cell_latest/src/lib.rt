@@ -1,0 +1,12 @@
+//! A state that any number of followers follow, as a pure state machine. Each write replaces the
+//! value and moves its version on, and returns the wakers of the followers that wait. The last
+//! state stays when the last writer ends.
+#![tactic(auto)]
+
+mod latest;
+pub mod laws;
+
+pub use async_cell_cons::{Named, Place, TaskWaker, Wakers, Wakes};
+pub use async_cell_model::Refusal;
+pub use futures::task::Poll;
+pub use latest::Latest;
