@@ -1,15 +1,14 @@
 #!/usr/bin/env bash
-# Runs the programs of examples/tokio in a project of their own, with the cells that vendor.sh copies
-# there. The gate does not run it.
+# Runs the programs of examples/tokio in a project of their own, with the cells that vendor.sh
+# copies there. The gate does not run it.
 #
-#     bash scripts/examples.sh [--no-proof] [NAME..]   runs these programs (none: all), in a temporary
-#                                                      folder
+#     bash scripts/examples.sh [--no-proof] [NAME..]   runs these programs (none: all)
 #     bash scripts/examples.sh --lay-out FOLDER        makes the project in a new folder, to work in
 #
-# Each program is built and run by `rt try`: the servers with clients over sockets of this machine,
-# the others have to print their file stdout. Then those of PROVED are proved by `rt check`. Prints a
-# line for each step, with the seconds since the start; the last line is 'N passed, M failed', and the
-# status is 0 if none failed.
+# Each program is built and run by `rt try` in a temporary folder: the servers with clients over
+# sockets of this machine, the others have to print their file stdout. Then those of PROVED are
+# proved by `rt check`. Prints a line for each step, with the seconds since the start; the last line
+# is 'N passed, M failed', and the status is 0 if none failed.
 set -euo pipefail
 top=$(cd "$(dirname "$0")/.." && pwd)
 from="$top/examples/tokio"
@@ -62,9 +61,11 @@ run() {
 # Runs the server NAME at a free port, with its clients, which end it.
 serve() {
     local port said
-    port=$(python3 -c 'import socket; s = socket.create_server(("127.0.0.1", 0)); print(s.getsockname()[1])')
-    (cd "$work/crates/$1" && exec setsid rt try --seconds 120 -- "$port") >"$work/$1.log" 2>&1 </dev/null &
+    port=$(python3 -B "$from/clients.py" port)
+    cd "$work/crates/$1"
+    setsid rt try --seconds 120 -- "$port" >"$work/$1.log" 2>&1 </dev/null &
     server=$!
+    cd "$top"
     while read -r said; do
         case $said in
         passed:* | failed:*) step "${said%%:*}" "$1: ${said#*: }" ;;

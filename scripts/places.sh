@@ -1,11 +1,12 @@
 #!/usr/bin/env bash
-# Runs three programs whose futures wait on `sync` cells again and again, or those that are named:
-# `bash scripts/places.sh [looks] [messages] [late]`. looks.txt looks for a signal by `now_or_never`,
-# and messages.txt takes messages until a signal comes: each is to stay under 2 MB, however often it
-# polls. late.txt, under the kit's `tokio`, waits too late on 300 cells and lets go of what that left,
-# once by `purge` and once by `cancel`: each time it is to have as many descriptors open as at first,
-# within 4. The first two are proved, all are built in a copy of the crates that they need, with what
-# earlier checks kept of these. Prints a line a program; the status is 0 if all held.
+# Runs three programs whose futures wait on `sync` cells again and again, or those of them that are
+# named: `bash scripts/places.sh [looks] [messages] [late]`. looks.txt looks for a signal by
+# `now_or_never`, and messages.txt takes messages until a signal comes: each is to stay under 2 MB,
+# however often it polls. late.txt, under the kit's `tokio`, waits too late on 300 cells and lets go
+# of what that left, by `purge` and then by `cancel`: each time it is to have as many descriptors
+# open as at first, within 4. The first two are proved, all are built in a copy of the crates that
+# they need, with what earlier checks kept of these. Prints a line a program; the status is 0 if all
+# held.
 set -euo pipefail
 top=$(cd "$(dirname "$0")/.." && pwd)
 work=$(mktemp -d)

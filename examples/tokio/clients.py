@@ -1,7 +1,7 @@
 """Clients of the servers in this folder: `clients.py line PORT` and `clients.py poll PORT`.
 
-Each step prints a line, `passed: ..` or `failed: ..`; the last step stops the server. The status is 0
-if none failed.
+Each step prints a line, `passed: ..` or `failed: ..`; the last step stops the server. The status is
+0 if none failed. `clients.py port` prints a port that is free.
 """
 import asyncio
 import select
@@ -261,5 +261,9 @@ async def run(steps, port):
             say(step.__name__, False, repr(e))
 
 
-asyncio.run(run(STEPS[sys.argv[1]], int(sys.argv[2])))
+if sys.argv[1] == "port":
+    with socket.create_server(("127.0.0.1", 0)) as free:
+        print(free.getsockname()[1])
+else:
+    asyncio.run(run(STEPS[sys.argv[1]], int(sys.argv[2])))
 sys.exit(1 if FAILED else 0)
