@@ -1,10 +1,12 @@
 #!/usr/bin/env bash
-# Runs three programs whose futures wait on `sync` cells again and again. looks.txt looks for a
-# signal by `now_or_never`, and messages.txt takes messages until a signal comes: each is to stay
-# under 2 MB, however often it polls. late.txt, under the kit's `tokio`, waits too late on 300 cells
-# and lets go of what that left: it is to have as many descriptors open as at first, within 4. The
-# first two are proved, all are built in a copy of the crates that they need, with what earlier
-# checks kept of these. Prints a line a program; the status is 0 if all held.
+# Runs three programs whose futures wait on `sync` cells again and again, or those of them that are
+# named: `bash scripts/places.sh [looks] [messages] [late]`. looks.txt looks for a signal by
+# `now_or_never`, and messages.txt takes messages until a signal comes: each is to stay under 2 MB,
+# however often it polls. late.txt, under the kit's `tokio`, waits too late on 300 cells and lets go
+# of what that left, by `purge` and then by `cancel`: each time it is to have as many descriptors
+# open as at first, within 4. The first two are proved, all are built in a copy of the crates that
+# they need, with what earlier checks kept of these. Prints a line a program; the status is 0 if all
+# held.
 set -euo pipefail
 top=$(cd "$(dirname "$0")/.." && pwd)
 work=$(mktemp -d)
@@ -43,19 +45,27 @@ closes_all() {
     cp "$top/scripts/late.txt" "$work/crates/late/src/main.rt"
     echo "late: anyhow async_cell_sync futures tokio" >>"$work/crates.txt"
     echo 'Handles allowed: Threads, Wait, Net.' >"$work/HANDLES"
-    local open first left last status=0
+    local open status=0
     (cd "$work/crates/late" && rt try) >"$work/late.log" 2>"$work/late.errors" </dev/null ||
         status=$?
-    open=$(awk '/^open / { print $2 }' "$work/late.log")
-    { read -r first && read -r left && read -r last; } <<<"$open" || status=1
-    if [ "$status" -ne 0 ] || [ "$left" -lt 300 ] || [ "$last" -gt $((first + 4)) ]; then
-        echo "places: late failed: as many open descriptors as at first were wanted" >&2
+    mapfile -t open < <(awk '/^open / { print $2 }' "$work/late.log")
+    local first=${open[0]:-0} most=$((${open[0]:-0} + 4))
+    if [ "$status" -ne 0 ] || [ "${#open[@]}" -ne 4 ] || [ "${open[1]}" -lt $((first + 300)) ] ||
+        [ "${open[2]}" -gt "$most" ] || [ "${open[3]}" -gt "$most" ]; then
+        echo "places: late failed: as many open descriptors as at first were wanted: ${open[*]}" >&2
         tail -n 5 "$work/late.log" "$work/late.errors" >&2
         return 1
     fi
-    echo "places: late: $first descriptors at first, $left after 300 late waits, $last in the end"
+    echo "places: late: $first descriptors at first, ${open[1]} after 300 late waits," \
+        "${open[2]} once purged; ${open[3]} after 300 that were canceled"
 }
 
-stays_small looks 'looked 300000'
-stays_small messages 'served 100000'
-closes_all
+[ $# -gt 0 ] || set -- looks messages late
+for name in "$@"; do
+    case $name in
+    looks) stays_small looks 'looked 300000' ;;
+    messages) stays_small messages 'served 100000' ;;
+    late) closes_all ;;
+    *) echo "places: there is no program $name" >&2 && exit 1 ;;
+    esac
+done

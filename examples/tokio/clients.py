@@ -1,9 +1,11 @@
 """Clients of the servers in this folder: `clients.py line PORT` and `clients.py poll PORT`.
 
-Each step prints a line, `passed: ..` or `failed: ..`; the last step stops the server. The status is 0
-if none failed.
+Each step prints a line, `passed: ..` or `failed: ..`; the last step stops the server. The status is
+0 if none failed. `clients.py port` prints a port that is free.
 """
 import asyncio
+import select
+import socket
 import sys
 import time
 
@@ -48,6 +50,34 @@ async def ends(clients, limit):
     reads = [asyncio.create_task(client[0].read()) for client in clients]
     done, _ = await asyncio.wait(reads, timeout=limit)
     return len(done), time.time() - start
+
+
+async def mute(port):
+    """A client that asks until the server can write no more answers, and reads none."""
+    sock = socket.socket()
+    sock.setsockopt(socket.SOL_SOCKET, socket.SO_RCVBUF, 4096)
+    sock.connect(("127.0.0.1", port))
+    sock.setblocking(False)
+    waited = 0
+    while waited < 10:
+        try:
+            sock.send(b"get\n" * 1000)
+            waited = 0
+        except BlockingIOError:
+            await asyncio.sleep(0.05)
+            waited += 1
+    return sock
+
+
+async def is_closed(sock, limit):
+    """Whether the server closes a connection within the limit, as seen without a read."""
+    poller = select.poll()
+    poller.register(sock, 0)
+    for _ in range(int(limit * 100)):
+        if poller.poll(0):
+            return True
+        await asyncio.sleep(0.01)
+    return False
 
 
 async def empty(client):
@@ -146,31 +176,33 @@ async def line_end(port):
     await empty(first)
     for at, client in enumerate(clients):
         client[1].write([b"take\n", b"follow\n", b""][at % 3])
-    await asyncio.sleep(0.3)
+    silent = await mute(port)
     said = await ask(first, "stop")
     count, took = await ends([first, *clients], 2)
     right = said == "bye" and count == 61
     say("the end within two seconds", right, f"{count} of 61 connections closed, {took:.2f} s")
-
-
-async def line(port):
-    for step in [line_basics, line_requests, line_takers, line_leavers, line_followers, line_end]:
-        await step(port)
+    right = await is_closed(silent, 2)
+    say("the end for a client that reads nothing", right, "closed" if right else "open")
 
 
 async def poll_basics(port):
     client = await connect(port)
-    paths = ["/0", "/set/5", "/0", "/1", "/x", "/set/y", "/set/6", "/1"]
+    paths = ["/0", "/set/5", "/0", "/1", "/x", "/set/y", "/set/6", "/1", "/7"]
     said = [await get(client, path) for path in paths]
-    wanted = [204, 200, 200, 204, 404, 400, 200, 200]
-    right = [status for status, _ in said] == wanted and said[2][1] == "1 5" and said[7][1] == "2 6"
+    wanted = [204, 200, 200, 204, 404, 400, 200, 200, 200]
+    right = [status for status, _ in said] == wanted and [said[2][1], said[7][1]] == ["1 5", "2 6"]
     say("each path", right, " ".join(f"{status}" for status, _ in said))
     client[1].close()
 
 
+async def version_of(client):
+    """The version of the state: one that was never there is answered at once."""
+    return int((await get(client, "/999999"))[1].split()[0])
+
+
 async def poll_pollers(port):
     first, clients = await connect(port), [await connect(port) for _ in range(100)]
-    version, wrong = int((await get(first, "/0"))[1].split()[0]), 0
+    version, wrong = await version_of(first), 0
     for number in range(20):
         polls = [asyncio.create_task(get(client, f"/{version}")) for client in clients]
         await asyncio.sleep(0.05)
@@ -183,13 +215,20 @@ async def poll_pollers(port):
         client[1].close()
 
 
+async def waiting(port, count):
+    """Clients whose polls wait, and one more."""
+    first, clients = await connect(port), [await connect(port) for _ in range(count)]
+    path = f"/{await version_of(first)}"
+    for client in clients:
+        client[1].write(f"GET {path} HTTP/1.1\r\nhost: here\r\n\r\n".encode())
+    await asyncio.sleep(0.1)
+    return first, clients
+
+
 async def poll_leavers(port):
     for _ in range(3):
-        clients = [await connect(port) for _ in range(200)]
-        for client in clients:
-            client[1].write(b"GET /999999 HTTP/1.1\r\nhost: here\r\n\r\n")
-        await asyncio.sleep(0.1)
-        for client in clients:
+        first, clients = await waiting(port, 200)
+        for client in [first, *clients]:
             client[1].close()
     client = await connect(port)
     said = await get(client, "/set/9")
@@ -198,20 +237,33 @@ async def poll_leavers(port):
 
 
 async def poll_end(port):
-    clients, first = [await connect(port) for _ in range(50)], await connect(port)
-    for client in clients:
-        client[1].write(b"GET /999999 HTTP/1.1\r\nhost: here\r\n\r\n")
-    await asyncio.sleep(0.1)
+    first, clients = await waiting(port, 50)
     said = await get(first, "/stop")
+    heads = [(await asyncio.wait_for(client[0].readline(), 20)).split() for client in clients]
     count, took = await ends([first, *clients], 2)
-    right = said == (200, "bye") and count == 51
-    say("the end within two seconds", right, f"{count} of 51 connections closed, {took:.2f} s")
+    unavailable = sum(head[1:2] == [b"503"] for head in heads)
+    right = said == (200, "bye") and count == 51 and unavailable == 50
+    what = f"{unavailable} polls heard of it, {count} of 51 connections closed, {took:.2f} s"
+    say("the end within two seconds", right, what)
 
 
-async def poll(port):
-    for step in [poll_basics, poll_pollers, poll_leavers, poll_end]:
-        await step(port)
+STEPS = {
+    "line": [line_basics, line_requests, line_takers, line_leavers, line_followers, line_end],
+    "poll": [poll_basics, poll_pollers, poll_leavers, poll_end],
+}
 
 
-asyncio.run({"line": line, "poll": poll}[sys.argv[1]](int(sys.argv[2])))
+async def run(steps, port):
+    for step in steps:
+        try:
+            await step(port)
+        except (OSError, EOFError, ValueError, asyncio.TimeoutError) as e:
+            say(step.__name__, False, repr(e))
+
+
+if sys.argv[1] == "port":
+    with socket.create_server(("127.0.0.1", 0)) as free:
+        print(free.getsockname()[1])
+else:
+    asyncio.run(run(STEPS[sys.argv[1]], int(sys.argv[2])))
 sys.exit(1 if FAILED else 0)
