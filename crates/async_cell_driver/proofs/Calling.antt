@@ -14,7 +14,7 @@ use Rattle.async_cell_model.specs.declared.reply.Reply.TheVariants as reply
 use Rattle.async_cell_model.specs.Cell.{ends_waiting, is_vacant, is_full, is_closed, content, owners_of}
 use Rattle.async_cell_model.specs.Step.{next, reply as model_reply}
 use Rattle.async_cell_model.specs.WaitList.{wait_list}
-use Rattle.async_cell_model.specs.History.{State, IsSound, pending_waker, waiting}
+use Rattle.async_cell_model.specs.History.{State, IsSound, is_pending, pending_waker, waiting}
 use Rattle.async_cell_model.specs.Legal.{wakes, Steps}
 use Rattle.async_cell_model.proofs.Whole.{after-nil}
 use Rattle.async_cell_model.proofs.Refusing.{Runs-sound}
@@ -87,6 +87,9 @@ named_before false l e i none named = let same = rw (none, append-nil l) at name
 unnamed_by : (ends : Bool) (l names : List Named) (i : ℕ) → names ≡ (if ends then l else []) → ends ≡ false → is_named i names ≡ false
 unnamed_by true l names i same going_on = cc
 unnamed_by false l names i same going_on = ap (is_named i) same
+
+silent_entry : {T : Type 0} (call : Kept T Named) (r : Reply T) → is_pending r ≡ false → pending_waker (record { call = call; reply = r }) ≡ None
+silent_entry call r silent = rw silent refl
 
 named_handed : (ends : Bool) (l names : List Named) (i : ℕ) → names ≡ (if ends then l else []) → is_named i names ≡ false → is_named i l ≡ true → ends ≡ false
 named_handed true l names i same unnamed named = let all : is_named i names ≡ true = ap (is_named i) same ∙ named in cc
@@ -166,16 +169,16 @@ module _ {T : Type 0} where
 
   -- a call that does not wait adds no name, and each that stays in the list is that of a task that
   -- is not woken
-  waiting_after : (from to : State T Named) (call : Kept T Named) (r : Reply T) (names : List Named) (tasks : List (Task T)) → pending_waker (record { call = call; reply = r }) ≡ None → Steps same_name true from call r names to
+  waiting_after : (from to : State T Named) (call : Kept T Named) (r : Reply T) (names : List Named) (tasks : List (Task T)) → is_pending r ≡ false → Steps same_name true from call r names to
       → AllWaiting (record { core = from; tasks = tasks }) → AllWaiting (record { core = to; tasks = wake_each names tasks })
   waiting_after from to call r names tasks silent answers waiting_all i named =
       let e : Entry T Named = record { call = call; reply = r } in
       let there : is_named i (waiting same_name from (e ∷ [])) ≡ true = ap (is_named i) (sym answers.waiting_is) ∙ named in
-      let before = named_before (ends_waiting from.cell (next from.cell e)) from.waiting e i silent there in
+      let before = named_before (ends_waiting from.cell (next from.cell e)) from.waiting e i (silent_entry call r silent) there in
       let unnamed : is_named i names ≡ false = unnamed_by (ends_waiting from.cell (next from.cell e)) from.waiting names i (names_are from to call r names answers) before.0 in
       mark-wake_each names tasks i ∙ (ap (λ (woken : Bool). woken_if woken (mark_at tasks i)) unnamed ∙ waiting_all i before.1)
 
-  pub covered_called : (from : DriverState T) (core : State T Named) (tasks : List (Task T)) (names : List Named) (call : Kept T Named) (r : Reply T) → pending_waker (record { call = call; reply = r }) ≡ None → IsCovered from
+  pub covered_called : (from : DriverState T) (core : State T Named) (tasks : List (Task T)) (names : List Named) (call : Kept T Named) (r : Reply T) → is_pending r ≡ false → IsCovered from
       → Steps same_name true from.core call r names core → tasks ≡ wake_each names from.tasks → IsCovered (record { core = core; tasks = tasks })
   covered_called from core tasks names call r silent covered answers tasks_are =
       subst (λ (ts : List (Task T)). IsCovered (record { core = core; tasks = ts })) (sym tasks_are)

@@ -1,7 +1,6 @@
 pub mod Calling
 pub mod Changing
 pub mod Counting
-pub mod Events
 pub mod Joining
 pub mod Keeping
 pub mod Lines

@@ -1,5 +1,5 @@
 -- The calls that a log makes on the core.
-use Rattle.std.specs.Prelude.{map, ℕ, Bool, true, false, ◌++◌, List, [], ◌∷◌, Option, Some, None, Result, Ok, Err, slice_get, option_to_list}
+use Rattle.std.specs.Prelude.{map, ℕ, ◌++◌, List, [], ◌∷◌, Option, Some, None, Result, Ok, Err, slice_get, option_to_list}
 use Rattle.std.specs.Option.{option_map}
 use Rattle.async_cell_cons.specs.declared.named.Named.{Named}
 use Rattle.async_cell_model.specs.declared.cell.Cell.{Cell}
@@ -23,12 +23,6 @@ use Rattle.async_cell_driver.specs.declared.event.Polled.{Polled}
 use Rattle.async_cell_driver.specs.declared.event.Polled.TheVariants.{Ready, Pending, NotReady}
 use Rattle.async_cell_driver.specs.DriverState.{DriverState, name_of}
 use Rattle.async_cell_driver.specs.Log.{Line, Log, kinds}
-
--- whether the event is a call on the cell that is not a task's poll
-abbrev pub is_call : {T E : Type 0} → Event T E → Bool
-is_call (Start kind) = false
-is_call (Poll i) = false
-is_call _ = true
 
 module _ {T : Type 0} where
   -- the poll of task i, by its kind
@@ -110,3 +104,8 @@ told_of (Err why) = told.Refused why
 -- the outcome of a call for which the core finds memory
 abbrev pub told_by : {T : Type 0} → State T Named → Kept T Named → Told T
 told_by core call = told.Reply (model_reply core.cell call)
+
+-- the reply for the result of a call that returns no value
+abbrev pub done_or : {T : Type 0} → Result (Unit {0}) Refusal → Reply T
+done_or (Ok done) = reply.Done
+done_or (Err why) = reply.Refused why None

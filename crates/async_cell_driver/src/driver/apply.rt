@@ -1,16 +1,13 @@
 //! Lists of events that happen in order.
-ghost use Rattle.std.specs.Prelude.{◌≡◌, List, [], Option, Some, map, length, vec_len, true, false, IsOk, IfOk, IfErr, OnErr};
+ghost use Rattle.std.specs.Prelude.{◌≡◌, List, [], map, length, vec_len, IsOk, IfOk, IfErr, OnErr};
 ghost use Rattle.async_cell_cons.specs.declared.named.Named.{Named as Name};
-ghost use Rattle.async_cell_core.specs.Kept.{is_get, kept_call};
-ghost use Rattle.async_cell_model.specs.declared.cell.Cell.{Cell};
-ghost use Rattle.async_cell_driver.specs.declared.task.Kind.{Kind as TaskKind};
 ghost use Rattle.async_cell_driver.specs.Log.{log_of, with_edit};
-ghost use Rattle.async_cell_driver.specs.History.{call_of, is_call};
+ghost use Rattle.async_cell_driver.specs.History.{done_or};
 ghost use Rattle.async_cell_driver.specs.Drives.{AllSpared, Drives, Happens, IsSpared, KeepsResults};
 
 use super::Driver;
 use crate::event::{Event, Told};
-use async_cell_core::{Call, Edit, Named, Reply, step};
+use async_cell_core::{Edit, Refusal, Reply};
 
 impl<T: Clone> Driver<T> {
     /// Makes the events happen in order, and returns one outcome for each. The outcome of a refused
@@ -21,7 +18,7 @@ impl<T: Clone> Driver<T> {
         &mut self,
         events: Vec<Event<T, E>>,
     ) -> Result<Vec<Told<T>>, Vec<Event<T, E>>>
-        ensures empty_is_ok { events.items ≡ [] → IsOk result }
+        ensures empty_ok { events.items ≡ [] → IsOk result }
         ensures one_each { IfOk result (λ told. vec_len told ≡ vec_len events) }
         ensures drives { IfOk result (λ told.
             (names : List (List Name)) × (length names ≡ vec_len events)
@@ -45,7 +42,6 @@ impl<T: Clone> Driver<T> {
     }
 
     /// Makes one event happen, and returns its outcome.
-    #[tactic(auto, using(crate::proofs::Polling::spared_refused))]
     fn happen<E: Edit<T> + Drop>(&mut self, event: Event<T, E>) -> Told<T>
         ensures drives { Happens T.is_clone self.old (with_edit E.edit event) result self.new }
         ensures spared { IsSpared T.is_infallible self.old.core.cell
@@ -61,41 +57,35 @@ impl<T: Clone> Driver<T> {
                 Ok(polled) => Told::Polled(polled),
                 Err(why) => Told::Refused(why),
             },
-            call => Told::Reply(self.call(call)),
+            Event::Set(value) => Told::Reply(match self.set(value) {
+                Ok(()) => Reply::Done,
+                Err(back) => Reply::Refused(Refusal::Closed, Some(back)),
+            }),
+            Event::OrSet(value) => Told::Reply(match self.offer(value) {
+                Ok(unused) => Reply::Value(unused),
+                Err(back) => Reply::Refused(Refusal::Closed, Some(back)),
+            }),
+            Event::Replace(value) => Told::Reply(match self.replace(value) {
+                Ok(old) => Reply::Value(old),
+                Err(back) => Reply::Refused(Refusal::Closed, Some(back)),
+            }),
+            Event::Update(edit) => Told::Reply(done(self.update(edit))),
+            Event::TryTake => Told::Reply(Reply::Value(self.try_take())),
+            Event::AddOwner => Told::Reply(done(self.add_owner())),
+            Event::EndOwner => Told::Reply(match self.end() {
+                Ok(last) => Reply::Value(last),
+                Err(why) => Reply::Refused(why, None),
+            }),
         }
-    }
-
-    /// Makes the core's call that an event is, and wakes the tasks whose names it returns. The
-    /// event is neither a start nor a poll.
-    fn call<E: Edit<T> + Drop>(&mut self, event: Event<T, E>) -> Reply<T>
-        requires { is_call event ≡ true }
-        ensures drives { Happens T.is_clone self.old
-            (with_edit E.edit event) (Told.Reply result) self.new }
-        ensures results_stay { KeepsResults self.old self.new }
-    {
-        let answer = step(&mut self.core, call_of(event));
-        self.tasks.wake(answer.woken);
-        answer.reply
     }
 }
 
-/// Returns the core's call that an event is, which is neither a start nor a poll.
-#[tactic(auto, using(crate::proofs::Events::kept_update_is))]
-fn call_of<T, E>(event: Event<T, E>) -> Call<T, Named, E>
-    requires { is_call event ≡ true }
-    ensures same { (edit : E → Option T → Option T) (edit_some : E → T → T)
-        (kinds : List TaskKind) (c : Cell T)
-        → call_of kinds c (with_edit edit event) ≡ Some (kept_call edit edit_some c result) }
-    ensures no_get { is_get result ≡ false }
+/// Returns the reply for the result of a call that returns no value.
+fn done<T>(answer: Result<(), Refusal>) -> Reply<T>
+    ensures { result ≡ done_or answer }
 {
-    match event {
-        Event::Set(value) => Call::Set(value),
-        Event::OrSet(value) => Call::OrSet(value),
-        Event::Replace(value) => Call::Replace(value),
-        Event::Update(edit) => Call::Update(edit),
-        Event::TryTake => Call::TryTake,
-        Event::AddOwner => Call::AddOwner,
-        Event::EndOwner => Call::EndOwner,
-        Event::Start(_) | Event::Poll(_) => unreachable!(),
+    match answer {
+        Ok(()) => Reply::Done,
+        Err(why) => Reply::Refused(why, None),
     }
 }

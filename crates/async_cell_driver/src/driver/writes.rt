@@ -50,10 +50,33 @@ impl<T: Clone> Driver<T> {
         ensures unchanged { OnErr result (self.new ≡ self.old) }
         ensures comes_back { IfErr result (λ back. back ≡ value) }
     {
+        let _unused = self.offer(value)?;
+        Ok(())
+    }
+
+    /// Does what `or_set` does, and returns the value if it was not used.
+    pub(crate) fn offer(&mut self, value: T) -> Result<Option<T>, T>
+        ensures done { IfOk result (λ unused.
+            Happens T.is_clone self.old (Event.OrSet value)
+            (Told.Reply (Reply.Value unused)) self.new) }
+        ensures refused { OnErr result
+            (Happens T.is_clone self.old (Event.OrSet value)
+            (Told.Reply (Reply.Refused Refusal.Closed (Some value))) self.new) }
+        ensures unused { IfOk result (λ unused.
+            Told.Reply (Reply.Value unused) ≡ told_by self.old.core (kept.OrSet value)) }
+
+        ensures if_open { IsOk result ↔ (is_closed self.old.core.cell ≡ false) }
+        ensures holds { OnOk result
+            (is_vacant self.old.core.cell ≡ true → content self.new.core.cell ≡ Some value) }
+        ensures leaves { is_full self.old.core.cell ≡ true
+            → self.new.core.cell ≡ self.old.core.cell }
+        ensures results_stay { KeepsResults self.old self.new }
+        ensures unchanged { OnErr result (self.new ≡ self.old) }
+        ensures comes_back { IfErr result (λ back. back ≡ value) }
+    {
         let (unused, woken) = self.core.or_set(value)?;
         self.tasks.wake(woken);
-        drop(unused);
-        Ok(())
+        Ok(unused)
     }
 
     /// Sets the value and returns the old one. Every waiting task is then ready. Fails on a closed
@@ -147,9 +170,28 @@ impl<T: Clone> Driver<T> {
         ensures results_stay { KeepsResults self.old self.new }
         ensures unchanged { OnErr result (self.new ≡ self.old) }
     {
+        let _last = self.end()?;
+        Ok(())
+    }
+
+    /// Does what `end_owner` does, and returns the value of a cell that it closes.
+    pub(crate) fn end(&mut self) -> Result<Option<T>, Refusal>
+        ensures done { IfOk result (λ last.
+            Happens T.is_clone self.old Event.EndOwner (Told.Reply (Reply.Value last)) self.new) }
+        ensures refused { IfErr result (λ why.
+            Happens T.is_clone self.old Event.EndOwner
+            (Told.Reply (Reply.Refused why None)) self.new) }
+        ensures last { IfOk result (λ last.
+            Told.Reply (Reply.Value last) ≡ told_by self.old.core kept.EndOwner) }
+
+        ensures if_open { IsOk result ↔ (is_closed self.old.core.cell ≡ false) }
+        ensures counted { owners_of self.new.core.cell ≡ owners_of self.old.core.cell - 1 }
+        ensures closes { owners_of self.old.core.cell ≡ 1 → is_closed self.new.core.cell ≡ true }
+        ensures results_stay { KeepsResults self.old self.new }
+        ensures unchanged { OnErr result (self.new ≡ self.old) }
+    {
         let (last, woken) = self.core.end_owner()?;
         self.tasks.wake(woken);
-        drop(last);
-        Ok(())
+        Ok(last)
     }
 }

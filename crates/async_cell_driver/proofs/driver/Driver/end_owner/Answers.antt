@@ -1,14 +1,11 @@
-use Rattle.std.proofs.Common.{refl, Some, None, ap, sym, ◌∙◌}
+use Rattle.std.proofs.Common.{refl, None, ap}
 use Rattle.std.proofs.lemmas.Result.{err_from_is_err_and}
-use Rattle.async_cell_model.specs.declared.entry.Kept.TheVariants as kept
 use Rattle.async_cell_model.specs.declared.reply.Reply.TheVariants as reply
 use Rattle.async_cell_driver.specs.declared.event.Event.TheVariants as event
 use Rattle.async_cell_driver.specs.declared.event.Told.TheVariants as told
-use Rattle.async_cell_model.specs.Step.{reply as model_reply}
 use Rattle.async_cell_driver.specs.DriverState.{DriverState}
-use Rattle.async_cell_driver.specs.History.{told_by}
 use Rattle.async_cell_driver.proofs.Calling.{call_drives, covered_called, results_woken, value_is, last_closes}
-use Rattle.async_cell_driver.proofs.driver.Driver.end_owner.Goals as goal
+use Rattle.async_cell_driver.proofs.driver.Driver.end.Goals as goal
 
 pub returns-in_err-last-clause-refused : goal.returns-in_err-last-clause-refused
 returns-in_err-last-clause-refused g c =
@@ -25,8 +22,7 @@ invariant_of-self-2 g c =
 pub returns-clause-done : goal.returns-clause-done
 returns-clause-done g c =
     let at : DriverState g.row.T.Denot = record { core = c.self.inside.core; tasks = c.self.inside.tasks } in
-    call_drives g.T.Clone.is_clone at c.args.self.now c.self.view_is c.end_owner.new.self c.wake.new.self _ event.EndOwner (told_by c.args.self.now.core kept.EndOwner) _ _ refl
-    (sym (ap Some (value_is _ _ _ _ _ c.in_ok-last.ensures.model) ∙ ap (λ (s : DriverState g.row.T.Denot). Some (model_reply s.core.cell kept.EndOwner)) c.self.view_is)) (λ i. refl) refl (λ count ready names. tt)
+    call_drives g.T.Clone.is_clone at c.args.self.now c.self.view_is c.end_owner.new.self c.wake.new.self _ event.EndOwner (told.Reply (reply.Value c.in_ok-last.last)) _ _ refl refl (λ i. refl) refl (λ count ready names. tt)
     c.self.invariant c.in_ok-last.ensures.model c.wake.ensures
 
 pub returns-clause-results_stay : goal.returns-clause-results_stay
@@ -35,4 +31,7 @@ returns-clause-results_stay g c i =
     results_woken c.in_ok-last.woken at c.args.self.now c.wake.new.self c.self.view_is c.wake.ensures i
 
 pub returns-clause-last : goal.returns-clause-last
-returns-clause-last g c = rw (← c.self.view_is) (λ sole. last_closes _ _ _ _ c.in_ok-last.ensures.model sole)
+returns-clause-last g c = rw (← c.self.view_is) (ap told.Reply (value_is _ _ _ _ _ c.in_ok-last.ensures.model))
+
+pub returns-clause-closes : goal.returns-clause-closes
+returns-clause-closes g c = rw (← c.self.view_is) (λ sole. last_closes _ _ _ _ c.in_ok-last.ensures.model sole)

@@ -1,15 +1,12 @@
-use Rattle.std.proofs.Common.{refl, Some, ap, sym, ◌∙◌}
+use Rattle.std.proofs.Common.{refl, Some, ap, sym}
 use Rattle.std.proofs.lemmas.Result.{err_from_is_err_and}
-use Rattle.async_cell_model.specs.declared.entry.Kept.TheVariants as kept
 use Rattle.async_cell_model.specs.declared.reply.Reply.TheVariants as reply
 use Rattle.async_cell_model.specs.declared.refusal.Refusal.TheVariants as why
 use Rattle.async_cell_driver.specs.declared.event.Event.TheVariants as event
 use Rattle.async_cell_driver.specs.declared.event.Told.TheVariants as told
-use Rattle.async_cell_model.specs.Step.{reply as model_reply}
 use Rattle.async_cell_driver.specs.DriverState.{DriverState}
-use Rattle.async_cell_driver.specs.History.{told_by}
 use Rattle.async_cell_driver.proofs.Calling.{call_drives, covered_called, results_woken, value_is, offer_holds, offer_leaves}
-use Rattle.async_cell_driver.proofs.driver.Driver.or_set.Goals as goal
+use Rattle.async_cell_driver.proofs.driver.Driver.offer.Goals as goal
 
 pub returns-in_err-unused-clause-refused : goal.returns-in_err-unused-clause-refused
 returns-in_err-unused-clause-refused g c =
@@ -27,14 +24,16 @@ invariant_of-self-2 g c =
 pub returns-clause-done : goal.returns-clause-done
 returns-clause-done g c =
     let at : DriverState g.row.T.Denot = record { core = c.self.inside.core; tasks = c.self.inside.tasks } in
-    call_drives g.T.Clone.is_clone at c.args.self.now c.self.view_is c.or_set.new.self c.wake.new.self _ (event.OrSet c.args.value) (told_by c.args.self.now.core (kept.OrSet c.args.value)) _ _ refl
-    (sym (ap Some (value_is _ _ _ _ _ c.in_ok-unused.ensures.model) ∙ ap (λ (s : DriverState g.row.T.Denot). Some (model_reply s.core.cell (kept.OrSet c.args.value))) c.self.view_is)) (λ i. refl) refl (λ count ready names. tt)
+    call_drives g.T.Clone.is_clone at c.args.self.now c.self.view_is c.or_set.new.self c.wake.new.self _ (event.OrSet c.args.value) (told.Reply (reply.Value c.in_ok-unused.unused)) _ _ refl refl (λ i. refl) refl (λ count ready names. tt)
     c.self.invariant c.in_ok-unused.ensures.model c.wake.ensures
 
 pub returns-clause-results_stay : goal.returns-clause-results_stay
 returns-clause-results_stay g c i =
     let at : DriverState g.row.T.Denot = record { core = c.self.inside.core; tasks = c.self.inside.tasks } in
     results_woken c.in_ok-unused.woken at c.args.self.now c.wake.new.self c.self.view_is c.wake.ensures i
+
+pub returns-clause-unused : goal.returns-clause-unused
+returns-clause-unused g c = rw (← c.self.view_is) (ap told.Reply (value_is _ _ _ _ _ c.in_ok-unused.ensures.model))
 
 pub returns-clause-holds : goal.returns-clause-holds
 returns-clause-holds g c = rw (← c.self.view_is) (offer_holds _ _ _ _ _ c.in_ok-unused.ensures.model)
