@@ -74,11 +74,8 @@ impl<T: Drop, W: Wakes> LockedCore<T, W> {
         ensures comes_back { IfErr result (λ back. back ≡ value) }
     {
         let mut core = self.lock(rt);
-        let written = core.or_set(value);
-        drop(core); // What is woken or dropped may call this cell: never under the lock.
-        let (refused, woken) = written?;
-        woken.wake_all();
-        refused.map_or(Ok(()), Err)
+        let written = core.try_set(value);
+        core.unlock_and_wake(written)
     }
 
     /// Calls the closure on the content and stores what it returns, all while the lock is held.

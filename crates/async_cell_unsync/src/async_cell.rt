@@ -86,11 +86,8 @@ impl<T: Drop> AsyncCell<T> {
         let Some(mut core) = self.lend() else {
             return Err(value);
         };
-        let written = core.or_set(value);
-        drop(core); // What is woken or dropped may call this cell: never while the core is lent.
-        let (unused, woken) = written?;
-        woken.wake_all();
-        unused.map_or(Ok(()), Err)
+        let written = core.try_set(value);
+        core.give_back_and_wake(written)
     }
 
     /// Sets the value and returns the old one. Wakes all waiters.
@@ -159,7 +156,11 @@ impl<T: Drop> AsyncCell<T> {
 
     /// Returns whether the cell is closed.
     pub fn is_closed(&self) -> bool {
-        self.lend().is_some_and(|core| core.is_closed())
+        let Some(core) = self.lend() else {
+            return false;
+        };
+        let is_closed = core.is_closed();
+        core.give_back(Held::of(is_closed))
     }
 
     /// Returns the content. Wakes all waiters.

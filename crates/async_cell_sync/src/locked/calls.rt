@@ -59,6 +59,17 @@ impl<T: Drop, W: Wakes> Locked<'_, T, W> {
         Waking::of_result(self.core.or_set(value))
     }
 
+    /// `or_set`, with a value that was not used in the error.
+    #[inline(always)]
+    pub(crate) fn try_set(&mut self, value: T) -> Waking<Result<(), T>, W>
+        ensures comes_back { IfErr result.answer (λ back. back ≡ value) }
+    {
+        match self.core.or_set(value) {
+            Ok((unused, woken)) => Waking::of(unused.map_or(Ok(()), Err), woken),
+            Err(value) => Waking::nobody(Err(value)),
+        }
+    }
+
     /// The closure is also held, if it was not called.
     #[inline(always)]
     pub(crate) fn update<F: FnOnce(Option<T>) -> Option<T> + Drop>(

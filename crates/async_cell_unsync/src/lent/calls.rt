@@ -21,6 +21,11 @@ impl<T: Drop> Lent<'_, T> {
     }
 
     #[inline(always)]
+    pub(crate) fn is_closed(&self) -> bool {
+        self.core.is_closed()
+    }
+
+    #[inline(always)]
     pub(crate) fn waiting(&self) -> usize {
         self.core.waiting()
     }
@@ -49,6 +54,23 @@ impl<T: Drop> Lent<'_, T> {
     #[inline(always)]
     pub(crate) fn or_set(&mut self, value: T) -> Waking<Result<Option<T>, T>> {
         Waking::of(self.core.or_set(value))
+    }
+
+    /// `or_set`, with a value that was not used in the error.
+    #[inline(always)]
+    pub(crate) fn try_set(&mut self, value: T) -> Waking<Result<(), T>>
+        ensures comes_back { IfErr result.answer (λ back. back ≡ value) }
+    {
+        match self.core.or_set(value) {
+            Ok((unused, woken)) => Waking {
+                answer: unused.map_or(Ok(()), Err),
+                woken: Some(woken),
+            },
+            Err(value) => Waking {
+                answer: Err(value),
+                woken: None,
+            },
+        }
     }
 
     #[inline(always)]
