@@ -1,10 +1,5 @@
 ghost use Rattle.std.specs.Prelude.{◌≡◌, ◌⊎◌, Err, IfOk, IfErr, IfSome};
-ghost use Rattle.async_cell_unsync.specs.Names.{
-  IsLost,
-  NameAtMostTheSame,
-  Names,
-  NameTheSame,
-};
+ghost use Rattle.async_cell_unsync.specs.Names.{IsLost, NameAtMostTheSame, Names, NameTheSame};
 ghost use Rattle.async_cell_unsync.specs.Owned.{cell_owned};
 
 use crate::owner::Owner;
