@@ -70,7 +70,7 @@ module _ {T W : Type 0} (will_wake : W → W → Bool) where
   next-covers s (Write x) w quiet covered = write_covers (is_writable s) s x w quiet covered
   next-covers s Read w quiet covered = covered
   next-covers s (PollChanged seen v) w quiet covered =
-      either (λ (t : State T W). IsCovered will_wake t.waiting w) (is_waited_for s seen) (registered will_wake s v) s (covered_if s.waiting v w (skips will_wake s.waiting v) covered) covered
+      either (λ (t : State T W). IsCovered will_wake t.waiting w) (is_waited_for s seen) (registered will_wake s v) s (covered_if will_wake s.waiting v w (skips will_wake s.waiting v) covered) covered
   next-covers s AddWriter w quiet covered = either (λ (t : State T W). IsCovered will_wake t.waiting w) (is_closed s || nat_eq s.writers writers_limit) s (record s { writers = s.writers + 1 }) covered covered
   next-covers s EndWriter w quiet covered = end_covers (nat_eq s.writers 1) s w quiet covered
 
@@ -88,7 +88,7 @@ module _ {T W : Type 0} (will_wake : W → W → Bool) where
   poll_covers s v w true true waits is = let off = ap is_pending waits in cc
   poll_covers s v w true false waits is =
       let same : v ≡ w = cc in
-      subst (λ (u : W). IsCovered will_wake (registered will_wake s v).waiting u) same (covers_one s.waiting v (skips will_wake s.waiting v) refl)
+      subst (λ (u : W). IsCovered will_wake (registered will_wake s v).waiting u) same (covers_one will_wake s.waiting v (skips will_wake s.waiting v) refl)
 
   pending_covers : (s : State T W) (call : Call T W) (r : Reply T) (w : W) → r ≡ reply s call → pending_waker call r ≡ Some w → IsCovered will_wake (if is_memory r then s else next will_wake s call).waiting w
   pending_covers s (PollChanged seen v) Pending w own is = poll_covers s v w (nat_eq seen s.version) (is_closed s) (sym own) is
