@@ -31,7 +31,7 @@ pub fn a_poll_shows_the_last_state<T, W>()
         (seen : ℕ) (w : W) → IsLegal will_wake sure b (g ++ e ∷ rest)
         → e.call ≡ PollChanged seen w → is_memory e.reply ≡ false → has_write rest ≡ false
         → (e.reply ≡ Shown (after will_wake b (g ++ e ∷ rest)).version
-            (after will_wake b (g ++ e ∷ rest)).value)
+        (after will_wake b (g ++ e ∷ rest)).value)
         ⊎ (seen ≡ (after will_wake b (g ++ e ∷ rest)).version) }
     ensures seen { (will_wake : W → W → Bool) (sure : Bool)
         (b : State T W) (g : History T W) (e : Entry T W) (rest mine : History T W)

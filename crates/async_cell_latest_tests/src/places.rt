@@ -57,10 +57,20 @@ fn a_future_holds_one_place_from_poll_to_poll(rt: HostRuntime) {
     let mut latest: Followed = Latest::new(rt.alloc(), 5);
     let mut place = Place::new();
     same(&rt, "new", latest.take_back(&mut place).is_some(), false);
-    same(&rt, "stored", store(&rt, &mut latest, &mut place, &first), false);
+    same(
+        &rt,
+        "stored",
+        store(&rt, &mut latest, &mut place, &first),
+        false,
+    );
     let back = latest.take_back(&mut place);
     same(&rt, "back", back.is_some(), true);
-    same(&rt, "stored", store(&rt, &mut latest, &mut place, &again), true);
+    same(
+        &rt,
+        "stored",
+        store(&rt, &mut latest, &mut place, &again),
+        true,
+    );
     same(&rt, "waiting", latest.waiting(), 1);
 }
 
@@ -74,7 +84,12 @@ fn a_place_that_is_left_is_free_and_its_waker_can_be_taken_out(rt: HostRuntime) 
     same(&rt, "woken", first.is_woken(), false);
     same(&rt, "taken out", latest.take_left(0).is_some(), true);
     same(&rt, "woken", first.is_woken(), true);
-    same(&rt, "taken over", store(&rt, &mut latest, &mut next, &second), true);
+    same(
+        &rt,
+        "taken over",
+        store(&rt, &mut latest, &mut next, &second),
+        true,
+    );
     same(&rt, "waiting", latest.waiting(), 1);
 }
 

@@ -4,9 +4,15 @@ use std::test::Fail;
 #[test]
 fn a_state_prints_its_value_and_whether_it_is_closed(rt: HostRuntime) -> Result<(), Fail> {
     let mut latest: Latest<Option<u64>, Named> = Latest::new(rt.alloc(), Some(5));
-    assert_eq!(rt; format!(in rt.alloc(); "{latest:?}")?.as_str(), "Latest(Some(5))");
+    assert_eq!(rt;
+        format!(in rt.alloc(); "{latest:?}")?.as_str(),
+        "Latest(Some(5))"
+    );
     drop(latest.end_writer());
-    assert_eq!(rt; format!(in rt.alloc(); "{latest:?}")?.as_str(), "Latest::Closed(Some(5))");
+    assert_eq!(rt;
+        format!(in rt.alloc(); "{latest:?}")?.as_str(),
+        "Latest::Closed(Some(5))"
+    );
     Ok(())
 }
 

@@ -27,12 +27,7 @@ fn then<'a>(call: Call<Named>, reply: Reply, woken: &'a [Named], waiting: usize)
 
 /// A poll that waits, and how many wait after it.
 fn waits<'a>(seen: u64, waker: Named, waiting: usize) -> Row<'a> {
-    then(
-        Call::PollChanged(seen, waker),
-        Reply::Pending,
-        &[],
-        waiting,
-    )
+    then(Call::PollChanged(seen, waker), Reply::Pending, &[], waiting)
 }
 
 /// A poll that need not wait.

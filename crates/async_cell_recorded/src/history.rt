@@ -21,7 +21,7 @@ pub struct History<T> {
 impl<T> Model for History<T> {
     ghost use Rattle.std.specs.Prelude.{◌≡◌};
     ghost use Rattle.async_cell_model.specs.Refusal.{FailsWithMemory};
-ghost use Rattle.async_cell_recorded.specs.Recording.{Recording, IsRecorded};
+    ghost use Rattle.async_cell_recorded.specs.Recording.{Recording, IsRecorded};
 
     ghost Value = { Recording T };
 

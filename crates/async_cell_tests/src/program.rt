@@ -92,4 +92,10 @@ macro_rules! cells {
     }};
 }
 
-pub(crate) use {calls, cells, follows, guards, notices, reads, replies};
+pub(crate) use calls;
+pub(crate) use cells;
+pub(crate) use follows;
+pub(crate) use guards;
+pub(crate) use notices;
+pub(crate) use reads;
+pub(crate) use replies;

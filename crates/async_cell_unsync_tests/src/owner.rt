@@ -1,9 +1,7 @@
 //! Owners with the cell's calls, weak owners, and the futures, guards and streams that they make.
 use crate::checks::{holds, same};
 use crate::ticks::{task, tick_future};
-use async_cell_unsync::{
-    AsyncCell, Guard, Owner, Refusal, Request, Shared, Take, WeakOwner,
-};
+use async_cell_unsync::{AsyncCell, Guard, Owner, Refusal, Request, Shared, Take, WeakOwner};
 use futures::StreamExt;
 use futures::task::Poll;
 use std::alloc::{AllocError, Global};
@@ -193,8 +191,16 @@ fn a_clone_of_a_weak_owner_and_its_futures_are_no_owners(rt: HostRuntime) {
     let owner = owner_of(4u32, &rt);
     let weak = cloned(&owner.downgrade(), &rt);
     let (mut getter, mut taker) = (weak.get(), weak.take());
-    same(&rt, tick_future(&mut getter, &flag), Poll::Ready(Ok(Some(4))));
-    same(&rt, tick_future(&mut taker, &flag), Poll::Ready(Ok(Some(4))));
+    same(
+        &rt,
+        tick_future(&mut getter, &flag),
+        Poll::Ready(Ok(Some(4))),
+    );
+    same(
+        &rt,
+        tick_future(&mut taker, &flag),
+        Poll::Ready(Ok(Some(4))),
+    );
     drop(owner);
     is_open(&rt, &weak, false);
 }
@@ -207,7 +213,11 @@ fn futures_of_an_owner_wait_for_its_values(rt: HostRuntime) {
     same(&rt, tick_future(&mut signal, &flag), Poll::Pending);
     owner.notify();
     holds(&rt, flag.is_woken());
-    same(&rt, tick_future(&mut owner.get(), &flag), Poll::Ready(Ok(())));
+    same(
+        &rt,
+        tick_future(&mut owner.get(), &flag),
+        Poll::Ready(Ok(())),
+    );
     same(&rt, tick_future(&mut signal, &flag), Poll::Ready(Ok(())));
     let mut last = future_of(owner.wait_shared(), &rt);
     owner.notify();

@@ -99,11 +99,7 @@ impl<T: Drop> AsyncCell<T> {
 
     /// Adds a waker of the task to the wait list of the core, which must be vacant. It is a new
     /// one: so nothing is dropped, and nobody woken, while the lock is held.
-    fn add(
-        &self,
-        mut core: Locked<'_, T, TaskWaker>,
-        cx: &mut Context<'_>,
-    ) -> Result<(), Refusal>
+    fn add(&self, mut core: Locked<'_, T, TaskWaker>, cx: &mut Context<'_>) -> Result<(), Refusal>
         requires { is_vacant (mutex_guard_value core.core).cell ≡ true }
         ensures armed { IsArmed cx.new }
         ensures heard { Hears cx.new (source_of self.now) }

@@ -68,11 +68,7 @@ impl<T: Drop> Locked<'_, T, TaskWaker> {
     /// Stores the waker in the place, or as the last. The core must be vacant. Fails with `Memory`
     /// if there is no waker, or no memory for the growth of the list.
     #[inline(always)]
-    pub(crate) fn store(
-        &mut self,
-        place: &mut Place,
-        waker: Held<Option<Waker>>,
-    ) -> Held<Stored>
+    pub(crate) fn store(&mut self, place: &mut Place, waker: Held<Option<Waker>>) -> Held<Stored>
         requires { is_vacant (mutex_guard_value self.old.core).cell ≡ true }
         ensures refused { FailsWithMemory result.answer.0 }
     {
