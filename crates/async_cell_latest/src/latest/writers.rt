@@ -48,7 +48,7 @@ impl<T: Drop, W: Wakes> Latest<T, W> {
             }
             more => {
                 self.writers = more - 1;
-                Ok(self.waiting.no_wakers())
+                Ok(Wakers::none())
             }
         }
     }
