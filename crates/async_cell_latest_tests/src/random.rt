@@ -24,7 +24,7 @@ impl Numbers {
     /// version.
     fn state(&mut self) -> Seen {
         let version = match self.below(6) {
-            0 => LAST_VERSION - self.below(3),
+            0 => LAST_VERSION.wrapping_sub(self.below(3)),
             _ => self.below(4).wrapping_add(1),
         };
         let writers = match self.below(8) {
