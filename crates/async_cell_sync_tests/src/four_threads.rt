@@ -135,8 +135,8 @@ fn set_each<R: Wait + Copy>(owner: Owner<u32, R>, run: &Run) -> bool {
     are_taken
 }
 
-/// Makes getters that wait, drops some of them and cancels another. A waker that is left is all that
-/// is left of its executor, so whoever takes over its place is busy for a while.
+/// Makes getters that wait, drops some of them and cancels another. A waker that is left is all
+/// that is left of its executor, so whoever takes over its place is busy for a while.
 fn disturb<R>(owner: &Owner<u32, R>, flag: &MockTask, turn: u32, rt: &R)
 where
     R: Wait + Copy + RandomSource + AllocGlobal,

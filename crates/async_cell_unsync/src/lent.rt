@@ -25,8 +25,8 @@ pub(crate) struct Lent<'a, T> {
 }
 
 /// Something that must not be dropped while the core is lent, such as what came out of it. It is
-/// not `Drop` and must be consumed: by `Lent::give_back`, which returns it, or by a call that stores
-/// it in the core.
+/// not `Drop` and must be consumed: by `Lent::give_back`, which returns it, or by a call that
+/// stores it in the core.
 pub(crate) struct Held<X> {
     answer: X,
 }

@@ -184,8 +184,8 @@ impl<T: Drop> Future for TakeWeak<T> {
 }
 
 /// A future that clones the value of a cell, leaves it, and is not an owner of the cell. It may be
-/// polled again after it was ready. Each poll that waits may add a waker: `with` makes a future that
-/// does not.
+/// polled again after it was ready. Each poll that waits may add a waker: `with` makes a future
+/// that does not.
 #[derive(Drop)]
 pub struct GetWeak<T>(pub Weak<T>);
 

@@ -1,5 +1,5 @@
-//! The calls of a locked core. Each makes the call of `Core` of its name, and holds its answer until
-//! the lock is free.
+//! The calls of a locked core. Each makes the call of `Core` of its name, and holds its answer
+//! until the lock is free.
 ghost use Rattle.std.specs.Prelude.{◌≡◌, ◌⊎◌, IsOk, IfErr, IfSome, IsSomeAnd, OnOk, Option};
 ghost use Rattle.std.specs.Sync.Mutex.{mutex_guard_value};
 ghost use Rattle.async_cell_model.specs.Cell.{is_vacant};

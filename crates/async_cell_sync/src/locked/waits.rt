@@ -1,5 +1,5 @@
-//! The calls of a locked core for futures that wait. A waker that is dropped wakes its task, so each
-//! that is not stored is held until the lock is free.
+//! The calls of a locked core for futures that wait. A waker that is dropped wakes its task, so
+//! each that is not stored is held until the lock is free.
 ghost use Rattle.std.specs.Prelude.{◌≡◌, true};
 ghost use Rattle.std.specs.Sync.Mutex.{mutex_guard_value};
 ghost use Rattle.futures.specs.Task.{Hears, IsArmed, Keeps};

@@ -1,5 +1,5 @@
-//! The calls of a core that is lent. Each makes the call of `Core` of its name, and holds its answer
-//! until the core is given back.
+//! The calls of a core that is lent. Each makes the call of `Core` of its name, and holds its
+//! answer until the core is given back.
 ghost use Rattle.std.specs.Prelude.{◌≡◌, ◌⊎◌, IfErr};
 ghost use Rattle.std.specs.RefCell.{ref_mut_value};
 ghost use Rattle.async_cell_model.specs.Cell.{is_vacant};
