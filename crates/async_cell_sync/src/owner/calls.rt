@@ -1,5 +1,5 @@
 //! The calls of the cell, by an owner that keeps its right to wait.
-ghost use Rattle.std.specs.Prelude.{IsOk};
+ghost use Rattle.std.specs.Prelude.{◌≡◌, IsOk, IfErr};
 ghost use Rattle.async_cell_model.specs.Refusal.{FailsWithMemory};
 
 use super::Owner;
