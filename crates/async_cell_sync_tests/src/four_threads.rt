@@ -5,8 +5,8 @@
 //!
 //! The gate runs two hundred rounds. Where the polls of a cell were changed, set `ROUNDS` to 10,000
 //! and run `rt try --test` in this crate: on a busy machine the test then takes 40 seconds.
-use crate::owners_of::first;
 use crate::no_wake_lost::Restless;
+use crate::owners_of::first;
 use crate::ticks::tick_mut;
 use async_cell_suite::checks::{holds, same};
 use async_cell_suite::slot::task;

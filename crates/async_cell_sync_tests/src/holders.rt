@@ -14,16 +14,16 @@ pub fn cell<T: Drop, R: Alloc<A = Global> + Copy>(rt: R) -> AsyncCell<T> {
 
 /// A cell that is lent, and the right to wait for its lock.
 #[derive_where(Clone, Copy; R)]
-pub struct Lent<'a, T, R> {
+pub struct LentCell<'a, T, R> {
     cell: &'a AsyncCell<T>,
     rt: R,
 }
 
-pub fn lent<T: Drop, R: Copy>(cell: &AsyncCell<T>, rt: R) -> Lent<'_, T, R> {
-    Lent { cell, rt }
+pub fn lent<T: Drop, R: Copy>(cell: &AsyncCell<T>, rt: R) -> LentCell<'_, T, R> {
+    LentCell { cell, rt }
 }
 
-impl<'a, T: Clone + Debug, R: Wait + Copy> Slot<T> for Lent<'a, T, R> {
+impl<'a, T: Clone + Debug, R: Wait + Copy> Slot<T> for LentCell<'a, T, R> {
     type Taker = Held<With<Take<&'a AsyncCell<T>>, R>>;
 
     type Getter = Held<With<Get<&'a AsyncCell<T>>, R>>;
@@ -105,16 +105,16 @@ impl<'a, T: Clone + Debug, R: Wait + Copy> Slot<T> for Lent<'a, T, R> {
 
 /// An owner that is lent.
 #[derive_where(Clone, Copy; R)]
-pub struct Owned<'a, T: Drop, R: Wait + Drop> {
+pub struct LentOwner<'a, T: Drop, R: Wait + Drop> {
     owner: &'a Owner<T, R>,
     rt: R,
 }
 
-pub fn owned<T: Drop, R: Wait + Copy>(owner: &Owner<T, R>, rt: R) -> Owned<'_, T, R> {
-    Owned { owner, rt }
+pub fn owned<T: Drop, R: Wait + Copy>(owner: &Owner<T, R>, rt: R) -> LentOwner<'_, T, R> {
+    LentOwner { owner, rt }
 }
 
-impl<'a, T: Clone + Debug, R: Wait + Copy> Slot<T> for Owned<'a, T, R> {
+impl<'a, T: Clone + Debug, R: Wait + Copy> Slot<T> for LentOwner<'a, T, R> {
     type Taker = Held<With<Take<&'a AsyncCell<T>>, R>>;
 
     type Getter = Held<With<Get<&'a AsyncCell<T>>, R>>;
@@ -194,7 +194,7 @@ impl<'a, T: Clone + Debug, R: Wait + Copy> Slot<T> for Owned<'a, T, R> {
     }
 }
 
-impl<R: Wait + Copy> Bell for Lent<'_, (), R> {
+impl<R: Wait + Copy> Bell for LentCell<'_, (), R> {
     fn notify(self) {
         self.cell.notify(&self.rt);
     }
@@ -204,7 +204,7 @@ impl<R: Wait + Copy> Bell for Lent<'_, (), R> {
     }
 }
 
-impl<R: Wait + Copy> Bell for Owned<'_, (), R> {
+impl<R: Wait + Copy> Bell for LentOwner<'_, (), R> {
     fn notify(self) {
         self.owner.notify();
     }

@@ -13,15 +13,15 @@ pub fn cell<T: Drop, R: Alloc<A = Global> + Copy>(rt: R) -> AsyncCell<T> {
 
 /// A cell that is lent.
 #[derive_where(Clone, Copy)]
-pub struct Lent<'a, T> {
+pub struct LentCell<'a, T> {
     cell: &'a AsyncCell<T>,
 }
 
-pub fn lent<T: Drop>(cell: &AsyncCell<T>) -> Lent<'_, T> {
-    Lent { cell }
+pub fn lent<T: Drop>(cell: &AsyncCell<T>) -> LentCell<'_, T> {
+    LentCell { cell }
 }
 
-impl<'a, T: Clone + Debug> Slot<T> for Lent<'a, T> {
+impl<'a, T: Clone + Debug> Slot<T> for LentCell<'a, T> {
     type Taker = Held<With<Take<&'a AsyncCell<T>>>>;
 
     type Getter = Held<With<Get<&'a AsyncCell<T>>>>;
@@ -103,15 +103,15 @@ impl<'a, T: Clone + Debug> Slot<T> for Lent<'a, T> {
 
 /// An owner that is lent.
 #[derive_where(Clone, Copy)]
-pub struct Owned<'a, T: Drop> {
+pub struct LentOwner<'a, T: Drop> {
     owner: &'a Owner<T>,
 }
 
-pub fn owned<T: Drop>(owner: &Owner<T>) -> Owned<'_, T> {
-    Owned { owner }
+pub fn owned<T: Drop>(owner: &Owner<T>) -> LentOwner<'_, T> {
+    LentOwner { owner }
 }
 
-impl<'a, T: Clone + Debug> Slot<T> for Owned<'a, T> {
+impl<'a, T: Clone + Debug> Slot<T> for LentOwner<'a, T> {
     type Taker = Held<With<Take<&'a AsyncCell<T>>>>;
 
     type Getter = Held<With<Get<&'a AsyncCell<T>>>>;
@@ -191,7 +191,7 @@ impl<'a, T: Clone + Debug> Slot<T> for Owned<'a, T> {
     }
 }
 
-impl Bell for Lent<'_, ()> {
+impl Bell for LentCell<'_, ()> {
     fn notify(self) {
         self.cell.notify();
     }
@@ -201,7 +201,7 @@ impl Bell for Lent<'_, ()> {
     }
 }
 
-impl Bell for Owned<'_, ()> {
+impl Bell for LentOwner<'_, ()> {
     fn notify(self) {
         self.owner.notify();
     }
