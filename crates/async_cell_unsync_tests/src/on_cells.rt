@@ -5,8 +5,7 @@ use crate::owning::{first_owner, weak_getter, weak_taker};
 use async_cell_suite::checks::{holds, same};
 use async_cell_suite::random_calls::{self, LISTS};
 use async_cell_suite::slot::{Slot, rest, task};
-use async_cell_suite::{all_calls, all_left, all_places};
-use async_cell_suite::{cloned, drops, places, table, texts};
+use async_cell_suite::{all_calls, all_left, all_places, cloned, drops, places, table, texts};
 use async_cell_unsync::{AsyncCell, Request};
 use futures::task::Poll;
 use std::alloc::AllocError;
@@ -72,7 +71,11 @@ fn values_of_a_closed_cell(rt: HostRuntime) {
 #[test]
 fn a_cell_gives_its_content_and_wakes(rt: HostRuntime) {
     same(&rt, AsyncCell::<u32>::new(rt.alloc()).into_inner(), None);
-    same(&rt, AsyncCell::new_with(rt.alloc(), 3u32).into_inner(), Some(3));
+    same(
+        &rt,
+        AsyncCell::new_with(rt.alloc(), 3u32).into_inner(),
+        Some(3),
+    );
     let flag = task(&rt);
     let cell: AsyncCell<u32> = cell(rt);
     same(&rt, lent(&cell).poll_take(&flag), Poll::Pending);

@@ -3,8 +3,10 @@ use crate::holders::owned;
 use crate::owners_of::{first, owner_of};
 use async_cell_suite::checks::same;
 use async_cell_suite::random_calls::{self, LISTS};
-use async_cell_suite::{all_calls, all_left, all_owners, all_places, all_weak};
-use async_cell_suite::{cloned, drops, guards, places, random_owners, texts};
+use async_cell_suite::{
+    all_calls, all_left, all_owners, all_places, all_weak, cloned, drops, guards, places,
+    random_owners, texts,
+};
 use std::alloc::AllocError;
 use std::cell::Cell;
 

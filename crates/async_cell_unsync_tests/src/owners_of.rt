@@ -1,7 +1,7 @@
 //! What the suite of owners is run on: an `Owner`, and the futures, guards and streams that it
 //! makes.
 use crate::held::Held;
-use async_cell_suite::owns::{CellOwner, BellOwner, Yields};
+use async_cell_suite::owns::{BellOwner, CellOwner, Yields};
 use async_cell_unsync::{
     Get, GetWeak, Guard, Owner, Refusal, Take, TakeWeak, Values, WeakOwner, With,
 };
