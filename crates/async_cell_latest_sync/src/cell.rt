@@ -61,7 +61,8 @@ impl<T: Drop> LatestCell<T> {
         F: FnOnce(&T) -> T,
         R: Wait,
         requires { F.IsAlwaysCallable change }
-        ensures called { IfErr result (λ back. (seen : T) × FnOnceReturnsAt F.FnOnce change seen back) }
+        ensures called { IfErr result (λ back.
+            (seen : T) × FnOnceReturnsAt F.FnOnce change seen back) }
     {
         let mut core = self.lock(rt);
         let (_, old) = core.read();

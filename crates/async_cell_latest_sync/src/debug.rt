@@ -1,5 +1,5 @@
-//! How owners, followers and their futures print: by their names. None shows its state, for which it
-//! would need the lock.
+//! How owners, followers and their futures print: by their names. None shows its state, for which
+//! it would need the lock.
 use crate::changed::Changed;
 use crate::follower::Follower;
 use crate::owner::Owner;

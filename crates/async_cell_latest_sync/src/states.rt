@@ -17,8 +17,8 @@ use std::sync::Wait;
 /// An item is an error (`Memory`) if a poll was refused; the stream may be polled on, and misses
 /// nothing by it.
 ///
-/// While it waits it holds one place in the wait list, as `Changed` does. **Dropping it may wait for
-/// the lock**, and wakes nobody.
+/// While it waits it holds one place in the wait list, as `Changed` does. **Dropping it may wait
+/// for the lock**, and wakes nobody.
 pub struct States<T: Drop, R: Wait + Drop> {
     follower: Follower<T, R>,
     place: Place,

@@ -12,8 +12,8 @@ use std::sync::Wait;
 
 /// The future of `Follower::wait_for`.
 ///
-/// While it waits it holds one place in the wait list, as `Changed` does. **Dropping it may wait for
-/// the lock**, and wakes nobody.
+/// While it waits it holds one place in the wait list, as `Changed` does. **Dropping it may wait
+/// for the lock**, and wakes nobody.
 pub struct WaitFor<'a, T: Drop, R: Wait + Drop, F: Drop> {
     follower: &'a mut Follower<T, R>,
     place: Place,

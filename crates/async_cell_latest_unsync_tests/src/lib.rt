@@ -1,5 +1,5 @@
-//! Tests of the state of one thread that many follow, in a crate of their own so that the library is
-//! not proved twice.
+//! Tests of the state of one thread that many follow, in a crate of their own so that the library
+//! is not proved twice.
 #![tactic(auto)]
 
 #[cfg(test)]

@@ -8,8 +8,8 @@ use async_cell_latest::{Latest, Refusal, TaskWaker};
 use std::cell::Ref;
 
 impl<T: Drop> LatestCell<T> {
-    /// Borrows the state for a look. Whoever does so calls `settle` when the look has ended. Returns
-    /// `None` during a step, which no caller ever sees.
+    /// Borrows the state for a look. Whoever does so calls `settle` when the look has ended.
+    /// Returns `None` during a step, which no caller ever sees.
     pub(crate) fn glance(&self) -> Option<Ref<'_, Latest<T, TaskWaker>>> {
         self.core.try_borrow().ok()
     }
