@@ -38,6 +38,7 @@ done <"$cases/cases.tsv"
 left=${#expected[@]} passed=0 failed=0
 for snippet in "$cases"/*.txt; do
     name=$(basename "$snippet" .txt)
+    case $only in '  ' | *" $name "*) ;; *) continue ;; esac
     [ -n "${expected[$name]:-}" ] || { echo "failed $name: no case names it" && failed=1; }
 done
 
