@@ -18,7 +18,7 @@ for crate in "${needed[@]}"; do
     cp -a "$top/crates/$crate" "$work/crates/"
     grep "^$crate:" "$top/crates.txt" >>"$work/crates.txt"
 done
-echo "bench: ${needed[*]} futures" >>"$work/crates.txt"
+echo "bench: ${needed[*]} futures tokio" >>"$work/crates.txt"
 
 # Makes the program NAME. A run without arguments proves, builds, and runs nothing.
 build() {

@@ -26,6 +26,9 @@ The operations:
   unparks them, which are two ways to sleep. Only the time is given, for a question and its reply:
   callgrind runs one thread at a time.
 
+Below the table stands what a reply slot takes that is handed to another thread, as the median of
+the ratios of runs in turn, by an Owner and by a oneshot channel of the kit's `tokio`.
+
 The rows:
 
 - Core, LockedCore: wakers of the bench's own.
@@ -73,6 +76,7 @@ COLUMNS = [
 COUNTED_POLLS = 4096
 IN_THREADS = ["LockedCore", "sync", "sync Owner"]
 NAMED_WAKERS = ["Core", "LockedCore"]
+HANDED_ROUNDS = 20_000
 
 
 def applies(kind, workload, waiters):
@@ -123,6 +127,21 @@ def nanoseconds(programs, kind, workload, waiters, rounds, repeats):
     return statistics.median(times)
 
 
+def timed(programs, kind):
+    """Runs the slots that are handed over, of one kind, and returns the nanoseconds of a run."""
+    run = output_of(os.path.join(programs, "handed"), kind, "handed", str(HANDED_ROUNDS), "1")
+    counted, taken = map(int, run.stdout.split())
+    if counted != HANDED_ROUNDS * (HANDED_ROUNDS - 1) // 2:
+        raise SystemExit(f"bench: {kind} handed: counted {counted}")
+    return taken
+
+
+def handed(programs, repeats):
+    """Returns by how much an Owner takes longer than a oneshot channel."""
+    pairs = [(timed(programs, "sync-Owner"), timed(programs, "oneshot")) for _ in range(repeats)]
+    return statistics.median(owner / oneshot for owner, oneshot in pairs)
+
+
 def field(programs, kind, column, repeats, is_counted):
     """Returns what is printed of one kind and one operation."""
     _, workload, waiters, rounds = column
@@ -142,6 +161,8 @@ def main():
     for kind in KINDS:
         fields = [field(programs, kind, column, repeats, has_callgrind) for column in COLUMNS]
         print(f"| {kind} | " + " | ".join(fields) + " |", flush=True)
+    ratio = handed(programs, repeats)
+    print(f"a slot handed over: an Owner takes {ratio:.2f} times what a oneshot channel takes")
 
 
 if __name__ == "__main__":
