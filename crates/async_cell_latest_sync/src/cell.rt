@@ -62,8 +62,6 @@ impl<T: Drop> LatestCell<T> {
         F: FnOnce(&T) -> T,
         R: Wait,
         requires { F.IsAlwaysCallable change }
-        ensures called { IfErr result (λ back.
-            (seen : T) × FnOnceReturnsAt F.FnOnce change seen back) }
     {
         let mut core = self.lock(rt);
         let (_, old) = core.read();
