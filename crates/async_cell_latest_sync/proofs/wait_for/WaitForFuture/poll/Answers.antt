@@ -1,5 +1,4 @@
 use Rattle.std.proofs.Common.{◌≡◌}
-use Rattle.std.specs.Fn.{CalledAt}
 use Rattle.async_cell_latest_sync.proofs.wait_for.WaitForFuture.poll.Goals as goal
 
 -- the value that was cloned is the one that the predicate was called on
