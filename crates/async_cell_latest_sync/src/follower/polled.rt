@@ -53,6 +53,7 @@ impl<T: Drop, R: Wait> Follower<T, R> {
         ensures registered { OnPending result
             (Covers cx.new (λ s. s ≡ source_of (cell_followed self.new))) }
         ensures kept { Keeps cx.old cx.new }
+        ensures marks { IfReady result (λ told. OnOk told (self.new.seen ≢ self.old.seen)) }
         ensures unchanged { OnPending result (self.new ≡ self.old) }
         ensures unmarked { IfReady result (λ told. OnErr told (self.new ≡ self.old)) }
         ensures of_this { cell_followed self.new ≡ cell_followed self.old }

@@ -49,18 +49,19 @@ impl<T: Drop> Follower<T> {
         ensures registered { OnPending result
             (Covers cx.new (λ s. s ≡ source_of (cell_followed self.new))) }
         ensures kept { Keeps cx.old cx.new }
+        ensures marks { IfReady result (λ told. OnOk told (self.new.seen ≢ self.old.seen)) }
         ensures unchanged { OnPending result (self.new ≡ self.old) }
         ensures unmarked { IfReady result (λ told. OnErr told (self.new ≡ self.old)) }
         ensures of_this { cell_followed self.new ≡ cell_followed self.old }
         ensures refused { IfReady result FailsWithMemoryOrClosed }
     {
-        match self.cell.poll_unseen(self.seen, place, cx) {
-            Poll::Ready(Ok(_)) => {}
+        let version = match self.cell.poll_unseen(self.seen, place, cx) {
+            Poll::Ready(Ok(version)) => version,
             Poll::Ready(Err(why)) => return Poll::Ready(Err(why)),
             Poll::Pending => return Poll::Pending,
-        }
+        };
         match self.cell.get() {
-            Ok((version, value)) => {
+            Ok((_, value)) => {
                 self.seen = version;
                 Poll::Ready(Ok(value))
             }
