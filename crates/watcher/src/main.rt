@@ -18,9 +18,10 @@ fn follow<R>(rt: &R, states: States<u32, R>) -> io::Result<(u32, bool)>
 where
     R: Wait + RandomSource + AllocGlobal + Drop,
 {
-    let falling = states
-        .map(|state| state.unwrap_or(u32::MAX))
-        .fold((60, true), |(last, ok), now| ready((now, ok && now < last)));
+    let falling = states.map(|state| state.unwrap_or(u32::MAX)).fold(
+        (60, true),
+        |(last, ok), now| ready((now, ok && now < last)),
+    );
     block_on(rt, falling)
 }
 

@@ -6,9 +6,17 @@ pub returns-in-Ok-clause-value : goal.returns-in-Ok-clause-value
 returns-in-Ok-clause-value g c =
     let value = c.deref-then-predicate.result.now.value in
     let same : c.read-version.result.1.now ≡ value = cc in
-    let called = rw c.if-predicate.true at c.predicate.ensures in
-    (tt, (value, c.in-Ok.ensures.clones, _, _, record {
-        shown = c.read-version.result.1;
-        shows = same;
-        called = called;
-    }))
+    let called = rw c.if-predicate.true at c.predicate.ensures in (
+      tt,
+      (
+        value,
+        c.in-Ok.ensures.clones,
+        _,
+        _,
+        record {
+          shown = c.read-version.result.1;
+          shows = same;
+          called = called;
+        },
+      ),
+    )
