@@ -49,6 +49,12 @@ async_cell_sync_tests      left_places::a_future_whose_first_wait_was_refused_is
 async_cell_sync_tests      left_places::a_future_whose_wait_was_refused_shares_no_place
 async_cell_sync_tests      left_places::a_future_whose_wait_was_refused_leaves_no_waker
 async_cell_sync_tests      left_places::a_place_that_was_taken_over_without_memory_is_left_again
+async_cell_latest_unsync_tests memory::a_refused_poll_may_be_made_again
+async_cell_latest_unsync_tests memory::a_stream_without_memory_tells_it_and_misses_nothing
+async_cell_latest_unsync_tests memory::a_refused_new_state_is_none
+async_cell_latest_sync_tests memory::a_refused_poll_may_be_made_again
+async_cell_latest_sync_tests memory::a_stream_without_memory_tells_it_and_misses_nothing
+async_cell_latest_sync_tests memory::a_refused_new_state_is_none
 async_cell_recorded_tests  memory::a_recorded_call_without_memory_leaves_no_entry
 async_cell_recorded_tests  memory::a_recorded_wait_without_memory_is_not_handed_out
 async_cell_recorded_tests  memory::a_step_without_memory_does_not_count
@@ -59,6 +65,8 @@ cellrun                    script::refused::a_refused_request_is_printed_or_ends
 # The tests of calls that take no memory: each request is to be one of the test's own.
 spared='
 async_cell_unsync_tests    memory::more_owners_take_no_memory
+async_cell_latest_unsync_tests memory::a_state_whose_clone_is_refused_is_not_marked_as_seen
+async_cell_latest_sync_tests memory::a_state_whose_clone_is_refused_is_not_marked_as_seen
 '
 
 # What refuses the requests, for the programs that it is preloaded into.

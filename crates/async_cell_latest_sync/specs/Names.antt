@@ -1,0 +1,14 @@
+-- Which cell an owner or a follower is of.
+use Rattle.std.specs.Arc.{arc_value}
+use Rattle.async_cell_latest_sync.specs.declared.cell.LatestCell.{LatestCell}
+use Rattle.async_cell_latest_sync.specs.declared.owner.Owner.{Owner}
+use Rattle.async_cell_latest_sync.specs.declared.follower.Follower.{Follower}
+
+module _ {T R : Type 0} where
+  -- the cell of an owner
+  abbrev pub cell_owned : Owner T R → LatestCell T
+  cell_owned owner = arc_value owner.cell
+
+  -- the cell that a follower follows
+  abbrev pub cell_followed : Follower T R → LatestCell T
+  cell_followed follower = arc_value follower.cell

@@ -1,0 +1,135 @@
+ghost use Rattle.std.specs.Prelude.{◌≡◌, IsOk, IfOk, IfErr};
+ghost use Rattle.std.specs.Fn.{FnOnceReturnsAt};
+ghost use Rattle.async_cell_model.specs.Refusal.{FailsWithMemory, IsOwnerRefusal};
+ghost use Rattle.async_cell_latest_sync.specs.Names.{cell_followed, cell_owned};
+
+use crate::cell::LatestCell;
+use crate::follower::Follower;
+use async_cell_latest::Refusal;
+use std::alloc::{AllocFailed, Global};
+use std::sync::{Arc, Wait};
+
+/// One counted owner of a state, with the right to wait for its lock. Owners write the state; any
+/// number of followers see it. It ends by its drop. The end of the last owner closes the state: the
+/// last value stays, and each follower is told of it before it is told of the end.
+///
+/// Wakers are woken and old values are dropped after the lock is released, so whatever runs then
+/// may call the state. The closures of `peek` and `update`, and the clone of the value, run while
+/// the lock is held: one that calls its own state, or drops an owner or a waiting future of it,
+/// waits forever.
+///
+/// A state takes 18,446,744,073,709,551,614 writes, and no further one.
+///
+/// **Letting one go may wait for the lock**, as its other calls may.
+pub struct Owner<T: Drop, R: Wait + Drop> {
+    cell: Arc<LatestCell<T>>,
+    rt: R,
+}
+
+impl<T: Drop, R: Wait + Copy> Owner<T, R> {
+    /// Makes a state that holds this value, and its first owner. Fails with `Memory`; the value is
+    /// then dropped.
+    pub fn new(alloc: Global, value: T, rt: R) -> Result<Self, Refusal>
+        ensures refused { FailsWithMemory result }
+    {
+        match Arc::new(alloc, LatestCell::new(alloc, value)) {
+            Ok(cell) => Ok(Owner { cell, rt }),
+            Err(AllocFailed { value: _ }) => Err(Refusal::Memory),
+        }
+    }
+
+    /// Adds an owner, in place of a clone. Fails with `Memory` if the pointer cannot be counted, or
+    /// with `OwnersFull`. The contract also allows `Closed`, which does not happen while this owner
+    /// lives.
+    pub fn another(&self) -> Result<Self, Refusal>
+        ensures of_this { IfOk result (λ owner. cell_owned owner ≡ cell_owned self.now) }
+        ensures refused { IfErr result IsOwnerRefusal }
+    {
+        let cell = Arc::try_clone(&self.cell)?;
+        cell.add_owner(&self.rt)?;
+        Ok(Owner { cell, rt: self.rt })
+    }
+
+    /// Returns a follower that has seen the current state, and waits for the next one. Call its
+    /// `mark_changed` to begin with the current one. Fails with `Memory` if the pointer cannot be
+    /// counted.
+    pub fn follow(&self) -> Result<Follower<T, R>, Refusal>
+        ensures of_this { IfOk result (λ follower. cell_followed follower ≡ cell_owned self.now) }
+        ensures refused { FailsWithMemory result }
+    {
+        let cell = Arc::try_clone(&self.cell)?;
+        Ok(Follower::new(cell, self.rt))
+    }
+}
+
+impl<T: Drop, R: Wait + Drop> Owner<T, R> {
+    /// Sets the value and drops the old one. Wakes all followers that wait.
+    pub fn set(&self, value: T) {
+        let _ = self.replace(value);
+    }
+
+    /// Sets the value and returns the old one. Wakes all followers that wait. If the state takes no
+    /// further write, the value is returned in the error.
+    pub fn replace(&self, value: T) -> Result<T, T>
+        ensures comes_back { IfErr result (λ back. back ≡ value) }
+    {
+        self.cell.replace(value, &self.rt)
+    }
+
+    /// Calls the closure on the value, sets the one that it returns, and drops the old one. Wakes
+    /// all followers that wait. No other call comes in between: the lock is held meanwhile, so a
+    /// closure that calls its own state waits forever.
+    pub fn update<F>(&self, change: F)
+    where
+        F: FnOnce(&T) -> T,
+        requires { F.IsAlwaysCallable change }
+    {
+        let _ = self.cell.update(change, &self.rt);
+    }
+
+    /// Returns a clone of the value. Fails with `Memory` if the clone fails.
+    pub fn read(&self) -> Result<T, Refusal>
+    where
+        T: Clone,
+        ensures sure { ((value : T) → T.is_infallible value) → IsOk result }
+        ensures refused { FailsWithMemory result }
+    {
+        let (_, value) = self.cell.get(&self.rt)?;
+        Ok(value)
+    }
+
+    /// Calls the closure on the value, and returns what it returns. The lock is held meanwhile: a
+    /// closure that calls its own state waits forever.
+    pub fn peek<A, F>(&self, look: F) -> A
+    where
+        F: FnOnce(&T) -> A,
+        requires { F.IsAlwaysCallable look }
+        ensures called { (seen : T) × FnOnceReturnsAt F.FnOnce look seen result }
+    {
+        self.cell.peek(look, &self.rt)
+    }
+
+    /// Lets go of all wakers that dropped futures left in the state. The task of each is polled
+    /// once more. Futures that still wait keep their wakers.
+    ///
+    /// A future that is dropped while it waits leaves its waker in the state, up to the next write,
+    /// and a waker keeps what its executor needs to wake the task. Call this where many waits end
+    /// early between two writes. It takes the lock once for each place, and needs no memory.
+    pub fn purge(&self) {
+        self.cell.purge(&self.rt);
+    }
+
+    /// Internal: may change without notice. Returns the number of places in the wait list.
+    #[doc(hidden)]
+    pub fn waiting(&self) -> usize {
+        self.cell.waiting(&self.rt)
+    }
+}
+
+/// Ends the owner. May wait for the lock.
+impl<T: Drop, R: Wait + Drop> Drop for Owner<T, R> {
+    fn drop(self) {
+        let Owner { cell, rt } = self;
+        cell.end_owner(&rt);
+    }
+}

@@ -1,0 +1,55 @@
+//! The places of futures that are dropped or cancelled. A waker that is dropped wakes its task, so
+//! none is dropped while the core is lent.
+use super::LatestCell;
+use async_cell_latest::Place;
+
+impl<T: Drop> LatestCell<T> {
+    /// Lets go of all wakers that dropped futures left. The task of each is polled once more.
+    /// Futures that still wait keep their wakers.
+    pub(crate) fn purge(&self) {
+        for index in 0..self.waiting() {
+            let left = match self.lend() {
+                Some(mut core) => core.take_left(index),
+                None => None,
+            };
+            drop(left);
+        }
+    }
+
+    /// Returns the number of places in the wait list.
+    pub(crate) fn waiting(&self) -> usize {
+        self.lend().map_or(0, |core| core.waiting())
+    }
+
+    /// Leaves the place of a future that is dropped.
+    #[inline(always)]
+    pub(crate) fn leave(&self, place: Place) {
+        if place.was_held() {
+            self.leave_held(place);
+        }
+    }
+
+    /// `leave`, of a place that may still be held.
+    #[inline(never)]
+    fn leave_held(&self, place: Place) {
+        if let Some(mut core) = self.lend() {
+            let _ = core.leave(place);
+        }
+    }
+
+    /// Leaves the place of a future that is cancelled, and lets go of its waker.
+    pub(crate) fn cancel(&self, place: Place) {
+        if !place.was_held() {
+            return;
+        }
+        let Some(mut core) = self.lend() else {
+            return;
+        };
+        let left = match core.leave(place) {
+            Some(index) => core.take_left(index),
+            None => None,
+        };
+        drop(core);
+        drop(left);
+    }
+}

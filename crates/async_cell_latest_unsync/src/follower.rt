@@ -1,0 +1,147 @@
+ghost use Rattle.std.specs.Prelude.{◌≡◌, IfSome, OnErr};
+ghost use Rattle.std.specs.Rc.{rc_value};
+ghost use Rattle.std.specs.Fn.{FnOnceReturnsAt};
+ghost use Rattle.async_cell_model.specs.Refusal.{FailsWithMemory};
+ghost use Rattle.async_cell_latest_unsync.specs.Names.{cell_followed};
+
+mod polled;
+
+use crate::cell::LatestCell;
+use crate::changed::Changed;
+use crate::states::States;
+use crate::wait_for::WaitFor;
+use async_cell_latest::Refusal;
+use std::alloc::AllocError;
+use std::rc::Rc;
+
+/// One follower of a state. It knows which state it has seen, and waits for a later one. It does
+/// not count as an owner. `Owner::follow` makes one, and a clone another.
+///
+/// A follower sees the last state, and not each one: of those that are written before it looks, it
+/// sees the last. The last state of all stays when the last owner ends, so no follower misses it.
+#[derive(Drop)]
+pub struct Follower<T: Drop> {
+    pub(crate) cell: Rc<LatestCell<T>>,
+    /// The version that it has seen; 0 if none.
+    pub(crate) seen: u64,
+}
+
+impl<T: Drop> Follower<T> {
+    /// Makes a follower that has seen the current state.
+    pub(crate) fn new(cell: Rc<LatestCell<T>>) -> Self
+        ensures of_this { cell_followed result ≡ rc_value cell }
+    {
+        let seen = cell.version();
+        Follower { cell, seen }
+    }
+
+    /// Returns a future that is ready once there is a state that this follower has not seen, which
+    /// is then marked as seen. It fails with `Closed` once the last owner has ended and the last
+    /// state was seen, and with `Memory` if it has to wait and there is no memory for that.
+    pub fn changed(&mut self) -> Changed<'_, T>
+        ensures of_this { result.follower.now ≡ self.old }
+    {
+        Changed::new(self)
+    }
+
+    /// Returns a future that is ready with a clone of the first state that the predicate holds of.
+    /// It looks at the current state, whether it was seen or not, and then at each later one that
+    /// it is in time for, at each once; these are then marked as seen.
+    ///
+    /// The future fails with `Closed` once the last owner has ended and the last state was looked
+    /// at, and with `Memory` if there is no memory for the clone or to wait.
+    pub fn wait_for<F>(&mut self, predicate: F) -> WaitFor<'_, T, F>
+    where
+        F: FnMut(&T) -> bool + Drop,
+        ensures of_this { result.follower.now ≡ self.old }
+        ensures looks { result.predicate ≡ predicate }
+    {
+        WaitFor::new(self, predicate)
+    }
+
+    /// Returns the stream of the states that this follower has not seen, as clones. It ends after
+    /// the last one, once the last owner has ended.
+    pub fn states(self) -> States<T>
+        ensures of_this { result.follower ≡ self }
+    {
+        States::new(self)
+    }
+
+    /// Returns a clone of the last value. It is not marked as seen. Fails with `Memory` if the
+    /// clone fails.
+    pub fn read(&self) -> Result<T, Refusal>
+    where
+        T: Clone,
+        ensures refused { FailsWithMemory result }
+    {
+        let (_, value) = self.cell.get()?;
+        Ok(value)
+    }
+
+    /// Returns a clone of the last value, and marks it as seen. Fails with `Memory` if the clone
+    /// fails; nothing is then marked.
+    pub fn read_and_update(&mut self) -> Result<T, Refusal>
+    where
+        T: Clone,
+        ensures refused { FailsWithMemory result }
+        ensures unmarked { OnErr result (self.new ≡ self.old) }
+        ensures of_this { cell_followed self.new ≡ cell_followed self.old }
+    {
+        let (version, value) = self.cell.get()?;
+        self.seen = version;
+        Ok(value)
+    }
+
+    /// Calls the closure on the last value, and returns what it returns. The value is not marked as
+    /// seen. The contract also allows `None`, which does not happen.
+    pub fn peek<A, F>(&self, look: F) -> Option<A>
+    where
+        F: FnOnce(&T) -> A,
+        requires { F.IsAlwaysCallable look }
+        ensures called { IfSome result (λ answer.
+            (seen : T) × FnOnceReturnsAt F.FnOnce look seen answer) }
+    {
+        self.cell.peek(look)
+    }
+
+    /// Returns whether there is a state that this follower has not seen. Marks nothing.
+    pub fn has_changed(&self) -> bool {
+        self.cell.version() != self.seen
+    }
+
+    /// Returns whether the last owner has ended: the state is then the last one.
+    pub fn is_closed(&self) -> bool {
+        self.cell.is_closed()
+    }
+
+    /// Marks the current state as one that was not seen: the next `changed` is ready at once, and
+    /// `states` begins with it.
+    pub fn mark_changed(&mut self)
+        ensures marks { self.new.seen ≡ 0 }
+        ensures of_this { cell_followed self.new ≡ cell_followed self.old }
+    {
+        self.seen = 0;
+    }
+
+    /// Marks the current state as seen.
+    pub fn mark_unchanged(&mut self)
+        ensures of_this { cell_followed self.new ≡ cell_followed self.old }
+    {
+        self.seen = self.cell.version();
+    }
+}
+
+/// A clone follows the same state, and has seen what this follower has seen.
+impl<T: Drop> Clone for Follower<T> {
+    ghost is_clone = { λ follower copy.
+        (cell_followed copy ≡ cell_followed follower) × (copy.seen ≡ follower.seen) };
+
+    fn clone(&self) -> Result<Follower<T>, AllocError> {
+        let pointer: Result<Rc<LatestCell<T>>, AllocError> = self.cell.clone();
+        let seen = self.seen;
+        Ok(Follower {
+            cell: pointer?,
+            seen,
+        })
+    }
+}

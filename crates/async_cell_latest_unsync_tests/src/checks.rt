@@ -1,0 +1,29 @@
+//! Assertions as functions. What they compare, and the branches of it, are then no part of a test's
+//! own proof.
+use std::fmt::Debug;
+use std::process::Abort;
+
+/// Asserts that this is what was expected.
+pub fn same<T: Debug + Drop + PartialEq>(rt: &impl Abort, found: T, expected: T) {
+    assert_eq!(rt; found, expected);
+}
+
+/// Asserts it in a loop over a table, and names the row.
+pub fn same_at<T: Debug + Drop + PartialEq>(
+    rt: &impl Abort,
+    row: &impl Debug,
+    found: T,
+    expected: T,
+) {
+    assert_eq!(rt; found, expected, "{row:?}");
+}
+
+/// Asserts that this is so.
+pub fn holds(rt: &impl Abort, is_so: bool) {
+    assert!(rt; is_so);
+}
+
+/// Asserts it in a loop over a table, and names the row.
+pub fn holds_at(rt: &impl Abort, row: &impl Debug, is_so: bool) {
+    assert!(rt; is_so, "{row:?}");
+}
