@@ -207,3 +207,56 @@ fn a_waker_that_is_added_by_value_is_not_cloned(rt: HostRuntime) {
     }
     same(&rt, "clones", clones.get(), 0);
 }
+
+/// A waker that would wake no other. It counts its clones, and how often it is asked.
+#[derive(Drop)]
+struct Alone<C> {
+    clones: C,
+    asked: C,
+}
+
+impl<C: Count + Copy> Clone for Alone<C> {
+    ghost is_clone = { λ a b. b ≡ a };
+
+    fn clone(&self) -> Result<Self, AllocError> {
+        let Alone { clones, asked } = *self;
+        clones.set_count(clones.count().wrapping_add(1));
+        Ok(Alone { clones, asked })
+    }
+}
+
+impl<C: Count + Copy> Wakes for Alone<C> {
+    ghost will_wake = { λ _ _. false };
+
+    ghost SURE_CLONE = { false };
+
+    const SURE_CLONE: bool = false;
+
+    fn will_wake(&self, _: &Self) -> bool {
+        self.asked.set_count(self.asked.count().wrapping_add(1));
+        false
+    }
+
+    fn wake(self) {}
+
+    ghost clone_is_source = { Prim.search rules };
+
+    ghost clone_is_sure = { Prim.search rules };
+}
+
+#[test]
+#[tactic(auto, using(async_cell_model::proofs::Adding::never_skipped))]
+fn a_unique_waker_is_cloned_once_and_nobody_is_asked(rt: HostRuntime) {
+    let (clones, asked) = (Cell::new(0u64), Cell::new(0u64));
+    let mut core: Core<u64, Alone<&Cell<u64>>> = Core::new(rt.alloc());
+    for count in 1..5u64 {
+        let waker = Alone {
+            clones: &clones,
+            asked: &asked,
+        };
+        assert!(rt; core.is_vacant());
+        same(&rt, "added", core.add_unique(&waker).is_ok(), true);
+        same(&rt, "clones", clones.get(), count);
+    }
+    same(&rt, "asked", asked.get(), 0);
+}

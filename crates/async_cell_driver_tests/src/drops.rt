@@ -69,7 +69,7 @@ fn with_values<'a>(event: Event<(), ()>, alive: &'a Cell<u64>) -> Event<Counted<
 }
 
 /// Makes the event happen by the call of its name.
-fn call<'a>(driver: &mut Bare<Counted<'a>>, event: Event<Counted<'a>, Empties<'a>>) {
+fn call<T: Clone, E: Edit<T> + Drop>(driver: &mut Bare<T>, event: Event<T, E>) {
     match event {
         Event::Start(kind) => drop(driver.start(kind)),
         Event::Poll(i) => drop(driver.poll(i)),
@@ -166,5 +166,64 @@ fn a_getter_clones_the_value_once_and_a_taker_never(rt: HostRuntime) -> Result<(
     same(&rt, clones.get(), 1);
     same(&rt, driver.settle()?, 2);
     same(&rt, clones.get(), 2);
+    Ok(())
+}
+
+/// An edit that keeps what is there.
+#[derive(Drop)]
+struct Keeps;
+
+impl<'a> Edit<Cloned<'a>> for Keeps {
+    ghost edit = { λ keeps content. content };
+
+    ghost edit_some = { λ keeps value. value };
+
+    fn edit(&self, content: Option<Cloned<'a>>) -> Option<Cloned<'a>>
+        ensures { result ≡ content.entry }
+    {
+        content
+    }
+
+    fn edit_some(&self, value: Cloned<'a>) -> Cloned<'a>
+        ensures { result ≡ value.entry }
+    {
+        value
+    }
+}
+
+/// Events on a full cell, among them two polls of its getter, which is task 0, and its end.
+fn every_event<'a>(clones: &'a Cell<u64>) -> [Event<Cloned<'a>, Keeps>; 12] {
+    [
+        Event::Set(Cloned(clones)),
+        Event::OrSet(Cloned(clones)),
+        Event::Replace(Cloned(clones)),
+        Event::Update(Keeps),
+        Event::Start(Kind::Take),
+        Event::AddOwner,
+        Event::Poll(0),
+        Event::Poll(0),
+        Event::EndOwner,
+        Event::TryTake,
+        Event::Set(Cloned(clones)),
+        Event::EndOwner,
+    ]
+}
+
+#[test]
+fn a_value_is_cloned_for_a_getter_alone(rt: HostRuntime) -> Result<(), Fail> {
+    let clones = Cell::new(0);
+    for is_list in [false, true] {
+        let mut driver = Bare::new(rt.alloc(), Some(Cloned(&clones)));
+        driver.start(Kind::Get)?;
+        let events = Vec::from_array(rt.alloc(), every_event(&clones))?;
+        if is_list {
+            holds(&rt, driver.apply(events).is_ok());
+        } else {
+            for event in events {
+                call(&mut driver, event);
+            }
+        }
+        same(&rt, clones.replace(0), 1);
+    }
     Ok(())
 }

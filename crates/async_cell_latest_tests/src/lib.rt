@@ -8,6 +8,8 @@ mod drops;
 #[cfg(test)]
 mod laws;
 #[cfg(test)]
+mod noted;
+#[cfg(test)]
 mod oracle;
 #[cfg(test)]
 mod places;

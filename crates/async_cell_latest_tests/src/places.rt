@@ -52,6 +52,18 @@ fn an_added_waker_waits_for_the_write(rt: HostRuntime) {
 }
 
 #[test]
+fn many_wakers_are_added_by_value(rt: HostRuntime) {
+    let follower = task(&rt);
+    let mut latest: Followed = Latest::new(rt.alloc(), 5);
+    for before in 0..20usize {
+        let waker = waker_of(&rt, &follower);
+        assert!(rt; !latest.is_closed());
+        same(&rt, "added", latest.add(waker).is_ok(), true);
+        same(&rt, "waiting", latest.waiting(), before + 1);
+    }
+}
+
+#[test]
 fn a_future_holds_one_place_from_poll_to_poll(rt: HostRuntime) {
     let (first, again) = (task(&rt), task(&rt));
     let mut latest: Followed = Latest::new(rt.alloc(), 5);

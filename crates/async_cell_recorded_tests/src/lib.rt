@@ -7,6 +7,8 @@ pub mod audit;
 #[cfg(test)]
 mod calls;
 #[cfg(test)]
+mod crowd;
+#[cfg(test)]
 mod edits;
 #[cfg(test)]
 mod journals;
