@@ -15,6 +15,8 @@ mod memory;
 #[cfg(test)]
 mod once;
 pub mod picks;
+#[cfg(test)]
+mod shared;
 pub mod taken;
 #[cfg(test)]
 mod text;
