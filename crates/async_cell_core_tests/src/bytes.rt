@@ -1,4 +1,5 @@
 //! Lists of calls on a cell of bytes, whose clones are no sources.
+use crate::shared::same;
 use async_cell_core::{Call, Core, Edit, Named, Refusal, Reply, run};
 use std::test::Fail;
 
@@ -58,10 +59,10 @@ fn gets_in_a_list_leave_the_bytes_and_those_that_wait(rt: HostRuntime) -> Result
         (abc, 0),
         (None, 0),
     ];
-    assert_eq!(rt; answers.len(), want.len());
-    for (place, (answer, (bytes, woken))) in answers.iter().zip(want).enumerate() {
-        assert_eq!(rt; given(&answer.reply), bytes, "call {place}");
-        assert_eq!(rt; answer.woken.len(), woken, "call {place}");
+    same(&rt, "answers", answers.len(), want.len());
+    for (place, (answer, want)) in answers.iter().zip(want).enumerate() {
+        let is = (given(&answer.reply), answer.woken.len());
+        same(&rt, "call", (place, is), (place, want));
     }
     Ok(())
 }
@@ -83,16 +84,16 @@ fn a_get_in_a_list_that_finds_no_memory_leaves_the_bytes(rt: HostRuntime) -> Res
     calls.push(Call::TryGet)?;
     calls.push(Call::PollGet(Named(1)))?;
     if let Ok(answers) = run(&mut core, calls) {
-        assert_eq!(rt; answers.len(), 2);
-        assert!(rt;
-            answers
-                .iter()
-                .all(|answer| gives_abc_or_is_refused(&answer.reply))
-        );
+        same(&rt, "answers", answers.len(), 2);
+        let all = answers
+            .iter()
+            .all(|answer| gives_abc_or_is_refused(&answer.reply));
+        same(&rt, "abc or no memory", all, true);
     }
-    assert_eq!(rt; core.waiting(), 0);
+    same(&rt, "waiting", core.waiting(), 0);
     let left = core.try_take();
     let abc: &[u8] = b"abc";
-    assert_eq!(rt; left.as_ref().map(|bytes| bytes.as_slice()), Some(abc));
+    let left = left.as_ref().map(|bytes| bytes.as_slice());
+    same(&rt, "left", left, Some(abc));
     Ok(())
 }

@@ -1,6 +1,6 @@
 //! One call at a time.
 use crate::compared::{Compared, polled_by};
-use crate::shared::{ONE, THREE, TWO, assert_wakers};
+use crate::shared::{ONE, THREE, TWO, assert_wakers, same};
 use async_cell_core::{Core, Named, Poll};
 use std::alloc::{AllocError, Global};
 use std::process::Abort;
@@ -90,7 +90,7 @@ fn text_is<R: Abort>(
     want: &str,
 ) -> Result<(), AllocError> {
     let text = format!(in alloc; "{:?}", core.core)?;
-    assert_eq!(rt; text.as_str(), want);
+    same(rt, "text", text.as_str(), want);
     Ok(())
 }
 
@@ -126,9 +126,9 @@ fn the_debug_text_has_that_of_the_value_and_no_owners(rt: HostRuntime) -> Result
     let alloc = rt.alloc();
     let core: Core<Option<u64>, Named> = Core::new_with(alloc, Some(5));
     let text = format!(in alloc; "{core:?}")?;
-    assert_eq!(rt; text.as_str(), "AsyncCell::Full(Some(5))");
+    same(&rt, "text", text.as_str(), "AsyncCell::Full(Some(5))");
     let core: Core<u64, Named> = Core::owned_by(alloc, None, 2);
     let text = format!(in alloc; "{core:?}")?;
-    assert_eq!(rt; text.as_str(), "AsyncCell::Empty");
+    same(&rt, "text", text.as_str(), "AsyncCell::Empty");
     Ok(())
 }

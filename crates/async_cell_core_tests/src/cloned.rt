@@ -4,9 +4,9 @@ ghost use Rattle.std.specs.Prelude.{◌≡◌, nat_eq, false, None};
 ghost use Rattle.std.proofs.Common.{rules};
 
 use crate::count::Count;
-use crate::shared::same;
+use crate::shared::{made, same};
 use async_cell_cons::WaitList;
-use async_cell_core::{Call, Core, Edit, Named, Wakes, step};
+use async_cell_core::{Call, Core, Edit, Named, Wakes};
 use std::alloc::{AllocError, Global};
 use std::cell::Cell;
 
@@ -69,9 +69,30 @@ fn core_at(at: At, alloc: Global, clones: &Cell<u64>) -> Waiting<'_> {
     core
 }
 
+/// How often a poll to take clones its waker.
+fn clones_of_a_take(at: At, name: u64, alloc: Global) -> u64 {
+    let clones = Cell::new(0);
+    let mut core = core_at(at, alloc, &clones);
+    drop(core.poll_take(&CountsClones {
+        name,
+        clones: &clones,
+    }));
+    clones.get()
+}
+
+/// How often a poll to get clones its waker.
+fn clones_of_a_get(at: At, name: u64, alloc: Global) -> u64 {
+    let clones = Cell::new(0);
+    let mut core = core_at(at, alloc, &clones);
+    drop(core.poll_get(&CountsClones {
+        name,
+        clones: &clones,
+    }));
+    clones.get()
+}
+
 #[test]
 fn a_poll_clones_its_waker_once_if_it_is_added_and_else_never(rt: HostRuntime) {
-    let clones = Cell::new(0);
     for (at, name, expected) in [
         (At::Vacant, 1, 1),
         (At::Awaited, 1, 0),
@@ -79,16 +100,10 @@ fn a_poll_clones_its_waker_once_if_it_is_added_and_else_never(rt: HostRuntime) {
         (At::Full, 1, 0),
         (At::Closed, 1, 0),
     ] {
-        let waker = CountsClones {
-            name,
-            clones: &clones,
-        };
-        let mut core = core_at(at, rt.alloc(), &clones);
-        drop(core.poll_take(&waker));
-        same(&rt, "take", (clones.get(), name), (expected, name));
-        let mut core = core_at(at, rt.alloc(), &clones);
-        drop(core.poll_get(&waker));
-        same(&rt, "get", (clones.get(), name), (expected, name));
+        let take = clones_of_a_take(at, name, rt.alloc());
+        same(&rt, "take", (take, name), (expected, name));
+        let get = clones_of_a_get(at, name, rt.alloc());
+        same(&rt, "get", (get, name), (expected, name));
     }
 }
 
@@ -159,7 +174,7 @@ fn a_get_by_step_clones_the_value_once(rt: HostRuntime) {
     let mut core: Core<CountsOwn<'_>, Named> = Core::new_with(rt.alloc(), CountsOwn(&clones));
     let gets: [Call<CountsOwn<'_>, Named, Empties>; 2] = [Call::TryGet, Call::PollGet(Named(1))];
     for get in gets {
-        drop(step(&mut core, get));
+        drop(made(&mut core, get));
         same(&rt, "clones", clones.replace(0), 1);
     }
 }

@@ -1,9 +1,10 @@
 //! Which calls can lack memory: those alone that clone a value or a waker. Here every such clone is
 //! refused.
 use crate::refusals::{Even, Single};
-use async_cell_core::{Call, Core, Edit, Refusal, Reply, step};
+use crate::shared::{made, same};
+use async_cell_core::{Call, Core, Edit, Refusal, Reply};
 use std::alloc::Global;
-use std::test::Fail;
+use std::process::Abort;
 
 /// An update that changes nothing.
 #[derive(Clone, Copy)]
@@ -66,20 +67,30 @@ fn core_at(alloc: Global, place: usize) -> Core<Single, Even> {
     core
 }
 
+/// Asserts whether the call, which is this one of the table on this cell, lacks memory. One that
+/// does leaves those that wait.
+fn lacks_memory(
+    rt: &impl Abort,
+    core: &mut Core<Single, Even>,
+    call: Call<Single, Even, Unchanged>,
+    at: (usize, usize),
+    lacks: bool,
+) {
+    let waiting = core.waiting();
+    let answer = made(core, call);
+    let lacking = matches!(&answer.reply, Reply::Refused(Refusal::Memory, None));
+    same(rt, "lacks memory", (at, lacking), (at, lacks));
+    if lacking {
+        same(rt, "waiting", (at, core.waiting()), (at, waiting));
+    }
+}
+
 #[test]
-fn calls_that_clone_nothing_need_no_memory(rt: HostRuntime) -> Result<(), Fail> {
+fn calls_that_clone_nothing_need_no_memory(rt: HostRuntime) {
     for place in 0..3usize {
         for (index, (call, lacks)) in table().into_iter().enumerate() {
             let mut core = core_at(rt.alloc(), place);
-            let waiting = core.waiting();
-            let answer = step(&mut core, call);
-            let lacking = matches!(&answer.reply, Reply::Refused(Refusal::Memory, None));
-            assert_eq!(rt; lacking, lacks[place], "call {index} on cell {place}");
-            assert!(rt;
-                !lacking || core.waiting() == waiting,
-                "call {index} on cell {place}"
-            );
+            lacks_memory(&rt, &mut core, call, (index, place), lacks[place]);
         }
     }
-    Ok(())
 }

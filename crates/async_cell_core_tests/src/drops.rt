@@ -1,8 +1,8 @@
 //! Every call drops each value once, and keeps none that the cell does not hold.
 ghost use Rattle.std.specs.Prelude.{◌≡◌, None};
 
-use crate::shared::same;
-use async_cell_core::{Call, Core, Edit, Named, end_guard, step};
+use crate::shared::{made, same};
+use async_cell_core::{Call, Core, Edit, Named, end_guard};
 use std::alloc::{AllocError, Global};
 use std::cell::Cell;
 
@@ -109,7 +109,7 @@ fn each_call_keeps_the_value_that_the_cell_holds_and_no_other(rt: HostRuntime) {
     for (call, after) in TABLE {
         for place in 0..3usize {
             let mut core = core_at(place, rt.alloc(), &alive);
-            drop(step(&mut core, with_value(call, &alive)));
+            drop(made(&mut core, with_value(call, &alive)));
             same(&rt, "alive", (call, alive.get()), (call, after[place]));
             drop(core);
             same(&rt, "dropped", (call, alive.get()), (call, 0));
@@ -176,9 +176,9 @@ fn an_edit_is_dropped_whether_it_is_called_or_not(rt: HostRuntime) {
         if owners == 0 {
             drop(core.end_owner());
         }
-        drop(step(&mut core, Call::Update(Counted::new(&alive))));
+        drop(made(&mut core, Call::Update(Counted::new(&alive))));
         same(&rt, "update", (content, alive.get()), (content, 0));
-        drop(step(&mut core, Call::UpdateSome(Counted::new(&alive))));
+        drop(made(&mut core, Call::UpdateSome(Counted::new(&alive))));
         same(&rt, "update_some", (content, alive.get()), (content, 0));
     }
 }

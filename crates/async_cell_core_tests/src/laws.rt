@@ -1,3 +1,4 @@
+use crate::shared::same;
 use async_cell_model::laws::exact;
 use async_cell_model::{Refusal, laws};
 use std::test::Fail;
@@ -66,7 +67,8 @@ fn each_refusal_has_its_text(rt: HostRuntime) -> Result<(), Fail> {
         (Refusal::ShareMissing, "a share is missing"),
     ];
     for (refusal, text) in texts {
-        assert_eq!(rt; format!(in rt.alloc(); "{refusal}")?.as_str(), text);
+        let is = format!(in rt.alloc(); "{refusal}")?;
+        same(&rt, "text", is.as_str(), text);
     }
     Ok(())
 }

@@ -2,8 +2,8 @@
 //! them.
 use crate::shared::same;
 use crate::tasks::{
-    Awaited, added, is_nobodys, is_waker_of, leave, store, stored, taken_over, task, three_places,
-    three_tasks, woken,
+    Awaited, added, gives_back, gives_nothing_back, is_nobodys, leave, lets_go, lets_nothing_go,
+    store, stored, taken_over, task, three_places, three_tasks, waiting, woken,
 };
 use async_cell_core::{Core, Place};
 use std::alloc::{AllocError, Global};
@@ -23,10 +23,10 @@ fn a_waker_is_let_go_out_of_a_free_place_only(rt: HostRuntime) {
                 same(&rt, "held", (index, waker.is_some()), (index, false));
             }
         }
-        is_waker_of(&rt, core.take_left(free), &tasks[free]);
-        same(&rt, "again", core.take_left(free).is_some(), false);
+        lets_go(&rt, &mut core, free, &tasks[free]);
+        lets_nothing_go(&rt, &mut core, free);
         same(&rt, "woken", woken(&tasks), 1);
-        same(&rt, "waiting", core.waiting(), 3);
+        waiting(&rt, &core, 3);
     }
 }
 
@@ -34,9 +34,9 @@ fn a_waker_is_let_go_out_of_a_free_place_only(rt: HostRuntime) {
 fn there_is_nothing_to_let_go_where_nobody_waits(rt: HostRuntime) {
     let mut core: Awaited = Core::new(rt.alloc());
     for index in [0, 1, usize::MAX] {
-        same(&rt, "left", core.take_left(index).is_some(), false);
+        lets_nothing_go(&rt, &mut core, index);
     }
-    same(&rt, "waiting", core.waiting(), 0);
+    waiting(&rt, &core, 0);
 }
 
 #[test]
@@ -51,7 +51,7 @@ fn to_let_go_of_a_waker_leaves_those_of_the_others(rt: HostRuntime) {
         }
         for index in 0..3usize {
             if index != free {
-                is_waker_of(&rt, core.take_back(&mut places[index]), &tasks[index]);
+                gives_back(&rt, &mut core, &mut places[index], &tasks[index]);
             }
         }
     }
@@ -65,12 +65,12 @@ fn a_place_whose_waker_was_let_go_is_taken_over_by_one_that_stores(rt: HostRunti
         let mut core = Core::new(rt.alloc());
         let mut places = three_places(&rt, &mut core, &tasks);
         leave(&rt, &mut core, &mut places, free);
-        is_waker_of(&rt, core.take_left(free), &tasks[free]);
+        lets_go(&rt, &mut core, free, &tasks[free]);
         let (mut place, before) = taken_over(&rt, &mut core, &next);
         same(&rt, "before", before.is_some(), false);
-        same(&rt, "waiting", core.waiting(), 3);
-        same(&rt, "free", core.take_left(free).is_some(), false);
-        is_waker_of(&rt, core.take_back(&mut place), &next);
+        waiting(&rt, &core, 3);
+        lets_nothing_go(&rt, &mut core, free);
+        gives_back(&rt, &mut core, &mut place, &next);
         let _ = stored(&rt, &mut core, &task(&rt), false);
     }
 }
@@ -83,12 +83,12 @@ fn a_place_whose_waker_was_let_go_is_taken_over_by_one_that_takes_back(rt: HostR
         let mut core = Core::new(rt.alloc());
         let mut places = three_places(&rt, &mut core, &tasks);
         leave(&rt, &mut core, &mut places, free);
-        is_waker_of(&rt, core.take_left(free), &tasks[free]);
+        lets_go(&rt, &mut core, free, &tasks[free]);
         let mut place = Place::new();
-        same(&rt, "back", core.take_back(&mut place).is_some(), false);
+        gives_nothing_back(&rt, &mut core, &mut place);
         same(&rt, "held", place.was_held(), true);
         is_nobodys(&rt, store(&rt, &mut core, &mut place, &next));
-        same(&rt, "waiting", core.waiting(), 3);
+        waiting(&rt, &core, 3);
         drop(core.set(7));
         same(&rt, "woken", next.is_woken(), true);
     }

@@ -5,8 +5,8 @@ ghost use Rattle.std.proofs.Common.{rules};
 
 use crate::change::Change;
 use crate::count::Count;
-use crate::shared::same;
-use async_cell_core::{Call, Core, Wakes, step};
+use crate::shared::{made, same};
+use async_cell_core::{Call, Core, Wakes};
 use std::alloc::AllocError;
 use std::cell::Cell;
 use std::process::Abort;
@@ -66,7 +66,24 @@ impl<C: Count + Copy> Wakes for Noted<C> {
 
 type Waiting<'a> = Core<u64, Noted<&'a Cell<u64>>>;
 
-/// Polls by `step`, to take or to get, and asserts that those alone are alive that wait.
+/// A new waker.
+fn waker<'a>(name: u64, alive: &'a Cell<u64>, asked: &'a Cell<u64>) -> Noted<&'a Cell<u64>> {
+    alive.set(alive.get().wrapping_add(1));
+    Noted { name, alive, asked }
+}
+
+/// Makes the call, and asserts that those wakers alone are alive that wait.
+fn keeps_those_that_wait<'a>(
+    rt: &impl Abort,
+    core: &mut Waiting<'a>,
+    call: Call<u64, Noted<&'a Cell<u64>>, Change>,
+    alive: &Cell<u64>,
+) {
+    drop(made(core, call));
+    same(rt, "polled", alive.get(), core.waiting() as u64);
+}
+
+/// Polls to get and to take, and asserts that those wakers alone are alive that wait.
 fn polls<'a>(
     rt: &impl Abort,
     core: &mut Waiting<'a>,
@@ -74,17 +91,21 @@ fn polls<'a>(
     alive: &'a Cell<u64>,
     asked: &'a Cell<u64>,
 ) {
-    for takes in [false, true] {
-        alive.set(alive.get().wrapping_add(1));
-        let waker = Noted { name, alive, asked };
-        let call: Call<u64, Noted<&'a Cell<u64>>, Change> = if takes {
-            Call::PollTake(waker)
-        } else {
-            Call::PollGet(waker)
-        };
-        drop(step(core, call));
-        same(rt, "polled", alive.get(), core.waiting() as u64);
-    }
+    let get = Call::PollGet(waker(name, alive, asked));
+    keeps_those_that_wait(rt, core, get, alive);
+    let take = Call::PollTake(waker(name, alive, asked));
+    keeps_those_that_wait(rt, core, take, alive);
+}
+
+/// Whom a poll asks.
+fn asked_by_a_poll<'a>(
+    core: &mut Waiting<'a>,
+    name: u64,
+    alive: &'a Cell<u64>,
+    asked: &'a Cell<u64>,
+) -> u64 {
+    drop(core.poll_take(&waker(name, alive, asked)));
+    asked.replace(0)
 }
 
 #[test]
@@ -119,13 +140,7 @@ fn a_poll_asks_in_order_up_to_the_first_that_would_wake_it(rt: HostRuntime) {
         (4, 1234),
         (3, 123),
     ] {
-        alive.set(alive.get().wrapping_add(1));
-        let waker = Noted {
-            name,
-            alive: &alive,
-            asked: &asked,
-        };
-        drop(core.poll_take(&waker));
-        same(&rt, "asked", asked.replace(0), expected);
+        let is = asked_by_a_poll(&mut core, name, &alive, &asked);
+        same(&rt, "asked", is, expected);
     }
 }

@@ -1,9 +1,11 @@
 //! In which order wakers are woken, and by what: by `wake_all` and by the drop of a core alone.
 use crate::change::Change;
 use crate::in_turn::InTurn;
-use crate::shared::same;
+use crate::shared::{made, same};
+use crate::steps::core_of;
 use crate::wakers::Counted;
-use async_cell_core::{Call, Core, Wakers, step};
+use async_cell_core::{Call, Core, Wakers};
+use async_cell_model as model;
 use std::alloc::Global;
 use std::cell::Cell;
 
@@ -12,12 +14,17 @@ const FOUR: u64 = 4;
 
 type Turns<'a> = Core<u64, InTurn<&'a Cell<u64>>>;
 
-/// A core on which the wakers of the numbers below `count` wait, in order.
-fn awaited_by(alloc: Global, count: u64, woken: &Cell<u64>) -> Turns<'_> {
-    let mut core = Core::new(alloc);
+/// Polls by the wakers of the numbers below `count`, in order.
+fn polls<'a>(core: &mut Turns<'a>, count: u64, woken: &'a Cell<u64>) {
     for number in 0..count {
         let _ = core.poll_take(&InTurn { number, woken });
     }
+}
+
+/// A core on which the wakers of the numbers below `count` wait, in order.
+fn awaited_by(alloc: Global, count: u64, woken: &Cell<u64>) -> Turns<'_> {
+    let mut core = Core::new(alloc);
+    polls(&mut core, count, woken);
     core
 }
 
@@ -100,7 +107,7 @@ fn no_call_wakes_and_the_drop_wakes_those_that_stay(rt: HostRuntime) {
     let woken = Cell::new(0);
     for (call, stay) in calls(&woken) {
         let mut core = awaited(rt.alloc(), &woken);
-        let answer = step(&mut core, call);
+        let answer = made(&mut core, call);
         same(&rt, "called", woken.get(), 0);
         drop(answer);
         same(&rt, "let go", woken.get(), 0);
@@ -114,13 +121,8 @@ fn a_dropped_core_wakes_many_in_order_whatever_its_owners(rt: HostRuntime) {
     const MANY: u64 = 100;
     for owners in [1u32, 2, 3, u32::MAX] {
         let woken = Cell::new(0);
-        let mut core: Turns<'_> = Core::owned_by(rt.alloc(), None, owners.max(1));
-        for number in 0..MANY {
-            let _ = core.poll_take(&InTurn {
-                number,
-                woken: &woken,
-            });
-        }
+        let mut core: Turns<'_> = core_of(rt.alloc(), model::Cell::Open(None, owners), &[]);
+        polls(&mut core, MANY, &woken);
         drop(core);
         same(&rt, "dropped", woken.get(), MANY);
     }

@@ -2,9 +2,9 @@
 //! and who takes them over.
 use crate::shared::same;
 use crate::tasks::{
-    Awaited, add, added, are_woken_in_order, each_is_woken, fill_and_empty, is_nobodys,
-    is_waker_of, leave, store, stored, taken_over, task, three_places, three_tasks, try_store,
-    woken,
+    Awaited, add, added, are_woken_in_order, each_is_woken, fill_and_empty, gives_back,
+    gives_nothing_back, is_nobodys, is_not_left, is_waker_of, leave, lets_nothing_go, store,
+    stored, taken_over, task, three_places, three_tasks, try_store, waiting, woken,
 };
 use async_cell_core::{Core, Place, TaskWaker};
 use futures::task::Source;
@@ -21,16 +21,16 @@ fn a_waker_is_taken_back_by_its_own_place_only(rt: HostRuntime) {
     let mut core = Core::new(rt.alloc());
     let [mut first, mut second, mut third] = three_places(&rt, &mut core, &tasks);
     let mut new = Place::new();
-    same(&rt, "new", core.take_back(&mut new).is_some(), false);
+    gives_nothing_back(&rt, &mut core, &mut new);
     same(&rt, "held", new.was_held(), false);
-    same(&rt, "left", core.leave(new), None);
-    is_waker_of(&rt, core.take_back(&mut second), &tasks[1]);
-    same(&rt, "again", core.take_back(&mut second).is_some(), false);
+    is_not_left(&rt, &mut core, new);
+    gives_back(&rt, &mut core, &mut second, &tasks[1]);
+    gives_nothing_back(&rt, &mut core, &mut second);
     same(&rt, "woken", woken(&tasks), 1);
-    is_waker_of(&rt, core.take_back(&mut first), &tasks[0]);
+    gives_back(&rt, &mut core, &mut first, &tasks[0]);
     same(&rt, "woken", woken(&tasks), 2);
-    is_waker_of(&rt, core.take_back(&mut third), &tasks[2]);
-    same(&rt, "waiting", core.waiting(), 3);
+    gives_back(&rt, &mut core, &mut third, &tasks[2]);
+    waiting(&rt, &core, 3);
 }
 
 #[test]
@@ -40,13 +40,13 @@ fn a_place_is_held_while_its_waker_is_taken_out(rt: HostRuntime) {
         let (again, other) = (task(&rt), task(&rt));
         let mut core = Core::new(rt.alloc());
         let mut places = three_places(&rt, &mut core, &tasks);
-        is_waker_of(&rt, core.take_back(&mut places[index]), &tasks[index]);
-        same(&rt, "free", core.take_left(index).is_some(), false);
+        gives_back(&rt, &mut core, &mut places[index], &tasks[index]);
+        lets_nothing_go(&rt, &mut core, index);
         let _ = added(&rt, &mut core, &other);
         is_nobodys(&rt, store(&rt, &mut core, &mut places[index], &again));
-        same(&rt, "waiting", core.waiting(), 4);
+        waiting(&rt, &core, 4);
         same(&rt, "woken", woken(&tasks), 1);
-        is_waker_of(&rt, core.take_back(&mut places[index]), &again);
+        gives_back(&rt, &mut core, &mut places[index], &again);
     }
 }
 
@@ -61,11 +61,11 @@ fn a_left_place_is_taken_over_by_the_next_place_that_stores(rt: HostRuntime) {
         same(&rt, "woken", woken(&tasks), 0);
         let (mut place, before) = taken_over(&rt, &mut core, &next);
         is_waker_of(&rt, before, &tasks[index]);
-        same(&rt, "waiting", core.waiting(), 3);
-        same(&rt, "free", core.take_left(index).is_some(), false);
+        waiting(&rt, &core, 3);
+        lets_nothing_go(&rt, &mut core, index);
         let _ = added(&rt, &mut core, &last);
         same(&rt, "woken", woken(&tasks), 1);
-        is_waker_of(&rt, core.take_back(&mut place), &next);
+        gives_back(&rt, &mut core, &mut place, &next);
     }
 }
 
@@ -78,14 +78,14 @@ fn a_left_place_is_taken_over_by_the_next_place_that_takes_back(rt: HostRuntime)
         let mut places = three_places(&rt, &mut core, &tasks);
         leave(&rt, &mut core, &mut places, index);
         let mut place = Place::new();
-        is_waker_of(&rt, core.take_back(&mut place), &tasks[index]);
+        gives_back(&rt, &mut core, &mut place, &tasks[index]);
         same(&rt, "held", place.was_held(), true);
-        same(&rt, "free", core.take_left(index).is_some(), false);
+        lets_nothing_go(&rt, &mut core, index);
         let _ = added(&rt, &mut core, &last);
         is_nobodys(&rt, store(&rt, &mut core, &mut place, &next));
-        same(&rt, "waiting", core.waiting(), 4);
+        waiting(&rt, &core, 4);
         same(&rt, "woken", woken(&tasks), 1);
-        is_waker_of(&rt, core.take_back(&mut place), &next);
+        gives_back(&rt, &mut core, &mut place, &next);
     }
 }
 
@@ -96,12 +96,12 @@ fn a_place_that_is_held_is_not_moved_into_a_free_one(rt: HostRuntime) {
     let mut core = Core::new(rt.alloc());
     let mut places = three_places(&rt, &mut core, &tasks);
     leave(&rt, &mut core, &mut places, 0);
-    is_waker_of(&rt, core.take_back(&mut places[2]), &tasks[2]);
+    gives_back(&rt, &mut core, &mut places[2], &tasks[2]);
     is_nobodys(&rt, store(&rt, &mut core, &mut places[2], &again));
     let (_place, before) = taken_over(&rt, &mut core, &next);
     is_waker_of(&rt, before, &tasks[0]);
     same(&rt, "woken", woken(&tasks), 2);
-    is_waker_of(&rt, core.take_back(&mut places[2]), &again);
+    gives_back(&rt, &mut core, &mut places[2], &again);
 }
 
 #[test]
@@ -112,11 +112,11 @@ fn a_place_that_is_left_without_its_waker_is_taken_over(rt: HostRuntime) {
     let mut places = three_places(&rt, &mut core, &tasks);
     drop(core.take_back(&mut places[1]));
     leave(&rt, &mut core, &mut places, 1);
-    same(&rt, "left", core.take_left(1).is_some(), false);
+    lets_nothing_go(&rt, &mut core, 1);
     let (mut place, before) = taken_over(&rt, &mut core, &next);
     same(&rt, "before", before.is_some(), false);
-    is_waker_of(&rt, core.take_back(&mut place), &next);
-    same(&rt, "waiting", core.waiting(), 3);
+    gives_back(&rt, &mut core, &mut place, &next);
+    waiting(&rt, &core, 3);
 }
 
 /// The orders in which three places can be left.
@@ -192,13 +192,12 @@ fn a_place_of_a_past_round_reaches_no_place_of_the_next(rt: HostRuntime) {
         fill_and_empty(&rt, &mut core);
         let mut now = three_places(&rt, &mut core, &tasks);
         let place = &mut past[index];
-        same(&rt, "back", core.take_back(place).is_some(), false);
-        let left = core.leave(mem::replace(place, Place::new()));
-        same(&rt, "left", left, None);
-        same(&rt, "free", core.take_left(index).is_some(), false);
+        gives_nothing_back(&rt, &mut core, place);
+        is_not_left(&rt, &mut core, mem::replace(place, Place::new()));
+        lets_nothing_go(&rt, &mut core, index);
         let _ = stored(&rt, &mut core, &task(&rt), false);
         same(&rt, "woken", woken(&tasks), 0);
-        is_waker_of(&rt, core.take_back(&mut now[index]), &tasks[index]);
+        gives_back(&rt, &mut core, &mut now[index], &tasks[index]);
     }
 }
 
@@ -212,10 +211,10 @@ fn a_place_of_a_past_round_is_added_to_the_next(rt: HostRuntime) {
         let mut now = three_places(&rt, &mut core, &tasks);
         let before = store(&rt, &mut core, &mut past[index], &late);
         same(&rt, "taken over", before.is_some(), false);
-        same(&rt, "waiting", core.waiting(), 4);
+        waiting(&rt, &core, 4);
         same(&rt, "woken", woken(&tasks), 0);
-        is_waker_of(&rt, core.take_back(&mut now[index]), &tasks[index]);
-        is_waker_of(&rt, core.take_back(&mut past[index]), &late);
+        gives_back(&rt, &mut core, &mut now[index], &tasks[index]);
+        gives_back(&rt, &mut core, &mut past[index], &late);
     }
 }
 
@@ -228,11 +227,11 @@ fn a_place_of_a_past_round_takes_a_free_one_over(rt: HostRuntime) {
         fill_and_empty(&rt, &mut core);
         let mut now = three_places(&rt, &mut core, &tasks);
         leave(&rt, &mut core, &mut now, index);
-        is_waker_of(&rt, core.take_back(&mut past), &tasks[index]);
+        gives_back(&rt, &mut core, &mut past, &tasks[index]);
         is_nobodys(&rt, store(&rt, &mut core, &mut past, &late));
-        same(&rt, "waiting", core.waiting(), 3);
+        waiting(&rt, &core, 3);
         same(&rt, "woken", woken(&tasks), 1);
-        is_waker_of(&rt, core.take_back(&mut past), &late);
+        gives_back(&rt, &mut core, &mut past, &late);
     }
 }
 
@@ -247,7 +246,7 @@ fn a_free_place_of_a_past_round_is_not_taken_over(rt: HostRuntime) {
         }
         fill_and_empty(&rt, &mut core);
         let _ = three_places(&rt, &mut core, &tasks);
-        same(&rt, "waiting", core.waiting(), 3);
+        waiting(&rt, &core, 3);
         each_is_woken(&rt, &mut core, &tasks);
     }
 }
@@ -272,10 +271,9 @@ fn a_place_of_a_closed_core_is_given_up(rt: HostRuntime) {
         drop(core.end_owner());
         same(&rt, "woken", woken(&tasks), 3);
         let place = &mut places[index];
-        same(&rt, "back", core.take_back(place).is_some(), false);
-        let left = core.leave(mem::replace(place, Place::new()));
-        same(&rt, "left", left, None);
-        same(&rt, "free", core.take_left(index).is_some(), false);
+        gives_nothing_back(&rt, &mut core, place);
+        is_not_left(&rt, &mut core, mem::replace(place, Place::new()));
+        lets_nothing_go(&rt, &mut core, index);
     }
 }
 
@@ -299,8 +297,8 @@ fn a_waker_that_is_added_without_a_place_is_not_taken_over(rt: HostRuntime) {
     let place = added(&rt, &mut core, &gone);
     add(&rt, &mut core, third);
     same(&rt, "left", core.leave(place), Some(1));
-    same(&rt, "free", core.take_left(0).is_some(), false);
-    same(&rt, "free", core.take_left(2).is_some(), false);
+    lets_nothing_go(&rt, &mut core, 0);
+    lets_nothing_go(&rt, &mut core, 2);
     let _ = stored(&rt, &mut core, second, true);
     same(&rt, "came back", gone.is_woken(), true);
     each_is_woken(&rt, &mut core, &tasks);
@@ -325,7 +323,7 @@ fn a_value_wakes_those_whose_wakers_are_stored_in_order(rt: HostRuntime) {
         Ok(wakers) => are_woken_in_order(&rt, wakers, &[&again, &next, &tasks[2]]),
         Err(_) => panic!(rt; "set is refused"),
     }
-    same(&rt, "waiting", core.waiting(), 0);
+    waiting(&rt, &core, 0);
 }
 
 /// A waker of the task, if there is memory for one.
@@ -347,13 +345,13 @@ fn a_waker_without_memory_for_its_place_comes_back(rt: HostRuntime) -> Result<()
     same(&rt, "first", added.is_ok(), true);
     if let Err(back) = try_store(&rt, &mut core, &mut next, late) {
         same(&rt, "held", next.was_held(), false);
-        same(&rt, "waiting", core.waiting(), 1);
+        waiting(&rt, &core, 1);
         is_waker_of(&rt, back.into_waker(), &second);
         let before = store(&rt, &mut core, &mut next, &second);
         same(&rt, "taken over", before.is_some(), false);
     }
-    same(&rt, "waiting", core.waiting(), 2);
-    is_waker_of(&rt, core.take_back(&mut place), &first);
-    is_waker_of(&rt, core.take_back(&mut next), &second);
+    waiting(&rt, &core, 2);
+    gives_back(&rt, &mut core, &mut place, &first);
+    gives_back(&rt, &mut core, &mut next, &second);
     Ok(())
 }

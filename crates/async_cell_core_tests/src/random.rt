@@ -1,10 +1,10 @@
 //! Random lists of calls, as `Core` answers them and as the oracle does.
 use crate::change::Change;
 use crate::oracle::Oracle;
-use crate::shared::{assert_wakers, same};
+use crate::shared::{assert_wakers, made, same};
 use crate::steps::{CLOSED, MOST, assert_core, core_of};
 use crate::wakers::WakesIfEven;
-use async_cell_core::{Call, Core, Named, Wakes, step};
+use async_cell_core::{Call, Core, Named, Wakes};
 use async_cell_model::Cell;
 use std::alloc::Global;
 use std::fmt::Debug;
@@ -109,7 +109,7 @@ fn a_list_goes<W: FromNumber>(rt: &impl Abort, alloc: Global, seed: u64) -> Resu
     for _ in 0..numbers.below(30) {
         let call: Call<u64, W, Change> = numbers.call();
         let (reply, woken) = oracle.step(call)?;
-        let answer = step(&mut core, call);
+        let answer = made(&mut core, call);
         let name = format!(in alloc; "list {seed}: {call:?}")?;
         same(rt, name.as_str(), answer.reply, reply);
         assert_wakers(rt, name.as_str(), answer.woken, &woken);

@@ -79,7 +79,7 @@ fn a_poll_whose_value_cannot_be_cloned_leaves_it(rt: HostRuntime) {
 /// Asserts that this is a list with the one byte 8.
 fn is_eight(rt: &impl Abort, name: &str, bytes: Option<Vec<u8>>) {
     match bytes {
-        Some(bytes) => assert_eq!(rt; bytes.as_slice(), [8].as_slice(), "{name}"),
+        Some(bytes) => same(rt, name, bytes.as_slice(), [8].as_slice()),
         None => panic!(rt; "{name} gives no value"),
     }
 }
@@ -109,7 +109,7 @@ fn a_list_of_bytes_is_cloned_or_stays(rt: HostRuntime) -> Result<(), Fail> {
     let mut core: Core<Vec<u8>, Named> = Core::new_with(rt.alloc(), bytes);
     poll_get_gives_eight(&rt, &mut core);
     try_get_gives_eight(&rt, &core);
-    assert_eq!(rt; core.waiting(), 0);
+    same(&rt, "waiting", core.waiting(), 0);
     is_eight(&rt, "try_take", core.try_take());
     Ok(())
 }
@@ -142,7 +142,7 @@ fn a_refused_update_does_not_call_its_closure(rt: HostRuntime) {
     let called = Cell::new(false);
     let mut core = polled_by(&rt, rt.alloc(), &[]);
     same(&rt, "vacant", update_some(&mut core, &called), Ok(()));
-    assert!(rt; !called.get(), "there is no value");
+    same(&rt, "called without a value", called.get(), false);
     core.end_owner(None, &[]);
     same(
         &rt,
@@ -156,7 +156,7 @@ fn a_refused_update_does_not_call_its_closure(rt: HostRuntime) {
         update_some(&mut core, &called),
         Err(Refusal::Closed),
     );
-    assert!(rt; !called.get());
+    same(&rt, "called", called.get(), false);
 }
 
 #[test]

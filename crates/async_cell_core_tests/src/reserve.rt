@@ -1,7 +1,7 @@
 //! Room made ahead. The tests are also run with each request for memory refused in turn. Where that
 //! is the one of `reserve`, it is called once more; no poll after it may be refused.
 use crate::compared::{Compared, polled_by};
-use crate::shared::{FOUR, ONE, THREE, TWO};
+use crate::shared::{FOUR, ONE, THREE, TWO, same};
 use async_cell_core::{Core, Named, Poll, Refusal};
 use std::process::Abort;
 
@@ -53,13 +53,13 @@ fn update<R: Abort>(rt: &R, core: &mut Compared<'_, R, u64, Named>) {
         .core
         .update(|content| content.map(|value| value / 3 + 4))
         .is_ok();
-    assert!(rt; updated);
+    same(rt, "updated", updated, true);
 }
 
 /// An update that leaves the content as it is.
 fn update_nothing<R: Abort>(rt: &R, core: &mut Compared<'_, R, u64, Named>) {
     let updated = core.core.update(|content| content).is_ok();
-    assert!(rt; updated);
+    same(rt, "updated", updated, true);
 }
 
 #[test]
@@ -110,9 +110,9 @@ fn two_thousand_names_come_out_in_order(rt: HostRuntime) {
         panic!(rt; "refused");
     };
     for name in 0..2_000u64 {
-        assert_eq!(rt; woken.next(), Some(Named(name)));
+        same(&rt, "next", woken.next(), Some(Named(name)));
     }
-    assert_eq!(rt; woken.next(), None);
+    same(&rt, "next", woken.next(), None);
 }
 
 #[test]

@@ -1,7 +1,7 @@
 //! A place of a past round is not that of a later one, however many rounds lie between: as many as
 //! one byte or two can count, and one more or fewer.
 use crate::shared::same;
-use crate::tasks::{Awaited, added, fill_and_empty, is_waker_of, store, task};
+use crate::tasks::{Awaited, added, fill_and_empty, gives_back, store, task};
 use async_cell_core::{Core, Place};
 use futures::test::MockTask;
 use std::process::Abort;
@@ -70,7 +70,7 @@ fn a_place_of_a_past_round_is_not_left(rt: HostRuntime) {
         same(&rt, "left", (row, core.leave(past)), (row, None));
         let _ = added(&rt, &mut core, &task(&rt));
         same(&rt, "waiting", (row, core.waiting()), (row, 2));
-        is_waker_of(&rt, core.take_back(&mut now), &waits);
+        gives_back(&rt, &mut core, &mut now, &waits);
     }
 }
 
@@ -85,7 +85,7 @@ fn no_waker_is_taken_back_from_a_place_of_a_past_round(rt: HostRuntime) {
         } = after(&rt, row);
         let back = core.take_back(&mut past);
         same(&rt, "back", (row, back.is_some()), (row, false));
-        is_waker_of(&rt, core.take_back(&mut now), &waits);
+        gives_back(&rt, &mut core, &mut now, &waits);
     }
 }
 
@@ -102,8 +102,8 @@ fn a_waker_is_stored_beside_a_place_of_a_past_round(rt: HostRuntime) {
         let before = store(&rt, &mut core, &mut past, &late);
         same(&rt, "before", (row, before.is_some()), (row, false));
         same(&rt, "waiting", (row, core.waiting()), (row, 2));
-        is_waker_of(&rt, core.take_back(&mut now), &waits);
-        is_waker_of(&rt, core.take_back(&mut past), &late);
+        gives_back(&rt, &mut core, &mut now, &waits);
+        gives_back(&rt, &mut core, &mut past, &late);
     }
 }
 
@@ -123,6 +123,6 @@ fn a_place_of_a_late_round_is_given_up_by_the_next_fill(rt: HostRuntime) {
         let back = core.take_back(&mut now);
         same(&rt, "back", (row, back.is_some()), (row, false));
         same(&rt, "left", (row, core.leave(now)), (row, None));
-        is_waker_of(&rt, core.take_back(&mut place), &next);
+        gives_back(&rt, &mut core, &mut place, &next);
     }
 }

@@ -1,7 +1,7 @@
 //! Lists of calls.
 use crate::change::Change;
 use crate::compared::polled_by;
-use crate::shared::{FOUR, ONE, TWO, assert_wakers};
+use crate::shared::{FOUR, ONE, TWO, assert_wakers, same};
 use async_cell_core::{Answer, Call, Core, Named, Refusal, Reply, laws, run};
 use std::alloc::Global;
 use std::process::Abort;
@@ -9,13 +9,28 @@ use std::test::Fail;
 
 type TestCall = Call<u64, Named, Change>;
 
+/// Asserts that this is the reply to the call at this place, with the wakers that it returns.
+fn answer_is(
+    rt: &impl Abort,
+    place: usize,
+    answer: Answer<u64, Named>,
+    (reply, wakers): (Reply<u64>, &[Named]),
+) {
+    same(rt, "reply", (place, answer.reply), (place, reply));
+    same(
+        rt,
+        "wakers",
+        (place, answer.woken.len()),
+        (place, wakers.len()),
+    );
+    assert_wakers(rt, "the wakers of a call", answer.woken, wakers);
+}
+
 /// Asserts that these are the replies, with the wakers that each returns. It takes no memory.
 fn answers_are(rt: &impl Abort, answers: Vec<Answer<u64, Named>>, want: &[(Reply<u64>, &[Named])]) {
-    assert_eq!(rt; answers.len(), want.len());
-    for (place, (Answer { reply, woken }, want)) in answers.into_iter().zip(want).enumerate() {
-        assert_eq!(rt; reply, want.0, "call {place}");
-        assert_eq!(rt; woken.len(), want.1.len(), "call {place}");
-        assert_wakers(rt, "the wakers of a call", woken, want.1);
+    same(rt, "answers", answers.len(), want.len());
+    for (place, (answer, want)) in answers.into_iter().zip(want).enumerate() {
+        answer_is(rt, place, answer, *want);
     }
 }
 
@@ -207,9 +222,9 @@ fn a_run_without_memory_gives_the_list_back(rt: HostRuntime) -> Result<(), Fail>
             answers_are(&rt, answers, &wanted);
         }
         Err(back) => {
-            assert_eq!(rt; back.as_slice(), calls);
-            assert_eq!(rt; core.waiting(), 0);
-            assert!(rt; !core.is_set());
+            same(&rt, "back", back.as_slice(), calls);
+            same(&rt, "waiting", core.waiting(), 0);
+            same(&rt, "is_set", core.is_set(), false);
         }
     }
     Ok(())
@@ -221,7 +236,8 @@ fn an_empty_list_is_never_refused(rt: HostRuntime) {
     let mut core = polled_by(&rt, rt.alloc(), &[ONE]);
     let calls: Vec<TestCall> = Vec::new(rt.alloc());
     let answers = run(&mut core.core, calls);
-    assert_eq!(rt; answers.map(|answers| answers.len()).ok(), Some(0));
+    let count = answers.map(|answers| answers.len()).ok();
+    same(&rt, "answers", count, Some(0));
     core.waiting(1);
 }
 

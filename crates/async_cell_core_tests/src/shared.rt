@@ -1,6 +1,6 @@
 //! What the tests share. None of it has a contract, so that the proof of a test carries neither its
 //! branches nor the clauses of what it calls.
-use async_cell_core::{Named, Wakers};
+use async_cell_core::{Answer, Call, Core, Edit, Named, Wakers, Wakes, step};
 use std::fmt::Debug;
 use std::process::Abort;
 
@@ -19,6 +19,14 @@ pub fn same<T: Debug + PartialEq + Drop>(rt: &impl Abort, name: &str, is: T, wan
     assert_eq!(rt; is, want, "{name}");
 }
 
+/// Makes the call by `step`.
+pub fn made<T: Clone, W: Wakes, E: Edit<T> + Drop>(
+    core: &mut Core<T, W>,
+    call: Call<T, W, E>,
+) -> Answer<T, W> {
+    step(core, call)
+}
+
 /// Asserts that these are the wakers, in order. It takes no memory.
 pub fn assert_wakers<W: Debug + PartialEq + Drop>(
     rt: &impl Abort,
@@ -26,9 +34,9 @@ pub fn assert_wakers<W: Debug + PartialEq + Drop>(
     mut wakers: Wakers<W>,
     want: &[W],
 ) {
-    assert_eq!(rt; wakers.len(), want.len(), "{name}");
+    same(rt, name, wakers.len(), want.len());
     for waker in want {
-        assert_eq!(rt; wakers.next().as_ref(), Some(waker), "{name}");
+        same(rt, name, wakers.next().as_ref(), Some(waker));
     }
-    assert_eq!(rt; wakers.next(), None, "{name}");
+    same(rt, name, wakers.next(), None);
 }

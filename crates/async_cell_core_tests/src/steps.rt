@@ -10,49 +10,33 @@ use std::process::Abort;
 use std::test::Fail;
 
 /// A call, its reply, the cell after it, the wakers that it returns, and those that wait then.
-#[derive(Clone, Copy)]
-pub struct Step<'a, W> {
-    pub call: Call<u64, W, Change>,
-    pub reply: Reply<u64>,
-    pub cell: Cell<u64>,
-    pub woken: &'a [W],
-    pub waiting: &'a [W],
+pub type Step<'a, W> = (
+    Call<u64, W, Change>,
+    Reply<u64>,
+    Cell<u64>,
+    &'a [W],
+    &'a [W],
+);
+
+fn closed<W: Wakes>(alloc: Global) -> Core<u64, W> {
+    let mut core = Core::new(alloc);
+    let _ = core.end_owner();
+    core
 }
 
-pub fn then<'a, W>(
-    call: Call<u64, W, Change>,
-    reply: Reply<u64>,
-    cell: Cell<u64>,
-    woken: &'a [W],
-    waiting: &'a [W],
-) -> Step<'a, W> {
-    Step {
-        call,
-        reply,
-        cell,
-        woken,
-        waiting,
-    }
-}
-
-/// A poll of a vacant cell with one owner, after which these wait.
-pub fn poll<W>(waker: W, waiting: &[W]) -> Step<'_, W> {
-    then(Call::PollTake(waker), Reply::Pending, VACANT, &[], waiting)
-}
-
-/// A core that has this cell, on which these have polled.
-pub fn core_of<W: Wakes>(alloc: Global, cell: Cell<u64>, polls: &[W]) -> Core<u64, W> {
-    let mut core = match cell {
-        Cell::Open(content, owners) => Core::owned_by(alloc, content, owners.max(1)),
-        Cell::Closed => {
-            let mut core = Core::new(alloc);
-            let _ = core.end_owner();
-            core
-        }
-    };
+fn poll_all<W: Wakes>(core: &mut Core<u64, W>, polls: &[W]) {
     for waker in polls {
         let _ = core.poll_take(waker);
     }
+}
+
+/// A core that has this cell, on which these have polled. A cell without owners is closed.
+pub fn core_of<W: Wakes>(alloc: Global, cell: Cell<u64>, polls: &[W]) -> Core<u64, W> {
+    let mut core = match cell {
+        Cell::Open(content, owners) if owners > 0 => Core::owned_by(alloc, content, owners),
+        _ => closed(alloc),
+    };
+    poll_all(&mut core, polls);
     core
 }
 
@@ -76,6 +60,30 @@ pub fn assert_core<W: Wakes + Copy + Debug + PartialEq>(
     assert_wakers(rt, name, woken, waiting);
 }
 
+/// The calls of the steps, as a list.
+fn calls_of<W: Copy>(
+    alloc: Global,
+    steps: &[Step<'_, W>],
+) -> Result<Vec<Call<u64, W, Change>>, AllocError> {
+    let mut calls = Vec::new(alloc);
+    for step in steps {
+        calls.push(step.0)?;
+    }
+    Ok(calls)
+}
+
+/// Asserts that the call is answered as its step says.
+fn answer_goes<W: Wakes + Copy + Debug + PartialEq>(
+    rt: &impl Abort,
+    name: &str,
+    answer: Answer<u64, W>,
+    step: &Step<'_, W>,
+) {
+    let (call, reply, _, woken, _) = *step;
+    same(rt, name, (call, answer.reply), (call, reply));
+    assert_wakers(rt, name, answer.woken, woken);
+}
+
 /// Runs the steps' calls on the core that has this cell and on which these have polled, and
 /// compares each answer, and the core after them all, with what the steps say.
 fn run_goes<W: Wakes + Copy + Debug + PartialEq>(
@@ -85,20 +93,45 @@ fn run_goes<W: Wakes + Copy + Debug + PartialEq>(
     before: (Cell<u64>, &[W]),
     steps: &[Step<'_, W>],
 ) -> Result<(), Fail> {
-    let Some(last) = steps.last() else {
+    let Some((_, _, cell, _, waiting)) = steps.last() else {
         return Ok(());
     };
-    let mut calls = Vec::new(alloc);
-    for step in steps {
-        calls.push(step.call)?;
-    }
     let mut core = core_of(alloc, before.0, before.1);
-    let answers = run(&mut core, calls).ok().ok_or("no memory")?;
-    for (Answer { reply, woken }, step) in answers.into_iter().zip(steps) {
-        assert_eq!(rt; reply, step.reply, "{name}: {:?}", step.call);
-        assert_wakers(rt, name, woken, step.woken);
+    let answers = run(&mut core, calls_of(alloc, steps)?)
+        .ok()
+        .ok_or("no memory")?;
+    for (answer, step) in answers.into_iter().zip(steps) {
+        answer_goes(rt, name, answer, step);
     }
-    assert_core(rt, name, core, last.cell, last.waiting);
+    assert_core(rt, name, core, *cell, waiting);
+    Ok(())
+}
+
+/// Makes the call of the step on the oracle, and asserts that it is answered as the step says.
+fn oracle_answers<W: Wakes + Copy + Debug + PartialEq>(
+    rt: &impl Abort,
+    name: &str,
+    oracle: &mut Oracle<W>,
+    step: &Step<'_, W>,
+) -> Result<(), AllocError> {
+    let (call, reply, _, woken, _) = *step;
+    let (is, names) = oracle.step(call)?;
+    same(rt, name, (call, is), (call, reply));
+    same(rt, name, (call, names.as_slice()), (call, woken));
+    Ok(())
+}
+
+/// Asserts that the oracle then has the cell and the wakers that the step says.
+fn oracle_shows<W: Wakes + Copy + Debug + PartialEq>(
+    rt: &impl Abort,
+    name: &str,
+    oracle: &Oracle<W>,
+    step: &Step<'_, W>,
+) -> Result<(), AllocError> {
+    let (call, _, cell, _, waiting) = *step;
+    let waits = oracle.waiting()?;
+    same(rt, name, (call, oracle.cell()), (call, cell));
+    same(rt, name, (call, waits.as_slice()), (call, waiting));
     Ok(())
 }
 
@@ -115,16 +148,8 @@ fn oracle_goes<W: Wakes + Copy + Debug + PartialEq>(
         oracle.step(Call::PollTake(*waker))?;
     }
     for step in steps {
-        let (reply, woken) = oracle.step(step.call)?;
-        assert_eq!(rt; reply, step.reply, "{name}: {:?}", step.call);
-        assert_eq!(rt; woken.as_slice(), step.woken, "{name}: {:?}", step.call);
-        assert_eq!(rt; oracle.cell(), step.cell, "{name}: {:?}", step.call);
-        assert_eq!(rt;
-            oracle.waiting()?.as_slice(),
-            step.waiting,
-            "{name}: {:?}",
-            step.call
-        );
+        oracle_answers(rt, name, &mut oracle, step)?;
+        oracle_shows(rt, name, &oracle, step)?;
     }
     Ok(())
 }
@@ -133,14 +158,13 @@ fn oracle_goes<W: Wakes + Copy + Debug + PartialEq>(
 pub fn a_cell_goes<W: Wakes + Copy + Debug + PartialEq>(
     rt: &impl Abort,
     alloc: Global,
-    name: &str,
     cell: Cell<u64>,
     steps: &[Step<'_, W>],
 ) -> Result<(), Fail> {
     for index in 0..steps.len() {
-        run_goes(rt, alloc, name, (cell, &[]), &steps[..index + 1])?;
+        run_goes(rt, alloc, "a list", (cell, &[]), &steps[..index + 1])?;
     }
-    oracle_goes(rt, alloc, name, (cell, &[]), steps)?;
+    oracle_goes(rt, alloc, "a list", (cell, &[]), steps)?;
     Ok(())
 }
 
@@ -148,24 +172,22 @@ pub fn a_cell_goes<W: Wakes + Copy + Debug + PartialEq>(
 pub fn a_new_cell_goes<W: Wakes + Copy + Debug + PartialEq>(
     rt: &impl Abort,
     alloc: Global,
-    name: &str,
     steps: &[Step<'_, W>],
 ) -> Result<(), Fail> {
-    a_cell_goes(rt, alloc, name, VACANT, steps)
+    a_cell_goes(rt, alloc, VACANT, steps)
 }
 
-/// Each of these calls, as the only one on this cell after these polls, goes as its step says.
-pub fn each_call_goes(
+/// The call, as the only one on this cell after these polls, goes as its step says.
+pub fn call_goes(
     rt: &impl Abort,
     alloc: Global,
     name: &str,
     before: (Cell<u64>, &[Named]),
-    steps: &[Step<'_, Named>],
+    step: Step<'_, Named>,
 ) -> Result<(), Fail> {
-    for step in steps {
-        run_goes(rt, alloc, name, before, &[*step])?;
-        oracle_goes(rt, alloc, name, before, &[*step])?;
-    }
+    let steps = [step];
+    run_goes(rt, alloc, name, before, &steps)?;
+    oracle_goes(rt, alloc, name, before, &steps)?;
     Ok(())
 }
 
@@ -174,18 +196,3 @@ pub const MOST: u32 = 4_294_967_295;
 pub const VACANT: Cell<u64> = Cell::Open(None, 1);
 
 pub const CLOSED: Cell<u64> = Cell::Closed;
-
-/// A cell with one owner that holds `value`.
-pub fn full(value: u64) -> Cell<u64> {
-    Cell::Open(Some(value), 1)
-}
-
-/// An update whose closure has to see `saw`, and puts in `put`.
-pub fn update<W>(saw: Option<u64>, put: Option<u64>) -> Call<u64, W, Change> {
-    Call::Update(Change::FromTo(saw, put))
-}
-
-/// An update of the value, which has to be `saw`, to `put`: both are `None` where it is not called.
-pub fn update_some<W>(saw: Option<u64>, put: Option<u64>) -> Call<u64, W, Change> {
-    Call::UpdateSome(Change::FromTo(saw, put))
-}

@@ -116,6 +116,36 @@ pub fn is_waker_of(rt: &impl Abort, waker: Option<Waker>, task: &MockTask) {
     same(rt, "woken by it", task.is_woken(), true);
 }
 
+/// Asserts that the place gives back a waker of the task.
+pub fn gives_back(rt: &impl Abort, core: &mut Awaited, place: &mut Place, task: &MockTask) {
+    is_waker_of(rt, core.take_back(place), task);
+}
+
+/// Asserts that the place gives nothing back.
+pub fn gives_nothing_back(rt: &impl Abort, core: &mut Awaited, place: &mut Place) {
+    same(rt, "back", core.take_back(place).is_some(), false);
+}
+
+/// Asserts that a waker of the task is let go out of the free place at this index.
+pub fn lets_go(rt: &impl Abort, core: &mut Awaited, index: usize, task: &MockTask) {
+    is_waker_of(rt, core.take_left(index), task);
+}
+
+/// Asserts that no waker is let go at this index.
+pub fn lets_nothing_go(rt: &impl Abort, core: &mut Awaited, index: usize) {
+    same(rt, "let go", core.take_left(index).is_some(), false);
+}
+
+/// Asserts that the place is held no more, and leaves it.
+pub fn is_not_left(rt: &impl Abort, core: &mut Awaited, place: Place) {
+    same(rt, "left", core.leave(place), None);
+}
+
+/// Asserts that there are so many wakers in the list.
+pub fn waiting(rt: &impl Abort, core: &Awaited, count: usize) {
+    same(rt, "waiting", core.waiting(), count);
+}
+
 /// Asserts that what stood in a place was no waker.
 pub fn is_nobodys(rt: &impl Abort, before: Option<TaskWaker>) {
     match before {

@@ -13,9 +13,9 @@ use std::test::Fail;
 #[test]
 fn a_reply_is_taken_once(rt: HostRuntime) {
     let mut answered = is_answered_once(rt.alloc(), 42);
-    assert_eq!(rt; answered.woken.next(), Some(Named(7)));
-    assert_eq!(rt; answered.first, Some(42));
-    assert_eq!(rt; answered.second, None);
+    same(&rt, "woken", answered.woken.next(), Some(Named(7)));
+    same(&rt, "first", answered.first, Some(42));
+    same(&rt, "second", answered.second, None);
 }
 
 fn asks(
@@ -32,7 +32,7 @@ fn two_askers_wait_and_one_takes_the_reply(rt: HostRuntime) {
     let mut slot = ReplySlot::new(rt.alloc());
     asks(&rt, &mut slot, 1, Ok(Poll::Pending));
     asks(&rt, &mut slot, 2, Ok(Poll::Pending));
-    assert_eq!(rt; slot.answer(5).len(), 2);
+    same(&rt, "woken", slot.answer(5).len(), 2);
     asks(&rt, &mut slot, 2, Ok(Poll::Ready(Some(5))));
     asks(&rt, &mut slot, 1, Ok(Poll::Pending));
 }
@@ -60,7 +60,7 @@ fn ends(rt: &impl Abort, watched: &mut Watched, want: Result<usize, Refusal>) {
 
 #[test]
 fn watchers_see_the_latest_state(rt: HostRuntime) {
-    assert_eq!(rt; latest(rt.alloc(), 1, 2), Some(2));
+    same(&rt, "latest", latest(rt.alloc(), 1, 2), Some(2));
     let mut watched = Watched::new(rt.alloc(), 1);
     withdraws(&rt, &mut watched, Some(1));
     looks(&rt, &mut watched, Poll::Pending);
@@ -75,8 +75,8 @@ fn watchers_see_the_latest_state(rt: HostRuntime) {
 #[test]
 fn the_end_is_seen(rt: HostRuntime) {
     let mut seen = end_is_seen(rt.alloc());
-    assert_eq!(rt; seen.woken.next(), Some(Named(1)));
-    assert_eq!(rt; seen.look, Ok(Poll::Ready(None)));
+    same(&rt, "woken", seen.woken.next(), Some(Named(1)));
+    same(&rt, "look", seen.look, Ok(Poll::Ready(None)));
 }
 
 /// What a new core answers to the calls, as a list.
@@ -100,10 +100,9 @@ fn a_list_of_calls_puts_and_takes(rt: HostRuntime) -> Result<(), Fail> {
         (Reply::Value(Some(5)), 0),
     ];
     let answers = answers(rt.alloc(), &calls)?;
-    assert_eq!(rt; answers.len(), want.len());
-    for (answer, (reply, woken)) in answers.into_iter().zip(want) {
-        assert_eq!(rt; answer.reply, reply);
-        assert_eq!(rt; answer.woken.len(), woken);
+    same(&rt, "answers", answers.len(), want.len());
+    for (answer, want) in answers.iter().zip(want) {
+        same(&rt, "answer", (answer.reply, answer.woken.len()), want);
     }
     Ok(())
 }
@@ -114,12 +113,12 @@ fn a_notice_stays_when_it_is_looked_at(rt: HostRuntime) -> Result<(), Fail> {
     let mut notice = Notice::new(rt.alloc(), text);
     for _ in 0..2 {
         let seen = notice.look();
-        assert_eq!(rt; seen.woken.len(), 0);
+        same(&rt, "woken", seen.woken.len(), 0);
         let text = match &seen.reply {
             Reply::Value(Some(text)) => Some(text.as_str()),
             _ => None,
         };
-        assert_eq!(rt; text, Some("closed on Monday"));
+        same(&rt, "text", text, Some("closed on Monday"));
     }
     Ok(())
 }

@@ -1,8 +1,10 @@
 //! The list of those that wait, and what it hands out.
 use crate::in_turn::InTurn;
+use crate::shared::same;
 use async_cell_cons::{Named, WaitList, Wakers};
 use std::alloc::{AllocError, Global};
 use std::cell::Cell;
+use std::process::Abort;
 use std::test::Fail;
 
 const MANY: u64 = 1_000_000;
@@ -21,9 +23,9 @@ fn many_wakers_are_woken_in_order(rt: HostRuntime) -> Result<(), Fail> {
     let woken = Cell::new(0);
     let mut waiting = many(rt.alloc(), &woken)?;
     let wakers = waiting.hand_out();
-    assert!(rt; waiting.is_empty());
+    same(&rt, "is_empty", waiting.is_empty(), true);
     wakers.wake_all();
-    assert_eq!(rt; woken.get(), MANY);
+    same(&rt, "woken", woken.get(), MANY);
     Ok(())
 }
 
@@ -32,10 +34,11 @@ fn many_wakers_are_given_one_by_one_in_order(rt: HostRuntime) -> Result<(), Fail
     let woken = Cell::new(0);
     let mut wakers = many(rt.alloc(), &woken)?.hand_out();
     for number in 0..MANY {
-        assert_eq!(rt; wakers.next().map(|waker| waker.number), Some(number));
+        let next = wakers.next().map(|waker| waker.number);
+        same(&rt, "next", next, Some(number));
     }
-    assert!(rt; wakers.is_empty());
-    assert_eq!(rt; woken.get(), 0);
+    same(&rt, "is_empty", wakers.is_empty(), true);
+    same(&rt, "woken", woken.get(), 0);
     Ok(())
 }
 
@@ -74,61 +77,70 @@ fn many_to_drop(
 fn many_wakers_are_dropped_in_order(rt: HostRuntime) -> Result<(), Fail> {
     let dropped = Cell::new(0);
     drop(many_to_drop(rt.alloc(), &dropped)?);
-    assert_eq!(rt; dropped.get(), MANY, "while they wait");
+    same(&rt, "dropped while they wait", dropped.get(), MANY);
     dropped.set(0);
     let mut wakers = many_to_drop(rt.alloc(), &dropped)?.hand_out();
     let _ = wakers.next();
-    assert_eq!(rt; dropped.get(), 1);
+    same(&rt, "dropped", dropped.get(), 1);
     drop(wakers);
-    assert_eq!(rt; dropped.get(), MANY, "once they were handed out");
+    same(&rt, "dropped once handed out", dropped.get(), MANY);
     Ok(())
 }
 
 #[test]
 fn each_waiting_waker_skips_its_own_name(rt: HostRuntime) -> Result<(), Fail> {
     let mut waiting = WaitList::new(rt.alloc());
-    assert!(rt; !waiting.skips(&Named(1)), "nobody waits");
+    same(&rt, "nobody waits", waiting.skips(&Named(1)), false);
     for name in 1..4 {
-        assert!(rt; !waiting.skips(&Named(name)));
+        same(&rt, "new", waiting.skips(&Named(name)), false);
         waiting.push(&Named(name))?;
         for earlier in 1..name + 1 {
-            assert!(rt; waiting.skips(&Named(earlier)));
+            same(&rt, "waits", waiting.skips(&Named(earlier)), true);
         }
     }
-    assert_eq!(rt; waiting.len(), 3);
+    same(&rt, "waiting", waiting.len(), 3);
     Ok(())
 }
 
 #[test]
 fn a_refused_waker_comes_back_and_the_list_stays(rt: HostRuntime) {
     let mut waiting = WaitList::new(rt.alloc());
-    assert_eq!(rt;
-        waiting.add(Named(1)),
-        Ok(()),
-        "an empty list needs no memory"
-    );
+    let first = waiting.add(Named(1));
+    same(&rt, "an empty list needs no memory", first, Ok(()));
     let added = match waiting.add(Named(2)) {
         Ok(()) => 2,
         Err(back) => {
-            assert_eq!(rt; back, Named(2));
+            same(&rt, "back", back, Named(2));
             1
         }
     };
-    assert_eq!(rt; waiting.len(), added);
+    same(&rt, "waiting", waiting.len(), added);
     let added = match waiting.push(&Named(3)) {
         Ok(()) => added + 1,
         Err(_) => added,
     };
     let mut wakers = waiting.hand_out();
-    assert_eq!(rt; wakers.len(), added);
-    assert_eq!(rt; wakers.next(), Some(Named(1)));
+    same(&rt, "wakers", wakers.len(), added);
+    same(&rt, "next", wakers.next(), Some(Named(1)));
 }
 
 #[test]
 fn no_wakers_give_none(rt: HostRuntime) {
     let mut none: Wakers<Named> = Wakers::none();
-    assert!(rt; none.is_empty());
-    assert_eq!(rt; none.next(), None);
+    same(&rt, "is_empty", none.is_empty(), true);
+    same(&rt, "next", none.next(), None);
+}
+
+/// Asserts that this is the debug text.
+fn text_is(
+    rt: &impl Abort,
+    alloc: Global,
+    wakers: &Wakers<Named>,
+    want: &str,
+) -> Result<(), AllocError> {
+    let text = format!(in alloc; "{wakers:?}")?;
+    same(rt, "text", text.as_str(), want);
+    Ok(())
 }
 
 #[test]
@@ -138,7 +150,7 @@ fn the_debug_text_counts_the_wakers_that_are_left(rt: HostRuntime) -> Result<(),
     waiting.push(&Named(2))?;
     let mut wakers = waiting.hand_out();
     for text in ["Wakers(2)", "Wakers(1)", "Wakers(0)"] {
-        assert_eq!(rt; format!(in rt.alloc(); "{wakers:?}")?.as_str(), text);
+        text_is(&rt, rt.alloc(), &wakers, text)?;
         let _ = wakers.next();
     }
     Ok(())

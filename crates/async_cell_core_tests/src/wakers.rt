@@ -4,6 +4,7 @@ ghost use Rattle.std.proofs.Common.{rules};
 
 use crate::compared::Compared;
 use crate::count::Count;
+use crate::shared::same;
 use async_cell_core::{Core, Poll, Wakes};
 use std::cell::Cell;
 
@@ -43,11 +44,11 @@ fn a_dropped_core_wakes_each_that_waits_once(rt: HostRuntime) {
             name: turn % 2 + 1,
             woken: &woken,
         };
-        assert_eq!(rt; core.poll_take(&waker), Ok(Poll::Pending));
+        same(&rt, "poll_take", core.poll_take(&waker), Ok(Poll::Pending));
     }
-    assert_eq!(rt; woken.get(), 0);
+    same(&rt, "woken", woken.get(), 0);
     drop(core);
-    assert_eq!(rt; woken.get(), 2);
+    same(&rt, "woken", woken.get(), 2);
 }
 
 /// A waker that would wake any other exactly if its number is even.

@@ -1,266 +1,277 @@
 //! Histories worked by hand, from the rules of the cell in words: each as a list of calls on `Core`
 //! and on the oracle. Those of docs/DEFINITIONS.md stand at the end.
+use crate::change::Change::FromTo;
 use crate::shared::{FIVE, ONE, THREE, TWO};
-use crate::steps::{
-    CLOSED, VACANT, a_cell_goes, a_new_cell_goes, full, poll, then, update, update_some,
+use crate::steps::{CLOSED, VACANT, a_cell_goes, a_new_cell_goes};
+use async_cell_core::Call::{
+    AddOwner, EndOwner, IsSet, OrSet, PollGet, PollTake, Replace, Set, TakeInner, TryGet, TryTake,
+    Update, UpdateSome,
 };
-use async_cell_core::{Call, Named, Refusal, Reply};
-use async_cell_model::Cell;
+use async_cell_core::Reply::{self, Done, Is, Pending, Ready, Refused, Value};
+use async_cell_core::{Named, Refusal};
+use async_cell_model::Cell::{self, Open};
 use std::test::Fail;
 
+const OWNED_TWICE: Cell<u64> = Open(None, 2);
+
+const HOLDS_FOUR: Cell<u64> = Open(Some(4), 2);
+
+const SHARED: Reply<u64> = Refused(Refusal::StillShared, None);
+
+const ENDED: Reply<u64> = Refused(Refusal::Closed, None);
+
+const NINE_BACK: Reply<u64> = Refused(Refusal::Closed, Some(9));
+
 #[test]
-fn polls_wait_and_are_handed_out(rt: HostRuntime) -> Result<(), Fail> {
+fn each_waiter_is_added_once_whoever_polls_in_between(rt: HostRuntime) -> Result<(), Fail> {
     a_new_cell_goes(
         &rt,
         rt.alloc(),
-        "each waiter is added once, whoever polls in between",
         &[
-            poll(ONE, &[ONE]),
-            poll(ONE, &[ONE]),
-            poll(TWO, &[ONE, TWO]),
-            poll(ONE, &[ONE, TWO]),
-            then(Call::Set(7), Reply::Done, full(7), &[ONE, TWO], &[]),
+            (PollTake(ONE), Pending, VACANT, &[], &[ONE]),
+            (PollTake(ONE), Pending, VACANT, &[], &[ONE]),
+            (PollTake(TWO), Pending, VACANT, &[], &[ONE, TWO]),
+            (PollTake(ONE), Pending, VACANT, &[], &[ONE, TWO]),
+            (Set(7), Done, Open(Some(7), 1), &[ONE, TWO], &[]),
         ],
-    )?;
-    a_new_cell_goes(
-        &rt,
-        rt.alloc(),
-        "a take that finds no value forgets no waiter",
-        &[
-            poll(ONE, &[ONE]),
-            then(Call::TryTake, Reply::Value(None), VACANT, &[], &[ONE]),
-            then(Call::Set(5), Reply::Done, full(5), &[ONE], &[]),
-        ],
-    )?;
-    a_new_cell_goes(
-        &rt,
-        rt.alloc(),
-        "an update to no value forgets no waiter",
-        &[
-            poll(ONE, &[ONE]),
-            then(update(None, None), Reply::Done, VACANT, &[], &[ONE]),
-            then(update(None, Some(5)), Reply::Done, full(5), &[ONE], &[]),
-        ],
-    )?;
-    let getter = |waker| then(
-        Call::PollGet(waker),
-        Reply::Pending,
-        VACANT,
-        &[],
-        &[ONE, TWO],
-    );
-    a_new_cell_goes(
-        &rt,
-        rt.alloc(),
-        "takers and getters wait in one list, and the value is taken once",
-        &[
-            poll(ONE, &[ONE]),
-            poll(ONE, &[ONE]),
-            getter(TWO),
-            poll(ONE, &[ONE, TWO]),
-            then(Call::Set(7), Reply::Done, full(7), &[ONE, TWO], &[]),
-            then(
-                Call::PollGet(THREE),
-                Reply::Ready(Some(7)),
-                full(7),
-                &[],
-                &[],
-            ),
-            then(Call::TryTake, Reply::Value(Some(7)), VACANT, &[], &[]),
-            then(Call::TryTake, Reply::Value(None), VACANT, &[], &[]),
-        ],
-    )?;
-    Ok(())
+    )
 }
 
 #[test]
-fn writes_and_reads_go_by_turns(rt: HostRuntime) -> Result<(), Fail> {
-    a_new_cell_goes::<Named>(
-        &rt,
-        rt.alloc(),
-        "writes take the place of the value, and a replace gives the old one",
-        &[
-            then(Call::Set(1), Reply::Done, full(1), &[], &[]),
-            then(Call::Set(2), Reply::Done, full(2), &[], &[]),
-            then(Call::Replace(3), Reply::Value(Some(2)), full(3), &[], &[]),
-            then(Call::TryGet, Reply::Value(Some(3)), full(3), &[], &[]),
-        ],
-    )?;
-    a_new_cell_goes::<Named>(
-        &rt,
-        rt.alloc(),
-        "a write that only fills hands its value back where there is one",
-        &[
-            then(Call::TryTake, Reply::Value(None), VACANT, &[], &[]),
-            then(Call::OrSet(1), Reply::Value(None), full(1), &[], &[]),
-            then(Call::TryTake, Reply::Value(Some(1)), VACANT, &[], &[]),
-            then(Call::OrSet(2), Reply::Value(None), full(2), &[], &[]),
-            then(Call::TryGet, Reply::Value(Some(2)), full(2), &[], &[]),
-            then(Call::OrSet(3), Reply::Value(Some(3)), full(2), &[], &[]),
-            then(Call::TryGet, Reply::Value(Some(2)), full(2), &[], &[]),
-            then(Call::Set(4), Reply::Done, full(4), &[], &[]),
-            then(Call::TryGet, Reply::Value(Some(4)), full(4), &[], &[]),
-            then(Call::OrSet(5), Reply::Value(Some(5)), full(4), &[], &[]),
-            then(Call::TryGet, Reply::Value(Some(4)), full(4), &[], &[]),
-        ],
-    )?;
+fn a_take_that_finds_no_value_forgets_no_waiter(rt: HostRuntime) -> Result<(), Fail> {
     a_new_cell_goes(
         &rt,
         rt.alloc(),
-        "updates fill, keep and empty the cell",
         &[
-            poll(ONE, &[ONE]),
-            then(update_some(None, None), Reply::Done, VACANT, &[], &[ONE]),
-            then(update(None, None), Reply::Done, VACANT, &[], &[ONE]),
-            then(update(None, Some(5)), Reply::Done, full(5), &[ONE], &[]),
-            then(
-                update_some(Some(5), Some(8)),
-                Reply::Done,
-                full(8),
-                &[],
-                &[],
-            ),
-            then(update(Some(8), Some(8)), Reply::Done, full(8), &[], &[]),
-            then(Call::TryGet, Reply::Value(Some(8)), full(8), &[], &[]),
-            then(update(Some(8), None), Reply::Done, VACANT, &[], &[]),
+            (PollTake(ONE), Pending, VACANT, &[], &[ONE]),
+            (TryTake, Value(None), VACANT, &[], &[ONE]),
+            (Set(5), Done, Open(Some(5), 1), &[ONE], &[]),
         ],
-    )?;
-    a_new_cell_goes::<Named>(
-        &rt,
-        rt.alloc(),
-        "the largest and the smallest value",
-        &[
-            then(Call::Set(u64::MAX), Reply::Done, full(u64::MAX), &[], &[]),
-            then(
-                update_some(Some(u64::MAX), Some(u64::MAX)),
-                Reply::Done,
-                full(u64::MAX),
-                &[],
-                &[],
-            ),
-            then(
-                Call::Replace(0),
-                Reply::Value(Some(u64::MAX)),
-                full(0),
-                &[],
-                &[],
-            ),
-        ],
-    )?;
-    Ok(())
+    )
 }
 
 #[test]
-fn owners_come_and_go(rt: HostRuntime) -> Result<(), Fail> {
-    let closed = Reply::Refused(Refusal::Closed, None);
-    let owned_twice = Cell::Open(None, 2);
+fn an_update_to_no_value_forgets_no_waiter(rt: HostRuntime) -> Result<(), Fail> {
     a_new_cell_goes(
         &rt,
         rt.alloc(),
-        "the last owner's end hands out all that wait, and then polls are ready with none",
         &[
-            then(Call::AddOwner, Reply::Done, owned_twice, &[], &[]),
-            then(
-                Call::PollTake(ONE),
-                Reply::Pending,
-                owned_twice,
-                &[],
+            (PollTake(ONE), Pending, VACANT, &[], &[ONE]),
+            (Update(FromTo(None, None)), Done, VACANT, &[], &[ONE]),
+            (
+                Update(FromTo(None, Some(5))),
+                Done,
+                Open(Some(5), 1),
                 &[ONE],
-            ),
-            then(
-                Call::PollGet(TWO),
-                Reply::Pending,
-                owned_twice,
-                &[],
-                &[ONE, TWO],
-            ),
-            then(Call::EndOwner, Reply::Value(None), VACANT, &[], &[ONE, TWO]),
-            then(Call::EndOwner, Reply::Value(None), CLOSED, &[ONE, TWO], &[]),
-            then(Call::PollTake(THREE), Reply::Ready(None), CLOSED, &[], &[]),
-            then(
-                Call::Set(9),
-                Reply::Refused(Refusal::Closed, Some(9)),
-                CLOSED,
-                &[],
                 &[],
             ),
-            then(Call::EndOwner, closed, CLOSED, &[], &[]),
         ],
-    )?;
-    a_new_cell_goes(
-        &rt,
-        rt.alloc(),
-        "closing a full cell gives the value back",
-        &[
-            then(Call::Set(4), Reply::Done, full(4), &[], &[]),
-            then(Call::EndOwner, Reply::Value(Some(4)), CLOSED, &[], &[]),
-            then(Call::PollGet(ONE), Reply::Ready(None), CLOSED, &[], &[]),
-        ],
-    )?;
-    let shared = Reply::Refused(Refusal::StillShared, None);
-    a_new_cell_goes::<Named>(
-        &rt,
-        rt.alloc(),
-        "the value is not taken out beside another owner",
-        &[
-            then(Call::AddOwner, Reply::Done, owned_twice, &[], &[]),
-            then(Call::Set(4), Reply::Done, Cell::Open(Some(4), 2), &[], &[]),
-            then(Call::TakeInner, shared, Cell::Open(Some(4), 2), &[], &[]),
-            then(Call::EndOwner, Reply::Value(None), full(4), &[], &[]),
-            then(Call::TakeInner, Reply::Value(Some(4)), CLOSED, &[], &[]),
-        ],
-    )?;
-    a_new_cell_goes(
-        &rt,
-        rt.alloc(),
-        "taking the value out of a vacant cell hands out all that wait",
-        &[
-            poll(ONE, &[ONE]),
-            then(Call::TakeInner, Reply::Value(None), CLOSED, &[ONE], &[]),
-            then(Call::IsSet, Reply::Is(false), CLOSED, &[], &[]),
-        ],
-    )?;
-    Ok(())
+    )
 }
 
 #[test]
-fn the_histories_of_the_definitions(rt: HostRuntime) -> Result<(), Fail> {
+fn takers_and_getters_wait_in_one_list(rt: HostRuntime) -> Result<(), Fail> {
     a_new_cell_goes(
         &rt,
         rt.alloc(),
-        "the first history",
         &[
-            poll(ONE, &[ONE]),
-            poll(ONE, &[ONE]),
-            poll(TWO, &[ONE, TWO]),
-            poll(ONE, &[ONE, TWO]),
-            then(Call::Set(7), Reply::Done, full(7), &[ONE, TWO], &[]),
-            then(Call::PollTake(ONE), Reply::Ready(Some(7)), VACANT, &[], &[]),
+            (PollTake(ONE), Pending, VACANT, &[], &[ONE]),
+            (PollTake(ONE), Pending, VACANT, &[], &[ONE]),
+            (PollGet(TWO), Pending, VACANT, &[], &[ONE, TWO]),
+            (PollTake(ONE), Pending, VACANT, &[], &[ONE, TWO]),
+            (Set(7), Done, Open(Some(7), 1), &[ONE, TWO], &[]),
+            (PollGet(THREE), Ready(Some(7)), Open(Some(7), 1), &[], &[]),
+            (TryTake, Value(Some(7)), VACANT, &[], &[]),
+            (TryTake, Value(None), VACANT, &[], &[]),
         ],
-    )?;
-    let (holds_four, owned_twice) = (Cell::Open(Some(4), 2), Cell::Open(None, 2));
-    let shared = Reply::Refused(Refusal::StillShared, None);
-    let nine_back = Reply::Refused(Refusal::Closed, Some(9));
+    )
+}
+
+#[test]
+fn writes_take_the_place_of_the_value(rt: HostRuntime) -> Result<(), Fail> {
+    a_new_cell_goes::<Named>(
+        &rt,
+        rt.alloc(),
+        &[
+            (Set(1), Done, Open(Some(1), 1), &[], &[]),
+            (Set(2), Done, Open(Some(2), 1), &[], &[]),
+            (Replace(3), Value(Some(2)), Open(Some(3), 1), &[], &[]),
+            (TryGet, Value(Some(3)), Open(Some(3), 1), &[], &[]),
+        ],
+    )
+}
+
+#[test]
+fn a_write_that_only_fills_hands_its_value_back(rt: HostRuntime) -> Result<(), Fail> {
+    a_new_cell_goes::<Named>(
+        &rt,
+        rt.alloc(),
+        &[
+            (TryTake, Value(None), VACANT, &[], &[]),
+            (OrSet(1), Value(None), Open(Some(1), 1), &[], &[]),
+            (TryTake, Value(Some(1)), VACANT, &[], &[]),
+            (OrSet(2), Value(None), Open(Some(2), 1), &[], &[]),
+            (TryGet, Value(Some(2)), Open(Some(2), 1), &[], &[]),
+            (OrSet(3), Value(Some(3)), Open(Some(2), 1), &[], &[]),
+            (TryGet, Value(Some(2)), Open(Some(2), 1), &[], &[]),
+            (Set(4), Done, Open(Some(4), 1), &[], &[]),
+            (TryGet, Value(Some(4)), Open(Some(4), 1), &[], &[]),
+            (OrSet(5), Value(Some(5)), Open(Some(4), 1), &[], &[]),
+            (TryGet, Value(Some(4)), Open(Some(4), 1), &[], &[]),
+        ],
+    )
+}
+
+#[test]
+fn updates_fill_keep_and_empty_the_cell(rt: HostRuntime) -> Result<(), Fail> {
+    a_new_cell_goes(
+        &rt,
+        rt.alloc(),
+        &[
+            (PollTake(ONE), Pending, VACANT, &[], &[ONE]),
+            (UpdateSome(FromTo(None, None)), Done, VACANT, &[], &[ONE]),
+            (Update(FromTo(None, None)), Done, VACANT, &[], &[ONE]),
+            (
+                Update(FromTo(None, Some(5))),
+                Done,
+                Open(Some(5), 1),
+                &[ONE],
+                &[],
+            ),
+            (
+                UpdateSome(FromTo(Some(5), Some(8))),
+                Done,
+                Open(Some(8), 1),
+                &[],
+                &[],
+            ),
+            (
+                Update(FromTo(Some(8), Some(8))),
+                Done,
+                Open(Some(8), 1),
+                &[],
+                &[],
+            ),
+            (TryGet, Value(Some(8)), Open(Some(8), 1), &[], &[]),
+            (Update(FromTo(Some(8), None)), Done, VACANT, &[], &[]),
+        ],
+    )
+}
+
+#[test]
+fn the_largest_and_the_smallest_value(rt: HostRuntime) -> Result<(), Fail> {
+    a_new_cell_goes::<Named>(
+        &rt,
+        rt.alloc(),
+        &[
+            (Set(u64::MAX), Done, Open(Some(u64::MAX), 1), &[], &[]),
+            (
+                UpdateSome(FromTo(Some(u64::MAX), Some(u64::MAX))),
+                Done,
+                Open(Some(u64::MAX), 1),
+                &[],
+                &[],
+            ),
+            (
+                Replace(0),
+                Value(Some(u64::MAX)),
+                Open(Some(0), 1),
+                &[],
+                &[],
+            ),
+        ],
+    )
+}
+
+#[test]
+fn the_end_of_the_last_owner_hands_out_all_that_wait(rt: HostRuntime) -> Result<(), Fail> {
+    a_new_cell_goes(
+        &rt,
+        rt.alloc(),
+        &[
+            (AddOwner, Done, OWNED_TWICE, &[], &[]),
+            (PollTake(ONE), Pending, OWNED_TWICE, &[], &[ONE]),
+            (PollGet(TWO), Pending, OWNED_TWICE, &[], &[ONE, TWO]),
+            (EndOwner, Value(None), VACANT, &[], &[ONE, TWO]),
+            (EndOwner, Value(None), CLOSED, &[ONE, TWO], &[]),
+            (PollTake(THREE), Ready(None), CLOSED, &[], &[]),
+            (Set(9), NINE_BACK, CLOSED, &[], &[]),
+            (EndOwner, ENDED, CLOSED, &[], &[]),
+        ],
+    )
+}
+
+#[test]
+fn closing_a_full_cell_gives_the_value_back(rt: HostRuntime) -> Result<(), Fail> {
+    a_new_cell_goes(
+        &rt,
+        rt.alloc(),
+        &[
+            (Set(4), Done, Open(Some(4), 1), &[], &[]),
+            (EndOwner, Value(Some(4)), CLOSED, &[], &[]),
+            (PollGet(ONE), Ready(None), CLOSED, &[], &[]),
+        ],
+    )
+}
+
+#[test]
+fn the_value_is_not_taken_out_beside_another_owner(rt: HostRuntime) -> Result<(), Fail> {
+    a_new_cell_goes::<Named>(
+        &rt,
+        rt.alloc(),
+        &[
+            (AddOwner, Done, OWNED_TWICE, &[], &[]),
+            (Set(4), Done, Open(Some(4), 2), &[], &[]),
+            (TakeInner, SHARED, Open(Some(4), 2), &[], &[]),
+            (EndOwner, Value(None), Open(Some(4), 1), &[], &[]),
+            (TakeInner, Value(Some(4)), CLOSED, &[], &[]),
+        ],
+    )
+}
+
+#[test]
+fn taking_out_of_a_vacant_cell_hands_out_all_that_wait(rt: HostRuntime) -> Result<(), Fail> {
+    a_new_cell_goes(
+        &rt,
+        rt.alloc(),
+        &[
+            (PollTake(ONE), Pending, VACANT, &[], &[ONE]),
+            (TakeInner, Value(None), CLOSED, &[ONE], &[]),
+            (IsSet, Is(false), CLOSED, &[], &[]),
+        ],
+    )
+}
+
+#[test]
+fn the_first_history_of_the_definitions(rt: HostRuntime) -> Result<(), Fail> {
+    a_new_cell_goes(
+        &rt,
+        rt.alloc(),
+        &[
+            (PollTake(ONE), Pending, VACANT, &[], &[ONE]),
+            (PollTake(ONE), Pending, VACANT, &[], &[ONE]),
+            (PollTake(TWO), Pending, VACANT, &[], &[ONE, TWO]),
+            (PollTake(ONE), Pending, VACANT, &[], &[ONE, TWO]),
+            (Set(7), Done, Open(Some(7), 1), &[ONE, TWO], &[]),
+            (PollTake(ONE), Ready(Some(7)), VACANT, &[], &[]),
+        ],
+    )
+}
+
+#[test]
+fn the_second_history_of_the_definitions(rt: HostRuntime) -> Result<(), Fail> {
     a_cell_goes(
         &rt,
         rt.alloc(),
-        "the second history",
-        holds_four,
+        HOLDS_FOUR,
         &[
-            then(Call::TakeInner, shared, holds_four, &[], &[]),
-            then(Call::TryTake, Reply::Value(Some(4)), owned_twice, &[], &[]),
-            then(
-                Call::PollGet(FIVE),
-                Reply::Pending,
-                owned_twice,
-                &[],
-                &[FIVE],
-            ),
-            then(Call::EndOwner, Reply::Value(None), VACANT, &[], &[FIVE]),
-            then(Call::EndOwner, Reply::Value(None), CLOSED, &[FIVE], &[]),
-            then(Call::Set(9), nine_back, CLOSED, &[], &[]),
-            then(Call::PollGet(FIVE), Reply::Ready(None), CLOSED, &[], &[]),
+            (TakeInner, SHARED, HOLDS_FOUR, &[], &[]),
+            (TryTake, Value(Some(4)), OWNED_TWICE, &[], &[]),
+            (PollGet(FIVE), Pending, OWNED_TWICE, &[], &[FIVE]),
+            (EndOwner, Value(None), VACANT, &[], &[FIVE]),
+            (EndOwner, Value(None), CLOSED, &[FIVE], &[]),
+            (Set(9), NINE_BACK, CLOSED, &[], &[]),
+            (PollGet(FIVE), Ready(None), CLOSED, &[], &[]),
         ],
-    )?;
-    Ok(())
+    )
 }

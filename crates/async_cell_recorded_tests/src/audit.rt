@@ -64,15 +64,16 @@ pub fn values_given(history: &History<u64>) -> usize {
 #[cfg(test)]
 mod tests {
     use super::*;
+    use crate::shared::same;
     use std::test::Fail;
 
     #[test]
     fn each_value_but_the_last_is_given_away(rt: HostRuntime) -> Result<(), Fail> {
         let (answered, history) = audited(&rt, rt.alloc())?;
-        assert_eq!(rt; answered.as_slice(), [100, 100, 100, 100].as_slice());
-        assert_eq!(rt; history.begin(), 4);
-        assert_eq!(rt; history.len(), 400);
-        assert_eq!(rt; values_given(&history), 399);
+        same(&rt, "answered", answered.as_slice(), [100; 4].as_slice());
+        same(&rt, "begin", history.begin(), 4);
+        same(&rt, "entries", history.len(), 400);
+        same(&rt, "given", values_given(&history), 399);
         Ok(())
     }
 }

@@ -1,5 +1,6 @@
 //! Calls of one thread, and what they answer.
 use crate::edits::{Leave, Put};
+use crate::shared::same;
 use crate::text::{note, text_of};
 use async_cell_recorded::{History, Named, Pick, Recorded, Refusal, Session, Share, with_recorded};
 use std::alloc::Global;
@@ -125,11 +126,11 @@ fn answers_and_history<R: Threads + Wait + Sync>(
 #[test]
 fn a_cell_without_calls_has_an_empty_history(rt: HostRuntime) -> Result<(), Fail> {
     let (answers, history) = answers_and_history(Calls::None, rt.alloc(), &rt)?;
-    assert!(rt; answers.is_empty());
-    assert!(rt; history.is_empty());
-    assert_eq!(rt; history.begin(), 1);
+    same(&rt, "answers", answers.as_str(), "");
+    same(&rt, "is_empty", history.is_empty(), true);
+    same(&rt, "begin", history.begin(), 1);
     let (_, history) = answers_and_history(Calls::SetAndGet, rt.alloc(), &rt)?;
-    assert!(rt; !history.is_empty());
+    same(&rt, "is_empty", history.is_empty(), false);
     Ok(())
 }
 
@@ -137,9 +138,9 @@ fn a_cell_without_calls_has_an_empty_history(rt: HostRuntime) -> Result<(), Fail
 fn an_empty_history_is_carried(rt: HostRuntime) -> Result<(), Fail> {
     let (_, history) = answers_and_history(Calls::None, rt.alloc(), &rt)?;
     let plain = history.plain()?;
-    assert!(rt; plain.is_empty());
+    same(&rt, "plain", plain.is_empty(), true);
     let carried = History::carry(plain).map_err(|(why, _)| why)?;
-    assert!(rt; carried.is_empty());
+    same(&rt, "carried", carried.is_empty(), true);
     Ok(())
 }
 
@@ -148,31 +149,31 @@ fn a_value_that_was_set_is_got(rt: HostRuntime) -> Result<(), Fail> {
     let (answers, history) = answers_and_history(Calls::SetAndGet, rt.alloc(), &rt)?;
     let wanted = "0 0 Set(5): Done\n\
     0 1 TryGet: Value(Some(5))\n";
-    assert_eq!(rt; answers.as_str(), wanted);
+    same(&rt, "answers", answers.as_str(), wanted);
     let kept = text_of(&history, String::new(rt.alloc()))?;
-    assert_eq!(rt; kept.as_str(), wanted);
-    assert_eq!(rt; history.len(), 2);
+    same(&rt, "kept", kept.as_str(), wanted);
+    same(&rt, "entries", history.len(), 2);
     Ok(())
 }
 
 #[test]
 fn a_wait_a_value_and_the_end(rt: HostRuntime) -> Result<(), Fail> {
     let (answers, history) = answers_and_history(Calls::WaitAndClose, rt.alloc(), &rt)?;
-    assert_eq!(rt; answers.as_str(), WAIT_AND_CLOSE);
+    same(&rt, "answers", answers.as_str(), WAIT_AND_CLOSE);
     let kept = text_of(&history, String::new(rt.alloc()))?;
-    assert_eq!(rt; kept.as_str(), WAIT_AND_CLOSE_KEPT);
-    assert_eq!(rt; history.len(), 6);
+    same(&rt, "kept", kept.as_str(), WAIT_AND_CLOSE_KEPT);
+    same(&rt, "entries", history.len(), 6);
     Ok(())
 }
 
 #[test]
 fn owners_of_a_cell_with_one_share(rt: HostRuntime) -> Result<(), Fail> {
     let (answers, history) = answers_and_history(Calls::Owners, rt.alloc(), &rt)?;
-    assert_eq!(rt; answers.as_str(), OWNERS);
+    same(&rt, "answers", answers.as_str(), OWNERS);
     let kept = text_of(&history, String::new(rt.alloc()))?;
-    assert_eq!(rt; kept.as_str(), OWNERS);
-    assert_eq!(rt; history.len(), 9);
-    assert_eq!(rt; history.begin(), 1);
+    same(&rt, "kept", kept.as_str(), OWNERS);
+    same(&rt, "entries", history.len(), 9);
+    same(&rt, "begin", history.begin(), 1);
     Ok(())
 }
 
@@ -182,8 +183,8 @@ fn an_update_is_kept_with_what_it_saw_and_put(rt: HostRuntime) -> Result<(), Fai
     let wanted = "0 0 Update { saw: None, put: Some(1) }: Done\n\
     0 1 UpdateSome { saw: Some(1), put: Some(2) }: Done\n\
     0 2 PollTake(Named(1)): Ready(Some(2))\n";
-    assert_eq!(rt; answers.as_str(), wanted);
+    same(&rt, "answers", answers.as_str(), wanted);
     let kept = text_of(&history, String::new(rt.alloc()))?;
-    assert_eq!(rt; kept.as_str(), wanted);
+    same(&rt, "kept", kept.as_str(), wanted);
     Ok(())
 }

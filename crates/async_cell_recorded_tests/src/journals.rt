@@ -3,6 +3,7 @@ ghost use Rattle.std.specs.Prelude.{◌≡◌, IfOk};
 
 use crate::calls::{OWNERS, WAIT_AND_CLOSE};
 use crate::edits::{Leave, Put};
+use crate::shared::same;
 use crate::text::{note, text_of};
 use async_cell_recorded::{Blanks, Call, History, Journal, Named, Pick, Recorded, Refusal, Share};
 use std::alloc::Global;
@@ -70,11 +71,11 @@ fn steps<M: Pick<u32>>(
 #[test]
 fn steps_answer_as_the_calls(rt: HostRuntime) -> Result<(), Fail> {
     let (text, count) = steps::<Brand>(rt.alloc(), Blanks::new(1), false)?;
-    assert_eq!(rt; text.as_str(), WAIT_AND_CLOSE);
-    assert_eq!(rt; count, 6);
+    same(&rt, "text", text.as_str(), WAIT_AND_CLOSE);
+    same(&rt, "count", count, 6);
     let (text, count) = steps::<Brand>(rt.alloc(), Blanks::new(1), true)?;
-    assert_eq!(rt; text.as_str(), OWNERS);
-    assert_eq!(rt; count, 9);
+    same(&rt, "text", text.as_str(), OWNERS);
+    same(&rt, "count", count, 9);
     Ok(())
 }
 
@@ -154,7 +155,7 @@ fn steps_on_each_cell<M: Pick<u32>>(alloc: Global, blanks: Blanks) -> Result<Str
 #[test]
 fn each_step_answers_on_each_cell(rt: HostRuntime) -> Result<(), Fail> {
     let text = steps_on_each_cell::<Brand>(rt.alloc(), Blanks::new(1))?;
-    assert_eq!(rt; text.as_str(), ON_EACH_CELL);
+    same(&rt, "text", text.as_str(), ON_EACH_CELL);
     Ok(())
 }
 
@@ -189,9 +190,9 @@ fn finish_twice<M: Pick<u32>>(
 #[test]
 fn a_cell_is_not_finished_without_all_shares(rt: HostRuntime) -> Result<(), Fail> {
     let (came_back, len, numbers) = finish_twice::<Brand>(rt.alloc(), Blanks::new(2), &rt)?;
-    assert!(rt; came_back);
-    assert_eq!(rt; len, 1);
-    assert_eq!(rt; numbers.as_slice(), [0, 1].as_slice());
+    same(&rt, "came back", came_back, true);
+    same(&rt, "entries", len, 1);
+    same(&rt, "numbers", numbers.as_slice(), [0, 1].as_slice());
     Ok(())
 }
 
@@ -221,11 +222,13 @@ fn calls_of_two<M: Pick<u32>>(
 fn each_share_has_serials_of_its_own(rt: HostRuntime) -> Result<(), Fail> {
     let history = calls_of_two::<Brand>(rt.alloc(), Blanks::new(2), &rt)?;
     let text = text_of(&history, String::new(rt.alloc()))?;
-    assert_eq!(rt;
+    same(
+        &rt,
+        "text",
         text.as_str(),
         "0 0 Set(5): Done\n\
         1 0 Replace(6): Value(Some(5))\n\
-        0 1 TryGet: Value(Some(6))\n"
+        0 1 TryGet: Value(Some(6))\n",
     );
     Ok(())
 }
@@ -234,17 +237,20 @@ fn each_share_has_serials_of_its_own(rt: HostRuntime) -> Result<(), Fail> {
 fn a_plain_history_is_carried_to_one_share(rt: HostRuntime) -> Result<(), Fail> {
     let history = calls_of_two::<Brand>(rt.alloc(), Blanks::new(2), &rt)?;
     let plain = history.plain()?;
-    assert_eq!(rt; plain.begin(), 2);
-    assert_eq!(rt; plain.len(), 3);
-    assert!(rt; !plain.is_empty() && plain.entries().len() == 3);
+    same(&rt, "begin", plain.begin(), 2);
+    same(&rt, "entries", plain.len(), 3);
+    same(&rt, "is_empty", plain.is_empty(), false);
+    same(&rt, "entries", plain.entries().len(), 3);
     let carried = History::carry(plain).map_err(|(why, _)| why)?;
     let text = text_of(&carried, String::new(rt.alloc()))?;
-    assert_eq!(rt;
+    same(
+        &rt,
+        "text",
         text.as_str(),
         "0 0 Set(5): Done\n\
         0 1 Replace(6): Value(Some(5))\n\
-        0 2 TryGet: Value(Some(6))\n"
+        0 2 TryGet: Value(Some(6))\n",
     );
-    assert_eq!(rt; carried.begin(), 2);
+    same(&rt, "begin", carried.begin(), 2);
     Ok(())
 }

@@ -17,6 +17,8 @@ mod memory;
 #[cfg(test)]
 mod once;
 pub mod picks;
+#[cfg(test)]
+mod shared;
 pub mod taken;
 #[cfg(test)]
 mod text;

@@ -3,6 +3,7 @@
 ghost use Rattle.std.specs.Prelude.{◌≡◌};
 
 use crate::edits::{Leave, Put};
+use crate::shared::same;
 use async_cell_recorded::{
     Blanks, Call, CallResult, Entry, History, Journal, Kept, Named, Pick, Plain, Recorded, Refusal,
     Reply, Session, Share, with_recorded,
@@ -145,23 +146,43 @@ fn expected(made: &[Made; 6]) -> [(Plain<u32>, usize); 6] {
     ]
 }
 
+/// The call was answered as is wanted, with this serial.
+fn is_told(
+    entry: &Entry<u32>,
+    names: usize,
+    wanted: &(Plain<u32>, usize),
+    serial: u64,
+    rt: &impl Abort,
+) {
+    let told = Plain {
+        call: entry.call,
+        reply: entry.reply,
+    };
+    same(rt, "told", &(told, names), wanted);
+    same(rt, "place", (entry.share, entry.serial), (0, serial));
+}
+
 /// Each call that found memory was answered as is expected, with the next serial, and is counted;
 /// at most one found none.
 fn judge(made: &[Made; 6], count: u64, rt: &impl Abort) {
     let mut answered = 0u64;
     for (made, wanted) in made.iter().zip(expected(made).iter()) {
         if let Some((entry, names)) = made {
-            let told = Plain {
-                call: entry.call,
-                reply: entry.reply,
-            };
-            assert_eq!(rt; &(told, *names), wanted);
-            assert!(rt; entry.share == 0 && entry.serial == answered);
+            is_told(entry, *names, wanted, answered, rt);
             answered = answered.saturating_add(1);
         }
     }
-    assert_eq!(rt; count, answered);
-    assert!(rt; answered >= 5);
+    same(rt, "count", count, answered);
+    same(rt, "at least five", answered >= 5, true);
+}
+
+/// The history has the entries that the calls were answered, in order, and no other.
+fn is_kept(made: &[Made; 6], count: u64, history: &History<u32>, rt: &impl Abort) {
+    same(rt, "entries", history.len() as u64, count);
+    let mut kept = history.entries().iter();
+    for (entry, _) in made.iter().flatten() {
+        same(rt, "entry", kept.next(), Some(entry));
+    }
 }
 
 #[test]
@@ -170,13 +191,9 @@ fn a_recorded_call_without_memory_leaves_no_entry(rt: HostRuntime) -> Result<(),
     match calls::<Brand>(rt.alloc(), Blanks::new(1), &mut made, &rt) {
         Ok((count, history)) => {
             judge(&made, count, &rt);
-            assert_eq!(rt; history.len() as u64, count);
-            let mut kept = history.entries().iter();
-            for (entry, _) in made.iter().flatten() {
-                assert_eq!(rt; kept.next(), Some(entry));
-            }
+            is_kept(&made, count, &history, &rt);
         }
-        Err(why) => assert_eq!(rt; why, Refusal::Memory),
+        Err(why) => same(&rt, "refused", why, Refusal::Memory),
     }
     Ok(())
 }
@@ -186,7 +203,7 @@ fn a_step_without_memory_does_not_count(rt: HostRuntime) -> Result<(), Fail> {
     let mut made = [None; 6];
     match steps::<Brand>(rt.alloc(), Blanks::new(1), &mut made) {
         Ok(count) => judge(&made, count, &rt),
-        Err(why) => assert_eq!(rt; why, Refusal::Memory),
+        Err(why) => same(&rt, "refused", why, Refusal::Memory),
     }
     Ok(())
 }
@@ -199,7 +216,7 @@ fn hands_out_to_all(made: &[Made; 3], rt: &impl Abort) {
         .filter(|told| told.0.reply == Reply::Pending)
         .count();
     if let Some((_, names)) = made[2] {
-        assert_eq!(rt; names, waiting);
+        same(rt, "names", names, waiting);
     }
 }
 
@@ -209,11 +226,11 @@ fn a_recorded_wait_without_memory_is_not_handed_out(rt: HostRuntime) -> Result<(
     match waits::<Brand>(rt.alloc(), Blanks::new(1), &mut made, &rt) {
         Ok((count, history)) => {
             hands_out_to_all(&made, &rt);
-            assert!(rt; count >= 2);
-            assert_eq!(rt; count, made.iter().flatten().count() as u64);
-            assert_eq!(rt; count, history.len() as u64);
+            same(&rt, "at least two", count >= 2, true);
+            same(&rt, "made", made.iter().flatten().count() as u64, count);
+            same(&rt, "entries", history.len() as u64, count);
         }
-        Err(why) => assert_eq!(rt; why, Refusal::Memory),
+        Err(why) => same(&rt, "refused", why, Refusal::Memory),
     }
     Ok(())
 }
@@ -242,10 +259,10 @@ impl Session for Begins {
 fn a_session_that_finds_no_memory_has_not_begun(rt: HostRuntime) -> Result<(), Fail> {
     let session = Begins(AtomicBool::new(false));
     match with_recorded(&rt, rt.alloc(), 2, &session) {
-        Ok((numbers, _history)) => assert_eq!(rt; numbers.as_slice(), [0, 1].as_slice()),
+        Ok((numbers, _history)) => same(&rt, "numbers", numbers.as_slice(), [0, 1].as_slice()),
         Err(why) => {
-            assert_eq!(rt; why, Refusal::Memory);
-            assert!(rt; !session.0.load(Ordering::SeqCst));
+            same(&rt, "refused", why, Refusal::Memory);
+            same(&rt, "begun", session.0.load(Ordering::SeqCst), false);
         }
     }
     Ok(())

@@ -1,6 +1,7 @@
 //! How often an update calls its edit, and how often it drops it.
 ghost use Rattle.std.specs.Prelude.{◌≡◌};
 
+use crate::shared::same;
 use async_cell_recorded::{Edit, Pick, Recorded, Refusal, Session, Share, with_recorded};
 use std::sync::Wait;
 use std::sync::atomic::{AtomicU32, Ordering};
@@ -71,9 +72,9 @@ impl Session for Updates {
 #[test]
 fn an_edit_is_called_once_and_on_a_closed_cell_not_at_all(rt: HostRuntime) -> Result<(), Fail> {
     let (told, history) = with_recorded(&rt, rt.alloc(), 1, &Updates(AtomicU32::new(0)))?;
-    assert_eq!(rt; history.len(), 8);
+    same(&rt, "entries", history.len(), 8);
     for counts in told {
-        assert_eq!(rt; counts?, [1, 3, 3]);
+        same(&rt, "calls", counts?, [1, 3, 3]);
     }
     Ok(())
 }
@@ -135,7 +136,7 @@ impl Session for Drops {
 fn an_edit_is_dropped_once_whether_it_was_called_or_not(rt: HostRuntime) -> Result<(), Fail> {
     let (told, _) = with_recorded(&rt, rt.alloc(), 1, &Drops(AtomicU32::new(0)))?;
     for drops in told {
-        assert_eq!(rt; drops?, 4);
+        same(&rt, "drops", drops?, 4);
     }
     Ok(())
 }

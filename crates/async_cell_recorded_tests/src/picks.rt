@@ -60,16 +60,18 @@ pub fn five_once(alloc: Global, rt: &impl Wait) -> Result<Told, Refusal>
 #[cfg(test)]
 mod tests {
     use super::*;
+    use crate::shared::same;
     use async_cell_recorded::{Kept, Reply};
     use std::test::Fail;
 
     #[test]
     fn five_is_put_in_once(rt: HostRuntime) -> Result<(), Fail> {
         let told = five_once(rt.alloc(), &rt)?;
-        assert_eq!(rt; told.entry.call, Kept::Set(5));
-        assert_eq!(rt; told.entry.reply, Reply::Done);
-        assert!(rt; told.names.is_empty());
-        assert_eq!(rt; told.history.entries(), [told.entry].as_slice());
+        same(&rt, "call", told.entry.call, Kept::Set(5));
+        same(&rt, "reply", told.entry.reply, Reply::Done);
+        same(&rt, "names", told.names.len(), 0);
+        let entries = [told.entry];
+        same(&rt, "entries", told.history.entries(), entries.as_slice());
         Ok(())
     }
 }

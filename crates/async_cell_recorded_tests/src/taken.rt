@@ -51,14 +51,16 @@ pub fn five_taken(alloc: Global, rt: &impl Wait) -> Result<Told, Refusal>
 #[cfg(test)]
 mod tests {
     use super::*;
+    use crate::shared::same;
     use std::test::Fail;
 
     #[test]
     fn five_is_handed_out_once(rt: HostRuntime) -> Result<(), Fail> {
         let told = five_taken(rt.alloc(), &rt)?;
-        assert_eq!(rt; told.entry.call, Kept::TryTake);
-        assert_eq!(rt; told.entry.reply, Reply::Value(Some(5)));
-        assert_eq!(rt; told.history.entries().get(1), Some(&told.entry));
+        same(&rt, "call", told.entry.call, Kept::TryTake);
+        same(&rt, "reply", told.entry.reply, Reply::Value(Some(5)));
+        let second = told.history.entries().get(1);
+        same(&rt, "second", second, Some(&told.entry));
         told.history.a_value_is_taken_once();
         Ok(())
     }

@@ -1,4 +1,5 @@
 //! What was answered, as text, and how entries are printed and compared.
+use crate::shared::same;
 use async_cell_recorded::{CallResult, Entry, History, Kept, Named, Refusal, Reply};
 use std::fmt::Write;
 use std::test::Fail;
@@ -45,21 +46,22 @@ const GOT: Entry<u32> = Entry {
 fn entries_are_printed_and_compared_by_all_that_they_hold(rt: HostRuntime) -> Result<(), Fail> {
     let text = format!(in rt.alloc(); "{GOT:?}")?;
     let wanted = "Entry { share: 2, serial: 3, call: TryGet, reply: Value(None) }";
-    assert_eq!(rt; text.as_str(), wanted);
-    assert!(rt; GOT == GOT);
-    assert!(rt; GOT != Entry { share: 1, ..GOT });
-    assert!(rt; GOT != Entry { serial: 2, ..GOT });
-    assert!(rt;
-        GOT != Entry {
+    same(&rt, "text", text.as_str(), wanted);
+    same(&rt, "itself", GOT, GOT);
+    let others = [
+        Entry { share: 1, ..GOT },
+        Entry { serial: 2, ..GOT },
+        Entry {
             call: Kept::TryTake,
             ..GOT
-        }
-    );
-    assert!(rt;
-        GOT != Entry {
+        },
+        Entry {
             reply: Reply::Pending,
             ..GOT
-        }
-    );
+        },
+    ];
+    for other in &others {
+        same(&rt, "differs", (*other, GOT != *other), (*other, true));
+    }
     Ok(())
 }

@@ -1,8 +1,10 @@
 //! Calls of several threads.
+use crate::shared::same;
 use async_cell_recorded::{
     Entry, History, Kept, Named, Pick, Recorded, Refusal, Reply, Session, Share, with_recorded,
 };
-use std::alloc::Global;
+use std::alloc::{AllocError, Global};
+use std::process::Abort;
 use std::sync::Wait;
 use std::sync::atomic::{AtomicBool, AtomicU32, Ordering};
 use std::test::Fail;
@@ -58,31 +60,56 @@ fn is_as_told(told: &[Vec<Entry<u32>>], history: &History<u32>) -> bool {
     next_serials == [100, 100]
 }
 
+/// The values that the entries gave, and the one that the last call of the history put in.
+fn values_of(
+    alloc: Global,
+    told: &[Vec<Entry<u32>>],
+    history: &History<u32>,
+) -> Result<Vec<u32>, AllocError> {
+    let mut values = Vec::new(alloc);
+    for entry in told.iter().flatten() {
+        if let Reply::Value(Some(value)) = entry.reply {
+            values.push(value)?;
+        }
+    }
+    if let Some(last) = last_put(history) {
+        values.push(last)?;
+    }
+    Ok(values)
+}
+
+/// Asserts that these are the numbers below 200, each once.
+fn are_those_below_200(rt: &impl Abort, mut values: Vec<u32>) -> Result<(), AllocError> {
+    values.sort()?;
+    same(rt, "values", values.len(), 200);
+    for (at, value) in values.iter().enumerate() {
+        same(rt, "value", *value as usize, at);
+    }
+    Ok(())
+}
+
+/// What each thread was told.
+fn all_told(
+    alloc: Global,
+    given: Vec<Result<Vec<Entry<u32>>, Refusal>>,
+) -> Result<Vec<Vec<Entry<u32>>>, Fail> {
+    let mut told = Vec::new(alloc);
+    for entries in given {
+        told.push(entries?)?;
+    }
+    Ok(told)
+}
+
 #[test]
 fn each_value_that_was_put_in_is_given_once(rt: HostRuntime) -> Result<(), Fail> {
     let alloc = rt.alloc();
     let (given, history) = with_recorded(&rt, alloc, 2, &Replaces(alloc))?;
-    assert_eq!(rt; history.len(), 200);
-    let mut values = Vec::new(alloc);
-    let mut told = Vec::new(alloc);
-    for entries in given {
-        let entries = entries?;
-        for entry in &entries {
-            if let Reply::Value(Some(value)) = entry.reply {
-                values.push(value)?;
-            }
-        }
-        told.push(entries)?;
-    }
-    assert!(rt; is_as_told(told.as_slice(), &history));
-    if let Some(last) = last_put(&history) {
-        values.push(last)?;
-    }
-    values.sort()?;
-    assert_eq!(rt; values.len(), 200);
-    for (at, value) in values.iter().enumerate() {
-        assert_eq!(rt; *value as usize, at);
-    }
+    same(&rt, "entries", history.len(), 200);
+    let told = all_told(alloc, given)?;
+    let is_told = is_as_told(told.as_slice(), &history);
+    same(&rt, "as told", is_told, true);
+    let values = values_of(alloc, told.as_slice(), &history)?;
+    are_those_below_200(&rt, values)?;
     Ok(())
 }
 
@@ -146,14 +173,13 @@ fn no_call_waits_for_the_others_to_end(rt: HostRuntime) -> Result<(), Fail> {
         second_came: AtomicBool::new(false),
     };
     let (told, history) = with_recorded(&rt, rt.alloc(), 2, &meeting)?;
-    assert_eq!(rt; history.len(), 4);
+    same(&rt, "entries", history.len(), 4);
     let first = replaced_by(history.entries().get(0));
     let second = replaced_by(history.entries().get(1));
-    assert!(rt; first.is_some() && second.is_some() && first != second);
+    let both = first.is_some() && second.is_some() && first != second;
+    same(&rt, "both replaced", both, true);
     for answer in told {
-        let (met, got) = answer?;
-        assert!(rt; met);
-        assert_eq!(rt; got, Reply::Value(second));
+        same(&rt, "met and got", answer?, (true, Reply::Value(second)));
     }
     Ok(())
 }
@@ -187,7 +213,7 @@ impl Session for Gathering {
 #[test]
 fn each_of_four_shares_has_a_thread_of_its_own(rt: HostRuntime) -> Result<(), Fail> {
     let (met, _) = with_recorded(&rt, rt.alloc(), 4, &Gathering(AtomicU32::new(0)))?;
-    assert_eq!(rt; met.as_slice(), [true; 4].as_slice());
+    same(&rt, "met", met.as_slice(), [true; 4].as_slice());
     Ok(())
 }
 
@@ -244,33 +270,43 @@ impl Session for WaitAndEnd {
     }
 }
 
+/// Asserts what the calls of the thread at this place returned.
+fn has_waited(rt: &impl Abort, at: usize, ended: &Ended) {
+    same(rt, "in the order of the shares", ended.share as usize, at);
+    same(rt, "pending", ended.pending, 100);
+    same(rt, "has ended", ended.has_ended, true);
+    same(rt, "has woken", ended.has_woken, false);
+}
+
+/// Asserts that the names are those of all four threads, each once, or none. Returns whether they
+/// are any.
+fn are_all_or_none(rt: &impl Abort, names: &[u64]) -> bool {
+    if names.is_empty() {
+        return false;
+    }
+    same(rt, "each name once", names.len(), 4);
+    for name in 1..5u64 {
+        same(rt, "name", (name, names.contains(&name)), (name, true));
+    }
+    true
+}
+
 #[test]
 fn the_last_of_four_owners_hands_out_all_that_wait(rt: HostRuntime) -> Result<(), Fail> {
     let alloc = rt.alloc();
     let (told, history) = with_recorded(&rt, alloc, 4, &WaitAndEnd(alloc))?;
-    assert_eq!(rt; history.len(), 404);
-    assert_eq!(rt; count(&history, Reply::Pending), 400);
-    assert_eq!(rt; count(&history, Reply::Value(None)), 4);
+    same(&rt, "entries", history.len(), 404);
+    same(&rt, "pending", count(&history, Reply::Pending), 400);
+    same(&rt, "ends", count(&history, Reply::Value(None)), 4);
     let mut handing_out = 0u32;
     for (at, answer) in told.into_iter().enumerate() {
         let ended = answer?;
-        assert_eq!(rt;
-            ended.share as usize,
-            at,
-            "outcomes come in the order of the shares"
-        );
-        assert_eq!(rt; ended.pending, 100);
-        assert!(rt; ended.has_ended);
-        assert!(rt; !ended.has_woken);
-        if !ended.names.is_empty() {
+        has_waited(&rt, at, &ended);
+        if are_all_or_none(&rt, ended.names.as_slice()) {
             handing_out = handing_out.saturating_add(1);
-            assert_eq!(rt; ended.names.len(), 4, "each name once");
-            for name in 1..5u64 {
-                assert!(rt; ended.names.as_slice().contains(&name), "{name}");
-            }
         }
     }
-    assert_eq!(rt; handing_out, 1);
+    same(&rt, "handing out", handing_out, 1);
     Ok(())
 }
 
