@@ -19,7 +19,7 @@ import sys
 GROUPS = {"a reply": ["slot", "oneshot"], "a state": ["state", "watch", "notify"]}
 KINDS = ["nothing", *(kind for kinds in GROUPS.values() for kind in kinds)]
 WORKERS = [1, 4]
-TASKS, ROUNDS = 1000, 200
+TASKS, ROUNDS = 1000, 100
 MANY = 100_000
 
 
