@@ -4,11 +4,11 @@
 
 A message is what one task hears: of `slot` and `oneshot` one that was made for it, of `state`,
 `watch` and `notify` the next state, for which all tasks of a round wait. `nothing` are tasks that
-wait for nothing but one more poll. For each kind and number of workers there are microseconds a
-message, by the clock and of the processor (user and system), for one worker also instructions by
-callgrind; in brackets the ratio to the first kind of its group. Net is the processor's time, or the
-instructions, less those of `nothing`. Memory is what a waiting task takes: the peak of a run of
-many tasks less that of a run of few.
+wait for nothing but one more poll, so most of each row is what a task itself costs. For each kind
+and number of workers there are microseconds a message: by the clock the median and the least, and
+the median of the processor's (user and system); for one worker also instructions by callgrind. In
+brackets is the ratio to the first kind of the group. The last column is the memory of a waiting
+task: the peak of a run of many tasks less that of a run of few.
 """
 import os
 import re
@@ -16,8 +16,12 @@ import statistics
 import subprocess
 import sys
 
-GROUPS = {"a reply": ["slot", "oneshot"], "a state": ["state", "watch", "notify"]}
-KINDS = ["nothing", *(kind for kinds in GROUPS.values() for kind in kinds)]
+GROUPS = {
+    "": ["nothing"],
+    "reply: ": ["slot", "oneshot"],
+    "state: ": ["state", "watch", "notify"],
+}
+KINDS = [kind for kinds in GROUPS.values() for kind in kinds]
 WORKERS = [1, 4]
 TASKS, ROUNDS = 1000, 100
 MANY = 100_000
@@ -60,11 +64,9 @@ def memory(program, kind):
     return (peaks[1] - peaks[0]) / (MANY - TASKS)
 
 
-def beside(values, kind, first, none):
-    """The value of a kind with its ratio to the first one, and the same of the net values."""
-    whole, net = values[kind], values[kind] - values[none]
-    first_net = values[first] - values[none]
-    return (f"{whole:.4g} ({whole / values[first]:.2f})", f"{net:.4g} ({net / first_net:.2f})")
+def beside(values, kind, first):
+    """The value of a kind, with its ratio to the first one."""
+    return f"{values[kind]:.4g} ({values[kind] / values[first]:.2f})"
 
 
 def main():
@@ -76,24 +78,20 @@ def main():
             seen[kind, workers].append(run(program, kind, workers, TASKS, ROUNDS))
     counted = {kind: instructions(program, kind) for kind in KINDS}
     taken = {kind: memory(program, kind) for kind in KINDS}
-    print(f"Medians of {repeats} runs of {ROUNDS} rounds of {TASKS} tasks; memory: {MANY} tasks")
-    print("| | workers | clock, us | processor, us | net | instructions | net | bytes a task |")
-    print("|---|---|---|---|---|---|---|---|")
+    print(f"{repeats} runs of {ROUNDS} rounds of {TASKS} tasks; memory: {MANY} tasks")
+    print("| | workers | clock, us | least | processor, us | instructions | bytes |")
+    print("|---|---|---|---|---|---|---|")
     for workers in WORKERS:
         clock, used = (
             {kind: statistics.median(it[at] for it in seen[kind, workers]) for kind in KINDS}
             for at in range(2)
         )
-        print(f"| nothing | {workers} | {clock['nothing']:.4g} | {used['nothing']:.4g} | |"
-              f" {counted['nothing']:.0f} | | {taken['nothing']:.0f} |")
+        least = {kind: min(it[0] for it in seen[kind, workers]) for kind in KINDS}
         for group, kinds in GROUPS.items():
             for kind in kinds:
-                first, none = kinds[0], "nothing"
-                by_clock, _ = beside(clock, kind, first, none)
-                row = [by_clock, *beside(used, kind, first, none)]
-                row += beside(counted, kind, first, none) if workers == 1 else ["", ""]
-                row += [f"{taken[kind]:.0f}"]
-                print(f"| {group}: {kind} | {workers} | " + " | ".join(row) + " |")
+                row = [beside(times, kind, kinds[0]) for times in (clock, least, used)]
+                row += [beside(counted, kind, kinds[0]) if workers == 1 else ""]
+                print(f"| {group}{kind} | {workers} | {' | '.join(row)} | {taken[kind]:.0f} |")
 
 
 main()
