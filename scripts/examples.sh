@@ -13,7 +13,7 @@ set -euo pipefail
 top=$(cd "$(dirname "$0")/.." && pwd)
 from="$top/examples/tokio"
 declare -A CLIENTS=([line_server]=line [long_poll]=poll)
-PROVED=(time_limit)
+PROVED=(time_limit tasks line_server local_tasks)
 passed=0
 failed=0
 

@@ -1,7 +1,8 @@
 """Clients of the servers in this folder: `clients.py line PORT` and `clients.py poll PORT`.
 
 Each step prints a line, `passed: ..` or `failed: ..`; the last step stops the server. The status is
-0 if none failed. `clients.py port` prints a port that is free.
+0 if none failed. `clients.py port` prints a port that is free. `clients.py ask PORT LINE..` sends
+lines to a line_server, once it listens, and prints their answers.
 """
 import asyncio
 import select
@@ -87,11 +88,21 @@ async def empty(client):
 
 
 async def line_basics(port):
+    lines = [  # each line, and its answer
+        ("get", "none"),
+        ("set 5", "ok"),
+        ("get", "5"),
+        ("take", "5"),
+        ("get", "none"),
+        ("set 2000000", "over the limit"),
+        ("limit 3000000", "ok"),
+        ("set 2000000", "ok"),
+        ("take", "2000000"),
+        ("nonsense", "what?"),
+    ]
     client = await connect(port)
-    lines = ["get", "set 5", "get", "take", "get", "set 2000000", "limit 3000000", "set 2000000"]
-    said = [await ask(client, line) for line in [*lines, "take", "nonsense"]]
-    wanted = ["none", "ok", "5", "5", "none", "over the limit", "ok", "ok", "2000000", "what?"]
-    say("each command", said == wanted, " ".join(said))
+    said = [await ask(client, line) for line, _ in lines]
+    say("each command", said == [wanted for _, wanted in lines], ", ".join(said))
     client[1].close()
 
 
@@ -253,6 +264,13 @@ STEPS = {
 }
 
 
+async def ask_all(port, lines):
+    """Prints the answer to each line."""
+    client = await connect(port)
+    for line in lines:
+        print(await ask(client, line), flush=True)
+
+
 async def run(steps, port):
     for step in steps:
         try:
@@ -264,6 +282,8 @@ async def run(steps, port):
 if sys.argv[1] == "port":
     with socket.create_server(("127.0.0.1", 0)) as free:
         print(free.getsockname()[1])
+elif sys.argv[1] == "ask":
+    asyncio.run(ask_all(int(sys.argv[2]), sys.argv[3:]))
 else:
     asyncio.run(run(STEPS[sys.argv[1]], int(sys.argv[2])))
 sys.exit(1 if FAILED else 0)
