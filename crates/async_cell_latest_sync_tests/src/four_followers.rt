@@ -150,6 +150,6 @@ fn no_follower_misses_the_last_state(rt: HostRuntime) {
     );
     holds(&rt, are_seen);
     for last in [one, two, three, four] {
-        same(&rt, last, Some(3_000));
+        same(&rt, last, Some(ROUNDS.saturating_mul(3)));
     }
 }
