@@ -38,6 +38,8 @@ The rows:
   one future is polled twice. In the others the futures are made before the first round.
 - weak: the same as Shared for the weak futures of `take_weak` and `get_weak`.
 - Owner: the same as Shared, and each future holds a place, as those of an Owner do.
+- latest: a state that many follow, behind a lock. Its followers are streams, which hold a place; in
+  a fan-out each is polled twice, since it then sees the state.
 - bare: what the wakers of `futures` cost without a cell; take it off the rows between.
 """
 import os
@@ -58,6 +60,7 @@ KINDS = {
     "sync Shared": "shared",
     "sync weak": "weak",
     "sync Owner": "owner",
+    "latest": "latest",
     "bare": "cells",
 }
 # Title, workload, waiters, rounds of a timed run.
@@ -83,6 +86,8 @@ def applies(kind, workload, waiters):
     """Returns whether the operation is one of this kind of cell."""
     if workload == "threads":
         return kind in IN_THREADS
+    if kind == "latest":
+        return workload in ("watch", "fan")
     return waiters <= 1024 or kind not in NAMED_WAKERS
 
 
