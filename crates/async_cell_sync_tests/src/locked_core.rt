@@ -2,12 +2,12 @@
 ghost use Rattle.std.specs.Prelude.{◌≡◌, false, true};
 ghost use Rattle.std.proofs.Common.{rules};
 
-use crate::checks::{holds, holds_at, same, same_at};
 use crate::locked_calls::{
     Locked, add_owner, end_owner, or_set, poll_get, poll_take, replace, reserve, set, take_inner,
     try_get, update, update_some,
 };
 use async_cell_core::{Core, Named, Poll, Refusal, Wakes};
+use async_cell_suite::checks::{holds, holds_at, same, same_at};
 use async_cell_sync::LockedCore;
 use std::alloc::AllocError;
 use std::sync::Wait;

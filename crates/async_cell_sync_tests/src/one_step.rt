@@ -1,8 +1,8 @@
 //! Each write is one step: no call of another thread comes in between. Every result is the same
 //! whatever the schedule.
-use crate::checks::{holds, holds_at, same};
-use crate::owner::first;
+use crate::owners_of::first;
 use crate::race::{MOST, Race, Side};
+use async_cell_suite::checks::{holds, holds_at, same};
 use async_cell_sync::{AsyncCell, Owner};
 use std::sync::Wait;
 use std::thread;

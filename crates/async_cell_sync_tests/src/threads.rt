@@ -1,8 +1,9 @@
 //! One cell in several threads.
-use crate::checks::{holds, same};
 use crate::owning::{first_owner, weak_taker};
 use crate::race::{MOST, Race, Side};
-use crate::ticks::{Tick, task};
+use crate::ticks::Tick;
+use async_cell_suite::checks::{holds, same};
+use async_cell_suite::slot::task;
 use async_cell_sync::{AsyncCell, Shared, TakeWeak};
 use futures::executor::block_on;
 use futures::task::Poll;

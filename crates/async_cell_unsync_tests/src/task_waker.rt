@@ -1,8 +1,8 @@
 //! The waker of a task.
-use crate::checks::holds;
-use crate::ticks::task;
 use async_cell_cons::Wakes;
 use async_cell_model::Refusal;
+use async_cell_suite::checks::holds;
+use async_cell_suite::slot::task;
 use async_cell_unsync::TaskWaker;
 use futures::task::{Context, Poll, Source};
 use futures::test::MockTask;
