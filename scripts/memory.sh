@@ -48,6 +48,7 @@ async_cell_sync_tests      memory::a_refused_poll_leaves_those_that_wait
 async_cell_sync_tests      memory::a_refused_poll_may_be_made_again
 async_cell_sync_tests      memory::each_future_that_waits_holds_a_place
 async_cell_sync_tests      memory::a_weak_wait_is_refused_or_ended_by_the_close
+async_cell_sync_tests      memory::a_weak_poll_is_refused_or_ended_by_the_close
 async_cell_sync_tests      memory::a_stream_without_memory_tells_it_and_goes_on
 async_cell_sync_tests      memory::a_future_whose_first_wait_was_refused_is_usable
 async_cell_sync_tests      memory::a_future_whose_wait_was_refused_shares_no_place
@@ -64,7 +65,9 @@ cellrun                    script::refused::a_refused_request_is_printed_or_ends
 # The tests of calls that take no memory: each request is to be one of the test's own.
 spared='
 async_cell_unsync_tests    memory::more_owners_take_no_memory
+async_cell_unsync_tests    memory::more_shared_owners_take_no_memory
 async_cell_sync_tests      memory::more_owners_take_no_memory
+async_cell_sync_tests      memory::more_shared_owners_take_no_memory
 '
 
 # What refuses the requests, for the programs that it is preloaded into.

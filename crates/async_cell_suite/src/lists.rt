@@ -28,6 +28,7 @@ macro_rules! all_places {
         $crate::places::a_place_of_a_past_round_is_not_taken($made, $rt);
         $crate::places::a_place_of_a_past_round_is_left_alone($made, $rt);
         $crate::places::a_future_of_a_past_round_takes_over_a_free_place_and_no_other($made, $rt);
+        $crate::places::a_future_of_a_past_round_takes_a_free_place_over($made, $rt);
         $crate::places::a_place_is_given_up_with_its_value($made, $rt);
     };
 }

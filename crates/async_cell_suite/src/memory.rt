@@ -1,9 +1,9 @@
 //! Want of memory. The tests hold whichever request is refused, and scripts/memory.sh refuses each
 //! in turn. Where that is one of what is made first, the test ends with that error.
 use crate::checks::{holds, same};
-use crate::owns::{CellOwner, Yields};
+use crate::owns::{CellOwner, Yields, guard_of};
 use crate::places::waits;
-use crate::slot::{Kept, Polled, Slot, World, rest};
+use crate::slot::{Guarded, Kept, Polled, Slot, World, rest};
 use async_cell_core::Refusal;
 use futures::task::Poll;
 use futures::test::MockTask;
@@ -78,7 +78,7 @@ fn memory_or<V: Drop>(rt: &impl Abort, answer: Result<V, Refusal>) -> Option<V> 
 }
 
 /// Asserts that a copy that was not refused is the list.
-fn eight_unless_refused(rt: &impl Abort, answer: Result<Option<Vec<u8>>, Refusal>) {
+pub fn eight_unless_refused(rt: &impl Abort, answer: Result<Option<Vec<u8>>, Refusal>) {
     if let Some(copy) = memory_or(rt, answer) {
         holds(rt, is_eight(copy));
     }
@@ -126,6 +126,8 @@ pub fn more_owners_take_no_memory<O: CellOwner<u32>>(owner: O, rt: &impl World) 
     } else {
         panic!(rt; "an owner");
     }
+    guard_of(&owner, 9, rt).cancel();
+    same(rt, owner.try_take(), Some(9));
     holds(rt, owner.take_shared().is_ok());
     holds(rt, owner.get_shared().is_ok());
     holds(rt, matches!(O::upgrade(&owner.downgrade()), Ok(Some(_))));

@@ -180,6 +180,16 @@ pub fn a_future_of_a_past_round_takes_over_a_free_place_and_no_other<S: Slot<u32
     holds(rt, past.is_woken());
 }
 
+pub fn a_future_of_a_past_round_takes_a_free_place_over<S: Slot<u32>>(slot: S, rt: &impl World) {
+    let flag = task(rt);
+    let mut getter = slot.get();
+    waits(rt, &mut getter, &flag);
+    fill_and_empty(slot, rt);
+    waits(rt, &mut slot.take(), &flag);
+    waits(rt, &mut getter, &flag);
+    same(rt, slot.waiting(), 1);
+}
+
 pub fn a_place_is_given_up_with_its_value<S: Slot<u32>>(slot: S, rt: &impl World) {
     let (first, second) = (task(rt), task(rt));
     let mut early = slot.take();

@@ -1,9 +1,15 @@
 //! Want of memory, on a cell and on an owner. scripts/memory.sh names these tests.
 use crate::holders::{cell, lent, owned};
 use crate::owners_of::{OwnerOf, of};
-use async_cell_suite::checks::same;
+use crate::owning::{
+    another, getter, guard_of, set, taker, try_take, upgraded_getter, upgraded_taker, weak_getter,
+    weak_taker,
+};
+use crate::ticks::Tick;
+use async_cell_suite::checks::{holds, same};
 use async_cell_suite::{memory, memory_places};
-use async_cell_sync::{AsyncCell, Owner, Refusal};
+use async_cell_sync::{AsyncCell, Owner, Refusal, Shared};
+use futures::task::Poll;
 use std::alloc::{AllocError, Global};
 use std::sync::Wait;
 
@@ -40,6 +46,51 @@ fn a_refused_clone_leaves_the_value(rt: HostRuntime) -> Result<(), AllocError> {
 #[test]
 fn more_owners_take_no_memory(rt: HostRuntime) -> Result<(), AllocError> {
     memory::more_owners_take_no_memory(try_owner_of(rt)?, &rt);
+    Ok(())
+}
+
+/// The owner that a call must end.
+fn try_shared<T: Drop>(rt: &impl Alloc<A = Global>) -> Result<Shared<T>, AllocError> {
+    AsyncCell::shared(rt.alloc()).map_err(|_| AllocError)
+}
+
+#[test]
+fn more_shared_owners_take_no_memory(rt: HostRuntime) -> Result<(), AllocError> {
+    let owner = try_shared::<u32>(&rt)?;
+    another(&owner, &rt).end(&rt);
+    taker(&owner, &rt).0.end(&rt);
+    getter(&owner, &rt).0.end(&rt);
+    let late = upgraded_taker(&weak_taker(&owner), &rt);
+    late.expect(&rt, "the cell is open").0.end(&rt);
+    let late = upgraded_getter(&weak_getter(&owner), &rt);
+    late.expect(&rt, "the cell is open").0.end(&rt);
+    guard_of(&owner, 9, &rt).cancel(&rt);
+    same(&rt, try_take(&owner, &rt), Some(9));
+    owner.end(&rt);
+    Ok(())
+}
+
+/// Polls that keep no place. One that waits is woken by the close.
+#[test]
+fn a_weak_poll_is_refused_or_ended_by_the_close(rt: HostRuntime) -> Result<(), AllocError> {
+    let flag = memory::try_task(&rt)?;
+    let list = [8u8].to_vec(rt.alloc())?;
+    let owner = try_shared(&rt)?;
+    set(&owner, list, &rt);
+    let weak = weak_getter(&owner);
+    if let Poll::Ready(answer) = weak.tick(&flag, &rt) {
+        memory::eight_unless_refused(&rt, answer);
+    }
+    holds(&rt, try_take(&owner, &rt).is_some());
+    for _ in 0..3u32 {
+        let polled = weak.tick(&flag, &rt);
+        let waits = polled.is_pending();
+        holds(&rt, waits || matches!(polled, Poll::Ready(Err(Refusal::Memory))));
+        holds(&rt, !waits || !flag.is_woken());
+    }
+    owner.end(&rt);
+    holds(&rt, flag.is_woken());
+    holds(&rt, matches!(weak.tick(&flag, &rt), Poll::Ready(Ok(None))));
     Ok(())
 }
 
@@ -109,6 +160,16 @@ fn a_refused_owner_leaves_the_cell(rt: HostRuntime) {
     match AsyncCell::<u32>::shared(rt.alloc()) {
         Ok(owner) => owner.end(&rt),
         Err(why) => same(&rt, why, Refusal::Memory),
+    }
+    match AsyncCell::new_with(rt.alloc(), 7u32).into_shared() {
+        Ok(owner) => {
+            same(&rt, try_take(&owner, &rt), Some(7));
+            owner.end(&rt);
+        }
+        Err((why, cell)) => {
+            same(&rt, why, Refusal::Memory);
+            same(&rt, cell.into_inner(), Some(7));
+        }
     }
     match AsyncCell::new_with(rt.alloc(), 7u32).into_owner(rt) {
         Ok(owner) => same(&rt, owner.try_take(), Some(7)),

@@ -1,6 +1,10 @@
 //! Want of memory, on a cell and on an owner. scripts/memory.sh names these tests.
 use crate::holders::{cell, lent, owned};
 use crate::owners_of::{OwnerOf, of};
+use crate::owning::{
+    another, getter, guard_of, taker, try_take, upgraded_getter, upgraded_taker, weak_getter,
+    weak_taker,
+};
 use async_cell_suite::checks::{holds, same};
 use async_cell_suite::{memory, memory_places};
 use async_cell_unsync::{AsyncCell, Owner, Refusal};
@@ -40,6 +44,20 @@ fn a_refused_clone_leaves_the_value(rt: HostRuntime) -> Result<(), AllocError> {
 #[test]
 fn more_owners_take_no_memory(rt: HostRuntime) -> Result<(), AllocError> {
     memory::more_owners_take_no_memory(try_owner_of(rt)?, &rt);
+    Ok(())
+}
+
+/// The owner whose calls are made on its cell.
+#[test]
+fn more_shared_owners_take_no_memory(rt: HostRuntime) -> Result<(), AllocError> {
+    let owner = AsyncCell::<u32>::shared(rt.alloc()).map_err(|_| AllocError)?;
+    drop(another(&owner, &rt));
+    drop(taker(&owner, &rt));
+    drop(getter(&owner, &rt));
+    holds(&rt, upgraded_taker(&weak_taker(&owner), &rt).is_some());
+    holds(&rt, upgraded_getter(&weak_getter(&owner), &rt).is_some());
+    drop(guard_of(&owner, 9, &rt));
+    same(&rt, try_take(&owner), Some(9));
     Ok(())
 }
 
@@ -109,6 +127,13 @@ fn a_refused_owner_leaves_the_cell(rt: HostRuntime) {
     match AsyncCell::<u32>::shared(rt.alloc()) {
         Ok(owner) => drop(owner),
         Err(why) => same(&rt, why, Refusal::Memory),
+    }
+    match AsyncCell::new_with(rt.alloc(), 7u32).into_shared() {
+        Ok(owner) => same(&rt, try_take(&owner), Some(7)),
+        Err((why, cell)) => {
+            same(&rt, why, Refusal::Memory);
+            same(&rt, cell.into_inner(), Some(7));
+        }
     }
     match AsyncCell::new_with(rt.alloc(), 7u32).into_owner() {
         Ok(owner) => same(&rt, owner.try_take(), Some(7)),

@@ -85,6 +85,18 @@ fn a_cell_gives_its_content_and_wakes(rt: HostRuntime) {
 }
 
 #[test]
+fn a_purge_leaves_a_waker_without_a_place(rt: HostRuntime) {
+    let flag = task(&rt);
+    let cell: AsyncCell<u32> = cell(rt);
+    let slot = lent(&cell);
+    same(&rt, slot.poll_take(&flag), Poll::Pending);
+    slot.purge();
+    holds(&rt, !flag.is_woken());
+    slot.set(7);
+    holds(&rt, flag.is_woken());
+}
+
+#[test]
 fn random_calls_of_a_cell(rt: HostRuntime) -> Result<(), AllocError> {
     for seed in 0..LISTS {
         random_calls::a_list_goes(lent(&cell(rt)), seed, &rt)?;

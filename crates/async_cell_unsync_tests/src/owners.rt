@@ -7,7 +7,7 @@ use crate::ticks::{Tick, tick_future, tick_take};
 use async_cell_suite::checks::{holds, same};
 use async_cell_suite::owns::clone_of;
 use async_cell_suite::slot::task;
-use async_cell_unsync::{AsyncCell, Get, Shared, Take};
+use async_cell_unsync::{AsyncCell, Get, GetWeak, Shared, Take};
 use futures::task::Poll;
 use std::alloc::Global;
 use std::process::Abort;
@@ -55,6 +55,22 @@ fn upgrade(rt: HostRuntime) {
     same(&rt, tick_future(&mut upgraded, &flag), Poll::Ready(Ok(4)));
     drop(upgraded);
     holds(&rt, upgraded_taker(&weak, &rt).is_none());
+}
+
+#[test]
+fn a_weak_pointer_is_upgraded_while_an_owner_lives(rt: HostRuntime) {
+    let flag = task(&rt);
+    let owner: Shared<u32> = first_owner(&rt);
+    set(&owner, 6);
+    let weak = owner.downgrade();
+    holds(&rt, matches!(weak.upgrade(), Ok(Some(_))));
+    drop(owner);
+    holds(&rt, matches!(weak.upgrade(), Ok(None)));
+    same(
+        &rt,
+        tick_future(&mut GetWeak(weak), &flag),
+        Poll::Ready(Ok(None)),
+    );
 }
 
 #[test]
