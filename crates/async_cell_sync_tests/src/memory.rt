@@ -85,7 +85,10 @@ fn a_weak_poll_is_refused_or_ended_by_the_close(rt: HostRuntime) -> Result<(), A
     for _ in 0..3u32 {
         let polled = weak.tick(&flag, &rt);
         let waits = polled.is_pending();
-        holds(&rt, waits || matches!(polled, Poll::Ready(Err(Refusal::Memory))));
+        holds(
+            &rt,
+            waits || matches!(polled, Poll::Ready(Err(Refusal::Memory))),
+        );
         holds(&rt, !waits || !flag.is_woken());
     }
     owner.end(&rt);
