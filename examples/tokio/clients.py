@@ -22,12 +22,12 @@ def say(name, is_right, what):
 
 async def connect(port):
     """A connection, once the server listens."""
-    for _ in range(3000):  # it is built first
+    for _ in range(6000):  # it is built first
         try:
             return await asyncio.open_connection("127.0.0.1", port)
         except OSError:
             await asyncio.sleep(0.1)
-    raise SystemExit(f"clients: nobody listens at {port}")
+    raise SystemExit(f"failed: nobody listens at {port}")
 
 
 async def ask(client, line):
@@ -129,14 +129,19 @@ async def line_takers(port):
     taken = [asyncio.create_task(ask(client, "take")) for client in clients]
     await asyncio.sleep(0.5)
     got = []
-    for number in range(200):
-        await ask(first, f"set {number}")
-        count = len(got)
-        while len(got) == count:
-            done, rest = await asyncio.wait(taken, timeout=10, return_when="FIRST_COMPLETED")
-            if not done:
-                break
-            got, taken = got + [task.result() for task in done], list(rest)
+    try:
+        for number in range(200):
+            await ask(first, f"set {number}")
+            count = len(got)
+            while len(got) == count:
+                done, rest = await asyncio.wait(taken, timeout=10, return_when="FIRST_COMPLETED")
+                if not done:
+                    break
+                got, taken = got + [task.result() for task in done], list(rest)
+    finally:
+        for task in taken:
+            task.cancel()
+        await asyncio.gather(*taken, return_exceptions=True)
     right = sorted(map(int, got)) == list(range(200))
     say("200 takers, 200 values", right, f"{len(set(got))} different values")
     for client in [first, *clients]:
