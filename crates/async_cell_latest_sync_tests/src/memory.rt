@@ -44,6 +44,8 @@ fn a_state_whose_clone_is_refused_is_not_marked_as_seen(rt: HostRuntime) -> Resu
     let mut found = follower.wait_for(|value: &Single| value.0 == 2);
     let refused = Poll::Ready(Err(Refusal::Memory));
     same(&rt, tick_mut(&mut found, &flag), refused);
+    let refused = Poll::Ready(Err(Refusal::Memory));
+    same(&rt, tick_mut(&mut found, &flag), refused); // it is tried again
     end(found);
     holds(&rt, follower.has_changed());
     let mut states = follower.states();

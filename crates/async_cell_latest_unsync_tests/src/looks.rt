@@ -79,6 +79,33 @@ fn a_poll_inside_a_look_asks_to_be_polled_again(rt: HostRuntime) {
 }
 
 #[test]
+fn the_last_state_of_an_owner_that_ends_inside_a_look_stays(rt: HostRuntime) {
+    let flag = task(&rt);
+    let owner = owner_of(1u32, &rt);
+    let mut follower = follower(&owner, &rt);
+    follower.peek(|_| {
+        owner.set(2);
+        end(owner);
+    });
+    holds(&rt, follower.is_closed());
+    same(&rt, tick_changed(&mut follower, &flag), Poll::Ready(Ok(())));
+    same(&rt, follower.read(), Ok(2));
+}
+
+#[test]
+fn a_poll_inside_a_look_keeps_its_place(rt: HostRuntime) {
+    let flag = task(&rt);
+    let owner = owner_of(1u32, &rt);
+    let mut waits = follower(&owner, &rt);
+    let mut changed = waits.changed();
+    holds(&rt, tick_mut(&mut changed, &flag).is_pending());
+    let inside = owner.peek(|_| tick_mut(&mut changed, &flag).is_pending());
+    same(&rt, inside, Some(true));
+    holds(&rt, tick_mut(&mut changed, &flag).is_pending());
+    same(&rt, owner.waiting(), 1);
+}
+
+#[test]
 fn a_predicate_may_write(rt: HostRuntime) {
     let flag = task(&rt);
     let owner = owner_of(1u32, &rt);

@@ -1,5 +1,5 @@
 //! Each future that waits holds one place in the wait list, whatever its polls.
-use crate::calls::{follower, owner_of, task, tick_changed, tick_mut};
+use crate::calls::{end, follower, owner_of, task, tick_changed, tick_mut};
 use crate::checks::{holds, same};
 use futures::task::Poll;
 use futures::test::MockTask;
@@ -113,4 +113,35 @@ fn purge_lets_go_of_what_was_left_and_of_nothing_else(rt: HostRuntime) {
     owner.set(1);
     holds(&rt, other.is_woken());
     holds(&rt, !left.is_woken());
+}
+
+#[test]
+fn places_of_cancelled_futures_are_taken_over(rt: HostRuntime) {
+    let owner = owner_of(0u32, &rt);
+    let flag = task(&rt);
+    let mut follower = follower(&owner, &rt);
+    for _ in 0..3u32 {
+        let mut changed = follower.changed();
+        holds(&rt, tick_mut(&mut changed, &flag).is_pending());
+        same(&rt, owner.waiting(), 1);
+        changed.cancel();
+    }
+}
+
+#[test]
+fn purge_lets_go_of_all_that_was_left(rt: HostRuntime) {
+    let owner = owner_of(0u32, &rt);
+    let (first, second, last) = (task(&rt), task(&rt), task(&rt));
+    let (mut one, mut two) = (follower(&owner, &rt), follower(&owner, &rt));
+    let mut stays = follower(&owner, &rt);
+    let mut changed = one.changed();
+    holds(&rt, tick_mut(&mut changed, &first).is_pending());
+    let mut waits = stays.changed();
+    holds(&rt, tick_mut(&mut waits, &second).is_pending());
+    holds(&rt, tick_changed(&mut two, &last).is_pending());
+    end(changed);
+    owner.purge();
+    holds(&rt, first.is_woken());
+    holds(&rt, !second.is_woken());
+    holds(&rt, last.is_woken());
 }

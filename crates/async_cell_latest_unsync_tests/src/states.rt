@@ -54,7 +54,8 @@ fn a_stream_holds_one_place_and_leaves_it_free(rt: HostRuntime) {
             same(&rt, next(&mut states, &flag), Poll::Pending);
         }
         same(&rt, owner.waiting(), 1);
-        holds(&rt, !flag.is_woken());
+        end(states);
+        holds(&rt, !flag.is_woken()); // a drop wakes nobody
     }
     let mut states = follower(&owner, &rt).states();
     same(&rt, next(&mut states, &flag), Poll::Pending);

@@ -62,3 +62,31 @@ fn a_wait_that_comes_to_nothing_ends_with_the_last_owner(rt: HostRuntime) {
     let ended = Poll::Ready(Err(Refusal::Closed));
     same(&rt, tick_mut(&mut last, &flag), ended);
 }
+
+#[test]
+fn what_a_wait_looked_at_in_vain_was_seen(rt: HostRuntime) {
+    let flag = task(&rt);
+    let owner = owner_of(1u32, &rt);
+    let mut follower = follower(&owner, &rt);
+    owner.set(2);
+    let mut none = follower.wait_for(|value: &u32| *value == 3);
+    same(&rt, tick_mut(&mut none, &flag), Poll::Pending);
+    end(none);
+    holds(&rt, !follower.has_changed());
+}
+
+#[test]
+fn a_wait_holds_one_place_and_leaves_it_free(rt: HostRuntime) {
+    let flag = task(&rt);
+    let owner = owner_of(1u32, &rt);
+    let mut follower = follower(&owner, &rt);
+    for _ in 0..3u32 {
+        let mut none = follower.wait_for(|value: &u32| *value == 3);
+        for _ in 0..3u32 {
+            same(&rt, tick_mut(&mut none, &flag), Poll::Pending);
+        }
+        same(&rt, owner.waiting(), 1);
+        end(none);
+        holds(&rt, !flag.is_woken()); // a drop wakes nobody
+    }
+}
