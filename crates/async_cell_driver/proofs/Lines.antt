@@ -5,7 +5,7 @@ use Rattle.std.proofs.lemmas.List.{map-append, length-map}
 use Rattle.async_cell_model.specs.declared.refusal.Refusal.{Refusal}
 use Rattle.async_cell_model.specs.declared.refusal.Refusal.TheVariants.{Memory}
 use Rattle.async_cell_model.specs.History.{IsSound}
-use Rattle.async_cell_model.proofs.Leading.{Runs-nil}
+use Rattle.async_cell_model.proofs.LegalHistories.{Runs-nil}
 use Rattle.async_cell_model.proofs.UpTo.{up_to_clones}
 use Rattle.async_cell_driver.specs.declared.task.Kind.{Kind}
 use Rattle.async_cell_driver.specs.declared.task.Mark.{Mark}
@@ -20,7 +20,7 @@ use Rattle.async_cell_driver.specs.Log.{is_ready}
 use Rattle.async_cell_driver.specs.History.{line_of}
 use Rattle.async_cell_driver.specs.Drives.{Drives}
 use Rattle.async_cell_cons.specs.Named.{same_name}
-use Rattle.async_cell_driver.proofs.Reading.{awake}
+use Rattle.async_cell_driver.proofs.ReadyNow.{awake}
 
 module _ {T : Type 0} where
   -- a task that was just started

@@ -1,9 +1,12 @@
 -- What follows from the core's reply to a poll.
-use Rattle.std.specs.Prelude.{List, [], ◌∷◌, ◌++◌, Option, Result, Ok, Err}
+use Rattle.std.specs.Prelude.{◌≡◌, false, List, [], ◌∷◌, ◌++◌, Option, None, Result, Ok, Err, IfOk, OnOk}
 use Rattle.futures.specs.declared.task.Poll.{Poll}
 use Rattle.futures.specs.declared.task.Poll.TheVariants.{Ready, Pending}
 use Rattle.async_cell_cons.specs.declared.named.Named.{Named}
 use Rattle.async_cell_model.specs.declared.refusal.Refusal.{Refusal}
+use Rattle.async_cell_model.specs.Cell.{content, is_vacant}
+use Rattle.async_cell_model.specs.History.{State}
+use Rattle.async_cell_core.specs.Polled.{IsCloneOf}
 use Rattle.async_cell_driver.specs.declared.task.Mark.{Mark}
 use Rattle.async_cell_driver.specs.declared.task.Mark.TheVariants as mark
 use Rattle.async_cell_driver.specs.declared.event.Polled.{Polled}
@@ -32,3 +35,17 @@ module _ {T : Type 0} where
   IsPolledWith P (polled.Ready value) = P value
   IsPolledWith P polled.Pending = ⊥
   IsPolledWith P polled.NotReady = ⊥
+
+  -- what a taker's poll returns: the content, unless it has to wait. If it is not refused, the cell
+  -- holds none afterwards.
+  pub record TakesContent (old new : State T Named)
+      (result : Result (Polled T) Refusal) : Type 0 where
+    pub takes : is_vacant old.cell ≡ false → result ≡ Ok (polled.Ready (content old.cell))
+    pub leaves_none : OnOk result (content new.cell ≡ None)
+
+  -- what a getter's poll returns: a clone of the content, which stays, unless it has to wait
+  pub record ClonesContent (is_clone : T → T → Type 0)
+      (old new : State T Named) (result : Result (Polled T) Refusal) : Type 0 where
+    pub clones : is_vacant old.cell ≡ false
+        → IfOk result (IsPolledWith (IsCloneOf is_clone (content old.cell)))
+    pub leaves : is_vacant old.cell ≡ false → new ≡ old

@@ -6,9 +6,9 @@ ghost use Rattle.async_cell_core.specs.Polled.{IsCloneOf, IsReadyWith, poll_repl
 ghost use Rattle.async_cell_driver.specs.DriverState.{is_named, kind_at};
 ghost use Rattle.async_cell_driver.specs.Log.{is_ready, waits};
 ghost use Rattle.async_cell_driver.specs.History.{poll_of, told_of};
-ghost use Rattle.async_cell_driver.specs.Drives.{Happens, IsSpared, KeepsResults};
+ghost use Rattle.async_cell_driver.specs.Drives.{Happens, KeepsResults};
 ghost use Rattle.async_cell_cons.specs.Named.{same_name};
-ghost use Rattle.async_cell_driver.specs.Asked.{IsPolledWith, waiting_when, mark_after, polled_of};
+ghost use Rattle.async_cell_driver.specs.Asked.{ClonesContent, TakesContent, waiting_when, mark_after, polled_of};
 
 mod apply;
 mod settle;
@@ -75,33 +75,30 @@ impl<T: Clone> Driver<T> {
     pub fn poll(&mut self, i: usize) -> Result<Polled<T>, Refusal>
         ensures drives { Happens T.is_clone self.old (Event.Poll i) (told_of result) self.new }
 
+        // A task that is not ready.
         ensures not_ready { (result ≡ Ok Polled.NotReady) ↔ (is_ready self.old [] i ≡ false) }
         ensures untouched { result ≡ Ok Polled.NotReady → self.new ≡ self.old }
-        ensures taker_takes { kind_at self.old.tasks i ≡ Some Kind.Take
-            → is_ready self.old [] i ≡ true → is_vacant self.old.core.cell ≡ false
-            → result ≡ Ok (Polled.Ready (content self.old.core.cell)) }
-        ensures taker_leaves_none { kind_at self.old.tasks i ≡ Some Kind.Take
-            → is_ready self.old [] i ≡ true → OnOk result (content self.new.core.cell ≡ None) }
-        ensures getter_clones { kind_at self.old.tasks i ≡ Some Kind.Get
-            → is_ready self.old [] i ≡ true → is_vacant self.old.core.cell ≡ false
-            → IfOk result (IsPolledWith (IsCloneOf T.is_clone (content self.old.core.cell))) }
-        ensures getter_leaves { kind_at self.old.tasks i ≡ Some Kind.Get
-            → is_vacant self.old.core.cell ≡ false → self.new.core ≡ self.old.core }
-        ensures results_stay { KeepsResults self.old self.new }
+
+        // What a ready task gets.
+        ensures taker { kind_at self.old.tasks i ≡ Some Kind.Take → is_ready self.old [] i ≡ true
+            → TakesContent self.old.core self.new.core result }
+        ensures getter { kind_at self.old.tasks i ≡ Some Kind.Get → is_ready self.old [] i ≡ true
+            → ClonesContent T.is_clone self.old.core self.new.core result }
+
+        // When it is refused.
         ensures refused { IfErr result (λ why. (why ≡ Refusal.Memory)
             × (self.new.core.cell ≡ self.old.core.cell)
             × (self.new.core.waiting ≡ self.old.core.waiting)) }
-        ensures ready_no_more { OnOk result (is_ready self.new [] i ≡ false) }
-        ensures others_stay { (j : ℕ) → j ≢ i → is_ready self.new [] j ≡ is_ready self.old [] j }
         ensures spared { may_refuse same_name true self.old.core
             (poll_of (kind_at self.old.tasks i) i) ≡ false → IsOk result }
         ensures sure { is_vacant self.old.core.cell ≡ false
             → MatchOption (content self.old.core.cell) (IsOk result)
             (λ value. T.is_infallible value → IsOk result) }
-        ensures spared_told { IsSpared T.is_infallible self.old.core.cell
-            (Event.Poll i) (told_of result) }
-        ensures taker_sure { kind_at self.old.tasks i ≡ Some Kind.Take
-            → is_vacant self.old.core.cell ≡ false → IsOk result }
+
+        // What stays.
+        ensures results_stay { KeepsResults self.old self.new }
+        ensures ready_no_more { OnOk result (is_ready self.new [] i ≡ false) }
+        ensures others_stay { (j : ℕ) → j ≢ i → is_ready self.new [] j ≡ is_ready self.old [] j }
     {
         self.core.soundness();
         let Some(kind) = self.tasks.ready(i) else {
@@ -169,7 +166,7 @@ impl<T: Clone> Driver<T> {
 
 /// Polls the core for a task of this kind, whose name does not wait. So a poll that has to wait
 /// adds it without a look at those that do.
-#[tactic(auto, using(crate::proofs::Polling::sure_anyway, async_cell_model::proofs::UpTo::up_to_clones))]
+#[tactic(auto, using(crate::proofs::PolledTask::sure_anyway, async_cell_model::proofs::UpTo::up_to_clones))]
 fn ask<T: Clone>(
     core: &mut Core<T, Named>,
     kind: Kind,

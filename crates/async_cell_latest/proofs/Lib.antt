@@ -1,8 +1,8 @@
-pub mod Closing
-pub mod Covering
-pub mod Joining
-pub mod Keeping
-pub mod Polling
-pub mod Rising
-pub mod Showing
+pub mod ClosedState
+pub mod CoveredWakers
+pub mod JoinedHistories
+pub mod LastShown
+pub mod NewerVersions
+pub mod SoundAfter
 pub mod Versions
+pub mod WaitingPoll

@@ -15,9 +15,9 @@ use Rattle.async_cell_model.specs.Taken.{IsDistinct}
 use Rattle.async_cell_model.specs.WaitList.{wait_list, IsCovered}
 use Rattle.async_cell_model.specs.History.{State, History, IsSound, cell_after, has_fill_or_close, registrations, pending_waker, waiting, after}
 use Rattle.async_cell_model.specs.Legal.{IsLegalAfterBy, MayFollowBy, UpToClones}
-use Rattle.async_cell_model.proofs.Adding.{wait_list-covers, wait_list-distinct}
-use Rattle.async_cell_model.proofs.Joining.{after-append, registrations-append, cell_after-append}
-use Rattle.async_cell_model.proofs.Keeping.{IsSound-step, no_waker}
+use Rattle.async_cell_model.proofs.OneMoreWaker.{wait_list-covers, wait_list-distinct}
+use Rattle.async_cell_model.proofs.JoinedHistory.{after-append, registrations-append, cell_after-append}
+use Rattle.async_cell_model.proofs.SoundAfter.{IsSound-step, no_waker}
 
 module _ {T W : Type 0} (is_clone : T → T → Type 0) (will_wake : W → W → Bool) (sure : Bool) where
   -- what is legal after a history is legal in the state where it ends

@@ -96,7 +96,7 @@ pub fn one_more_waker_is_last_or_skipped<T: Clone, W>()
 
 /// The wait list, from its first waker on. The first registered waker waits. After it comes the
 /// wait list of the other registrations, without those that the first would wake.
-#[tactic(auto, using(crate::proofs::Adding::keep_first))]
+#[tactic(auto, using(crate::proofs::OneMoreWaker::keep_first))]
 pub fn the_first_waker_skips_all_that_it_would_wake<W>()
     ensures none { (will_wake : W → W → Bool) → wait_list will_wake [] ≡ [] }
     ensures first { (will_wake : W → W → Bool) (w : W) (rest : List W)

@@ -1,6 +1,6 @@
-mod Carrying
 mod Counted
-mod Fitting
-mod Making
+mod FittingAnswers
+mod KeptEntry
+mod OneMoreEntry
+mod PlainHistories
 mod Serials
-mod Stepping

@@ -48,7 +48,7 @@ impl<T, M: Pick<T>> Model for Journal<T, M> {
 impl<T: Copy, M: Pick<T>> Journal<T, M> {
     /// Makes an open cell without a value, with an owner for each share, and its shares, numbered
     /// from 0. Fails with `Memory` if there is no memory.
-    #[tactic(auto, using(crate::proofs::Stepping::journal_new, crate::proofs::Counted::length_new_shares))]
+    #[tactic(auto, using(crate::proofs::OneMoreEntry::journal_new, crate::proofs::Counted::length_new_shares))]
     pub fn new(alloc: Global, shares: u32, blanks: Blanks) -> Result<(Self, Vec<Share<M>>), Refusal>
         requires some { 1 ≤ shares }
         requires shares { shares ≡ M.shares }

@@ -44,7 +44,7 @@ fn answered<T: Copy>(kept: Kept<T>, put: Option<T>) -> Kept<T>
 }
 
 /// Returns a copy of the content.
-#[tactic(auto, using(crate::proofs::Making::got_content))]
+#[tactic(auto, using(crate::proofs::KeptEntry::got_content))]
 fn content<T: Copy>(core: &Core<T, Named>) -> Option<T>
     ensures { result ≡ content core.now.cell }
 {
@@ -53,7 +53,7 @@ fn content<T: Copy>(core: &Core<T, Named>) -> Option<T>
 
 /// Makes the call. Returns it with its reply, and the wakers that are to be woken by the caller.
 /// Fails if the core refuses a poll because there is no memory.
-#[tactic(auto, using(crate::proofs::Making::refused_unchanged, crate::proofs::Making::kept_made))]
+#[tactic(auto, using(crate::proofs::KeptEntry::refused_unchanged, crate::proofs::KeptEntry::kept_made))]
 pub(crate) fn make<T: Copy, E: Edit<T> + Drop>(
     core: &mut Core<T, Named>,
     call: Call<T, Named, E>,

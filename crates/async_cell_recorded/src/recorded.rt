@@ -110,7 +110,7 @@ impl<T: Copy, M: Pick<T>> Recorded<T, M> {
     }
 
     /// Makes a call while the lock is held.
-    #[tactic(auto, using(crate::proofs::Fitting::fits))]
+    #[tactic(auto, using(crate::proofs::FittingAnswers::fits))]
     fn call<E: Edit<T> + Drop>(
         &self,
         share: &mut Share<M>,

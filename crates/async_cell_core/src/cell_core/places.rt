@@ -16,7 +16,7 @@ impl<T: Drop, W: Wakes> Core<T, W> {
     /// and the waker of a type of which none would wake another, so it is never skipped. If there
     /// is no memory to grow the list, fails and returns the waker in the error.
     #[doc(hidden)]
-    #[tactic(auto, using(async_cell_model::proofs::Adding::keep_added, async_cell_model::proofs::Adding::never_skipped, async_cell_model::proofs::Polling::get_added, async_cell_model::proofs::Polling::get_refused, async_cell_model::proofs::Polling::take_added, async_cell_model::proofs::Polling::take_refused))]
+    #[tactic(auto, using(async_cell_model::proofs::OneMoreWaker::keep_added, async_cell_model::proofs::OneMoreWaker::never_skipped, async_cell_model::proofs::WaitingPoll::get_added, async_cell_model::proofs::WaitingPoll::get_refused, async_cell_model::proofs::WaitingPoll::take_added, async_cell_model::proofs::WaitingPoll::take_refused))]
     pub fn add(&mut self, waker: W) -> Result<(), W>
         requires vacant { is_vacant self.old.cell ≡ true }
         requires none_skipped { (a b : W) → W.will_wake a b ≡ false }
@@ -53,7 +53,7 @@ impl<T: Drop> Core<T, TaskWaker> {
     /// it is dropped. If there is no memory to grow the list, the waker is returned in the error.
     #[doc(hidden)]
     #[inline(always)]
-    #[tactic(auto, using(async_cell_model::proofs::Adding::keep_added, async_cell_model::proofs::Adding::never_skipped))]
+    #[tactic(auto, using(async_cell_model::proofs::OneMoreWaker::keep_added, async_cell_model::proofs::OneMoreWaker::never_skipped))]
     pub fn store(
         &mut self,
         place: &mut Place,

@@ -69,7 +69,7 @@ impl<T: Drop, W: Wakes> Core<T, W> {
 
     /// Registers the waker, unless `skips` says that it need not be. The cell must be vacant. Fails
     /// with `Memory` if there is no memory for a clone of the waker or to grow the list.
-    #[tactic(auto, using(async_cell_model::proofs::Adding::keep_added, async_cell_model::proofs::Adding::keep_skipped, async_cell_model::proofs::Polling::get_added, async_cell_model::proofs::Polling::get_skipped, async_cell_model::proofs::Polling::get_refused, async_cell_model::proofs::Polling::take_added, async_cell_model::proofs::Polling::take_skipped, async_cell_model::proofs::Polling::take_refused))]
+    #[tactic(auto, using(async_cell_model::proofs::OneMoreWaker::keep_added, async_cell_model::proofs::OneMoreWaker::keep_skipped, async_cell_model::proofs::WaitingPoll::get_added, async_cell_model::proofs::WaitingPoll::get_skipped, async_cell_model::proofs::WaitingPoll::get_refused, async_cell_model::proofs::WaitingPoll::take_added, async_cell_model::proofs::WaitingPoll::take_skipped, async_cell_model::proofs::WaitingPoll::take_refused))]
     pub(super) fn wait(&mut self, waker: &W) -> Result<(), Refusal>
         requires { is_vacant self.old.cell ≡ true }
         ensures waits { OnOk result ((self.new.cell ≡ self.old.cell)

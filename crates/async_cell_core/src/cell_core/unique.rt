@@ -18,7 +18,7 @@ impl<T: Drop, W: Wakes> Core<T, W> {
     /// the time does not grow with their number. Fails with `Memory` if there is no memory for the
     /// clone or to grow the list.
     #[doc(hidden)]
-    #[tactic(auto, using(async_cell_model::proofs::Polling::get_added, async_cell_model::proofs::Polling::get_refused, async_cell_model::proofs::Polling::take_added, async_cell_model::proofs::Polling::take_refused))]
+    #[tactic(auto, using(async_cell_model::proofs::WaitingPoll::get_added, async_cell_model::proofs::WaitingPoll::get_refused, async_cell_model::proofs::WaitingPoll::take_added, async_cell_model::proofs::WaitingPoll::take_refused))]
     pub fn add_unique(&mut self, waker: &W) -> Result<(), Refusal>
         requires vacant { is_vacant self.old.cell ≡ true }
         requires unique { skips W.will_wake self.old.waiting waker.now ≡ false }

@@ -1,5 +1,5 @@
 use Rattle.async_cell_model.specs.Clones.{Exactly}
-use Rattle.async_cell_core.proofs.Running.{two_runs}
+use Rattle.async_cell_core.proofs.LongerRuns.{two_runs}
 use Rattle.async_cell_core.proofs.laws.two_exact_runs_are_one.Goals as goal
 
 pub returns : goal.returns

@@ -3,7 +3,7 @@ use Rattle.std.proofs.lemmas.List.{nil_from_length}
 use Rattle.std.specs.Vec.Iter.{into_iter_items}
 use Rattle.async_cell_model.specs.Legal.{UpToClones}
 use Rattle.async_cell_model.proofs.UpTo.{exact_told}
-use Rattle.async_cell_core.proofs.Running.{run_more, copied_more, copies_are}
+use Rattle.async_cell_core.proofs.LongerRuns.{run_more, copied_more, copies_are}
 use Rattle.async_cell_core.proofs.runs.run.Goals as goal
 
 pub loop-call-preserved : goal.loop-call-preserved

@@ -1,4 +1,4 @@
-use Rattle.async_cell_driver.proofs.Joining.{log_of-append, log_of-append-edits}
+use Rattle.async_cell_driver.proofs.JoinedLogs.{log_of-append, log_of-append-edits}
 use Rattle.async_cell_driver.proofs.laws.two_lists_are_one.Goals as goal
 
 pub returns : goal.returns

@@ -1,4 +1,4 @@
-use Rattle.async_cell_latest.proofs.Keeping.{after-sound, Runs-sound}
+use Rattle.async_cell_latest.proofs.SoundAfter.{after-sound, Runs-sound}
 use Rattle.async_cell_latest.proofs.laws.a_history_ends_in_a_sound_state.Goals as goal
 
 pub returns : goal.returns

@@ -1,4 +1,4 @@
-use Rattle.async_cell_latest.proofs.Showing.{last_written, last_shown, last_seen}
+use Rattle.async_cell_latest.proofs.LastShown.{last_written, last_shown, last_seen}
 use Rattle.async_cell_latest.proofs.laws.a_poll_shows_the_last_state.Goals as goal
 
 pub returns : goal.returns

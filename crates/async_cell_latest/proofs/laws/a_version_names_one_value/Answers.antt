@@ -1,4 +1,4 @@
-use Rattle.async_cell_latest.proofs.Showing.{one_value}
+use Rattle.async_cell_latest.proofs.LastShown.{one_value}
 use Rattle.async_cell_latest.proofs.laws.a_version_names_one_value.Goals as goal
 
 pub returns : goal.returns

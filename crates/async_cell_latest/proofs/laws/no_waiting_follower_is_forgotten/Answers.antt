@@ -1,4 +1,4 @@
-use Rattle.async_cell_latest.proofs.Covering.{stays_covered, is_woken, nobody_waits}
+use Rattle.async_cell_latest.proofs.CoveredWakers.{stays_covered, is_woken, nobody_waits}
 use Rattle.async_cell_latest.proofs.laws.no_waiting_follower_is_forgotten.Goals as goal
 
 pub returns : goal.returns

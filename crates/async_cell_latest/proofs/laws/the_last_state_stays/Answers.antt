@@ -1,4 +1,4 @@
-use Rattle.async_cell_latest.proofs.Closing.{closed_stays}
+use Rattle.async_cell_latest.proofs.ClosedState.{closed_stays}
 use Rattle.async_cell_latest.proofs.laws.the_last_state_stays.Goals as goal
 
 pub returns : goal.returns

@@ -1,4 +1,4 @@
-use Rattle.async_cell_latest.proofs.Rising.{rising}
+use Rattle.async_cell_latest.proofs.NewerVersions.{rising}
 use Rattle.async_cell_latest.proofs.laws.the_versions_of_a_follower_rise.Goals as goal
 
 pub returns : goal.returns

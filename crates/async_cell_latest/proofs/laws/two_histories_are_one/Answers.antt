@@ -1,4 +1,4 @@
-use Rattle.async_cell_latest.proofs.Joining.{Runs-join}
+use Rattle.async_cell_latest.proofs.JoinedHistories.{Runs-join}
 use Rattle.async_cell_latest.proofs.laws.two_histories_are_one.Goals as goal
 
 pub returns : goal.returns

@@ -1,5 +1,5 @@
-use Rattle.async_cell_model.proofs.Growing.{waiting-ended}
-use Rattle.async_cell_model.proofs.Refusing.{handed_all, handed_none}
+use Rattle.async_cell_model.proofs.OneMoreEntry.{waiting-ended}
+use Rattle.async_cell_model.proofs.OneEntry.{handed_all, handed_none}
 use Rattle.async_cell_model.proofs.laws.a_fill_or_close_ends_all_waiting.Goals as goal
 
 pub returns : goal.returns

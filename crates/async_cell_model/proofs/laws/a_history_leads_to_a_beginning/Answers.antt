@@ -1,4 +1,4 @@
-use Rattle.async_cell_model.proofs.Refusing.{Runs-sound}
+use Rattle.async_cell_model.proofs.OneEntry.{Runs-sound}
 use Rattle.async_cell_model.proofs.laws.a_history_leads_to_a_beginning.Goals as goal
 
 pub returns : goal.returns

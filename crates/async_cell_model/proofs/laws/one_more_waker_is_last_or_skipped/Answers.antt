@@ -1,5 +1,5 @@
-use Rattle.async_cell_model.proofs.Adding.{wait_list-one}
-use Rattle.async_cell_model.proofs.Growing.{waiting-one_more}
+use Rattle.async_cell_model.proofs.OneMoreWaker.{wait_list-one}
+use Rattle.async_cell_model.proofs.OneMoreEntry.{waiting-one_more}
 use Rattle.async_cell_model.proofs.laws.one_more_waker_is_last_or_skipped.Goals as goal
 
 pub returns : goal.returns

@@ -1,4 +1,4 @@
-use Rattle.async_cell_model.proofs.Growing.{room-ended, room-longer, room-same}
+use Rattle.async_cell_model.proofs.OneMoreEntry.{room-ended, room-longer, room-same}
 use Rattle.async_cell_model.proofs.laws.the_room_goes_by_one.Goals as goal
 
 pub returns : goal.returns

@@ -1,5 +1,5 @@
 use Rattle.async_cell_model.specs.Clones.{UpToClones}
-use Rattle.async_cell_model.proofs.Leading.{Runs-join-by}
+use Rattle.async_cell_model.proofs.LegalHistories.{Runs-join-by}
 use Rattle.async_cell_model.proofs.laws.two_histories_are_one.Goals as goal
 
 pub returns : goal.returns

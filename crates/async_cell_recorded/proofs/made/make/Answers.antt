@@ -1,7 +1,7 @@
 use Rattle.std.proofs.Common.{◌≡◌, true, false, rules}
 use Rattle.async_cell_model.specs.Step.{is_memory}
 use Rattle.async_cell_cons.specs.Named.{same_name}
-use Rattle.async_cell_recorded.proofs.Making.{kept_made, refused_unchanged}
+use Rattle.async_cell_recorded.proofs.KeptEntry.{kept_made, refused_unchanged}
 use Rattle.async_cell_recorded.proofs.made.make.Goals as goal
 
 pub returns-clause-kept : goal.returns-clause-kept

@@ -1,6 +1,6 @@
 use Rattle.std.proofs.Common.{rules, refl}
-use Rattle.async_cell_model.proofs.Adding.{never_skipped}
-use Rattle.async_cell_model.proofs.Polling.{get_added, take_added}
+use Rattle.async_cell_model.proofs.OneMoreWaker.{never_skipped}
+use Rattle.async_cell_model.proofs.WaitingPoll.{get_added, take_added}
 use Rattle.async_cell_core.proofs.cell_core.Core.add.Goals as goal
 
 pub returns-clause-take : goal.returns-clause-take

@@ -3,7 +3,7 @@ use Rattle.std.proofs.lemmas.List.{nil_from_length}
 use Rattle.std.proofs.lemmas.Grind.{common_steps}
 use Rattle.std.specs.Vec.Iter.{into_iter_items}
 use Rattle.async_cell_driver.specs.DriverState.{DriverState}
-use Rattle.async_cell_driver.proofs.Joining.{drives_nil, happen_more}
+use Rattle.async_cell_driver.proofs.JoinedLogs.{drives_nil, happen_more}
 use Rattle.async_cell_driver.proofs.driver.Driver.apply.Goals as goal
 
 pub loop-event-init : goal.loop-event-init

@@ -4,7 +4,7 @@ use Rattle.async_cell_model.specs.declared.reply.Reply.TheVariants as reply
 use Rattle.async_cell_driver.specs.declared.event.Event.TheVariants as event
 use Rattle.async_cell_driver.specs.declared.event.Told.TheVariants as told
 use Rattle.async_cell_driver.specs.DriverState.{DriverState}
-use Rattle.async_cell_driver.proofs.Calling.{call_drives, covered_called, results_woken, value_is, last_closes}
+use Rattle.async_cell_driver.proofs.CellCalls.{call_drives, covered_called, results_woken, value_is, last_closes}
 use Rattle.async_cell_driver.proofs.driver.Driver.end.Goals as goal
 
 pub returns-in_err-last-clause-refused : goal.returns-in_err-last-clause-refused

@@ -3,9 +3,9 @@ use Rattle.async_cell_driver.specs.Mark.{is_ready_mark}
 use Rattle.async_cell_driver.specs.DriverState.{DriverState, mark_at}
 use Rattle.async_cell_driver.specs.Log.{is_ready}
 use Rattle.async_cell_driver.specs.Asked.{polled_of}
-use Rattle.async_cell_driver.proofs.Reading.{ready_now}
+use Rattle.async_cell_driver.proofs.ReadyNow.{ready_now}
 use Rattle.async_cell_driver.proofs.Lines.{not_polled}
-use Rattle.async_cell_driver.proofs.Polling.{covered_polled, ready_unnamed, poll_drives_as, results-marked, ready_no_more, others_stay, sure_anyway, sure_polled, taker_sure, same_kind, not_both, ok_as_polled, ready_as_polled, spared_polled}
+use Rattle.async_cell_driver.proofs.PolledTask.{covered_polled, poll_drives_as, results-marked, ready_no_more, others_stay, sure_anyway, sure_polled, same_kind, not_both, ok_as_polled, ready_as_polled}
 use Rattle.async_cell_driver.proofs.driver.Driver.poll.Goals as goal
 
 pub returns-in_default-clause-drives : goal.returns-in_default-clause-drives
@@ -54,49 +54,30 @@ returns-in_default-clause-sure g c not_vacant = sure_anyway _ _ _ refl
 pub returns-clause-sure : goal.returns-clause-sure
 returns-clause-sure g c = rw (← c.self.view_is, c.polled.ensures) (λ not_vacant. sure_polled _ _ c.ask-asked.result (c.ask-asked.ensures.sure not_vacant))
 
-pub returns-clause-taker_sure : goal.returns-clause-taker_sure
-returns-clause-taker_sure g c =
-    let ready = rw c.in-Some.is at c.ready.ensures.kind in
-    rw (← c.self.view_is, c.polled.ensures) (λ is_taker not_vacant. taker_sure c.self.inside.core c.in-Some.kind c.args.i c.ask-asked.result (sym ready.0 ∙ is_taker) not_vacant c.ask-asked.ensures.spared)
-
-pub returns-in_default-clause-taker_takes : goal.returns-in_default-clause-taker_takes
-returns-in_default-clause-taker_takes g c =
-    let at : DriverState g.row.T.Denot = record { core = c.self.inside.core; tasks = c.self.inside.tasks } in
-    let not_ready : is_ready at [] c.args.i ≡ false = ready_now at c.args.i ∙ (rw c.in_default.is at c.ready.ensures.not_ready) in
-    rw (← c.self.view_is) (λ is_kind ready not_vacant. absurd (not_both _ not_ready ready))
-
-pub returns-in_default-clause-taker_leaves_none : goal.returns-in_default-clause-taker_leaves_none
-returns-in_default-clause-taker_leaves_none g c =
+pub returns-in_default-clause-taker : goal.returns-in_default-clause-taker
+returns-in_default-clause-taker g c =
     let at : DriverState g.row.T.Denot = record { core = c.self.inside.core; tasks = c.self.inside.tasks } in
     let not_ready : is_ready at [] c.args.i ≡ false = ready_now at c.args.i ∙ (rw c.in_default.is at c.ready.ensures.not_ready) in
     rw (← c.self.view_is) (λ is_kind ready. absurd (not_both _ not_ready ready))
 
-pub returns-in_default-clause-getter_clones : goal.returns-in_default-clause-getter_clones
-returns-in_default-clause-getter_clones g c =
+pub returns-in_default-clause-getter : goal.returns-in_default-clause-getter
+returns-in_default-clause-getter g c =
     let at : DriverState g.row.T.Denot = record { core = c.self.inside.core; tasks = c.self.inside.tasks } in
     let not_ready : is_ready at [] c.args.i ≡ false = ready_now at c.args.i ∙ (rw c.in_default.is at c.ready.ensures.not_ready) in
-    rw (← c.self.view_is) (λ is_kind ready not_vacant. absurd (not_both _ not_ready ready))
+    rw (← c.self.view_is) (λ is_kind ready. absurd (not_both _ not_ready ready))
 
-pub returns-clause-taker_takes : goal.returns-clause-taker_takes
-returns-clause-taker_takes g c =
+pub returns-clause-taker : goal.returns-clause-taker
+returns-clause-taker g c =
     let ready = rw c.in-Some.is at c.ready.ensures.kind in
-    rw (← c.self.view_is) (λ is_taker is_ready not_vacant. c.polled.ensures ∙ ap polled_of (c.ask-asked.ensures.taker_takes (same_kind _ _ (sym ready.0 ∙ is_taker)) not_vacant))
+    rw (← c.self.view_is) (λ is_taker is_ready. record {
+      takes = λ not_vacant. c.polled.ensures ∙ ap polled_of (c.ask-asked.ensures.taker_takes (same_kind _ _ (sym ready.0 ∙ is_taker)) not_vacant);
+      leaves_none = rw c.polled.ensures (ok_as_polled c.ask-asked.result _ (c.ask-asked.ensures.taker_leaves_none (same_kind _ _ (sym ready.0 ∙ is_taker))));
+    })
 
-pub returns-clause-taker_leaves_none : goal.returns-clause-taker_leaves_none
-returns-clause-taker_leaves_none g c =
+pub returns-clause-getter : goal.returns-clause-getter
+returns-clause-getter g c =
     let ready = rw c.in-Some.is at c.ready.ensures.kind in
-    rw (← c.self.view_is, c.polled.ensures) (λ is_taker is_ready. ok_as_polled c.ask-asked.result _ (c.ask-asked.ensures.taker_leaves_none (same_kind _ _ (sym ready.0 ∙ is_taker))))
-
-pub returns-clause-getter_clones : goal.returns-clause-getter_clones
-returns-clause-getter_clones g c =
-    let ready = rw c.in-Some.is at c.ready.ensures.kind in
-    rw (← c.self.view_is, c.polled.ensures) (λ is_getter is_ready not_vacant. ready_as_polled c.ask-asked.result _ (c.ask-asked.ensures.getter_clones (same_kind _ _ (sym ready.0 ∙ is_getter)) not_vacant))
-
-pub returns-clause-getter_leaves : goal.returns-clause-getter_leaves
-returns-clause-getter_leaves g c =
-    let ready = rw c.in-Some.is at c.ready.ensures.kind in
-    rw (← c.self.view_is) (λ is_getter not_vacant. c.ask-asked.ensures.getter_leaves (same_kind _ _ (sym ready.0 ∙ is_getter)) not_vacant)
-
-pub returns-clause-spared_told : goal.returns-clause-spared_told
-returns-clause-spared_told g c =
-    rw (← c.self.view_is, c.polled.ensures) (spared_polled g.T.Clone.is_infallible c.self.inside.core.cell c.args.i c.ask-asked.result c.ask-asked.ensures.sure)
+    rw (← c.self.view_is) (λ is_getter is_ready. record {
+      clones = λ not_vacant. rw c.polled.ensures (ready_as_polled c.ask-asked.result _ (c.ask-asked.ensures.getter_clones (same_kind _ _ (sym ready.0 ∙ is_getter)) not_vacant));
+      leaves = λ not_vacant. c.ask-asked.ensures.getter_leaves (same_kind _ _ (sym ready.0 ∙ is_getter)) not_vacant;
+    })

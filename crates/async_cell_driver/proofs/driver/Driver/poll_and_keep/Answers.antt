@@ -7,9 +7,9 @@ use Rattle.async_cell_driver.specs.Drives.{Drives}
 use Rattle.async_cell_driver.specs.declared.event.Event.TheVariants.{Poll}
 use Rattle.async_cell_driver.specs.declared.event.Told.TheVariants as told
 use Rattle.async_cell_driver.specs.declared.event.Polled.TheVariants.{Ready}
-use Rattle.async_cell_driver.proofs.Keeping.{covered_keeping, ready-keeping, drives_keeping}
-use Rattle.async_cell_driver.proofs.Polling.{sure_anyway}
-use Rattle.async_cell_driver.proofs.Settling.{keeps_one, size_kept, one_refused, one_pending}
+use Rattle.async_cell_driver.proofs.KeptResult.{covered_keeping, ready-keeping, drives_keeping}
+use Rattle.async_cell_driver.proofs.PolledTask.{sure_anyway}
+use Rattle.async_cell_driver.proofs.Settled.{keeps_one, size_kept, one_refused, one_pending}
 use Rattle.async_cell_driver.proofs.driver.Driver.poll_and_keep.Goals as goal
 
 pub invariant_of-self : goal.invariant_of-self

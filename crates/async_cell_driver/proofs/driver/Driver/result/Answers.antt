@@ -1,7 +1,7 @@
 use Rattle.std.proofs.Common.{None, sym, []}
 use Rattle.async_cell_driver.specs.DriverState.{DriverState}
-use Rattle.async_cell_driver.proofs.Joining.{drives_nil}
-use Rattle.async_cell_driver.proofs.Keeping.{covered_keeping, drives_keeping, result-forgotten, result-keeping_other}
+use Rattle.async_cell_driver.proofs.JoinedLogs.{drives_nil}
+use Rattle.async_cell_driver.proofs.KeptResult.{covered_keeping, drives_keeping, result-forgotten, result-keeping_other}
 use Rattle.async_cell_driver.proofs.driver.Driver.result.Goals as goal
 
 pub invariant_of-self : goal.invariant_of-self

@@ -5,7 +5,7 @@ use Rattle.async_cell_model.specs.declared.refusal.Refusal.TheVariants as why
 use Rattle.async_cell_driver.specs.declared.event.Event.TheVariants as event
 use Rattle.async_cell_driver.specs.declared.event.Told.TheVariants as told
 use Rattle.async_cell_driver.specs.DriverState.{DriverState}
-use Rattle.async_cell_driver.proofs.Calling.{call_drives, covered_called, results_woken}
+use Rattle.async_cell_driver.proofs.CellCalls.{call_drives, covered_called, results_woken}
 use Rattle.async_cell_driver.proofs.driver.Driver.set.Goals as goal
 
 pub returns-in_err-woken-clause-refused : goal.returns-in_err-woken-clause-refused

@@ -2,9 +2,9 @@ use Rattle.std.proofs.Common.{◌≡◌, [], true, false, arith, rules, refl, sy
 use Rattle.std.proofs.lemmas.Result.{err_from_is_err_and}
 use Rattle.async_cell_driver.specs.DriverState.{DriverState}
 use Rattle.async_cell_driver.specs.Log.{is_ready}
-use Rattle.async_cell_driver.proofs.Joining.{drives_nil}
-use Rattle.async_cell_driver.proofs.Polling.{sure_anyway}
-use Rattle.async_cell_driver.proofs.Settling.{so_far_nil, so_far_skip, so_far_more, settles_refused, none_ready, none_waits}
+use Rattle.async_cell_driver.proofs.JoinedLogs.{drives_nil}
+use Rattle.async_cell_driver.proofs.PolledTask.{sure_anyway}
+use Rattle.async_cell_driver.proofs.Settled.{so_far_nil, so_far_skip, so_far_more, settles_refused, none_ready, none_waits}
 use Rattle.async_cell_driver.proofs.driver.Driver.settle.Goals as goal
 
 pub loop-i-init : goal.loop-i-init

@@ -1,6 +1,6 @@
 use Rattle.std.proofs.Common.{◌≡◌, ◌≤◌, ◌<◌, ℕ, [], false, length}
 use Rattle.async_cell_driver.specs.Log.{Log, is_ready}
-use Rattle.async_cell_driver.proofs.Settling.{SoFar}
+use Rattle.async_cell_driver.proofs.Settled.{SoFar}
 use Rattle.async_cell_driver.proofs.driver.Driver.settle.Given as goal
 
 -- the tasks below i were polled where they were ready, and those from i on were not touched

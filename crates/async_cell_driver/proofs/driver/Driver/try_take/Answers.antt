@@ -3,7 +3,7 @@ use Rattle.async_cell_model.specs.declared.reply.Reply.TheVariants as reply
 use Rattle.async_cell_driver.specs.declared.event.Event.TheVariants as event
 use Rattle.async_cell_driver.specs.declared.event.Told.TheVariants as told
 use Rattle.async_cell_driver.specs.DriverState.{DriverState}
-use Rattle.async_cell_driver.proofs.Calling.{call_drives}
+use Rattle.async_cell_driver.proofs.CellCalls.{call_drives}
 use Rattle.async_cell_driver.proofs.driver.Driver.try_take.Goals as goal
 
 pub returns-clause-drives : goal.returns-clause-drives

@@ -1,6 +1,6 @@
 use Rattle.std.proofs.Common.{rules, Some, ap, ◌∙◌}
 use Rattle.async_cell_driver.specs.DriverState.{change, with_result}
-use Rattle.async_cell_driver.proofs.Changing.{change_within}
+use Rattle.async_cell_driver.proofs.ChangedTask.{change_within}
 use Rattle.async_cell_driver.proofs.tasks.Tasks.keep.Goals as goal
 
 pub returns-then-i-len : goal.returns-then-i-len

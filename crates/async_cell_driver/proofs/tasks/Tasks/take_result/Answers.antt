@@ -1,6 +1,6 @@
 use Rattle.std.proofs.Common.{rules, None, ap, ◌∙◌}
 use Rattle.async_cell_driver.specs.DriverState.{change, with_result, result_at}
-use Rattle.async_cell_driver.proofs.Changing.{change_within, result_within}
+use Rattle.async_cell_driver.proofs.ChangedTask.{change_within, result_within}
 use Rattle.async_cell_driver.proofs.tasks.Tasks.take_result.Goals as goal
 
 pub returns-clause-gives : goal.returns-clause-gives

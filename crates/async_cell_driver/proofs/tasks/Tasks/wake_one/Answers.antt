@@ -1,6 +1,6 @@
 use Rattle.std.proofs.Common.{rules, ap, ◌∙◌}
 use Rattle.async_cell_driver.specs.DriverState.{change, wake}
-use Rattle.async_cell_driver.proofs.Changing.{change_within}
+use Rattle.async_cell_driver.proofs.ChangedTask.{change_within}
 use Rattle.async_cell_driver.proofs.tasks.Tasks.wake_one.Goals as goal
 
 pub returns-then-i-len : goal.returns-then-i-len

@@ -1,6 +1,6 @@
 use Rattle.std.proofs.Common.{rules, refl}
-use Rattle.async_cell_model.proofs.Adding.{never_skipped}
-use Rattle.async_cell_latest.proofs.Polling.{poll_added}
+use Rattle.async_cell_model.proofs.OneMoreWaker.{never_skipped}
+use Rattle.async_cell_latest.proofs.WaitingPoll.{poll_added}
 use Rattle.async_cell_latest.proofs.latest.Latest.add.Goals as goal
 
 pub returns-clause-model : goal.returns-clause-model

@@ -1,4 +1,4 @@
-use Rattle.async_cell_latest.proofs.Polling.{not_waited}
+use Rattle.async_cell_latest.proofs.WaitingPoll.{not_waited}
 use Rattle.async_cell_latest.proofs.latest.Latest.poll_changed.Goals as goal
 
 pub returns-in-Ready-clause-model : goal.returns-in-Ready-clause-model

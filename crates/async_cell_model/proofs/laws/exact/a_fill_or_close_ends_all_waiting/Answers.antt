@@ -1,6 +1,6 @@
 use Rattle.async_cell_model.proofs.Exact.{NoClone, leads_of_exact}
-use Rattle.async_cell_model.proofs.Growing.{waiting-ended}
-use Rattle.async_cell_model.proofs.Refusing.{handed_all, handed_none}
+use Rattle.async_cell_model.proofs.OneMoreEntry.{waiting-ended}
+use Rattle.async_cell_model.proofs.OneEntry.{handed_all, handed_none}
 use Rattle.async_cell_model.proofs.laws.exact.a_fill_or_close_ends_all_waiting.Goals as goal
 
 pub returns : goal.returns

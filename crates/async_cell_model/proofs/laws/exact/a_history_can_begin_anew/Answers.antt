@@ -1,7 +1,7 @@
 use Rattle.std.proofs.Common.{[]}
 use Rattle.async_cell_model.specs.History.{after}
 use Rattle.async_cell_model.proofs.Exact.{NoClone, legal_of_exact, exact_of_legal}
-use Rattle.async_cell_model.proofs.Joining.{cell_after-append, waiting-append, room-append}
+use Rattle.async_cell_model.proofs.JoinedHistory.{cell_after-append, waiting-append, room-append}
 use Rattle.async_cell_model.proofs.Whole.{IsSound-after, IsLegal-anew, IsLegalAfter-first}
 use Rattle.async_cell_model.proofs.laws.exact.a_history_can_begin_anew.Goals as goal
 

@@ -1,5 +1,5 @@
 use Rattle.async_cell_model.proofs.Exact.{NoClone, leads_of_exact}
-use Rattle.async_cell_model.proofs.Refusing.{Runs-sound}
+use Rattle.async_cell_model.proofs.OneEntry.{Runs-sound}
 use Rattle.async_cell_model.proofs.laws.exact.a_history_leads_to_a_beginning.Goals as goal
 
 pub returns : goal.returns

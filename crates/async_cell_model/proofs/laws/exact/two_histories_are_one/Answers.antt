@@ -1,4 +1,4 @@
-use Rattle.async_cell_model.proofs.Leading.{Runs-join}
+use Rattle.async_cell_model.proofs.LegalHistories.{Runs-join}
 use Rattle.async_cell_model.proofs.laws.exact.two_histories_are_one.Goals as goal
 
 pub returns : goal.returns

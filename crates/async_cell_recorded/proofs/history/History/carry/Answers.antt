@@ -6,7 +6,7 @@ use Rattle.std.proofs.lemmas.Iterator.Consumers.{YieldsList-end}
 use Rattle.async_cell_cons.specs.declared.named.Named.{Named}
 use Rattle.async_cell_model.specs.History.{History}
 use Rattle.async_cell_recorded.specs.Recording.{Recording, PlainRecording, with_one_share, without_shares}
-use Rattle.async_cell_recorded.proofs.Carrying.{entry_at, one_more, carried_is, same_calls}
+use Rattle.async_cell_recorded.proofs.PlainHistories.{entry_at, one_more, carried_is, same_calls}
 use Rattle.async_cell_recorded.proofs.history.History.carry.Goals as goal
 
 pub loop-plain-preserved : goal.loop-plain-preserved

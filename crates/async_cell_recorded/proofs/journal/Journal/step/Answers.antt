@@ -5,7 +5,7 @@ use Rattle.async_cell_core.specs.Kept.{kept_call}
 use Rattle.async_cell_recorded.specs.declared.entry.Entry.{Entry}
 use Rattle.async_cell_recorded.specs.Recording.{Recording, state, made_by}
 use Rattle.async_cell_recorded.proofs.Serials.{made_by-le-length}
-use Rattle.async_cell_recorded.proofs.Stepping.{IsNext, journal_more, journal_same, step_replies}
+use Rattle.async_cell_recorded.proofs.OneMoreEntry.{IsNext, journal_more, journal_same, step_replies}
 use Rattle.async_cell_recorded.proofs.journal.Journal.step.Goals as goal
 
 pub invariant_of-self-2 : goal.invariant_of-self-2

@@ -8,7 +8,7 @@ use Rattle.async_cell_model.specs.Cell.{ends_waiting}
 use Rattle.async_cell_model.specs.Step.{next}
 use Rattle.async_cell_model.specs.WaitList.{wait_list}
 use Rattle.async_cell_model.specs.History.{State, History, cell_after, has_fill_or_close, since, registrations, pending_waker, waiting, room, after}
-use Rattle.async_cell_model.proofs.Adding.{wait_list-append, wait_list-wait_list, wait_list-longer}
+use Rattle.async_cell_model.proofs.OneMoreWaker.{wait_list-append, wait_list-wait_list, wait_list-longer}
 
 or_over : (p q r s : Bool) → s ≡ (q || r) → (p || s) ≡ ((p || q) || r)
 or_over true q r s e = refl

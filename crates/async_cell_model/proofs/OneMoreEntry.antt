@@ -8,8 +8,8 @@ use Rattle.async_cell_model.specs.Step.{next}
 use Rattle.async_cell_model.specs.WaitList.{wait_list, skips}
 use Rattle.async_cell_model.specs.History.{State, History, cell_after, registrations, pending_waker, waiting, room, after}
 use Rattle.async_cell_model.specs.Legal.{IsLegalAfterBy, MayFollowBy, UpToClones}
-use Rattle.async_cell_model.proofs.Joining.{waiting-append, room-append}
-use Rattle.async_cell_model.proofs.Adding.{wait_list-wait_list, wait_list-one}
+use Rattle.async_cell_model.proofs.JoinedHistory.{waiting-append, room-append}
+use Rattle.async_cell_model.proofs.OneMoreWaker.{wait_list-wait_list, wait_list-one}
 use Rattle.async_cell_model.proofs.Whole.{IsLegalAfter-second, waits_there, pending_stays_vacant}
 
 -- the wakers that one entry adds to the registrations: one or none

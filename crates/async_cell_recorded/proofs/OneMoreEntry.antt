@@ -9,7 +9,7 @@ use Rattle.async_cell_model.specs.declared.entry.Entry as model
 use Rattle.async_cell_model.specs.Step.{is_memory, reply}
 use Rattle.async_cell_model.specs.History.{State, History, IsSound, has_fill_or_close, after}
 use Rattle.async_cell_model.specs.Legal.{IsLegal, wakes, wakes_after, Runs, Steps}
-use Rattle.async_cell_model.proofs.Leading.{Runs-join}
+use Rattle.async_cell_model.proofs.LegalHistories.{Runs-join}
 use Rattle.async_cell_model.proofs.Whole.{after-nil}
 use Rattle.async_cell_recorded.specs.declared.entry.Entry.{Entry}
 use Rattle.async_cell_recorded.specs.Recording.{Recording, IsRecorded, plain_entry, made_by, start, state}

@@ -20,10 +20,10 @@ use Rattle.async_cell_driver.specs.Log.{Line, Log, is_started, is_done, is_due, 
 use Rattle.async_cell_driver.specs.History.{line_of}
 use Rattle.async_cell_driver.specs.Drives.{Drives, KeepsResults, IsAwake}
 use Rattle.async_cell_driver.specs.Settle.{numbers, events_of, has_refused, got, got_by, got_or, Keeps, Settles, SettlesOne}
-use Rattle.async_cell_driver.proofs.Joining.{drives_more}
-use Rattle.async_cell_driver.proofs.Reading.{ready_now}
-use Rattle.async_cell_driver.proofs.Keeping.{keeping, result-keeping_other}
-use Rattle.async_cell_driver.proofs.Waking.{slice_get-change_same}
+use Rattle.async_cell_driver.proofs.JoinedLogs.{drives_more}
+use Rattle.async_cell_driver.proofs.ReadyNow.{ready_now}
+use Rattle.async_cell_driver.proofs.KeptResult.{keeping, result-keeping_other}
+use Rattle.async_cell_driver.proofs.WokenTasks.{slice_get-change_same}
 
 passes : (test : ℕ → Bool) (i : ℕ) → test i ≡ true → filter test (i ∷ []) ≡ i ∷ []
 passes test i pass = rw pass refl

@@ -11,7 +11,7 @@ use Rattle.async_cell_model.specs.WaitList.{wait_list, skips, is_empty}
 use Rattle.async_cell_model.specs.History.{State, History, IsSound, has_fill_or_close, room, after}
 use Rattle.async_cell_model.specs.Legal.{Exactly, MayFollowBy, IsLegalAfterBy, RunsBy, wakes, wakes_after, may_refuse, Runs}
 use Rattle.async_cell_model.specs.declared.reply.Reply.{Reply}
-use Rattle.async_cell_model.proofs.Joining.{after-append}
+use Rattle.async_cell_model.proofs.JoinedHistory.{after-append}
 
 module _ {T W : Type 0} (MayReply : Kept T W → Reply T → Reply T → Type 0) (will_wake : W → W → Bool) (sure : Bool) where
   -- a history is legal in two parts

@@ -17,7 +17,7 @@ use Rattle.async_cell_model.specs.WaitList.{wait_list}
 use Rattle.async_cell_model.specs.History.{State, IsSound, is_pending, pending_waker, waiting}
 use Rattle.async_cell_model.specs.Legal.{wakes, Steps}
 use Rattle.async_cell_model.proofs.Whole.{after-nil}
-use Rattle.async_cell_model.proofs.Refusing.{Runs-sound}
+use Rattle.async_cell_model.proofs.OneEntry.{Runs-sound}
 use Rattle.async_cell_model.proofs.UpTo.{up_to_clones}
 use Rattle.async_cell_driver.specs.declared.task.Mark.{Mark}
 use Rattle.async_cell_driver.specs.declared.task.Mark.TheVariants as mark
@@ -30,8 +30,8 @@ use Rattle.async_cell_driver.specs.Log.{Line, kinds, is_ready, is_poll_of, start
 use Rattle.async_cell_driver.specs.History.{history, handed_out, line_of, call_of, reply_of, entry_of, names_by, kept_update}
 use Rattle.async_cell_driver.specs.Drives.{Drives, FitsTold}
 use Rattle.async_cell_cons.specs.Named.{same_name}
-use Rattle.async_cell_driver.proofs.Reading.{awake, ready_now, started_now}
-use Rattle.async_cell_driver.proofs.Waking.{mark-wake_each, woken_if, kinds-wake_each, results-wake_each, named-wait_list, named-append}
+use Rattle.async_cell_driver.proofs.ReadyNow.{awake, ready_now, started_now}
+use Rattle.async_cell_driver.proofs.WokenTasks.{mark-wake_each, woken_if, kinds-wake_each, results-wake_each, named-wait_list, named-append}
 
 head_is : {A : Type 0} (x y : A) (xs ys : List A) → x ∷ xs ≡ y ∷ ys → x ≡ y
 head_is x y xs ys same = cc

@@ -16,7 +16,7 @@ use Rattle.async_cell_model.specs.declared.refusal.Refusal.TheVariants.{Memory}
 use Rattle.async_cell_model.specs.Cell.{content, ends_waiting, is_vacant}
 use Rattle.async_cell_model.specs.Step.{next, is_memory}
 use Rattle.async_cell_model.specs.History.{State, IsSound}
-use Rattle.async_cell_model.specs.Legal.{wakes, may_refuse}
+use Rattle.async_cell_model.specs.Legal.{wakes}
 use Rattle.async_cell_core.specs.Polled.{poll_reply, IsReadyWith}
 use Rattle.async_cell_model.specs.Legal.{RunsUpTo, StepsUpTo}
 use Rattle.async_cell_driver.specs.declared.task.Kind.{Kind}
@@ -36,8 +36,8 @@ use Rattle.async_cell_driver.specs.History.{poll_of, told_of, line_of, history, 
 use Rattle.async_cell_driver.specs.Asked.{waiting_when, mark_after, polled_of, IsPolledWith}
 use Rattle.async_cell_driver.specs.Drives.{Drives, FitsTold, IsSpared}
 use Rattle.async_cell_cons.specs.Named.{same_name}
-use Rattle.async_cell_driver.proofs.Reading.{awake, ready_now, started_now, ready_by}
-use Rattle.async_cell_driver.proofs.Waking.{slice_get-change_same, slice_get-change_other, says_same, map-change, named-append}
+use Rattle.async_cell_driver.proofs.ReadyNow.{awake, ready_now, started_now, ready_by}
+use Rattle.async_cell_driver.proofs.WokenTasks.{slice_get-change_same, slice_get-change_other, says_same, map-change, named-append}
 
 module _ {T : Type 0} where
   -- a cell that stays open and gets no value ends no waiting
@@ -228,13 +228,11 @@ module _ {T : Type 0} where
   sure_after None P R Q follows sure = follows sure
   sure_after (Some value) P R Q follows sure = λ q. follows (sure q)
 
-  -- where the core's answer is sure, the task is spared a refusal
-  pub spared_polled : (is_infallible : T → Type 0) (c : Cell T) (i : ℕ) (asked : Result (Poll (Option T)) Refusal)
-      → (is_vacant c ≡ false → MatchOption (content c) (IsOk asked) (λ value. is_infallible value → IsOk asked))
-      → IsSpared is_infallible c (event.Poll i) (told_of (polled_of asked))
-  spared_polled is_infallible c i (Ok (Ready value)) sure = tt
-  spared_polled is_infallible c i (Ok Pending) sure = tt
-  spared_polled is_infallible c i (Err why) sure = λ not_vacant. sure_after (content c) _ ⊥ is_infallible (λ ok. cc) (sure not_vacant)
+  -- where a poll is sure, a refusal of it is spared
+  pub spared_refused : (is_infallible : T → Type 0) (c : Cell T) (i : ℕ) (why : Refusal) (result : Result (Polled T) Refusal) → result ≡ Err why
+      → (is_vacant c ≡ false → MatchOption (content c) (IsOk result) (λ value. is_infallible value → IsOk result))
+      → IsSpared is_infallible c (event.Poll i) (told.Refused why)
+  spared_refused is_infallible c i why result is sure = λ not_vacant. sure_after (content c) _ ⊥ is_infallible (λ ok. cc) (sure not_vacant)
 
   ok_polled : (asked : Result (Poll (Option T)) Refusal) → IsOk asked → IsOk (polled_of asked)
   ok_polled (Ok (Ready value)) ok = refl
@@ -245,12 +243,6 @@ module _ {T : Type 0} where
   pub sure_polled : (o : Option T) (Q : T → Type 0) (asked : Result (Poll (Option T)) Refusal) → MatchOption o (IsOk asked) (λ value. Q value → IsOk asked)
       → MatchOption o (IsOk (polled_of asked)) (λ value. Q value → IsOk (polled_of asked))
   sure_polled o Q asked sure = sure_after o (IsOk asked) (IsOk (polled_of asked)) Q (ok_polled asked) sure
-
-  -- a taker that need not wait needs no memory
-  pub taker_sure : (core : State T Named) (kind : Kind) (i : ℕ) (asked : Result (Poll (Option T)) Refusal) → Some kind ≡ Some Take → is_vacant core.cell ≡ false
-      → (may_refuse same_name true core (poll_of (Some kind) i) ≡ false → IsOk asked) → IsOk (polled_of asked)
-  taker_sure core Take i asked is not_vacant spared = ok_polled asked (spared (rw not_vacant refl))
-  taker_sure core Get i asked is not_vacant spared = cc
 
   -- what the core's answer says, the task's poll says
   pub ok_as_polled : (asked : Result (Poll (Option T)) Refusal) (P : Type 0) → OnOk asked P → OnOk (polled_of asked) P

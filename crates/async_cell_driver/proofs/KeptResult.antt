@@ -7,8 +7,8 @@ use Rattle.async_cell_driver.specs.Mark.{is_done_mark, waits_mark, is_ready_mark
 use Rattle.async_cell_driver.specs.DriverState.{DriverState, mark_at, result_at, result_of, change, with_result, IsCovered}
 use Rattle.async_cell_driver.specs.Log.{Log, is_ready}
 use Rattle.async_cell_driver.specs.Drives.{Drives}
-use Rattle.async_cell_driver.proofs.Reading.{ready_now}
-use Rattle.async_cell_driver.proofs.Waking.{says_same, map-change, slice_get-change_same, slice_get-change_other}
+use Rattle.async_cell_driver.proofs.ReadyNow.{ready_now}
+use Rattle.async_cell_driver.proofs.WokenTasks.{says_same, map-change, slice_get-change_same, slice_get-change_other}
 
 module _ {T : Type 0} where
   -- the state with what is kept for task i

@@ -15,7 +15,7 @@ use Rattle.async_cell_model.specs.Step.{next, next_open, reply, reply_open, repl
 use Rattle.async_cell_model.specs.WaitList.{wait_list}
 use Rattle.async_cell_model.specs.History.{State, IsSound, registrations, is_pending, pending_waker, after}
 use Rattle.async_cell_model.specs.Legal.{IsCloned, MayFollowBy, UpToClones}
-use Rattle.async_cell_model.proofs.Adding.{wait_list-wait_list}
+use Rattle.async_cell_model.proofs.OneMoreWaker.{wait_list-wait_list}
 
 module _ {T : Type 0} where
   added : (value : Option T) (owners : ℕ) (full : Bool) → nat_eq owners owners_limit ≡ full → 1 ≤ owners → owners ≤ owners_limit → IsCounted (Open value (if full then owners else owners + 1))

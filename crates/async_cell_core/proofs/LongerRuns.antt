@@ -12,7 +12,7 @@ use Rattle.async_cell_model.specs.Cell.{content}
 use Rattle.async_cell_model.specs.Step.{next}
 use Rattle.async_cell_model.specs.History.{State, History, cell_after}
 use Rattle.async_cell_model.specs.Legal.{RunsBy, copies, is_copy}
-use Rattle.async_cell_model.proofs.Leading.{Runs-join-by}
+use Rattle.async_cell_model.proofs.LegalHistories.{Runs-join-by}
 use Rattle.async_cell_core.specs.declared.call.Call.{Call}
 use Rattle.async_cell_core.specs.Kept.{is_get, kept_call, history_of, GetsAreCopied}
 use Rattle.async_cell_core.specs.Polled.{IsCopied}

@@ -8,11 +8,11 @@ use Rattle.std.proofs.lemmas.List.{map-append, length-map, reverse-append}
 use Rattle.async_cell_cons.specs.declared.named.Named.{Named}
 use Rattle.async_cell_model.specs.declared.cell.Cell.{Cell}
 use Rattle.async_cell_model.specs.History.{History, IsSound, cell_after}
-use Rattle.async_cell_model.proofs.Joining.{cell_after-append}
-use Rattle.async_cell_model.proofs.Leading.{Runs-nil}
+use Rattle.async_cell_model.proofs.JoinedHistory.{cell_after-append}
+use Rattle.async_cell_model.proofs.LegalHistories.{Runs-nil}
 use Rattle.async_cell_model.specs.Legal.{RunsUpTo}
 use Rattle.async_cell_model.specs.Legal.{UpToClones}
-use Rattle.async_cell_model.proofs.Leading.{Runs-join-by}
+use Rattle.async_cell_model.proofs.LegalHistories.{Runs-join-by}
 use Rattle.async_cell_model.proofs.UpTo.{up_to_clones}
 use Rattle.async_cell_driver.specs.declared.task.Kind.{Kind}
 use Rattle.async_cell_driver.specs.declared.task.Mark.{Mark}
@@ -27,7 +27,7 @@ use Rattle.async_cell_driver.specs.Log.{Line, Log, lines, log_of, with_edit, kin
 use Rattle.async_cell_driver.specs.History.{line_of, history, handed_out, call_of, reply_of, entry_of}
 use Rattle.async_cell_driver.specs.Drives.{Drives, FitsTold, IsLegal, IsSpared, AllSpared}
 use Rattle.async_cell_cons.specs.Named.{same_name}
-use Rattle.async_cell_driver.proofs.Reading.{awake, started_now}
+use Rattle.async_cell_driver.proofs.ReadyNow.{awake, started_now}
 
 not_started_mark : (m : Option Mark) → is_some m ≡ false → is_due_mark m ≡ true
 not_started_mark None gone = refl

@@ -9,7 +9,7 @@ use Rattle.async_cell_model.specs.Cell.{is_vacant}
 use Rattle.async_cell_model.specs.WaitList.{wait_list, skips}
 use Rattle.async_cell_model.specs.History.{State, IsSound, after}
 use Rattle.async_cell_model.specs.Legal.{Steps, needs_no_memory}
-use Rattle.async_cell_model.proofs.Adding.{keep_added, keep_skipped}
+use Rattle.async_cell_model.proofs.OneMoreWaker.{keep_added, keep_skipped}
 use Rattle.async_cell_model.proofs.Whole.{after-nil}
 
 module _ {T W : Type 0} (will_wake : W → W → Bool) (sure : Bool) where
