@@ -201,6 +201,52 @@ fn a_refused_clone_is_not_tried_again(rt: HostRuntime) {
     same(&rt, "poll_get", clones.replace(0), 1);
 }
 
+/// A waker that counts its clones, each of which is refused. It would wake no other.
+#[derive(Drop)]
+struct Refused<C>(C);
+
+impl<C: Count + Copy> Clone for Refused<C> {
+    ghost is_clone = { λ a b. b ≡ a };
+
+    ghost is_infallible = { λ _. ⊥ };
+
+    fn clone(&self) -> Result<Self, AllocError> {
+        let Refused(clones) = *self;
+        clones.set_count(clones.count().wrapping_add(1));
+        Err(AllocError)
+    }
+}
+
+impl<C: Count + Copy> Wakes for Refused<C> {
+    ghost will_wake = { λ _ _. false };
+
+    ghost SURE_CLONE = { false };
+
+    const SURE_CLONE: bool = false;
+
+    fn will_wake(&self, _: &Self) -> bool {
+        false
+    }
+
+    fn wake(self) {}
+
+    ghost clone_is_source = { Prim.search rules };
+
+    ghost clone_is_sure = { Prim.search rules };
+}
+
+#[test]
+fn a_refused_clone_of_a_waker_is_not_tried_again(rt: HostRuntime) {
+    let clones = Cell::new(0u64);
+    let mut core: Core<u64, Refused<&Cell<u64>>> = Core::new(rt.alloc());
+    let waker = Refused(&clones);
+    same(&rt, "take", core.poll_take(&waker).is_err(), true);
+    same(&rt, "take", clones.replace(0), 1);
+    same(&rt, "get", core.poll_get(&waker).is_err(), true);
+    same(&rt, "get", clones.replace(0), 1);
+    same(&rt, "waiting", core.waiting(), 0);
+}
+
 #[test]
 fn a_waker_that_is_added_by_value_is_not_cloned(rt: HostRuntime) {
     let clones = Cell::new(0);
@@ -260,7 +306,7 @@ impl<C: Count + Copy> Wakes for Alone<C> {
 }
 
 #[test]
-#[tactic(auto, using(async_cell_model::proofs::Adding::never_skipped))]
+#[tactic(auto, using(async_cell_model::proofs::OneMoreWaker::never_skipped))]
 fn a_unique_waker_is_cloned_once_and_nobody_is_asked(rt: HostRuntime) {
     let (clones, asked) = (Cell::new(0u64), Cell::new(0u64));
     let mut core: Core<u64, Alone<&Cell<u64>>> = Core::new(rt.alloc());

@@ -2,32 +2,10 @@
 ghost use Rattle.std.specs.Prelude.{◌≡◌, None};
 
 use crate::shared::{made, same};
+use async_cell_checks::Counted;
 use async_cell_core::{Call, Core, Edit, Named, end_guard};
-use std::alloc::{AllocError, Global};
+use std::alloc::Global;
 use std::cell::Cell;
-
-/// A value. The number of those that are alive is counted.
-struct Counted<'a>(&'a Cell<u64>);
-
-impl<'a> Counted<'a> {
-    fn new(alive: &'a Cell<u64>) -> Self {
-        alive.set(alive.get().wrapping_add(1));
-        Counted(alive)
-    }
-}
-
-impl Clone for Counted<'_> {
-    fn clone(&self) -> Result<Self, AllocError> {
-        Ok(Counted::new(self.0))
-    }
-}
-
-impl Drop for Counted<'_> {
-    fn drop(self) {
-        let Counted(alive) = self;
-        alive.set(alive.get().wrapping_sub(1));
-    }
-}
 
 /// An edit that empties a cell, and keeps a value.
 #[derive(Clone, Copy, Debug, PartialEq, Eq)]
@@ -149,15 +127,19 @@ fn a_closure_is_dropped_whether_it_is_called_or_not(rt: HostRuntime) {
     }
 }
 
-/// A counted edit, which keeps what it is called with.
-impl Edit<u64> for Counted<'_> {
-    ghost edit = { λ counted content. content };
+/// An edit that keeps what it is called with. It is counted as a value is.
+#[derive(Drop)]
+struct Keeps<'a>(Counted<'a>);
 
-    ghost edit_some = { λ counted value. value };
+impl Edit<u64> for Keeps<'_> {
+    ghost edit = { λ keeps content. content };
+
+    ghost edit_some = { λ keeps value. value };
 
     fn edit(&self, content: Option<u64>) -> Option<u64>
         ensures { result ≡ content }
     {
+        let _ = &self.0;
         content
     }
 
@@ -176,9 +158,9 @@ fn an_edit_is_dropped_whether_it_is_called_or_not(rt: HostRuntime) {
         if owners == 0 {
             drop(core.end_owner());
         }
-        drop(made(&mut core, Call::Update(Counted::new(&alive))));
+        drop(made(&mut core, Call::Update(Keeps(Counted::new(&alive)))));
         same(&rt, "update", (content, alive.get()), (content, 0));
-        drop(made(&mut core, Call::UpdateSome(Counted::new(&alive))));
+        drop(made(&mut core, Call::UpdateSome(Keeps(Counted::new(&alive)))));
         same(&rt, "update_some", (content, alive.get()), (content, 0));
     }
 }

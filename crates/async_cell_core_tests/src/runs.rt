@@ -241,6 +241,26 @@ fn an_empty_list_is_never_refused(rt: HostRuntime) {
     core.waiting(1);
 }
 
+/// A list is as long as memory holds.
+#[test]
+fn a_long_list_has_an_answer_for_each_call(rt: HostRuntime) -> Result<(), Fail> {
+    const LENGTH: u64 = 5_000;
+    let mut core: Core<u64, Named> = Core::new_with(rt.alloc(), 0);
+    let mut calls: Vec<TestCall> = Vec::new(rt.alloc());
+    for value in 1..LENGTH {
+        calls.push(Call::Replace(value))?;
+    }
+    let answers = run(&mut core, calls).ok().ok_or("no memory")?;
+    let mut old = 0u64;
+    for answer in answers {
+        same(&rt, "reply", answer.reply, Reply::Value(Some(old)));
+        old = old.saturating_add(1);
+    }
+    same(&rt, "answers", old, LENGTH - 1);
+    same(&rt, "left", core.try_take(), Some(old));
+    Ok(())
+}
+
 /// The laws are proved for every type; here they are taken at types of a program.
 #[test]
 fn the_laws_of_runs_hold_at_numbers_and_strings() {

@@ -2,33 +2,11 @@
 ghost use Rattle.std.specs.Prelude.{◌≡◌, None};
 
 use crate::bare::{Bare, holds, same, same_at};
+use async_cell_checks::Counted;
 use async_cell_driver::{Edit, Event, Kind, Polled};
 use std::alloc::{AllocError, Global};
 use std::cell::Cell;
 use std::test::Fail;
-
-/// A value. The number of those that are alive is counted.
-struct Counted<'a>(&'a Cell<u64>);
-
-impl<'a> Counted<'a> {
-    fn new(alive: &'a Cell<u64>) -> Self {
-        alive.set(alive.get().wrapping_add(1));
-        Counted(alive)
-    }
-}
-
-impl Clone for Counted<'_> {
-    fn clone(&self) -> Result<Self, AllocError> {
-        Ok(Counted::new(self.0))
-    }
-}
-
-impl Drop for Counted<'_> {
-    fn drop(self) {
-        let Counted(alive) = self;
-        alive.set(alive.get().wrapping_sub(1));
-    }
-}
 
 /// An edit that empties a cell. It is counted as a value is, as long as it is alive.
 #[derive(Drop)]
@@ -166,6 +144,20 @@ fn a_getter_clones_the_value_once_and_a_taker_never(rt: HostRuntime) -> Result<(
     same(&rt, clones.get(), 1);
     same(&rt, driver.settle()?, 2);
     same(&rt, clones.get(), 2);
+    Ok(())
+}
+
+#[test]
+fn what_settle_got_is_given_out_without_a_clone(rt: HostRuntime) -> Result<(), Fail> {
+    let clones = Cell::new(0);
+    let mut driver = Bare::new(rt.alloc(), Some(Cloned(&clones)));
+    driver.start(Kind::Get)?;
+    driver.start(Kind::Take)?;
+    same(&rt, driver.settle()?, 2);
+    same(&rt, clones.replace(0), 1);
+    holds(&rt, matches!(driver.result(0), Some(Some(_))));
+    holds(&rt, matches!(driver.result(1), Some(Some(_))));
+    same(&rt, clones.get(), 0);
     Ok(())
 }
 

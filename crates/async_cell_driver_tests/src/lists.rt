@@ -108,6 +108,26 @@ fn each_call_on_the_cell_is_told_its_reply(rt: HostRuntime) -> Result<(), Fail> 
     Ok(())
 }
 
+/// A list is as long as memory holds.
+#[test]
+fn a_long_list_has_an_outcome_for_each_event(rt: HostRuntime) -> Result<(), Fail> {
+    const LENGTH: u32 = 5_000;
+    let mut driver: Bare<u32> = Bare::new(rt.alloc(), Some(0));
+    let mut events: Vec<Event<u32, Put>> = Vec::new(rt.alloc());
+    for value in 1..LENGTH {
+        events.push(Event::Replace(value))?;
+    }
+    let told = driver.apply(events).ok().ok_or("refused")?;
+    let mut old = 0u32;
+    for outcome in told {
+        same(&rt, outcome, Told::Reply(Reply::Value(Some(old))));
+        old = old.saturating_add(1);
+    }
+    same(&rt, driver.try_take(), Some(old));
+    same(&rt, old, LENGTH - 1);
+    Ok(())
+}
+
 #[test]
 fn each_call_on_the_cell_answers(rt: HostRuntime) -> Result<(), Fail> {
     let mut driver: Bare<u32> = Bare::new(rt.alloc(), Some(1));

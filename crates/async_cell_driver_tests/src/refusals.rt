@@ -78,6 +78,31 @@ fn a_task_whose_poll_is_refused_stays_ready(rt: HostRuntime) -> Result<(), Fail>
     Ok(())
 }
 
+/// A value that counts its clones, each of which is refused.
+#[derive(Drop)]
+struct CountsRefused<'a>(&'a Cell<u32>);
+
+impl Clone for CountsRefused<'_> {
+    fn clone(&self) -> Result<Self, AllocError> {
+        self.0.set(self.0.get().wrapping_add(1));
+        Err(AllocError)
+    }
+}
+
+#[test]
+fn a_refused_clone_is_not_tried_again(rt: HostRuntime) -> Result<(), Fail> {
+    let clones = Cell::new(0);
+    let mut driver = Bare::new(rt.alloc(), Some(CountsRefused(&clones)));
+    same(&rt, started(&mut driver, Kind::Get)?, 0);
+    same(&rt, started(&mut driver, Kind::Get)?, 1);
+    same(&rt, driver.poll(1).err(), Some(Refusal::Memory));
+    same(&rt, clones.replace(0), 1);
+    same(&rt, driver.settle(), Err(Refusal::Memory));
+    same(&rt, clones.get(), 1);
+    holds(&rt, driver.is_ready(0) && driver.is_ready(1));
+    Ok(())
+}
+
 #[test]
 fn a_taker_that_found_no_memory_is_polled_again(rt: HostRuntime) -> Result<(), Fail> {
     let mut driver: Bare<u32> = Bare::new(rt.alloc(), None);

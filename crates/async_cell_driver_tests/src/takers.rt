@@ -1,6 +1,7 @@
 //! Takers and getters, call by call.
 use crate::Executor;
 use crate::bare::{Bare, holds, same, same_at};
+use crate::lists::Put;
 use async_cell_driver::{Kind, Polled};
 use std::test::Fail;
 
@@ -81,6 +82,42 @@ fn a_getter_behind_a_taker_waits(rt: HostRuntime) -> Result<(), Fail> {
     same(&rt, driver.settle()?, 2);
     same(&rt, driver.result(0), Some(Some(4)));
     holds(&rt, driver.waits(1));
+    Ok(())
+}
+
+#[test]
+fn a_task_is_started_beside_tasks_that_wait(rt: HostRuntime) -> Result<(), Fail> {
+    let mut driver: Bare<u32> = Bare::new(rt.alloc(), None);
+    same(&rt, driver.start(Kind::Take)?, 0);
+    same(&rt, driver.settle()?, 1);
+    same(&rt, driver.start(Kind::Get)?, 1);
+    same(&rt, driver.start(Kind::Take)?, 2);
+    same(&rt, marks(&driver), [WAITS, READY, READY]);
+    same(&rt, driver.settle()?, 2);
+    same(&rt, marks(&driver), [WAITS, WAITS, WAITS]);
+    same(&rt, driver.waiting(), 3);
+    Ok(())
+}
+
+/// `or_set`, `replace` and an update that fills wake all that wait, as `set` does.
+#[test]
+fn each_fill_makes_all_that_wait_ready(rt: HostRuntime) -> Result<(), Fail> {
+    for fill in 0..3u32 {
+        let mut driver: Bare<u32> = Bare::new(rt.alloc(), None);
+        for _ in 0..3u8 {
+            driver.start(Kind::Take)?;
+        }
+        same(&rt, driver.settle()?, 3);
+        match fill {
+            0 => same(&rt, driver.or_set(7), Ok(())),
+            1 => same(&rt, driver.replace(7), Ok(None)),
+            _ => same(&rt, driver.update(Put(7)), Ok(())),
+        }
+        same(&rt, marks(&driver), [WOKEN, WOKEN, WOKEN]);
+        same(&rt, driver.settle()?, 3);
+        same(&rt, driver.result(0), Some(Some(7)));
+        same(&rt, marks(&driver), [DONE, WAITS, WAITS]);
+    }
     Ok(())
 }
 

@@ -11,8 +11,6 @@ mod drops;
 #[cfg(test)]
 mod four_followers;
 #[cfg(test)]
-mod meeting;
-#[cfg(test)]
 mod memory;
 #[cfg(test)]
 mod places;

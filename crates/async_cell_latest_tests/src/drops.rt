@@ -4,32 +4,9 @@ ghost use Rattle.std.specs.Prelude.{◌≡◌, nat_eq, true};
 ghost use Rattle.std.proofs.Common.{rules};
 
 use crate::shared::{ONE, same};
+use async_cell_checks::Counted;
 use async_cell_latest::{Latest, Named, Poll, Wakes};
-use std::alloc::AllocError;
 use std::cell::Cell;
-
-/// A value. The number of those that are alive is counted.
-struct Counted<'a>(&'a Cell<u64>);
-
-impl<'a> Counted<'a> {
-    fn new(alive: &'a Cell<u64>) -> Self {
-        alive.set(alive.get().wrapping_add(1));
-        Counted(alive)
-    }
-}
-
-impl Clone for Counted<'_> {
-    fn clone(&self) -> Result<Self, AllocError> {
-        Ok(Counted::new(self.0))
-    }
-}
-
-impl Drop for Counted<'_> {
-    fn drop(self) {
-        let Counted(alive) = self;
-        alive.set(alive.get().wrapping_sub(1));
-    }
-}
 
 #[test]
 fn each_value_is_dropped_once_and_the_last_with_the_state(rt: HostRuntime) {

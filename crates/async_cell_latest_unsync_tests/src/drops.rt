@@ -1,32 +1,9 @@
 //! Every call drops each value once, after the wakes, and keeps none that the state does not hold.
 use crate::calls::{end, follower, owner_of, task, tick_mut};
 use crate::checks::{holds, same};
+use async_cell_checks::Counted;
 use futures::test::MockTask;
-use std::alloc::AllocError;
 use std::cell::Cell;
-
-/// A value. The number of those that are alive is counted.
-struct Counted<'a>(&'a Cell<u64>);
-
-impl<'a> Counted<'a> {
-    fn new(alive: &'a Cell<u64>) -> Self {
-        alive.set(alive.get().wrapping_add(1));
-        Counted(alive)
-    }
-}
-
-impl Clone for Counted<'_> {
-    fn clone(&self) -> Result<Self, AllocError> {
-        Ok(Counted::new(self.0))
-    }
-}
-
-impl Drop for Counted<'_> {
-    fn drop(self) {
-        let Counted(alive) = self;
-        alive.set(alive.get().wrapping_sub(1));
-    }
-}
 
 #[test]
 fn each_call_keeps_the_value_that_the_state_holds_and_no_other(rt: HostRuntime) {

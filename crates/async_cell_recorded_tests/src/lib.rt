@@ -13,6 +13,8 @@ mod edits;
 #[cfg(test)]
 mod journals;
 #[cfg(test)]
+mod long;
+#[cfg(test)]
 mod memory;
 #[cfg(test)]
 mod once;

@@ -260,6 +260,81 @@ fn an_interrupted_read_is_tried_again(rt: HostRuntime) {
     }
 }
 
+/// Its first read or write fails, as `kind` says. Then it has no bytes, and takes all.
+#[derive(Drop)]
+struct FailsOnce<'a> {
+    kind: ErrorKind,
+    calls: &'a Cell<usize>,
+}
+
+impl FailsOnce<'_> {
+    fn call(&mut self) -> io::Result<()> {
+        let calls = self.calls.get();
+        self.calls.set(calls.saturating_add(1));
+        if calls == 0 {
+            return Err(io::Error::from(self.kind));
+        }
+        Ok(())
+    }
+}
+
+impl Read for FailsOnce<'_> {
+    fn read(&mut self, _: &mut [u8]) -> io::Result<usize> {
+        self.call()?;
+        Ok(0)
+    }
+}
+
+impl Write for FailsOnce<'_> {
+    fn write(&mut self, buf: &[u8]) -> io::Result<usize> {
+        self.call()?;
+        Ok(buf.len())
+    }
+
+    fn flush(&mut self) -> io::Result<()> {
+        Ok(())
+    }
+}
+
+/// The kinds of errors after which a program may want to try again. Only an interrupted call is.
+const OTHERS: [ErrorKind; 4] = [
+    ErrorKind::WouldBlock,
+    ErrorKind::TimedOut,
+    ErrorKind::UnexpectedEof,
+    ErrorKind::BrokenPipe,
+];
+
+#[test]
+fn a_read_that_fails_in_another_way_is_not_tried_again(rt: HostRuntime) {
+    for kind in OTHERS {
+        let (calls, lines) = (Cell::new(0), Cell::new(0));
+        let reader = FailsOnce {
+            kind,
+            calls: &calls,
+        };
+        let writer = Narrow {
+            room: usize::MAX,
+            lines: &lines,
+        };
+        assert_eq!(rt; script(rt.alloc(), reader, writer).0, Ended::Failed);
+        assert_eq!(rt; calls.get(), 1);
+    }
+}
+
+#[test]
+fn a_write_that_fails_in_another_way_is_not_tried_again(rt: HostRuntime) {
+    for kind in OTHERS {
+        let calls = Cell::new(0);
+        let writer = FailsOnce {
+            kind,
+            calls: &calls,
+        };
+        let (ended, _) = script(rt.alloc(), "own\n".as_bytes(), writer);
+        assert_eq!(rt; ended, Ended::Failed);
+        assert_eq!(rt; calls.get(), 1);
+    }
+}
+
 /// Counts the calls on it. The one of number `fails_at`, counted from 1, fails with `kind`.
 #[derive(Drop)]
 struct Faulty<'a> {
