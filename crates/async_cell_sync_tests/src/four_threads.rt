@@ -5,10 +5,10 @@
 //!
 //! The gate runs two hundred rounds. Where the polls of a cell were changed, set `ROUNDS` to 10,000
 //! and run `rt try --test` in this crate: on a busy machine the test then takes 40 seconds.
-use crate::checks::{holds, same};
-use crate::owner::first;
-use crate::places::Restless;
-use crate::ticks::{task, tick_mut};
+use crate::checks::{holds, same, task};
+use crate::no_wake_lost::Restless;
+use crate::owners_of::first;
+use crate::ticks::tick_mut;
 use async_cell_sync::{Owner, WeakOwner};
 use futures::FutureExt;
 use futures::executor::block_on;

@@ -1,52 +1,15 @@
-//! Guards: what their end writes, and that their pointer leaves.
-use crate::checks::{holds, holds_at, same, same_at};
-use crate::meeting::{ComesWhenDropped, Meeting};
+//! Guards: that one that wrote is over, and that their pointer leaves.
+use crate::checks::{holds, holds_at, same, same_at, task};
 use crate::owning::{first_owner, guard_of, weak_getter, weak_taker};
-use crate::ticks::{Tick, task, tick_future, tick_take};
-use async_cell_sync::{AsyncCell, CellRef, Get, GuardedCell, Shared, Take};
+use crate::ticks::{Tick, tick_future};
+use async_cell_checks::meeting::{ComesWhenDropped, Meeting};
+use async_cell_sync::{AsyncCell, CellRef, Get, GuardedCell, Owner, Shared, Take};
 use futures::task::Poll;
 use std::alloc::Global;
 use std::process::Abort;
 use std::sync::atomic::{AtomicU64, Ordering};
 use std::sync::{Arc, Wait};
 use std::thread;
-
-#[test]
-fn a_guard_ends_by_its_cancel_value_a_value_or_nothing(rt: HostRuntime) {
-    let cell: AsyncCell<u32> = AsyncCell::new(rt.alloc());
-    cell.guard(9).cancel(&rt);
-    same(&rt, cell.try_take(&rt), Some(9));
-    cell.guard(9).set(5, &rt);
-    same(&rt, cell.try_take(&rt), Some(5));
-    cell.guard(9).release(&rt);
-    same(&rt, cell.try_take(&rt), None);
-}
-
-#[test]
-fn a_guard_leaves_the_value_that_is_there(rt: HostRuntime) {
-    let cell: AsyncCell<u32> = AsyncCell::new_with(rt.alloc(), 1);
-    let guard = cell.guard(9);
-    guard.cell().set(2, &rt);
-    guard.cancel(&rt);
-    same(&rt, cell.try_get(&rt), Ok(Some(2)));
-    cell.guard(9).or_set(5, &rt);
-    same(&rt, cell.try_get(&rt), Ok(Some(2)));
-    cell.guard(9).set(6, &rt);
-    same(&rt, cell.try_take(&rt), Some(6));
-    cell.guard(9).or_set(7, &rt);
-    same(&rt, cell.try_take(&rt), Some(7));
-}
-
-#[test]
-fn a_cancelled_guard_wakes(rt: HostRuntime) {
-    let cell: AsyncCell<u32> = AsyncCell::new(rt.alloc());
-    let flag = task(&rt);
-    same(&rt, tick_take(&cell, &flag, &rt), Poll::Pending);
-    cell.guard(8).release(&rt);
-    holds(&rt, !flag.is_woken());
-    cell.guard(9).cancel(&rt);
-    holds(&rt, flag.is_woken());
-}
 
 type Guarded<'a> = AsyncCell<Option<ComesWhenDropped<'a>>>;
 
@@ -92,28 +55,38 @@ fn a_guard_that_wrote_puts_no_cancel_value_in(rt: HostRuntime) {
     }
 }
 
-/// Reads a number into the cell, and leaves an error there where it returns early.
-fn read_into(
-    cell: &AsyncCell<Result<u32, &'static str>>,
-    text: &str,
-    rt: &impl Wait,
-) -> Option<()> {
-    let guard = cell.guard(Err("no number"));
-    let Ok(number) = text.parse::<u32>() else {
-        guard.cancel(rt);
-        return None;
-    };
-    guard.set(Ok(number), rt);
-    Some(())
+/// The same by the guard of an owner.
+fn write_by_owner<'a, R: Copy + Wait>(
+    ending: Ending,
+    owner: &Owner<Option<ComesWhenDropped<'a>>, R>,
+    meeting: &'a Meeting,
+) {
+    let guard = owner.guard(None);
+    match ending {
+        Ending::Set => guard.set(None),
+        _ => guard.or_set(Some(ComesWhenDropped(meeting))),
+    }
 }
 
 #[test]
-fn text_of_guard(rt: HostRuntime) {
-    let cell = AsyncCell::new(rt.alloc());
-    same(&rt, read_into(&cell, "seven", &rt), None);
-    same(&rt, cell.try_get(&rt), Ok(Some(Err("no number"))));
-    same(&rt, read_into(&cell, "7", &rt), Some(()));
-    same(&rt, cell.try_get(&rt), Ok(Some(Ok(7))));
+fn a_guard_of_an_owner_that_wrote_puts_no_cancel_value_in(rt: HostRuntime) {
+    for ending in [Ending::Set, Ending::OrSet] {
+        let meeting = Meeting::new();
+        let owner = full_cell_for(ending, &meeting, &rt).into_owner(rt);
+        let owner = owner.map_err(|(why, _)| why).expect(&rt, "an owner");
+        let ((), taken) = thread::join(
+            &rt,
+            || write_by_owner(ending, &owner, &meeting),
+            || {
+                let came = meeting.await_other();
+                let taken = owner.try_take();
+                meeting.answer();
+                came && matches!(taken, Some(None))
+            },
+        );
+        holds_at(&rt, &ending, taken);
+        holds_at(&rt, &ending, !owner.is_set());
+    }
 }
 
 #[test]

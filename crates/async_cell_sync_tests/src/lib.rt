@@ -1,5 +1,5 @@
 //! Tests of the cell behind a lock, in a crate of their own so that the library is not proved
-//! twice.
+//! twice. `on_cells`, `on_owners` and `memory` run the suite that both cells pass.
 #![tactic(auto)]
 
 #[cfg(test)]
@@ -7,43 +7,45 @@ mod checks;
 #[cfg(test)]
 mod cloned;
 #[cfg(test)]
-mod drops;
-#[cfg(test)]
 mod first;
 #[cfg(test)]
 mod four_threads;
 #[cfg(test)]
 mod guards;
 #[cfg(test)]
-mod left;
+mod held;
 #[cfg(test)]
-mod left_places;
+mod holders;
+#[cfg(test)]
+mod host;
 #[cfg(test)]
 mod locked_calls;
 #[cfg(test)]
 mod locked_core;
 #[cfg(test)]
-mod meeting;
+mod meets;
 #[cfg(test)]
 mod memory;
 #[cfg(test)]
-mod one_step;
+mod no_wake_lost;
 #[cfg(test)]
-mod owner;
+mod on_cells;
+#[cfg(test)]
+mod on_owners;
+#[cfg(test)]
+mod one_step;
 #[cfg(test)]
 mod owners;
 #[cfg(test)]
+mod owners_of;
+#[cfg(test)]
 mod owning;
 #[cfg(test)]
-mod places;
+mod printed;
 #[cfg(test)]
 mod race;
 #[cfg(test)]
 mod seen;
-#[cfg(test)]
-mod stream;
-#[cfg(test)]
-mod texts;
 #[cfg(test)]
 mod threads;
 #[cfg(test)]
@@ -52,5 +54,3 @@ mod ticks;
 mod try_set;
 #[cfg(test)]
 mod when_unlocked;
-#[cfg(test)]
-mod writes;

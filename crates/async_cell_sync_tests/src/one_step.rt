@@ -1,7 +1,7 @@
 //! Each write is one step: no call of another thread comes in between. Every result is the same
 //! whatever the schedule.
 use crate::checks::{holds, holds_at, same};
-use crate::owner::first;
+use crate::owners_of::first;
 use crate::race::{MOST, Race, Side};
 use async_cell_sync::{AsyncCell, Owner};
 use std::sync::Wait;
@@ -73,6 +73,7 @@ fn a_value_is_taken_once_or_replaced(rt: HostRuntime) {
 #[derive(Clone, Copy, Debug)]
 enum Careful {
     OrSet,
+    TrySet,
     CancelOfAGuard,
     OrSetOfAGuard,
 }
@@ -84,6 +85,7 @@ fn write_twos(write: Careful, cell: &AsyncCell<u64>, mut side: Side<'_>, rt: &im
         }
         match write {
             Careful::OrSet => cell.or_set(2, rt),
+            Careful::TrySet => drop(cell.try_set(2, rt)),
             Careful::CancelOfAGuard => cell.guard(2).cancel(rt),
             Careful::OrSetOfAGuard => cell.guard(3).or_set(2, rt),
         }
@@ -107,6 +109,7 @@ fn keeps_its_value(cell: &AsyncCell<u64>, mut side: Side<'_>, rt: &impl Wait) ->
 fn a_write_to_an_empty_cell_never_writes_over_a_value(rt: HostRuntime) {
     for write in [
         Careful::OrSet,
+        Careful::TrySet,
         Careful::CancelOfAGuard,
         Careful::OrSetOfAGuard,
     ] {
@@ -215,24 +218,29 @@ fn a_full_cell_never_looks_empty_meanwhile(rt: HostRuntime) {
     }
 }
 
-fn or_set_twos<R: Drop + Wait>(owner: &Owner<u64, R>, mut side: Side<'_>) {
+fn write_twos_by_owner<R: Drop + Wait>(write: Careful, owner: &Owner<u64, R>, mut side: Side<'_>) {
     for _ in 0..MOST {
         if !side.goes_on() {
             return;
         }
-        owner.or_set(2);
+        match write {
+            Careful::TrySet => drop(owner.try_set(2)),
+            _ => owner.or_set(2),
+        }
     }
 }
 
 #[test]
-fn an_or_set_of_an_owner_never_writes_over_a_value(rt: HostRuntime) {
-    let (owner, race): (Owner<u64, _>, _) = (first(rt), Race::new());
-    let (keeps, ()) = thread::join(
-        &rt,
-        || keeps_its_value(owner.cell(), race.first(), &rt),
-        || or_set_twos(&owner, race.second()),
-    );
-    holds(&rt, keeps);
+fn an_or_set_or_try_set_of_an_owner_never_writes_over_a_value(rt: HostRuntime) {
+    for write in [Careful::OrSet, Careful::TrySet] {
+        let (owner, race): (Owner<u64, _>, _) = (first(rt), Race::new());
+        let (keeps, ()) = thread::join(
+            &rt,
+            || keeps_its_value(owner.cell(), race.first(), &rt),
+            || write_twos_by_owner(write, &owner, race.second()),
+        );
+        holds_at(&rt, &write, keeps);
+    }
 }
 
 /// Counts up by two, and takes the counts out by a 0. Returns how much it added and got.

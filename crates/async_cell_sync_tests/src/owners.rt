@@ -1,15 +1,16 @@
-//! Owners, weak futures and the close.
-use crate::checks::{holds, same};
+//! The owner that a call must end, and futures that are polled by a shared reference.
+use crate::checks::{holds, same, task};
+use crate::host::Host;
 use crate::owning::{
-    another, closed_by, first_owner, getter, guard_of, kept_beside_another, no_getter, no_taker,
-    owner_of, set, taker, try_take, upgraded_getter, upgraded_taker, waiter, weak_getter,
-    weak_taker,
+    another, first_owner, getter, guard_of, no_getter, no_taker, owner_of, set, taker, try_take,
+    upgraded_getter, upgraded_taker, waiter, weak_getter, weak_taker,
 };
-use crate::ticks::{Tick, task, tick_future, tick_mut};
+use crate::ticks::{Tick, tick_future};
+use async_cell_suite::owns::clone_of;
 use async_cell_sync::{AsyncCell, CellRef, Get, Shared, Take, TakeWeak};
 use futures::task::Poll;
 use futures::test::MockTask;
-use std::alloc::{AllocError, Global};
+use std::alloc::Global;
 use std::process::Abort;
 use std::sync::Wait;
 
@@ -42,57 +43,31 @@ fn other_shared_calls(rt: HostRuntime) {
 fn wait_shared(rt: HostRuntime) {
     let flag = task(&rt);
     let shared: Shared<()> = first_owner(&rt);
+    let weak = weak_taker(&shared);
     let waits = waiter(&shared, &rt);
     same(&rt, waits.tick(&flag, &rt), Poll::Pending);
     shared.cell().notify(&rt);
     holds(&rt, flag.is_woken());
     same(&rt, waits.tick(&flag, &rt), Poll::Ready(Ok(())));
     shared.end(&rt);
+    same(&rt, weak.tick(&flag, &rt), Poll::Pending);
     waits.0.end(&rt);
+    holds(&rt, flag.is_woken());
+    same(&rt, weak.tick(&flag, &rt), Poll::Ready(Ok(None)));
 }
 
 #[test]
 fn upgrade(rt: HostRuntime) {
     let flag = task(&rt);
     let shared: Shared<u32> = first_owner(&rt);
-    let weak = weak_taker(&shared);
+    let (weak, get) = (weak_taker(&shared), weak_getter(&shared));
     let upgraded = upgraded_taker(&weak, &rt).expect(&rt, "the cell is open");
     shared.end(&rt);
     upgraded.0.cell().set(4, &rt);
     same(&rt, upgraded.tick(&flag, &rt), Poll::Ready(Ok(4)));
     upgraded.0.end(&rt);
     no_taker(&weak, &rt);
-}
-
-#[test]
-fn try_into_inner_wakes_and_closes(rt: HostRuntime) {
-    let flag = task(&rt);
-    let shared: Shared<u32> = first_owner(&rt);
-    let weak = weak_taker(&shared);
-    same(&rt, weak.tick(&flag, &rt), Poll::Pending);
-    holds(&rt, !flag.is_woken());
-    same(&rt, closed_by(shared, &rt), None);
-    holds(&rt, flag.is_woken());
-    same(
-        &rt,
-        tick_future(weak.with(&rt), &flag),
-        Poll::Ready(Ok(None)),
-    );
-}
-
-#[test]
-fn try_into_inner_wants_a_sole_owner(rt: HostRuntime) {
-    let first = owner_of(AsyncCell::new_with(rt.alloc(), 3u32), &rt);
-    let second = another(&first, &rt);
-    let first = kept_beside_another(first, &rt);
-    second.end(&rt);
-    same(&rt, closed_by(first, &rt), Some(3));
-}
-
-/// A clone.
-pub fn cloned<P: Clone>(one: &P, rt: &impl Abort) -> P {
-    let clone: Result<P, AllocError> = one.clone();
-    clone.ok().expect(rt, "a clone")
+    no_getter(&get, &rt);
 }
 
 #[test]
@@ -100,9 +75,9 @@ fn weak_ones_are_cloned_and_are_no_owners(rt: HostRuntime) {
     let flag = task(&rt);
     let shared: Shared<u32> = first_owner(&rt);
     let take = weak_taker(&shared);
-    let again = cloned(&take, &rt);
-    let get = cloned(&weak_getter(&shared), &rt);
-    let _weak = cloned(&take.0, &rt);
+    let again = clone_of(&take, &Host(&rt));
+    let get = clone_of(&weak_getter(&shared), &Host(&rt));
+    let _weak = clone_of(&take.0, &Host(&rt));
     set(&shared, 6, &rt);
     same(&rt, get.tick(&flag, &rt), Poll::Ready(Ok(Some(6))));
     same(
@@ -188,72 +163,9 @@ fn a_first_owner_is_made_of_nothing_or_of_a_cell(rt: HostRuntime) {
     holds(&rt, is_closed(&weak, &flag, &rt));
 }
 
-#[test]
-fn weak_futures_wait_while_the_cell_is_open(rt: HostRuntime) {
-    let (takes, gets) = (task(&rt), task(&rt));
-    let shared: Shared<u32> = first_owner(&rt);
-    let mut get = weak_getter(&shared).with(&rt);
-    let mut take = weak_taker(&shared).with(&rt);
-    for value in 0..3u32 {
-        same(&rt, tick_mut(&mut get, &gets), Poll::Pending);
-        same(&rt, tick_mut(&mut take, &takes), Poll::Pending);
-        set(&shared, value, &rt);
-        holds(&rt, gets.is_woken());
-        holds(&rt, takes.is_woken());
-        same(&rt, tick_mut(&mut get, &gets), Poll::Ready(Ok(Some(value))));
-        same(
-            &rt,
-            tick_mut(&mut take, &takes),
-            Poll::Ready(Ok(Some(value))),
-        );
-    }
-    shared.end(&rt);
-    same(&rt, tick_mut(&mut get, &gets), Poll::Ready(Ok(None)));
-    same(&rt, tick_mut(&mut take, &takes), Poll::Ready(Ok(None)));
-}
-
-#[test]
-fn a_pending_poll_of_a_weak_one_counts_no_owner(rt: HostRuntime) {
-    let flag = task(&rt);
-    let shared: Shared<u32> = first_owner(&rt);
-    let (get, take) = (weak_getter(&shared), weak_taker(&shared));
-    same(&rt, get.tick(&flag, &rt), Poll::Pending);
-    same(&rt, take.tick(&flag, &rt), Poll::Pending);
-    holds(&rt, !flag.is_woken());
-    same(&rt, closed_by(shared, &rt), None);
-    holds(&rt, flag.is_woken());
-    holds(&rt, is_closed(&take, &flag, &rt));
-    same(&rt, get.tick(&flag, &rt), Poll::Ready(Ok(None)));
-}
-
-#[test]
-fn an_upgrade_of_a_closed_cell_is_none(rt: HostRuntime) {
-    let shared: Shared<u32> = first_owner(&rt);
-    let (get, take) = (weak_getter(&shared), weak_taker(&shared));
-    shared.end(&rt);
-    no_getter(&get, &rt);
-    no_taker(&take, &rt);
-}
-
-#[test]
-fn a_shared_waiter_is_a_counted_owner(rt: HostRuntime) {
-    let flag = task(&rt);
-    let shared: Shared<()> = first_owner(&rt);
-    let weak = weak_taker(&shared);
-    let waits = waiter(&shared, &rt);
-    shared.end(&rt);
-    same(&rt, waits.tick(&flag, &rt), Poll::Pending);
-    waits.0.cell().notify(&rt);
-    same(&rt, waits.tick(&flag, &rt), Poll::Ready(Ok(())));
-    same(&rt, weak.tick(&flag, &rt), Poll::Pending);
-    waits.0.end(&rt);
-    holds(&rt, flag.is_woken());
-    same(&rt, weak.tick(&flag, &rt), Poll::Ready(Ok(None)));
-}
-
 /// A copy and a clone.
 fn copied<P: Clone + Copy>(one: P, rt: &impl Abort) -> (P, P) {
-    (one, cloned(&one, rt))
+    (one, clone_of(&one, &Host(rt)))
 }
 
 #[test]

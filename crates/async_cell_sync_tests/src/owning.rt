@@ -81,6 +81,17 @@ pub fn no_getter<T: Drop>(weak: &GetWeak<T>, rt: &(impl Abort + Wait)) {
     }
 }
 
+/// The content of the cell that this owner closes.
+pub fn closed_by<T: Drop>(sole: Shared<T>, rt: &(impl Abort + Wait)) -> Option<T> {
+    match sole.try_into_inner(rt) {
+        Ok(content) => content,
+        Err(back) => {
+            back.end(rt);
+            panic!(rt; "it is the only owner");
+        }
+    }
+}
+
 /// A weak taker of the owner's cell.
 pub fn weak_taker<T: Drop>(owner: &Shared<T>) -> TakeWeak<T> {
     owner.take_weak()
@@ -99,23 +110,4 @@ pub fn set<T: Drop>(owner: &Shared<T>, value: T, rt: &impl Wait) {
 /// Takes the value out of the owner's cell.
 pub fn try_take<T: Drop>(owner: &Shared<T>, rt: &impl Wait) -> Option<T> {
     owner.cell().try_take(rt)
-}
-
-/// The content of the cell that this owner closes.
-pub fn closed_by<T: Drop>(sole: Shared<T>, rt: &(impl Abort + Wait)) -> Option<T> {
-    match sole.try_into_inner(rt) {
-        Ok(content) => content,
-        Err(back) => {
-            back.end(rt);
-            panic!(rt; "it is the only owner");
-        }
-    }
-}
-
-/// The owner, which comes back since there is another.
-pub fn kept_beside_another<T: Drop>(owner: Shared<T>, rt: &(impl Abort + Wait)) -> Shared<T> {
-    match owner.try_into_inner(rt) {
-        Ok(_) => panic!(rt; "there is another owner"),
-        Err(back) => back,
-    }
 }

@@ -1,12 +1,16 @@
 //! One cell in several threads.
-use crate::checks::{holds, same};
+use crate::checks::{holds, same, task};
+use crate::held::Held;
+use crate::owners_of::first;
 use crate::owning::{first_owner, weak_taker};
 use crate::race::{MOST, Race, Side};
-use crate::ticks::{Tick, task};
-use async_cell_sync::{AsyncCell, Shared, TakeWeak};
+use crate::ticks::Tick;
+use async_cell_suite::slot::Kept;
+use async_cell_sync::{AsyncCell, Owner, Shared, TakeWeak};
 use futures::executor::block_on;
 use futures::task::Poll;
 use futures::test::MockTask;
+use std::sync::atomic::{AtomicBool, Ordering};
 use std::sync::{Arc, Wait};
 use std::thread::JoinHandle;
 use std::{io, thread};
@@ -101,6 +105,54 @@ fn weak_polls_in_four_threads_while_the_owner_ends(rt: HostRuntime) -> io::Resul
         same(&rt, again, Poll::Ready(Ok(None)));
     }
     Ok(())
+}
+
+/// How often an owner ends while another thread polls.
+const ENDS: u32 = 50;
+
+/// Ends the owner once the other thread polls. Returns whether the cell is closed at once.
+fn closes_at_once<R: Copy + Wait>(owner: Owner<u32, R>, is_polled: &AtomicBool) -> bool {
+    let weak = owner.downgrade();
+    for _ in 0..TURNS {
+        if is_polled.load(Ordering::SeqCst) {
+            break;
+        }
+        thread::yield_now();
+    }
+    drop(owner);
+    matches!(weak.upgrade(), Ok(None))
+}
+
+/// Polls up to the close. It gives up after its turns.
+fn poll_up_to_the_close(
+    taker: &mut impl Kept<Value = Option<u32>>,
+    flag: &MockTask,
+    is_polled: &AtomicBool,
+) -> bool {
+    for _ in 0..TURNS {
+        if taker.tick(flag) == Poll::Ready(Ok(None)) {
+            return true;
+        }
+        is_polled.store(true, Ordering::SeqCst);
+    }
+    false
+}
+
+#[test]
+fn a_weak_poll_is_no_owner_meanwhile(rt: HostRuntime) {
+    let flag = task(&rt);
+    for _ in 0..ENDS {
+        let owner = first(rt);
+        let mut taker = Held(owner.take_weak());
+        let is_polled = AtomicBool::new(false);
+        let (closes, polled) = thread::join(
+            &rt,
+            || closes_at_once(owner, &is_polled),
+            || poll_up_to_the_close(&mut taker, &flag, &is_polled),
+        );
+        holds(&rt, closes);
+        holds(&rt, polled);
+    }
 }
 
 /// Counts up, and returns by how much.

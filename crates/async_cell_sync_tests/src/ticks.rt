@@ -1,17 +1,10 @@
 //! Polls, each in a function that promises nothing: what the calls promise is then no part of a
 //! test's own proof.
-use async_cell_sync::{AsyncCell, CellRef, Get, GetWeak, Refusal, Take, TakeWeak};
+use async_cell_sync::{CellRef, Get, GetWeak, Refusal, Take, TakeWeak};
 use futures::future::Future;
 use futures::task::Poll;
 use futures::test::MockTask;
-use std::process::Abort;
-use std::random::RandomSource;
 use std::sync::Wait;
-
-/// A task of the tests.
-pub fn task(rt: &(impl RandomSource + AllocGlobal + Abort)) -> MockTask {
-    MockTask::new(rt).expect(rt, "a task")
-}
 
 /// Polls the future once, with a waker that sets the flag when it is woken. The flag is of the last
 /// poll.
@@ -26,24 +19,6 @@ pub fn tick_mut<F: Future>(future: &mut F, flag: &MockTask) -> Poll<F::Output>
     requires { F.can_poll future.old }
 {
     flag.poll(future)
-}
-
-/// Polls a new future that takes the value.
-pub fn tick_take<T: Drop>(
-    cell: &AsyncCell<T>,
-    flag: &MockTask,
-    rt: &impl Wait,
-) -> Poll<Result<T, Refusal>> {
-    tick_future(cell.take().with(rt), flag)
-}
-
-/// Polls a new future that clones the value.
-pub fn tick_get<T: Clone>(
-    cell: &AsyncCell<T>,
-    flag: &MockTask,
-    rt: &impl Wait,
-) -> Poll<Result<T, Refusal>> {
-    tick_future(cell.get().with(rt), flag)
 }
 
 /// What is polled by a shared reference.

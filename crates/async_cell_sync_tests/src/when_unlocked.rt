@@ -1,8 +1,9 @@
 //! Wakers are woken, and values dropped, after the lock is free: the other thread uses the lock
 //! meanwhile.
 use crate::checks::{holds, holds_at};
-use crate::meeting::{ComesWhenDropped, ComesWhenWoken, Meeting};
-use crate::owner::owner_of;
+use crate::meets::ComesWhenWoken;
+use crate::owners_of::first;
+use async_cell_checks::meeting::{ComesWhenDropped, Meeting};
 use async_cell_core::{Core, Named, Poll};
 use async_cell_sync::{AsyncCell, LockedCore, WeakOwner};
 use std::alloc::Global;
@@ -195,7 +196,8 @@ fn is_closed<T: Drop, R: Copy + Wait>(weak: &WeakOwner<T, R>) -> bool {
 #[test]
 fn the_value_of_a_closed_cell_is_dropped_after_the_lock_is_free(rt: HostRuntime) {
     let meeting = Meeting::new();
-    let owner = owner_of(ComesWhenDropped(&meeting), rt);
+    let owner = first(rt);
+    owner.set(ComesWhenDropped(&meeting));
     let weak = owner.downgrade();
     let ((), seen) = thread::join(
         &rt,

@@ -1,13 +1,15 @@
-//! Owners, weak futures and the close.
-use crate::checks::{holds, same};
+//! The owner whose calls are made on its cell, and futures that are polled by a shared reference.
+use crate::checks::{holds, same, task};
+use crate::host::Host;
 use crate::owning::{
-    another, closed_by, first_owner, getter, guard_of, kept_beside_another, owner_of, set, taker,
-    try_take, upgraded_getter, upgraded_taker, waiter, weak_getter, weak_taker,
+    another, first_owner, getter, guard_of, owner_of, set, taker, try_take, upgraded_getter,
+    upgraded_taker, waiter, weak_getter, weak_taker,
 };
-use crate::ticks::{Tick, task, tick_future, tick_take};
-use async_cell_unsync::{AsyncCell, Get, Shared, Take};
+use crate::ticks::{Tick, tick_future, tick_take};
+use async_cell_suite::owns::clone_of;
+use async_cell_unsync::{AsyncCell, Get, GetWeak, Shared, Take};
 use futures::task::Poll;
-use std::alloc::{AllocError, Global};
+use std::alloc::Global;
 use std::process::Abort;
 
 #[test]
@@ -35,51 +37,58 @@ fn other_shared_calls(rt: HostRuntime) {
 fn wait_shared(rt: HostRuntime) {
     let shared: Shared<()> = first_owner(&rt);
     let flag = task(&rt);
+    let mut weak = weak_taker(&shared);
     let mut waits = waiter(&shared, &rt);
     same(&rt, tick_future(&mut waits, &flag), Poll::Pending);
     shared.cell().notify();
     holds(&rt, flag.is_woken());
     same(&rt, tick_future(&mut waits, &flag), Poll::Ready(Ok(())));
+    drop(shared);
+    same(&rt, tick_future(&mut weak, &flag), Poll::Pending);
+    drop(waits);
+    holds(&rt, flag.is_woken());
+    same(&rt, tick_future(&mut weak, &flag), Poll::Ready(Ok(None)));
 }
 
 #[test]
 fn upgrade(rt: HostRuntime) {
     let shared: Shared<u32> = first_owner(&rt);
     let flag = task(&rt);
-    let weak = weak_taker(&shared);
+    let (weak, get) = (weak_taker(&shared), weak_getter(&shared));
     let mut upgraded = upgraded_taker(&weak, &rt).expect(&rt, "the cell is open");
     drop(shared);
     upgraded.0.cell().set(4);
     same(&rt, tick_future(&mut upgraded, &flag), Poll::Ready(Ok(4)));
     drop(upgraded);
     holds(&rt, upgraded_taker(&weak, &rt).is_none());
+    holds(&rt, upgraded_getter(&get, &rt).is_none());
 }
 
 #[test]
-fn try_into_inner_wakes_and_closes(rt: HostRuntime) {
+fn drop_wakes(rt: HostRuntime) {
     let shared: Shared<u32> = first_owner(&rt);
     let flag = task(&rt);
-    let mut weak = weak_taker(&shared);
-    same(&rt, tick_future(&mut weak, &flag), Poll::Pending);
+    let mut waits = Get(&shared);
+    same(&rt, tick_future(&mut waits, &flag), Poll::Pending);
     holds(&rt, !flag.is_woken());
-    same(&rt, closed_by(shared, &rt), None);
+    drop(shared);
     holds(&rt, flag.is_woken());
-    same(&rt, tick_future(&mut weak, &flag), Poll::Ready(Ok(None)));
 }
 
 #[test]
-fn try_into_inner_wants_a_sole_owner(rt: HostRuntime) {
-    let first = owner_of(AsyncCell::new_with(rt.alloc(), 3u32), &rt);
-    let second = another(&first, &rt);
-    let first = kept_beside_another(first, &rt);
-    drop(second);
-    same(&rt, closed_by(first, &rt), Some(3));
-}
-
-/// A clone.
-fn cloned<P: Clone>(one: &P, rt: &impl Abort) -> P {
-    let clone: Result<P, AllocError> = one.clone();
-    clone.ok().expect(rt, "a clone")
+fn a_weak_pointer_is_upgraded_while_an_owner_lives(rt: HostRuntime) {
+    let flag = task(&rt);
+    let owner: Shared<u32> = first_owner(&rt);
+    set(&owner, 6);
+    let weak = owner.downgrade();
+    holds(&rt, matches!(weak.upgrade(), Ok(Some(_))));
+    drop(owner);
+    holds(&rt, matches!(weak.upgrade(), Ok(None)));
+    same(
+        &rt,
+        tick_future(&mut GetWeak(weak), &flag),
+        Poll::Ready(Ok(None)),
+    );
 }
 
 #[test]
@@ -87,9 +96,9 @@ fn weak_ones_are_cloned_and_are_no_owners(rt: HostRuntime) {
     let shared: Shared<u32> = first_owner(&rt);
     let flag = task(&rt);
     let mut take = weak_taker(&shared);
-    let mut again = cloned(&take, &rt);
-    let mut get = cloned(&weak_getter(&shared), &rt);
-    let _weak = cloned(&take.0, &rt);
+    let mut again = clone_of(&take, &Host(&rt));
+    let mut get = clone_of(&weak_getter(&shared), &Host(&rt));
+    let _weak = clone_of(&take.0, &Host(&rt));
     set(&shared, 6);
     same(&rt, tick_future(&mut get, &flag), Poll::Ready(Ok(Some(6))));
     same(
@@ -152,75 +161,9 @@ fn a_first_owner_is_made_of_nothing_or_of_a_cell(rt: HostRuntime) {
     same(&rt, tick_future(&mut weak, &flag), Poll::Ready(Ok(None)));
 }
 
-#[test]
-fn weak_futures_wait_while_the_cell_is_open(rt: HostRuntime) {
-    let (takes, gets) = (task(&rt), task(&rt));
-    let shared: Shared<u32> = first_owner(&rt);
-    let (mut get, mut take) = (weak_getter(&shared), weak_taker(&shared));
-    for value in 0..3u32 {
-        same(&rt, tick_future(&mut get, &gets), Poll::Pending);
-        same(&rt, tick_future(&mut take, &takes), Poll::Pending);
-        set(&shared, value);
-        holds(&rt, gets.is_woken());
-        holds(&rt, takes.is_woken());
-        same(
-            &rt,
-            tick_future(&mut get, &gets),
-            Poll::Ready(Ok(Some(value))),
-        );
-        same(
-            &rt,
-            tick_future(&mut take, &takes),
-            Poll::Ready(Ok(Some(value))),
-        );
-    }
-    drop(shared);
-    same(&rt, tick_future(&mut get, &gets), Poll::Ready(Ok(None)));
-    same(&rt, tick_future(&mut take, &takes), Poll::Ready(Ok(None)));
-}
-
-#[test]
-fn a_pending_poll_of_a_weak_one_counts_no_owner(rt: HostRuntime) {
-    let flag = task(&rt);
-    let shared: Shared<u32> = first_owner(&rt);
-    let (mut get, mut take) = (weak_getter(&shared), weak_taker(&shared));
-    same(&rt, tick_future(&mut get, &flag), Poll::Pending);
-    same(&rt, tick_future(&mut take, &flag), Poll::Pending);
-    holds(&rt, !flag.is_woken());
-    same(&rt, closed_by(shared, &rt), None);
-    holds(&rt, flag.is_woken());
-    same(&rt, tick_future(&mut get, &flag), Poll::Ready(Ok(None)));
-    same(&rt, tick_future(&mut take, &flag), Poll::Ready(Ok(None)));
-}
-
-#[test]
-fn an_upgrade_of_a_closed_cell_is_none(rt: HostRuntime) {
-    let shared: Shared<u32> = first_owner(&rt);
-    let (get, take) = (weak_getter(&shared), weak_taker(&shared));
-    drop(shared);
-    holds(&rt, upgraded_getter(&get, &rt).is_none());
-    holds(&rt, upgraded_taker(&take, &rt).is_none());
-}
-
-#[test]
-fn a_shared_waiter_is_a_counted_owner(rt: HostRuntime) {
-    let flag = task(&rt);
-    let shared: Shared<()> = first_owner(&rt);
-    let mut weak = weak_taker(&shared);
-    let mut waits = waiter(&shared, &rt);
-    drop(shared);
-    same(&rt, tick_future(&mut waits, &flag), Poll::Pending);
-    waits.0.cell().notify();
-    same(&rt, tick_future(&mut waits, &flag), Poll::Ready(Ok(())));
-    same(&rt, tick_future(&mut weak, &flag), Poll::Pending);
-    drop(waits);
-    holds(&rt, flag.is_woken());
-    same(&rt, tick_future(&mut weak, &flag), Poll::Ready(Ok(None)));
-}
-
 /// A copy and a clone.
 fn copied<P: Clone + Copy>(one: P, rt: &impl Abort) -> (P, P) {
-    (one, cloned(&one, rt))
+    (one, clone_of(&one, &Host(rt)))
 }
 
 #[test]

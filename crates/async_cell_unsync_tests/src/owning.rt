@@ -77,19 +77,3 @@ pub fn set<T: Drop>(owner: &Shared<T>, value: T) {
 pub fn try_take<T: Drop>(owner: &Shared<T>) -> Option<T> {
     owner.cell().try_take()
 }
-
-/// The content of the cell that this owner closes.
-pub fn closed_by<T: Drop>(sole: Shared<T>, rt: &impl Abort) -> Option<T> {
-    match sole.try_into_inner() {
-        Ok(content) => content,
-        Err(_) => panic!(rt; "it is the only owner"),
-    }
-}
-
-/// The owner, which comes back since there is another.
-pub fn kept_beside_another<T: Drop>(owner: Shared<T>, rt: &impl Abort) -> Shared<T> {
-    match owner.try_into_inner() {
-        Ok(_) => panic!(rt; "there is another owner"),
-        Err(back) => back,
-    }
-}

@@ -1,7 +1,7 @@
 //! Calls made from inside a closure of `update` or `update_some`: only the value is out then.
-use crate::checks::{holds, same};
+use crate::checks::{holds, same, task};
 use crate::owning::{first_owner, weak_taker};
-use crate::ticks::{task, tick_future, tick_get, tick_take};
+use crate::ticks::{tick_future, tick_get, tick_take};
 use async_cell_unsync::{AsyncCell, Shared};
 use futures::task::Poll;
 use std::cell::Cell;

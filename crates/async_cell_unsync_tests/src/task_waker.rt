@@ -1,6 +1,5 @@
 //! The waker of a task.
-use crate::checks::holds;
-use crate::ticks::task;
+use crate::checks::{holds, task};
 use async_cell_cons::Wakes;
 use async_cell_model::Refusal;
 use async_cell_unsync::TaskWaker;

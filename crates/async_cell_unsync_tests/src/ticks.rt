@@ -4,13 +4,6 @@ use async_cell_unsync::{AsyncCell, CellRef, Get, GetWeak, Refusal, Take, TakeWea
 use futures::future::Future;
 use futures::task::Poll;
 use futures::test::MockTask;
-use std::process::Abort;
-use std::random::RandomSource;
-
-/// A task of the tests.
-pub fn task(rt: &(impl RandomSource + AllocGlobal + Abort)) -> MockTask {
-    MockTask::new(rt).expect(rt, "a task")
-}
 
 /// Polls the future once, with a waker that sets the flag when it is woken. The flag is of the last
 /// poll.
