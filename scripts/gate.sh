@@ -26,10 +26,12 @@ tick() {
     done
 }
 
-# Ends the gate, with what each step has shown.
+# Ends the gate, with what each step has shown, and the time that all took.
 finish() {
     echo
     [ ! -e "$work/shown" ] || cat "$work/shown"
+    times >"$work/times"
+    echo "gate: $((SECONDS / 60)) min by the clock, user and system time $(tail -n 1 "$work/times")"
     [ "$1" -eq 0 ] || echo "gate: FAILED"
     echo "$passed passed, $failed failed"
     exit "$1"

@@ -33,22 +33,28 @@ async_cell_driver_tests    refusals::a_list_that_ends_in_a_fill_forgets_nobody
 async_cell_driver_tests    refusals::a_list_that_ends_in_a_close_forgets_nobody
 async_cell_unsync_tests    memory::a_refused_owner_leaves_the_cell
 async_cell_unsync_tests    memory::a_refused_clone_leaves_the_value
-async_cell_unsync_tests    memory::a_refused_clone_for_a_weak_one_leaves_the_value
 async_cell_unsync_tests    memory::a_refused_poll_leaves_those_that_wait
 async_cell_unsync_tests    memory::a_refused_poll_may_be_made_again
 async_cell_unsync_tests    memory::each_future_that_waits_holds_a_place
+async_cell_unsync_tests    memory::a_weak_wait_is_refused_or_ended_by_the_close
 async_cell_unsync_tests    memory::a_stream_without_memory_tells_it_and_goes_on
-async_cell_unsync_tests    memory::a_text_without_memory_leaves_the_value
-async_cell_sync_tests      memory::each_refused_request_leaves_the_owners_as_they_were
+async_cell_unsync_tests    memory::a_future_whose_first_wait_was_refused_is_usable
+async_cell_unsync_tests    memory::a_future_whose_wait_was_refused_shares_no_place
+async_cell_unsync_tests    memory::a_future_whose_wait_was_refused_leaves_no_waker
+async_cell_unsync_tests    memory::a_place_that_was_taken_over_without_memory_is_left_again
+async_cell_sync_tests      memory::a_refused_owner_leaves_the_cell
+async_cell_sync_tests      memory::a_refused_clone_leaves_the_value
+async_cell_sync_tests      memory::a_refused_poll_leaves_those_that_wait
 async_cell_sync_tests      memory::a_refused_poll_may_be_made_again
 async_cell_sync_tests      memory::each_future_that_waits_holds_a_place
+async_cell_sync_tests      memory::a_weak_wait_is_refused_or_ended_by_the_close
+async_cell_sync_tests      memory::a_weak_poll_is_refused_or_ended_by_the_close
 async_cell_sync_tests      memory::a_stream_without_memory_tells_it_and_goes_on
-async_cell_sync_tests      memory::a_refused_new_owner_is_none
+async_cell_sync_tests      memory::a_future_whose_first_wait_was_refused_is_usable
+async_cell_sync_tests      memory::a_future_whose_wait_was_refused_shares_no_place
+async_cell_sync_tests      memory::a_future_whose_wait_was_refused_leaves_no_waker
+async_cell_sync_tests      memory::a_place_that_was_taken_over_without_memory_is_left_again
 async_cell_sync_tests      locked_core::polls_find_the_room_that_was_made
-async_cell_sync_tests      left_places::a_future_whose_first_wait_was_refused_is_usable
-async_cell_sync_tests      left_places::a_future_whose_wait_was_refused_shares_no_place
-async_cell_sync_tests      left_places::a_future_whose_wait_was_refused_leaves_no_waker
-async_cell_sync_tests      left_places::a_place_that_was_taken_over_without_memory_is_left_again
 async_cell_latest_unsync_tests memory::a_refused_poll_may_be_made_again
 async_cell_latest_unsync_tests memory::a_stream_without_memory_tells_it_and_misses_nothing
 async_cell_latest_unsync_tests memory::a_refused_new_state_is_none
@@ -67,6 +73,9 @@ spared='
 async_cell_unsync_tests    memory::more_owners_take_no_memory
 async_cell_latest_unsync_tests memory::a_state_whose_clone_is_refused_is_not_marked_as_seen
 async_cell_latest_sync_tests memory::a_state_whose_clone_is_refused_is_not_marked_as_seen
+async_cell_unsync_tests    memory::more_shared_owners_take_no_memory
+async_cell_sync_tests      memory::more_owners_take_no_memory
+async_cell_sync_tests      memory::more_shared_owners_take_no_memory
 '
 
 # What refuses the requests, for the programs that it is preloaded into.

@@ -8,7 +8,7 @@ set -euo pipefail
 top=$(cd "$(dirname "$0")/.." && pwd)
 work=$(mktemp -d)
 trap 'rm -rf "$work"' EXIT
-program=reply_slot
+program=example_reply_slot
 allowed='Handles allowed: Threads, Wait.'
 
 fail() {
