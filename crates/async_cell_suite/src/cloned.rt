@@ -5,7 +5,7 @@ use crate::slot::{Kept, Slot, World, task};
 use futures::task::Poll;
 use std::alloc::AllocError;
 use std::cell::Cell;
-use std::fmt;
+use std::fmt::{self, Debug};
 
 /// A value that counts its clones.
 #[derive(Drop)]
@@ -24,13 +24,14 @@ impl fmt::Debug for CountsOwn<'_> {
     }
 }
 
-pub fn a_get_clones_the_value_once_and_a_take_never<'a, S: Slot<CountsOwn<'a>>>(
+pub fn a_get_clones_the_value_once_and_a_take_never<T: Clone + Debug, S: Slot<T>>(
     slot: S,
-    clones: &'a Cell<u64>,
+    value: T,
+    clones: &Cell<u64>,
     rt: &impl World,
 ) {
     let flag = task(rt);
-    slot.set(CountsOwn(clones));
+    slot.set(value);
     drop(slot.try_get());
     same(rt, clones.get(), 1);
     drop(slot.poll_get(&flag));
@@ -42,13 +43,14 @@ pub fn a_get_clones_the_value_once_and_a_take_never<'a, S: Slot<CountsOwn<'a>>>(
     same(rt, clones.get(), 2);
 }
 
-pub fn a_get_by_an_owner_or_a_weak_one_clones_the_value_once<'a, O: CellOwner<CountsOwn<'a>>>(
+pub fn a_get_by_an_owner_or_a_weak_one_clones_the_value_once<T: Clone + Debug, O: CellOwner<T>>(
     owner: O,
-    clones: &'a Cell<u64>,
+    value: T,
+    clones: &Cell<u64>,
     rt: &impl World,
 ) {
     let flag = task(rt);
-    owner.set(CountsOwn(clones));
+    owner.set(value);
     drop(getter_of(&owner, rt).tick(&flag));
     same(rt, clones.get(), 1);
     drop(owner.get_weak().tick(&flag));

@@ -6,6 +6,28 @@ use crate::slot::{Guarded, Slot, World, task};
 use async_cell_checks::Counted;
 use futures::test::MockTask;
 use std::cell::Cell;
+use std::fmt::Debug;
+
+/// Makes values, and counts those that are alive.
+pub trait Census<T> {
+    fn make(&self) -> T;
+
+    fn alive(&self) -> u64;
+}
+
+/// Makes values that count themselves here.
+#[derive(Drop)]
+pub struct Alive<'a>(pub &'a Cell<u64>);
+
+impl<'a> Census<Counted<'a>> for Alive<'a> {
+    fn make(&self) -> Counted<'a> {
+        Counted::new(self.0)
+    }
+
+    fn alive(&self) -> u64 {
+        self.0.get()
+    }
+}
 
 /// Each call, and how many values are alive after it on a vacant cell and on a full one.
 const TABLE: [(Act, u64, u64); 19] = [
@@ -31,22 +53,22 @@ const TABLE: [(Act, u64, u64); 19] = [
 ];
 
 /// How many values are alive after the call, and once the cell is emptied.
-fn alive_after<'a, S: Slot<Counted<'a>>>(
+fn alive_after<T: Clone + Debug, S: Slot<T>>(
     act: Act,
     slot: S,
-    alive: &'a Cell<u64>,
+    census: &impl Census<T>,
     flag: &MockTask,
 ) -> (u64, u64) {
-    drop(call(act, slot, Counted::new(alive), Counted::new(alive), flag));
-    let kept = alive.get();
+    drop(call(act, slot, census.make(), census.make(), flag));
+    let kept = census.alive();
     drop(slot.try_take());
-    (kept, alive.get())
+    (kept, census.alive())
 }
 
 /// It leaves a value in the cell, which the drop of what the test is run on drops.
-pub fn each_call_keeps_the_value_that_the_cell_holds_and_no_other<'a, S: Slot<Counted<'a>>>(
+pub fn each_call_keeps_the_value_that_the_cell_holds_and_no_other<T: Clone + Debug, S: Slot<T>>(
     slot: S,
-    alive: &'a Cell<u64>,
+    census: &impl Census<T>,
     rt: &impl World,
 ) {
     let flag = task(rt);
@@ -54,25 +76,30 @@ pub fn each_call_keeps_the_value_that_the_cell_holds_and_no_other<'a, S: Slot<Co
         same_at(
             rt,
             &act,
-            alive_after(act, slot, alive, &flag),
+            alive_after(act, slot, census, &flag),
             (on_vacant, 0),
         );
-        slot.set(Counted::new(alive));
-        same_at(rt, &act, alive_after(act, slot, alive, &flag), (on_full, 0));
+        slot.set(census.make());
+        same_at(
+            rt,
+            &act,
+            alive_after(act, slot, census, &flag),
+            (on_full, 0),
+        );
     }
-    slot.set(Counted::new(alive));
-    same(rt, alive.get(), 1);
+    slot.set(census.make());
+    same(rt, census.alive(), 1);
 }
 
 /// A closed cell keeps none.
-pub fn a_closed_cell_keeps_no_value<'a, S: Slot<Counted<'a>>>(
+pub fn a_closed_cell_keeps_no_value<T: Clone + Debug, S: Slot<T>>(
     slot: S,
-    alive: &'a Cell<u64>,
+    census: &impl Census<T>,
     rt: &impl World,
 ) {
     let flag = task(rt);
     for (act, _, _) in TABLE {
-        same_at(rt, &act, alive_after(act, slot, alive, &flag), (0, 0));
+        same_at(rt, &act, alive_after(act, slot, census, &flag), (0, 0));
     }
 }
 
@@ -85,10 +112,10 @@ enum Last {
     EmptyGuard,
 }
 
-fn end_by<'a, O: CellOwner<Counted<'a>>>(
+fn end_by<T: Clone + Debug, O: CellOwner<T>>(
     last: Last,
     owner: O,
-    alive: &'a Cell<u64>,
+    census: &impl Census<T>,
     rt: &impl Judge,
 ) {
     match last {
@@ -98,7 +125,7 @@ fn end_by<'a, O: CellOwner<Counted<'a>>>(
             Err(owner) => owner.end(),
         },
         Last::Guard | Last::EmptyGuard => {
-            let guard = guard_of(&owner, Counted::new(alive), rt);
+            let guard = guard_of(&owner, census.make(), rt);
             owner.end();
             guard.cancel();
         }
@@ -106,34 +133,34 @@ fn end_by<'a, O: CellOwner<Counted<'a>>>(
 }
 
 /// Every end of the last owner, which is made again for each.
-pub fn the_end_of_the_last_owner_leaves_no_value<'a, O: CellOwner<Counted<'a>>>(
+pub fn the_end_of_the_last_owner_leaves_no_value<T: Clone + Debug, O: CellOwner<T>>(
     owner: O,
-    alive: &'a Cell<u64>,
+    census: &impl Census<T>,
     rt: &impl World,
 ) {
     let mut owner = owner;
     for last in [Last::End, Last::IntoInner, Last::Guard, Last::EmptyGuard] {
         let next = owner.fresh();
         if last != Last::EmptyGuard {
-            owner.set(Counted::new(alive));
+            owner.set(census.make());
         }
-        end_by(last, owner, alive, rt);
-        same_at(rt, &last, alive.get(), 0);
+        end_by(last, owner, census, rt);
+        same_at(rt, &last, census.alive(), 0);
         owner = next;
     }
     owner.end();
 }
 
-pub fn the_end_of_one_of_two_owners_leaves_the_value<'a, O: CellOwner<Counted<'a>>>(
+pub fn the_end_of_one_of_two_owners_leaves_the_value<T: Clone + Debug, O: CellOwner<T>>(
     owner: O,
-    alive: &'a Cell<u64>,
+    census: &impl Census<T>,
     rt: &impl World,
 ) {
-    owner.set(Counted::new(alive));
+    owner.set(census.make());
     another_of(&owner, rt).end();
-    same_at(rt, &"one of two", alive.get(), 1);
+    same_at(rt, &"one of two", census.alive(), 1);
     owner.end();
-    same_at(rt, &"the last", alive.get(), 0);
+    same_at(rt, &"the last", census.alive(), 0);
 }
 
 /// Updates twice, and returns how often each closure was called, and what each saw.

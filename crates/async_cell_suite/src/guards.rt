@@ -19,9 +19,13 @@ pub fn a_guard_leaves_the_value_that_was_set_meanwhile<S: Slot<u32>>(slot: S, rt
     same(rt, slot.try_take(), Some(4));
 }
 
+/// What a cell holds where a text was no number.
+#[derive(Clone, Copy, Debug, PartialEq, Eq)]
+pub struct NoNumber;
+
 /// Reads a number into the cell, and leaves an error there where it returns early.
-fn read_into<S: Slot<Result<u32, &'static str>>>(slot: S, text: &str) -> Option<()> {
-    let guard = slot.guard(Err("no number"));
+fn read_into<S: Slot<Result<u32, NoNumber>>>(slot: S, text: &str) -> Option<()> {
+    let guard = slot.guard(Err(NoNumber));
     let Ok(number) = text.parse::<u32>() else {
         guard.cancel();
         return None;
@@ -32,10 +36,10 @@ fn read_into<S: Slot<Result<u32, &'static str>>>(slot: S, text: &str) -> Option<
 
 pub fn a_guard_is_cancelled_where_its_function_returns_early<S>(slot: S, rt: &impl Judge)
 where
-    S: Slot<Result<u32, &'static str>>,
+    S: Slot<Result<u32, NoNumber>>,
 {
     same(rt, read_into(slot, "seven"), None);
-    same(rt, slot.try_get(), Ok(Some(Err("no number"))));
+    same(rt, slot.try_get(), Ok(Some(Err(NoNumber))));
     same(rt, read_into(slot, "7"), Some(()));
     same(rt, slot.try_get(), Ok(Some(Ok(7))));
 }

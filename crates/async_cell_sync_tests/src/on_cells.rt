@@ -4,6 +4,8 @@ use crate::held::Held;
 use crate::holders::{cell, lent};
 use crate::host::Host;
 use crate::owning::{first_owner, weak_getter, weak_taker};
+use async_cell_suite::cloned::CountsOwn;
+use async_cell_suite::drops::Alive;
 use async_cell_suite::random_calls::{self, LISTS};
 use async_cell_suite::slot::{Kept, Slot, rest};
 use async_cell_suite::{
@@ -51,10 +53,16 @@ fn values_of_a_cell(rt: HostRuntime) {
     let (alive, clones) = (Cell::new(0), Cell::new(0));
     let (kept, counts) = (cell(rt), cell(rt));
     let slot = lent(&kept, rt);
-    drops::each_call_keeps_the_value_that_the_cell_holds_and_no_other(slot, &alive, &Host(&rt));
+    let census = Alive(&alive);
+    drops::each_call_keeps_the_value_that_the_cell_holds_and_no_other(slot, &census, &Host(&rt));
     drop(kept);
     same(&rt, alive.get(), 0);
-    cloned::a_get_clones_the_value_once_and_a_take_never(lent(&counts, rt), &clones, &Host(&rt));
+    cloned::a_get_clones_the_value_once_and_a_take_never(
+        lent(&counts, rt),
+        CountsOwn(&clones),
+        &clones,
+        &Host(&rt),
+    );
 }
 
 /// A task has waited by a future that was dropped. It is woken by the close, and no more.
@@ -80,7 +88,7 @@ fn values_of_a_closed_cell(rt: HostRuntime) {
     let weak = weak_getter(&owner);
     owner.end(&rt);
     let closed = weak.cell().expect(&rt, "a pointer");
-    drops::a_closed_cell_keeps_no_value(lent(closed, rt), &alive, &Host(&rt));
+    drops::a_closed_cell_keeps_no_value(lent(closed, rt), &Alive(&alive), &Host(&rt));
 }
 
 #[test]

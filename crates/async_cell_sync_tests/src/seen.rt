@@ -1,7 +1,7 @@
 //! What a call shows while a value of its cell is cloned, printed or dropped, or while its closure
 //! runs: the other thread looks at the cell meanwhile. A full cell then looks full.
 use crate::checks::{holds, holds_at, task};
-use crate::ticks::tick_future;
+use crate::ticks::tick_get;
 use async_cell_checks::meeting::{ComesWhenDropped, Meeting};
 use async_cell_core::{Core, Named};
 use async_cell_sync::{AsyncCell, LockedCore};
@@ -178,7 +178,7 @@ fn call_cell<'a>(
             rt,
         ),
         Called::TryGet => drop(cell.try_get(rt)),
-        Called::Get => drop(tick_future(cell.get().with(rt), flag)),
+        Called::Get => drop(tick_get(cell, flag, rt)),
         Called::DebugText => drop(cell.debug_text(rt)),
     }
 }

@@ -1,6 +1,6 @@
 //! Polls, each in a function that promises nothing: what the calls promise is then no part of a
 //! test's own proof.
-use async_cell_sync::{CellRef, Get, GetWeak, Refusal, Take, TakeWeak};
+use async_cell_sync::{AsyncCell, CellRef, Get, GetWeak, Refusal, Take, TakeWeak};
 use futures::future::Future;
 use futures::task::Poll;
 use futures::test::MockTask;
@@ -12,6 +12,15 @@ pub fn tick_future<F: Future>(mut future: F, flag: &MockTask) -> Poll<F::Output>
     requires { F.can_poll future }
 {
     flag.poll(&mut future)
+}
+
+/// Polls a new future that clones the value.
+pub fn tick_get<T: Clone>(
+    cell: &AsyncCell<T>,
+    flag: &MockTask,
+    rt: &impl Wait,
+) -> Poll<Result<T, Refusal>> {
+    tick_future(cell.get().with(rt), flag)
 }
 
 /// Polls the future once, and leaves it for later polls.
