@@ -57,18 +57,18 @@ pub fn a_notify_is_kept_for_the_next_wait<S: Bell>(bell: S, rt: &impl World) {
     same(rt, bell.wait().tick(&task(rt)), Poll::Ready(Ok(())));
 }
 
-/// A text that a callback brings.
+/// What a callback brings.
 #[derive(Clone, Copy, Debug, PartialEq, Eq)]
-pub struct Greeting(&'static str);
+pub struct Greeting;
 
 pub fn a_future_from_a_callback<O: CellOwner<Greeting>>(owner: O, rt: &impl World) {
     let flag = task(rt);
     let mut future = taker_of(&owner, rt);
     same(rt, future.tick(&flag), Poll::Pending);
-    let callback = || owner.set(Greeting("Hello, World!"));
+    let callback = || owner.set(Greeting);
     callback();
     holds(rt, flag.is_woken());
-    same(rt, future.tick(&flag), Poll::Ready(Ok(Greeting("Hello, World!"))));
+    same(rt, future.tick(&flag), Poll::Ready(Ok(Greeting)));
     owner.end();
 }
 

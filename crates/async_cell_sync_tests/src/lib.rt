@@ -1,11 +1,13 @@
 //! Tests of the cell behind a lock, in a crate of their own so that the library is not proved
-//! twice. `on_cells`, `on_owners` and `memory` run the suite that both cells pass.
+//! twice. `on_cells`, `on_owners`, `counted` and `memory` run the suite that both cells pass.
 #![tactic(auto)]
 
 #[cfg(test)]
 mod checks;
 #[cfg(test)]
 mod cloned;
+#[cfg(test)]
+mod counted;
 #[cfg(test)]
 mod first;
 #[cfg(test)]

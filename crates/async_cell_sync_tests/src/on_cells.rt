@@ -4,18 +4,14 @@ use crate::held::Held;
 use crate::holders::{cell, lent};
 use crate::host::Host;
 use crate::owning::{first_owner, weak_getter, weak_taker};
-use async_cell_suite::cloned::CountsOwn;
-use async_cell_suite::drops::Alive;
 use async_cell_suite::random_calls::{self, LISTS};
 use async_cell_suite::slot::{Kept, Slot, rest};
 use async_cell_suite::{
-    all_calls, all_left, all_past_places, all_places, all_purges, cloned, drops, places, table,
-    texts,
+    all_calls, all_left, all_past_places, all_places, all_purges, drops, places, table, texts,
 };
 use async_cell_sync::{AsyncCell, Request};
 use futures::task::Poll;
 use std::alloc::AllocError;
-use std::cell::Cell;
 
 #[test]
 fn calls_of_a_cell(rt: HostRuntime) {
@@ -48,23 +44,6 @@ fn lists_of_a_cell(rt: HostRuntime) -> Result<(), AllocError> {
     places::each_of_many_futures_holds_its_own_place(lent(&cell(rt), rt), &Host(&rt))
 }
 
-#[test]
-fn values_of_a_cell(rt: HostRuntime) {
-    let (alive, clones) = (Cell::new(0), Cell::new(0));
-    let (kept, counts) = (cell(rt), cell(rt));
-    let slot = lent(&kept, rt);
-    let census = Alive(&alive);
-    drops::each_call_keeps_the_value_that_the_cell_holds_and_no_other(slot, &census, &Host(&rt));
-    drop(kept);
-    same(&rt, alive.get(), 0);
-    cloned::a_get_clones_the_value_once_and_a_take_never(
-        lent(&counts, rt),
-        CountsOwn(&clones),
-        &clones,
-        &Host(&rt),
-    );
-}
-
 /// A task has waited by a future that was dropped. It is woken by the close, and no more.
 #[test]
 fn calls_of_a_closed_cell(rt: HostRuntime) {
@@ -79,16 +58,6 @@ fn calls_of_a_closed_cell(rt: HostRuntime) {
     table::a_closed_cell_takes_no_value(lent(closed, rt), &Host(&rt));
     holds(&rt, !flag.is_woken());
     same(&rt, Held(weak.with(rt)).tick(&flag), Poll::Ready(Ok(None)));
-}
-
-#[test]
-fn values_of_a_closed_cell(rt: HostRuntime) {
-    let alive = Cell::new(0);
-    let owner = first_owner(&rt);
-    let weak = weak_getter(&owner);
-    owner.end(&rt);
-    let closed = weak.cell().expect(&rt, "a pointer");
-    drops::a_closed_cell_keeps_no_value(lent(closed, rt), &Alive(&alive), &Host(&rt));
 }
 
 #[test]

@@ -144,6 +144,13 @@ impl<R: Abort + Alloc<A = Global> + Copy + Wait> BellOwner for OwnerOf<(), R> {
 
 impl<T: Drop, R: Wait + Drop> Yields<T> for Held<Values<T, R>> {
     fn next(&mut self, flag: &MockTask) -> Poll<Option<Result<T, Refusal>>> {
-        flag.poll(&mut self.0.next())
+        next_of(&mut self.0, flag)
     }
+}
+
+fn next_of<T: Drop, R: Wait + Drop>(
+    values: &mut Values<T, R>,
+    flag: &MockTask,
+) -> Poll<Option<Result<T, Refusal>>> {
+    flag.poll(&mut values.next())
 }

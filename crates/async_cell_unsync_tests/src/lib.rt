@@ -1,9 +1,12 @@
 //! Tests of the cell of one thread and of task wakers, in a crate of their own so that no library
-//! is proved twice. `on_cells`, `on_owners` and `memory` run the suite that both cells pass.
+//! is proved twice. `on_cells`, `on_owners`, `counted` and `memory` run the suite that both cells
+//! pass.
 #![tactic(auto)]
 
 #[cfg(test)]
 mod checks;
+#[cfg(test)]
+mod counted;
 #[cfg(test)]
 mod guards;
 #[cfg(test)]

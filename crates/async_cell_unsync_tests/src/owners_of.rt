@@ -143,6 +143,13 @@ impl<R: Abort + Alloc<A = Global> + Copy> BellOwner for OwnerOf<(), R> {
 
 impl<T: Drop> Yields<T> for Held<Values<T>> {
     fn next(&mut self, flag: &MockTask) -> Poll<Option<Result<T, Refusal>>> {
-        flag.poll(&mut self.0.next())
+        next_of(&mut self.0, flag)
     }
+}
+
+fn next_of<T: Drop>(
+    values: &mut Values<T>,
+    flag: &MockTask,
+) -> Poll<Option<Result<T, Refusal>>> {
+    flag.poll(&mut values.next())
 }
