@@ -5,7 +5,7 @@ use std::sync::atomic::{AtomicU32, Ordering};
 use std::test::Fail;
 use std::thread;
 
-const MANY: u32 = 48;
+const MANY: u32 = 80;
 
 /// How often a thread looks for the others before it gives up.
 const TURNS: u32 = 10_000_000;

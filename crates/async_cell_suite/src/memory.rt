@@ -45,6 +45,8 @@ pub fn a_value_that_cannot_be_cloned_stays<S: Slot<Single>>(
     let flag = try_task(rt)?;
     slot.set(Single(8));
     same(rt, slot.try_get(), Err(Refusal::Memory));
+    let got = slot.poll_get(&flag);
+    same(rt, got, Poll::Ready(Err(Refusal::Memory)));
     let mut get = slot.get();
     same(rt, get.tick(&flag), Poll::Ready(Err(Refusal::Memory)));
     same(rt, slot.try_take(), Some(Single(8)));

@@ -95,6 +95,26 @@ pub fn a_call_wakes_all_that_wait_or_none<S: Slot<u32>>(slot: S, rt: &impl World
     }
 }
 
+/// Makes the call on a vacant cell for which two futures without a place wait.
+fn a_call_wakes_without_places<S: Slot<u32>>(act: Act, wakes: bool, slot: S, rt: &impl World) {
+    let (first, second) = (task(rt), task(rt));
+    same_at(rt, &act, slot.poll_get(&first), Poll::Pending);
+    same_at(rt, &act, slot.poll_take(&second), Poll::Pending);
+    drop(call(act, slot, 1, 2, &task(rt)));
+    same_at(rt, &act, first.is_woken(), wakes);
+    same_at(rt, &act, second.is_woken(), wakes);
+    slot.set(7);
+    holds_at(rt, &act, first.is_woken() && second.is_woken());
+    same_at(rt, &act, slot.try_take(), Some(7));
+}
+
+/// On a cell that is lent. The futures of an owner hold places.
+pub fn a_call_wakes_all_that_have_no_place_or_none<S: Slot<u32>>(slot: S, rt: &impl World) {
+    for (act, wakes, _, _) in TABLE {
+        a_call_wakes_without_places(act, wakes, slot, rt);
+    }
+}
+
 /// Makes the call on a vacant cell in which a dropped future has left its waker.
 fn a_call_lets_go<S: Slot<u32>>(act: Act, lets_go: bool, slot: S, rt: &impl World) {
     let gone = task(rt);

@@ -19,6 +19,11 @@ fn calls_of_a_cell(rt: HostRuntime) {
 }
 
 #[test]
+fn futures_without_a_place(rt: HostRuntime) {
+    table::a_call_wakes_all_that_have_no_place_or_none(lent(&cell(rt)), &Host(&rt));
+}
+
+#[test]
 fn places_in_a_cell(rt: HostRuntime) {
     all_places!(lent(&cell(rt)), &Host(&rt));
 }

@@ -147,9 +147,6 @@ impl<T: Drop> Yields<T> for Held<Values<T>> {
     }
 }
 
-fn next_of<T: Drop>(
-    values: &mut Values<T>,
-    flag: &MockTask,
-) -> Poll<Option<Result<T, Refusal>>> {
+fn next_of<T: Drop>(values: &mut Values<T>, flag: &MockTask) -> Poll<Option<Result<T, Refusal>>> {
     flag.poll(&mut values.next())
 }
