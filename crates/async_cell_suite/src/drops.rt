@@ -164,9 +164,9 @@ pub fn the_end_of_one_of_two_owners_leaves_the_value<T: Clone + Debug, O: CellOw
 }
 
 /// Updates twice, and returns how often each closure was called, and what each saw.
-fn calls_of_closures<S: Slot<u64>>(slot: S) -> ((u64, Option<u64>), (u64, u64)) {
-    let (updates, of_values) = (Cell::new(0u64), Cell::new(0u64));
-    let (seen, value_seen) = (Cell::new(None), Cell::new(0u64));
+fn calls_of_closures<S: Slot<u32>>(slot: S) -> ((u32, Option<u32>), (u32, u32)) {
+    let (updates, of_values) = (Cell::new(0u32), Cell::new(0u32));
+    let (seen, value_seen) = (Cell::new(None), Cell::new(0u32));
     slot.update(|content| {
         updates.set(updates.get().wrapping_add(1));
         seen.set(content);
@@ -183,13 +183,13 @@ fn calls_of_closures<S: Slot<u64>>(slot: S) -> ((u64, Option<u64>), (u64, u64)) 
     )
 }
 
-pub fn an_update_calls_its_closure_once<S: Slot<u64>>(slot: S, rt: &impl Judge) {
+pub fn an_update_calls_its_closure_once<S: Slot<u32>>(slot: S, rt: &impl Judge) {
     same_at(rt, &"vacant", calls_of_closures(slot), ((1, None), (0, 0)));
     slot.set(3);
     same_at(rt, &"full", calls_of_closures(slot), ((1, Some(3)), (1, 3)));
 }
 
 /// Nor does a closed cell call any.
-pub fn a_closed_cell_calls_no_closure<S: Slot<u64>>(slot: S, rt: &impl Judge) {
+pub fn a_closed_cell_calls_no_closure<S: Slot<u32>>(slot: S, rt: &impl Judge) {
     same_at(rt, &"closed", calls_of_closures(slot), ((0, None), (0, 0)));
 }

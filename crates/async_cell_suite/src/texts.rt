@@ -57,18 +57,14 @@ pub fn a_notify_is_kept_for_the_next_wait<S: Bell>(bell: S, rt: &impl World) {
     same(rt, bell.wait().tick(&task(rt)), Poll::Ready(Ok(())));
 }
 
-/// What a callback brings.
-#[derive(Clone, Copy, Debug, PartialEq, Eq)]
-pub struct Greeting;
-
-pub fn a_future_from_a_callback<O: CellOwner<Greeting>>(owner: O, rt: &impl World) {
+pub fn a_future_from_a_callback<O: CellOwner<u32>>(owner: O, rt: &impl World) {
     let flag = task(rt);
     let mut future = taker_of(&owner, rt);
     same(rt, future.tick(&flag), Poll::Pending);
-    let callback = || owner.set(Greeting);
+    let callback = || owner.set(7);
     callback();
     holds(rt, flag.is_woken());
-    same(rt, future.tick(&flag), Poll::Ready(Ok(Greeting)));
+    same(rt, future.tick(&flag), Poll::Ready(Ok(7)));
     owner.end();
 }
 

@@ -6,16 +6,21 @@ use crate::host::Host;
 use crate::owning::{first_owner, weak_getter, weak_taker};
 use async_cell_suite::random_calls::{self, LISTS};
 use async_cell_suite::slot::{Kept, Slot, rest};
-use async_cell_suite::{
-    all_calls, all_left, all_past_places, all_places, all_purges, drops, places, table, texts,
-};
+use async_cell_suite::{cloned, drops, guards, lists, places, table, texts};
 use async_cell_sync::{AsyncCell, Request};
 use futures::task::Poll;
 use std::alloc::AllocError;
 
 #[test]
 fn calls_of_a_cell(rt: HostRuntime) {
-    all_calls!(lent(&cell(rt), rt), &Host(&rt));
+    lists::calls(lent(&cell(rt), rt), &Host(&rt));
+    lists::notices(lent(&cell(rt), rt), &Host(&rt));
+}
+
+#[test]
+fn errors_and_clones_in_a_cell(rt: HostRuntime) {
+    guards::a_guard_is_cancelled_where_its_function_returns_early(lent(&cell(rt), rt), &Host(&rt));
+    cloned::a_get_gives_the_clone_and_leaves_the_original(lent(&cell(rt), rt), &Host(&rt));
 }
 
 #[test]
@@ -25,22 +30,22 @@ fn futures_without_a_place(rt: HostRuntime) {
 
 #[test]
 fn places_in_a_cell(rt: HostRuntime) {
-    all_places!(lent(&cell(rt), rt), &Host(&rt));
+    lists::places_of(lent(&cell(rt), rt), &Host(&rt));
 }
 
 #[test]
 fn past_places_in_a_cell(rt: HostRuntime) {
-    all_past_places!(lent(&cell(rt), rt), &Host(&rt));
+    lists::past_places(lent(&cell(rt), rt), &Host(&rt));
 }
 
 #[test]
 fn wakers_left_in_a_cell(rt: HostRuntime) {
-    all_left!(lent(&cell(rt), rt), &Host(&rt));
+    lists::wakers_left(lent(&cell(rt), rt), &Host(&rt));
 }
 
 #[test]
 fn purges_of_a_cell(rt: HostRuntime) {
-    all_purges!(lent(&cell(rt), rt), &Host(&rt));
+    lists::purges(lent(&cell(rt), rt), &Host(&rt));
 }
 
 #[test]

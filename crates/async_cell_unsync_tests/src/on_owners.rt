@@ -3,36 +3,40 @@ use crate::holders::owned;
 use crate::host::Host;
 use crate::owners_of::{first, owner_of};
 use async_cell_suite::random_calls::{self, LISTS};
-use async_cell_suite::{
-    all_calls, all_left, all_owners, all_past_places, all_places, all_purges, all_shared,
-    all_streams, all_weak, all_weak_owners, guards, places, random_owners, texts,
-};
+use async_cell_suite::{cloned, guards, lists, places, random_owners, texts};
 use std::alloc::AllocError;
 
 #[test]
 fn calls_of_an_owner(rt: HostRuntime) {
-    all_calls!(owned(&first(rt)), &Host(&rt));
+    lists::calls(owned(&first(rt)), &Host(&rt));
+    lists::notices(owned(&first(rt)), &Host(&rt));
+}
+
+#[test]
+fn errors_and_clones_in_an_owner(rt: HostRuntime) {
+    guards::a_guard_is_cancelled_where_its_function_returns_early(owned(&first(rt)), &Host(&rt));
     guards::a_guard_cancels_by_its_drop(owned(&first(rt)), &Host(&rt));
+    cloned::a_get_gives_the_clone_and_leaves_the_original(owned(&first(rt)), &Host(&rt));
 }
 
 #[test]
 fn places_of_an_owner(rt: HostRuntime) {
-    all_places!(owned(&first(rt)), &Host(&rt));
+    lists::places_of(owned(&first(rt)), &Host(&rt));
 }
 
 #[test]
 fn past_places_of_an_owner(rt: HostRuntime) {
-    all_past_places!(owned(&first(rt)), &Host(&rt));
+    lists::past_places(owned(&first(rt)), &Host(&rt));
 }
 
 #[test]
 fn wakers_left_by_an_owner(rt: HostRuntime) {
-    all_left!(owned(&first(rt)), &Host(&rt));
+    lists::wakers_left(owned(&first(rt)), &Host(&rt));
 }
 
 #[test]
 fn purges_of_an_owner(rt: HostRuntime) {
-    all_purges!(owned(&first(rt)), &Host(&rt));
+    lists::purges(owned(&first(rt)), &Host(&rt));
 }
 
 #[test]
@@ -43,27 +47,28 @@ fn lists_of_an_owner(rt: HostRuntime) -> Result<(), AllocError> {
 
 #[test]
 fn owners_and_their_ends(rt: HostRuntime) {
-    all_owners!(owner_of(rt), &Host(&rt));
+    lists::owners_and_their_ends(owner_of(rt), &Host(&rt));
 }
 
 #[test]
 fn futures_and_guards_that_are_owners(rt: HostRuntime) {
-    all_shared!(owner_of(rt), &Host(&rt));
+    lists::futures_and_guards_that_are_owners(owner_of(rt), &Host(&rt));
+    lists::waiters_that_are_owners(owner_of(rt), &Host(&rt));
 }
 
 #[test]
 fn weak_owners(rt: HostRuntime) {
-    all_weak_owners!(owner_of(rt), &Host(&rt));
+    lists::weak_owners(owner_of(rt), &Host(&rt));
 }
 
 #[test]
 fn streams(rt: HostRuntime) {
-    all_streams!(owner_of(rt), &Host(&rt));
+    lists::streams_of(owner_of(rt), &Host(&rt));
 }
 
 #[test]
 fn weak_futures(rt: HostRuntime) {
-    all_weak!(owner_of(rt), &Host(&rt));
+    lists::weak_futures(owner_of(rt), &Host(&rt));
 }
 
 #[test]
