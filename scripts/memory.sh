@@ -95,9 +95,10 @@ built() {
     fi
 }
 
-# How a test ends where std found no memory for a request of its own. A call of the cell answers
-# Refusal::Memory.
+# How a test ends where std found no memory for a request of its own: as a `Fail` prints, or, of a
+# test that returns an `AllocError`, as that does. A call of the cell answers Refusal::Memory.
 own_errors='error: AllocError
+Error: AllocError
 error: AllocFailed { .. }
 error: Kind(OutOfMemory)'
 
