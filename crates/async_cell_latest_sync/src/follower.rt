@@ -56,7 +56,8 @@ impl<T: Drop, R: Wait + Drop> Follower<T, R> {
     /// lock is held: one that calls its own state waits forever.
     ///
     /// The future fails with `Closed` once the last owner has ended and the last state was looked
-    /// at, and with `Memory` if there is no memory for the clone or to wait.
+    /// at, and with `Memory` if there is no memory for the clone or to wait: then that state is not
+    /// marked, and the next poll looks at it again.
     pub fn wait_for<F>(&mut self, predicate: F) -> WaitFor<'_, T, R, F>
     where
         F: FnMut(&T) -> bool + Drop,

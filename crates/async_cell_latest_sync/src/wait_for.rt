@@ -93,15 +93,18 @@ impl<T: Clone, R: Wait + Drop, F: FnMut(&T) -> bool + Drop> Future for WaitFor<'
                 Err(why) => Poll::Ready(Err(why)),
             };
         }
-        self.looked_at = version;
-        follower.seen = version;
-        match cell.poll_locked(core, version, &mut self.place, cx, &follower.rt) {
+        let polled = match cell.poll_locked(core, version, &mut self.place, cx, &follower.rt) {
+            // Nothing is marked, so the next poll looks at this state again.
+            Poll::Ready(Err(Refusal::Memory)) => return Poll::Ready(Err(Refusal::Memory)),
+            Poll::Ready(Err(why)) => Poll::Ready(Err(why)),
             Poll::Ready(Ok(core)) => {
                 drop(core);
                 cx.yield_now() // It was written while the waker was renewed.
             }
-            Poll::Ready(Err(why)) => Poll::Ready(Err(why)),
             Poll::Pending => Poll::Pending,
-        }
+        };
+        self.looked_at = version;
+        follower.seen = version;
+        polled
     }
 }

@@ -49,7 +49,8 @@ impl<T: Drop> Follower<T> {
     /// it is in time for, at each once; these are then marked as seen.
     ///
     /// The future fails with `Closed` once the last owner has ended and the last state was looked
-    /// at, and with `Memory` if there is no memory for the clone or to wait.
+    /// at, and with `Memory` if there is no memory for the clone or to wait: then that state is not
+    /// marked, and the next poll looks at it again.
     pub fn wait_for<F>(&mut self, predicate: F) -> WaitFor<'_, T, F>
     where
         F: FnMut(&T) -> bool + Drop,

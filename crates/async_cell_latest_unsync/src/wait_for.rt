@@ -96,13 +96,16 @@ impl<T: Clone, F: FnMut(&T) -> bool + Drop> Future for WaitFor<'_, T, F> {
             };
         }
         drop(core);
+        cell.settle();
+        let polled = match cell.poll_unseen(version, &mut self.place, cx) {
+            // Nothing is marked, so the next poll looks at this state again.
+            Poll::Ready(Err(Refusal::Memory)) => return Poll::Ready(Err(Refusal::Memory)),
+            Poll::Ready(Err(why)) => Poll::Ready(Err(why)),
+            Poll::Ready(Ok(_)) => cx.yield_now(), // It was written during the look.
+            Poll::Pending => Poll::Pending,
+        };
         self.looked_at = version;
         follower.seen = version;
-        cell.settle();
-        match cell.poll_unseen(version, &mut self.place, cx) {
-            Poll::Ready(Ok(_)) => cx.yield_now(), // It was written during the look.
-            Poll::Ready(Err(why)) => Poll::Ready(Err(why)),
-            Poll::Pending => Poll::Pending,
-        }
+        polled
     }
 }
