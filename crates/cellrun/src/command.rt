@@ -114,6 +114,3 @@ fn update(edit: &[u8]) -> Option<Command>
         _ => value(edit.strip_prefix(b"put ")?).map(Command::UpdatePut),
     }
 }
-
-#[cfg(test)]
-mod tests;

@@ -117,6 +117,3 @@ pub fn woke(out: &mut Vec<u8>, woken: Wakers<Named>) -> Result<(), AllocError>
     }
     out.extend_from_slice(b"\n")
 }
-
-#[cfg(test)]
-mod tests;

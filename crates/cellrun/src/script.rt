@@ -13,13 +13,6 @@ use std::alloc::Global;
 use std::io;
 use std::io::{Read, Write};
 
-#[cfg(test)]
-mod refused;
-#[cfg(test)]
-mod tests;
-#[cfg(test)]
-mod texts;
-
 /// The number of bytes of output that are buffered before more memory is needed.
 const ROOM: usize = 8_192;
 

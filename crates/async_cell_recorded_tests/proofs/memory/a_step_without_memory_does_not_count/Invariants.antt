@@ -1,5 +1,0 @@
-use Rattle.async_cell_recorded_tests.proofs.memory.a_step_without_memory_does_not_count.Given as goal
-
--- the marker names the two blank ledgers
-abbrev pub ghosts-steps-M-Marker : goal.ghosts-steps-M-Marker
-ghosts-steps-M-Marker g a = record { calls = a.blanks.calls.name; picked = a.blanks.picked.name; shares = 1 }
