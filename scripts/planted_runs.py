@@ -19,7 +19,7 @@ SECONDS, BLOCKS = 10, 20_000
 CHECKS = "abort_on_error=1:allocator_may_return_null=1:symbolize=0:hard_rss_limit_mb=1500"
 # How the output of a test ends that holds, and that of a case.
 HOLDS, PLAYED = r"test result: ok\n\Z", r"(\A|\n)[1-9]\d* passed, 0 failed\n\Z"
-LIMITED = f'ulimit -c 0 -f {BLOCKS}; exec "$@"'
+LIMITED = f'ulimit -c 0; ulimit -f {BLOCKS}; exec "$@"'
 # What is run under a name: the program's words, what it reads, and what the end of its output is.
 Input = namedtuple("Input", "words given ended")
 # How a run ended: its status, or None where it did not, what it printed, and after how long.
