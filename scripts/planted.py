@@ -6,15 +6,17 @@
 
 The bugs are the files crates/NAME/must-fail/*.edit and crates/NAME/bugs/*.edit. All that change no
 more than bodies of functions are compiled into one program behind a switch, and the tests and cases
-(without words: both) are run once for each. Nothing is proved. It prints a line for each bug: what
-catches it, or `only a contract`. It stops at the first N tests that do (3 if not said). A bug that
-does not compile, or changes more than bodies, is listed as not wrapped.
+(without words: both) that come by one are run with it. A case is played as it is, and with each
+request for memory refused. Nothing is proved. It prints a line for each bug: what catches it, or
+`only a contract`. It stops at the first N that do (3 if not said). A bug that does not compile, or
+changes more than bodies, is listed as not wrapped. First all is run without a bug, and has to pass.
 
 --table FILE writes a table: the bug, the tests and the cases that catch it, between tabs.
 --compare FILE reads such a table, and fails if a bug that was caught there is not caught now.
---edits FOLDER takes the bugs of another checkout. --without WORDS leaves out tests whose names this
-regular expression finds. --keep FOLDER keeps the programs there, and takes those that are there.
-JOBS says how many runs go side by side. The status is 0 where all that was asked for is so.
+--edits FOLDER takes the bugs of another checkout. --without WORDS leaves out the tests and cases
+whose names this regular expression finds, such as tests of threads on a busy machine. --keep FOLDER
+keeps the programs there, and takes those that it has. JOBS says how many runs go side by side. The
+status is 0 where all passes without a bug, some bug is caught, and --compare finds nothing lost.
 """
 import argparse
 import os
@@ -24,7 +26,7 @@ from concurrent.futures import ThreadPoolExecutor
 
 import planted_program
 from planted_program import TOP
-from planted_runs import Cases, Tests
+from planted_runs import Runner, cases_of, tests_of
 
 KINDS = ("tests", "cases")
 
@@ -62,17 +64,16 @@ def ready(how, made):
     """Runs each program without a bug. Returns what is to be run with each, by its kind."""
     found = {}
     for kind, it in made.items():
-        if kind == "tests":
-            found[kind] = Tests(it.program, how.without, how.jobs)
-            print(f"{len(found[kind].reached)} tests pass without a bug", flush=True)
-        else:
-            found[kind] = Cases(it.program, it.given)
+        inputs = tests_of(it.program) if kind == "tests" else cases_of(it.given)
+        found[kind] = Runner(it.program, inputs, how.without, how.jobs)
+        passed, left_out = len(found[kind].reached), found[kind].left_out
+        print(f"{kind}: {passed} pass without a bug, {left_out} are left out", flush=True)
     return found
 
 
 def told(caught):
     """Returns what is said of what catches a bug."""
-    return " ".join(it.replace(" ", "_") for it in caught.names) + ", .." * caught.more
+    return " | ".join(caught.names) + " | .." * caught.more
 
 
 def tried(runners, made, number, bug, enough):
