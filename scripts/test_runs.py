@@ -14,13 +14,16 @@ OWN_ERRORS = {
     "error: Kind(OutOfMemory)",
 }
 SMALL_STACK = 64 * 1024
-# The limit is what ends a test that waits for what never comes.
-SECONDS = 120
+# The limits are what ends a test that waits for what never comes: on a busy machine the one of its
+# processors' time alone, since it then gets little of that.
+SECONDS = 300
+SECONDS_OF_PROCESSORS = 60
 
 
 def limit(is_small):
-    """Sets the limits of a process: no core file, and perhaps a small stack."""
+    """Sets the limits of a process: no core file, some time, and perhaps a small stack."""
     resource.setrlimit(resource.RLIMIT_CORE, (0, 0))
+    resource.setrlimit(resource.RLIMIT_CPU, (SECONDS_OF_PROCESSORS, SECONDS_OF_PROCESSORS))
     if is_small:
         resource.setrlimit(resource.RLIMIT_STACK, (SMALL_STACK, SMALL_STACK))
 

@@ -84,7 +84,9 @@ def chosen(program, words):
     """Returns (group, test, way) for each run that the words choose."""
     every = test_runs.names(program)
     runs = [(it.split("::")[0], it, "once") for it in every]
-    runs += [(f"again, {way}", test, way) for test, way in test_runs.listed_again(AGAIN)]
+    again = test_runs.listed_again(AGAIN)
+    # (of a test that was left out, as the words name another module, no run is wanted)
+    runs += [(f"again, {way}", it, way) for it, way in again if not words or it in every]
     return [it for it in runs if not words or any(word in it[1] for word in words)]
 
 
