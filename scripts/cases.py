@@ -92,7 +92,7 @@ def main(chosen):
     with tempfile.TemporaryDirectory(prefix="cases-") as folder:
         lay_out(f"{folder}/project")
         os.mkdir(f"{folder}/inputs")
-        text = cases(chosen)
+        text = cases(chosen) + ("" if chosen else "all\n")
         for name, before in (("plain", ""), ("refusing", "refuse\n")):
             with open(f"{folder}/inputs/{name}", "w", encoding="utf-8") as file:
                 file.write(before + text)

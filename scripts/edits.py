@@ -1,168 +1,47 @@
 #!/usr/bin/env python3
 """Tries deliberate bugs, many in one check, and wants each refused by the prover.
 
-    scripts/edits.py [proved] [must-fail] [CRATE..]
+    scripts/edits.py [--root FOLDER] [proved] [must-fail] [CRATE..]
 
 It takes the edits of crates/NAME/bugs/, and after the word must-fail those of crates/NAME/must-fail/
-too: of the crates that are named, or of all. It proves a crate once. Then it checks the crate with
-as many edits as stand side by side, one a function, and an edit is refused if the prover says, at a
-line of the function that it edits or in its proof file, that something is not proved. An edit of
-which a check says nothing comes into a second one, and is then tried alone, as `rt must-fail` does.
-An edit that no other stands beside, that adds a function or that changes a contract is tried alone
-at once.
+too: of the crates that are named, or of all. It proves a crate once, and then tries the edits:
+
+- Many in one check, those that change nothing but the bodies of functions, one a function. An edit is
+  refused if the prover says, at a line of the function that it edits or in a file of that one's
+  proof, that something is not proved. No contract is changed in such a check, and a caller knows of
+  a function what its contract says, so that no edit breaks the proof of another function. An edit of
+  which the check says nothing comes into one with few others.
+- Alone, as `rt must-fail` does, what is left, and all that changes more than bodies. There too an
+  edit is refused only if the crate is not proved with it. One that cannot be applied, read or
+  compiled, one whose check was killed or met a limit of the prover, and one of which nothing is said
+  but that a proof file names what it took away, has FAILED like one that is still proved.
 
 The word proved says that the crates have just been proved, as `rt ci` does. Then only the functions
-that are edited are checked, and a crate is proved once more only for what is left to try alone.
+that are edited are checked. What is left is tried one at a time, by a check of the function that it
+edits, or whose contract it changes, where any complaint is about the edit. The crate is proved once
+more, and checked as a whole, only for what these checks say nothing of.
 
 Checks run side by side: as many as there are processors and memory for, or JOBS. It prints a line
 for each edit, and one at least every minute. The last line is 'N passed, M failed', and the status
-is 0 if none failed. Libraries that the gate has just built are used, and missing ones are built.
+is 0 if none failed. Libraries that the gate has just built are used, and missing ones are built. The
+crates are those of this repository, or of the one in FOLDER.
 """
+import functools
 import os
-import re
 import sys
 import tempfile
 import threading
 import time
 from concurrent.futures import ThreadPoolExecutor
 
-import check_edits
+from edits_bugs import MOST, Bug, groups_of
 from edits_kit import Kit, Lacking, singly_tried
 
-FN = re.compile(r"( *)(?:pub(?:\([a-z]+\))? )?(?:const )?(?:unsafe )?fn (\w+)")
-IMPL = re.compile(
-    r"impl(?:<.*?>+)? (?:(?P<trait>[\w:]+)(?:<.*?>)? for )?(?P<ref>&)?(?:'\w+ )?(?P<type>[\w:]+)"
-)
-# An edit with one of these words changes more than one function's body.
-BEYOND = re.compile(r"\b(fn|ensures|requires|ghost|invariant|macro_rules)\b|#\[")
+# The most edits of a check of those that a first check said nothing of: one that does not compile
+# keeps few others from being judged.
+FEW = 4
 # What may stand before the names of crates.
 WORDS = ("proved", "must-fail")
-# The most edits of one check: more take long and much memory, and save little.
-MOST = 16
-
-
-def span(lines, at):
-    """Returns the first and the last line, from 1, of the function that has the line at (from 0)."""
-    begin = next((it for it in range(at, -1, -1) if FN.match(lines[it])), None)
-    if begin is None:
-        return None
-    indent = FN.match(lines[begin])[1]
-    if lines[begin].rstrip().endswith("}"):
-        return (begin + 1, begin + 1) if at == begin else None
-    end = next((it for it in range(at, len(lines)) if lines[it].startswith(f"{indent}}}")), None)
-    if end is None:
-        return None
-    while begin and lines[begin - 1].lstrip().startswith(("#[", "///")):
-        begin -= 1
-    return begin + 1, end + 1
-
-
-def type_of(lines, at):
-    """Returns what the impl says of the function at the line at (from 0): a match, or None."""
-    is_method = FN.match(lines[at])[1]
-    return next((it for it in map(IMPL.match, lines[at::-1]) if it), None) if is_method else None
-
-
-def proof_folder(file, lines, first):
-    """Returns a pattern of the folder of the proof files of a function, or None where another one
-    of the file has its name. The function's text begins at the line first, from 1."""
-    found = [it[2] for it in map(FN.match, lines) if it]
-    at = next(it for it in range(first - 1, len(lines)) if FN.match(lines[it]))
-    name, of = FN.match(lines[at])[2], type_of(lines, at)
-    if found.count(name) != 1:
-        return None
-    module = file[len("src/") : -len(".rt")]
-    places = [rf"{module}/([A-Z]\w*/)?"]
-    # (those of a method lie below the module of its type, which may be one further up)
-    while of and "/" in module:
-        module = module.rpartition("/")[0]
-        places.append(rf"{module}/{of['type'].split('::')[-1]}/")
-    return rf"proofs/({'|'.join(places)}){name}/\w+\.antt"
-
-
-def name_of(file, lines, first):
-    """Returns the end of the name that the prover gives to a function, as near as its text says:
-    its module or its type, with the trait, and its own. Its text begins at the line first, from 1."""
-    at = next(it for it in range(first - 1, len(lines)) if FN.match(lines[it]))
-    indent, name = FN.match(lines[at])[1], FN.match(lines[at])[2]
-    if not indent:
-        module = re.sub(r"^src/|\.rt$", "", file).replace("/", "::")
-        return name if module in ("lib", "main") else f"{module}::{name}"
-    found = type_of(lines, at)
-    if not found:
-        return name
-    of = ("Ref" if found["ref"] else "") + found["type"].split("::")[-1]
-    return f"{of}{(found['trait'] or '').split('::')[-1]}::{name}"
-
-
-class Bug:
-    """An edit of a crate: its name, and the functions that it edits (none: it is tried alone)."""
-
-    def __init__(self, crate, path):
-        self.crate, self.path, self.name = crate, path, os.path.basename(path)
-        self.pairs, self.proofs = check_edits.pairs_of(path), set()
-        found = {self.function(*it) for it in self.pairs}
-        self.functions = set() if None in found else found
-
-    def function(self, file, old, new):
-        """Returns the file, the lines and the name of the function that a pair edits, or None."""
-        if not file.startswith("src/") or BEYOND.search(old) or BEYOND.search(new):
-            return None
-        with open(f"crates/{self.crate}/{file}", encoding="utf-8") as it:
-            text = it.read()
-        if text.count(old) != 1:
-            return None
-        lines = text.split("\n")
-        found = span(lines, text.count("\n", 0, text.find(old)))
-        if found:
-            self.proofs.add(proof_folder(file, lines, found[0]))
-        return found and (file, *found, name_of(file, lines, found[0]))
-
-    def applied_to(self, texts):
-        """Returns these texts with the edit, or None where it cannot be applied to them."""
-        texts = dict(texts)
-        faults = [check_edits.fault_in(it, f"crates/{self.crate}", texts) for it in self.pairs]
-        return None if any(faults) else texts
-
-    def refusal(self, complaints):
-        """Returns the first complaint at a line of what it edits, or in its proof, or None."""
-        for file, line, words in complaints:
-            is_there = any(it[0] == file and it[1] <= line <= it[2] for it in self.functions)
-            if is_there or any(it and re.fullmatch(it, file) for it in self.proofs):
-                return f"{file}:{line}: {words}"
-        return None
-
-
-def groups_of(bugs):
-    """Returns groups of edits that stand side by side, each with the texts that it makes."""
-    groups = []
-    for bug in bugs:
-        place = next((it for it in groups if it.takes(bug)), None)
-        if not place:
-            place = Group()
-            groups.append(place)
-        place.add(bug)
-    return groups
-
-
-class Group:
-    """Edits of different functions, and the crate's texts with all of them."""
-
-    def __init__(self):
-        self.bugs, self.texts, self.functions = [], {}, set()
-
-    def takes(self, bug):
-        is_free = len(self.bugs) < MOST and not self.functions & bug.functions
-        return is_free and bug.applied_to(self.texts) is not None
-
-    def names(self):
-        """Returns the names of the edited functions."""
-        return sorted({it[3] for it in self.functions})
-
-    def add(self, bug):
-        self.bugs.append(bug)
-        self.texts = bug.applied_to(self.texts)
-        self.functions |= bug.functions
 
 
 class Progress:
@@ -200,43 +79,73 @@ class Trial:
         self.kit, self.bugs, self.crate = kit, bugs, bugs[0].crate
         self.checks, self.progress, self.jobs = checks, progress, jobs
         self.is_proved = is_proved
-        self.number, self.begun = 0, time.monotonic()
+        self.number, self.alone, self.begun = 0, 0, time.monotonic()
 
     def run(self):
         """Tries them all."""
-        left = self.bugs
+        for bug in [it for it in self.bugs if it.fault]:
+            self.progress.judge(bug, False, f"it cannot be applied: {bug.fault}")
+        left = [it for it in self.bugs if not it.fault]
         if self.is_proved:
             self.progress.step[self.crate] = "many at a time, of proved functions"
-            left = self.try_groups(left, None, 0)
+            left = self.try_groups(left, None, MOST, 0)
+            left = self.try_groups(left, None, FEW, 1)
+            self.progress.step[self.crate] = "one at a time, of proved functions"
+            left = self.try_singly(left)
+        if left:
+            self.try_over_proof(left)
+        self.progress.step.pop(self.crate, None)
+        seconds = int(time.monotonic() - self.begun)
+        number = f"{len(self.bugs)} edits, {self.number} checks, {self.alone} alone"
+        self.progress.say(f"{self.crate}: {number}, {seconds} s")
+
+    def try_over_proof(self, left):
+        """Proves the crate without an edit, and tries these edits over what that has kept."""
         with tempfile.TemporaryDirectory(prefix="edits-") as kept:
             self.progress.step[self.crate] = "proving it without an edit"
-            prove = self.kit.proved
-            why = self.checks.submit(prove, self.crate, kept, self.jobs).result() if left else None
+            why = self.checks.submit(self.kit.proved, self.crate, kept, self.jobs).result()
             if why is not None:
                 for it in left:
                     self.progress.judge(it, False, f"the crate without an edit is not proved: {why}")
-            else:
-                self.try_over(left, kept)
-        self.progress.step.pop(self.crate, None)
+                return
+            if not self.is_proved:
+                self.progress.step[self.crate] = "many at a time"
+                left = self.try_groups(left, kept, MOST, 1)
+                left = self.try_groups(left, kept, FEW, 1)
+            self.try_alone(left, kept)
 
-    def try_over(self, left, kept):
-        self.progress.step[self.crate] = "many at a time"
-        left = self.try_groups(left, kept, 1) if left else left
-        left = self.try_groups(left, kept, 1) if left else left
-        self.progress.step[self.crate] = f"{len(left)} alone"
-        alone = [(it, self.checks.submit(self.kit.tried, self.crate, it.path, kept)) for it in left]
-        for bug, given in alone:
-            is_refused, text = given.result()
+    def try_alone(self, bugs, kept):
+        """Tries edits one by one, by a check of the whole crate."""
+        self.alone = len(bugs)
+        self.progress.step[self.crate] = f"{self.alone} alone"
+        given = [(it, self.checks.submit(self.kit.tried, self.crate, it.path, kept)) for it in bugs]
+        for bug, tried in given:
+            is_refused, text = tried.result()
             self.progress.judge(bug, is_refused, f"alone, {text}")
-        seconds = int(time.monotonic() - self.begun)
-        number = f"{len(self.bugs)} edits, {self.number} checks, {len(alone)} alone"
-        self.progress.say(f"{self.crate}: {number}, {seconds} s")
 
-    def try_groups(self, bugs, kept, least):
+    def try_singly(self, bugs):
+        """Tries edits one by one, by a check of those functions alone whose bodies or contracts
+        they change, and returns those of which it says nothing. No other edit is in the check and
+        the crate is proved without, so that each complaint is about the edit, wherever it stands."""
+        named = [(it, it.names()) for it in bugs if it.names()]
+        self.number += len(named)
+        check = functools.partial(self.checks.submit, self.kit.complaints, self.crate)
+        given = [(it, check(it.applied_to({}), None, names)) for it, names in named]
+        left = [it for it in bugs if not it.names()]
+        for bug, complaints in given:
+            found = complaints.result()
+            if found:
+                file, line, words = found[0]
+                self.progress.judge(bug, True, f"singly, {file}:{line}: {words}")
+            else:
+                left.append(bug)
+        return left
+
+    def try_groups(self, bugs, kept, most, least):
         """Tries edits many at a time, and returns those of which the checks say nothing. Takes
-        groups of more than this number of edits. Without kept work only these functions are
-        checked."""
-        found = groups_of([it for it in bugs if it.functions])
+        groups of more than the least number of edits, and of at most the other. Without kept work
+        only the functions that are edited are checked."""
+        found = groups_of([it for it in bugs if it.functions], most)
         groups = [it for it in found if len(it.bugs) > least]
         self.number += len(groups)
         given = [
@@ -293,7 +202,12 @@ def try_all(kit, chosen, progress, is_proved):
 
 
 def main(words):
-    os.chdir(os.path.dirname(os.path.dirname(os.path.abspath(__file__))))
+    root = os.path.dirname(os.path.dirname(os.path.abspath(__file__)))
+    if words[:1] == ["--root"]:
+        root, words = "".join(words[1:2]), words[2:]
+    if not os.path.isdir(f"{root}/crates"):
+        sys.exit(f"edits.py: {root or 'no folder'} is no repository: it has no folder crates/")
+    os.chdir(root)
     chosen = chosen_edits(words)
     total = sum(map(len, chosen.values()))
     progress = Progress({name: len(paths) for name, paths in chosen.items()})

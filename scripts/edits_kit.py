@@ -14,7 +14,8 @@ import tempfile
 
 ONE_JOB = ["--jobs", "1"]
 # Each name in rt or in its module rtlib.
-NEEDED = ("checked", "must_fail", "unread", "rtlib.crates_below", "rtlib.guarded", "rtlib.STALE")
+NEEDED = ("checked", "must_fail", "unread", "REFUSED")
+NEEDED += ("rtlib.crates_below", "rtlib.guarded", "rtlib.STALE")
 # A complaint at a line of a function, and one in a proof file that names the goal. What a proof
 # file names and an edit took away shows nothing of a contract.
 IN_CODE = re.compile(r"note: (?:\./)?(src/\S+?):(\d+):\d+: (it is not proved .*)")
@@ -24,6 +25,9 @@ JUDGED = re.compile(r"logic=not-proved|only=\d+ proved=\d+$")
 # What is said of a name that is of no function, or of several.
 NO_FUNCTION = re.compile(r"error: `\w+` has no function `(\S+?)`")
 SEVERAL = re.compile(r"error: several functions are named `(\S+?)`: help: write one of (.*)")
+# What rt calls refused though it says little of a contract: a limit of the prover, or a proof file
+# that names what the edit took away.
+ONLY = re.compile(r"refused, as it must be \(only ")
 TAKEN_AWAY = re.compile(r"has no field|is not in scope|has no `|was not admitted")
 
 
@@ -156,7 +160,9 @@ class Kit:
         """Tries one edit as rt must-fail does, and returns whether it is refused, and a line."""
         with tempfile.TemporaryDirectory(prefix="edits-") as room:
             shutil.copytree(kept, f"{room}/kept")
-            return self.rt.must_fail(self.crates[name], path, ONE_JOB, f"{room}/kept")
+            kind, text = self.rt.must_fail(self.crates[name], path, ONE_JOB, f"{room}/kept")
+        # (what it came to is one of five words, each of which is true)
+        return kind == self.rt.REFUSED and not ONLY.search(text), text
 
 
 def singly_tried(chosen, say):
@@ -176,5 +182,6 @@ def singly_tried(chosen, say):
         with subprocess.Popen(["rt", "must-fail", *chosen], **how) as ran:
             for line in ran.stdout:
                 say(line.rstrip("\n"))
-                refused += bool(re.search(r"must-fail \S+\.edit: refused, as it must be", line))
+                is_refused = re.search(r"must-fail \S+\.edit: refused, as it must be", line)
+                refused += bool(is_refused and not ONLY.search(line))
         return refused

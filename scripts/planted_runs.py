@@ -1,0 +1,119 @@
+"""Runs a program that has all deliberate bugs behind a switch: its tests, or its cases.
+
+A bug is tried with those tests and cases alone that come by it, which one run of each without a bug
+tells. Each run is a process of its own.
+"""
+import os
+import re
+import subprocess
+import tempfile
+import time
+from collections import namedtuple
+from concurrent.futures import ThreadPoolExecutor
+
+from planted_program import kit_folder
+
+MOST = 4096  # (as in planted.c)
+# A wrong body may wait for ever, or ask for ever more memory, or print for ever.
+SECONDS, BLOCKS = 10, 20_000
+CHECKS = "abort_on_error=1:allocator_may_return_null=1:symbolize=0:hard_rss_limit_mb=1500"
+# How the output of a test ends that holds, and that of a case.
+HOLDS, PLAYED = r"test result: ok\n\Z", r"(\A|\n)[1-9]\d* passed, 0 failed\n\Z"
+LIMITED = f'ulimit -c 0; ulimit -f {BLOCKS}; exec "$@"'
+# What is run under a name: the program's words, what it reads, and what the end of its output is.
+Input = namedtuple("Input", "words given ended")
+# How a run ended: its status, or None where it did not, what it printed, and after how long.
+Run = namedtuple("Run", "status said seconds")
+# What caught a bug: names in the order in which they did, and whether there may be more.
+Caught = namedtuple("Caught", "names more")
+
+
+def run(program, given, number=0, reached=None, seconds=60):
+    """Runs a program on an input, with a bug or with none: 0."""
+    kept = f"{kit_folder()}/toolchain/lib"
+    loader = [f"{kept}/ld-linux-x86-64.so.2", "--inhibit-cache", "--library-path", kept]
+    env = {"PLANTED": str(number), "ASAN_OPTIONS": CHECKS}
+    if reached:
+        env["PLANTED_REACHED"] = reached
+    words = ["/bin/sh", "-c", LIMITED, "sh", *loader, program, *given.words]
+    begun = time.time()
+    with tempfile.TemporaryFile() as said:
+        how = {"env": env, "timeout": seconds, "stdout": said, "stderr": said}
+        try:
+            status = subprocess.run(words, input=given.given.encode(), **how).returncode
+        except subprocess.TimeoutExpired:
+            status = None
+        said.seek(0)
+        text = said.read().decode(errors="replace")
+    return Run(status, text, time.time() - begun)
+
+
+def is_passed(given, ran):
+    """Returns whether a run of an input ended well."""
+    return ran.status == 0 and bool(re.search(given.ended, ran.said))
+
+
+def traced(program, given):
+    """Runs a program without a bug, and returns how it ended and the bugs that it came by."""
+    with tempfile.NamedTemporaryFile(prefix="planted-") as file:
+        file.write(bytes(MOST))
+        file.flush()
+        ran = run(program, given, 0, file.name)
+        file.seek(0)
+        return ran, {at for at, byte in enumerate(file.read()) if byte}
+
+
+def tests_of(program):
+    """Returns the tests of a program as inputs, by their names."""
+    listed = run(program, Input(["--list"], "", "")).said
+    names = re.findall(r"^(\S+): test$", listed, re.M)
+    return {it: Input([it], "", HOLDS) for it in names}
+
+
+def cases_of(text):
+    """Returns the cases of a text as inputs, by their files and titles: each as it is, and then with
+    each request for memory refused. A case ends at an empty line."""
+    plain, refusing = {}, {}
+    for of_file in re.split(r"^file ", text, flags=re.M)[1:]:
+        file, _, rest = of_file.partition("\n")
+        for case in re.split(r"\n\s*\n", rest):
+            title = re.search(r"^# (.*)", case, re.M)
+            if title and re.search(r"^on ", case, re.M):
+                name, given = f"{file}: {title[1]}", f"file {file}\n{case.strip()}\n\n"
+                plain[name] = Input([], given, PLAYED)
+                refusing[f"{name}, refused"] = plain[name]._replace(given=f"refuse\n{given}")
+    return {**plain, **refusing}
+
+
+class Runner:
+    """A program and its inputs."""
+
+    def __init__(self, program, inputs, without, jobs):
+        """Runs each input without a bug; `without` says which are left out."""
+        self.program = program
+        chosen = {it: of for it, of in inputs.items() if not (without and re.search(without, it))}
+        self.inputs, self.left_out = chosen, len(inputs) - len(chosen)
+        with ThreadPoolExecutor(jobs) as pool:
+            ran = list(pool.map(lambda it: traced(program, it), chosen.values()))
+        found = dict(zip(chosen, ran))
+        good = {it for it, (was, _) in found.items() if is_passed(chosen[it], was)}
+        self.faults = [f"{it}: {found[it][0].said[-500:]}" for it in chosen if it not in good]
+        self.seconds = {it: was.seconds for it, (was, _) in found.items()}
+        self.reached = {it: reached for it, (_, reached) in found.items() if it in good}
+
+    def reaching(self, number):
+        """Returns what comes by a bug: first the fast, and of these what comes by few bugs."""
+        found = [it for it, numbers in self.reached.items() if number in numbers]
+        return sorted(found, key=lambda it: (self.seconds[it] > 1, len(self.reached[it])))
+
+    def catching(self, number, enough):
+        """Returns what catches a bug; it stops after so many."""
+        caught, names = [], self.reaching(number)
+        for at, name in enumerate(names):
+            seconds = SECONDS + 10 * self.seconds[name]
+            ran = run(self.program, self.inputs[name], number, seconds=seconds)
+            if not is_passed(self.inputs[name], ran):
+                caught.append(name)
+            if len(caught) == enough:
+                return Caught(caught, at + 1 < len(names))
+        return Caught(caught, False)
