@@ -1,5 +1,6 @@
 //! Callers of `async_cell_driver`.
 use crate::edits::Put;
+use crate::executor::Executor;
 use anyhow::Result;
 use async_cell_driver::{Driver, Event, Kind, Refusal};
 
@@ -74,9 +75,22 @@ fn lists(rt: HostRuntime) -> Result<()> {
     Ok(())
 }
 
+/// An executor hands out what its task got.
+fn turns(rt: HostRuntime) -> Result<()> {
+    let mut executor: Executor<u32> = Executor::new(rt.alloc());
+    let mut finished = Vec::new(rt.alloc());
+    println!(rt; "executor: spawn {}", executor.spawn(Kind::Take)?)?;
+    println!(rt; "executor: turn {}", executor.turn(&mut finished)?)?;
+    println!(rt; "executor: send {:?}", executor.send(7))?;
+    println!(rt; "executor: turn {}", executor.turn(&mut finished)?)?;
+    println!(rt; "executor: finished {finished:?}")?;
+    Ok(())
+}
+
 /// Makes each of them.
 pub fn all(rt: HostRuntime) -> Result<()> {
     tasks(rt)?;
     calls(rt)?;
-    lists(rt)
+    lists(rt)?;
+    turns(rt)
 }
