@@ -24,13 +24,13 @@ use std::io::Print;
 use std::sync::Wait;
 
 /// What callers with a marker of their own are told.
-fn conclusions<R: AllocGlobal + Print + Wait>(rt: R) -> Result<()> {
+fn conclusions<R: AllocGlobal + Print + Wait>(rt: &R) -> Result<()> {
     let (text, number, count) = journal::two_steps(rt.alloc())?;
     print!(rt; "{text}")?;
     println!(rt; "journal: number {number}, count {count}")?;
-    let put = picks::five_once(rt.alloc(), &rt)?;
+    let put = picks::five_once(rt.alloc(), rt)?;
     println!(rt; "five put in: {}", put.history.len())?;
-    let taken = taken::five_taken(rt.alloc(), &rt)?;
+    let taken = taken::five_taken(rt.alloc(), rt)?;
     println!(rt; "five taken: {:?}", taken.entry.reply)?;
     Ok(())
 }
@@ -49,7 +49,7 @@ fn main(rt: HostRuntime) -> Result<()> {
     own::pointers(rt)?;
     driver::all(rt)?;
     recorded::all(&rt)?;
-    conclusions(rt)?;
+    conclusions(&rt)?;
     let (answered, history) = audit::audited(&rt, rt.alloc())?;
     let given = audit::values_given(&history);
     println!(rt; "audit: {answered:?}, given away {given}")?;
