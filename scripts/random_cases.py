@@ -1,0 +1,556 @@
+"""Makes random cases for the player, with what a plain model says must come back.
+
+The model is written from docs/DEFINITIONS.md and docs/GUIDE.md: a content, a number of owners, and
+the places of those who wait. A case is a list of calls on a cell, on all that an owner makes, on a
+core with wakers that are numbers, or on a latest state. Each is made from a seed, which its title
+has, so a case that fails can be made again, or pasted into tests/cases.
+"""
+import random
+
+TASKS = range(1, 8)
+LENGTH = 40
+
+
+def once(tasks):
+    """Who is woken, each once."""
+    return list(dict.fromkeys(it for it in tasks if it))
+
+
+class Wait:
+    """The places of those who wait. A dropped future leaves its waker in its place, which is then
+    free; the one that was left last is taken over first. Each fill, and the close, ends a round."""
+
+    def __init__(self):
+        self.round, self.tasks, self.free = 0, [], []
+
+    def end(self):
+        woken = once(self.tasks)
+        self.round, self.tasks, self.free = self.round + 1, [], []
+        return woken
+
+    def wait(self, place, task):
+        """Returns the place in which the task waits, and whom it lets go of."""
+        if not place or place[0] != self.round:
+            if not self.free:
+                self.tasks.append(task)
+                return (self.round, len(self.tasks) - 1), []
+            place = self.round, self.free.pop()
+        before, self.tasks[place[1]] = self.tasks[place[1]], task
+        return place, [before] if before and before != task else []
+
+    def leave(self, place):
+        if place and place[0] == self.round:
+            self.free.append(place[1])
+
+    def cancel(self, place):
+        """Returns whom the cancelled future lets go of."""
+        if not place or place[0] != self.round:
+            return []
+        self.free.append(place[1])
+        woken, self.tasks[place[1]] = self.tasks[place[1]], None
+        return once([woken])
+
+    def purge(self):
+        woken = [self.tasks[it] for it in sorted(self.free)]
+        for it in self.free:
+            self.tasks[it] = None
+        return once(woken)
+
+
+class Cell:
+    """A cell: what each call replies, and what happens in it. An event is a word and a number."""
+
+    def __init__(self, owners=1):
+        self.content, self.owners, self.wait, self.events = None, owners, Wait(), []
+
+    def happen(self, word, *numbers):
+        self.events += [(word, it) for it in numbers]
+
+    def fill(self, value):
+        """Puts a value in, and returns the old one."""
+        old, self.content = self.content, value
+        if old is None and value is not None:
+            self.happen("woke", *self.wait.end())
+        return old
+
+    def drop(self, value):
+        if value is not None:
+            self.happen("dropped", value)
+
+    def set(self, value):
+        self.drop(self.fill(value))
+        return "ok"
+
+    def or_set(self, value):
+        if self.content is None:
+            self.fill(value)
+        else:
+            self.drop(value)
+        return "ok"
+
+    def try_set(self, value):
+        return f"back {value}" if self.content is not None else self.set(value)
+
+    def replace(self, value):
+        old = self.fill(value)
+        return "none" if old is None else f"old {old}"
+
+    def update(self, how, value):
+        old = self.content
+        self.happen("saw", "none" if old is None else old)
+        if how == "add":
+            value = None if old is None else old + value
+        self.fill({"none": None, "keep": old}.get(how, value))
+        return "ok"
+
+    def update_some(self, how, value):
+        if self.content is not None:
+            return self.update(how, value)
+        if not how:
+            self.drop(value)
+        return "ok"
+
+    def try_take(self):
+        taken, self.content = self.content, None
+        return "none" if taken is None else f"some {taken}"
+
+    def try_get(self):
+        return "none" if self.content is None else self.cloned("some")
+
+    def cloned(self, word):
+        self.happen("cloned", self.content)
+        return f"{word} {self.content}'"
+
+    def poll(self, future, task, word="ready"):
+        """Polls a future: a list of whether it takes, and its place."""
+        if not self.owners:
+            return "closed"
+        if self.content is None:
+            future[1], let_go = self.wait.wait(future[1], task)
+            self.happen("woke", *let_go)
+            return "pending"
+        future[1] = None
+        return self.try_take().replace("some", word) if future[0] else self.cloned(word)
+
+    def guarded(self, cancel, how, value):
+        """Ends a guard."""
+        if how == "drop":
+            return self.or_set(cancel)
+        if how != "release":
+            getattr(self, how)(value)
+        self.drop(cancel)
+        return "ok"
+
+    def end_owner(self):
+        self.owners -= 1
+        if not self.owners:
+            self.happen("woke", *self.wait.end())
+            self.drop(self.content)
+            self.content = None
+        return "ok"
+
+    def debug(self):
+        if self.content is not None:
+            return f"AsyncCell::Full({self.content})"
+        return "AsyncCell::Pending" if any(self.wait.tasks) else "AsyncCell::Empty"
+
+
+class Maker:
+    """Writes a case down, call by call."""
+
+    def __init__(self, seed, kinds, holder):
+        self.random = random.Random(f"{kinds} {seed}")
+        self.cell = holder
+        self.lines = [f"# Random calls on {kinds}, seed {seed}", f"on {kinds}"]
+        self.made = {}
+        self.count = 0
+
+    def some(self, choices):
+        return self.random.choice(list(choices))
+
+    def value(self):
+        return self.random.randrange(9)
+
+    def name(self, letter):
+        self.count += 1
+        return f"{letter}{self.count}"
+
+    def line(self, call, reply="ok", notes=()):
+        """Writes a call, its reply, and what has happened in it."""
+        told, last = reply, None
+        for word, number in self.cell.events:
+            told += f" {number}" if word == last else f", {word} {number}"
+            last = word
+        self.cell.events = []
+        self.lines += [call if told == "ok" else f"{call} -> {told}", *notes]
+
+    def text(self):
+        return "\n".join(self.lines) + "\n\n"
+
+    def write(self, on=""):
+        """Makes a call that may write."""
+        cell, value, other = self.cell, self.value(), self.value()
+        word = self.some(["set", "or_set", "try_set", "replace", "update", "update_some", "guarded"])
+        if word.startswith("update"):
+            how = self.some(["", "add", "keep"] + (["none"] if word == "update" else []))
+            shown = how if how in ("none", "keep") else f"{how} {value}".strip()
+            self.line(f"{word} {shown}{on}", getattr(cell, word)(how, value))
+        elif word == "guarded":
+            how = self.some(["drop", "release", "set", "or_set"])
+            more = f" {other}" if how.endswith("set") else ""
+            self.line(f"guarded {value} {how}{more}{on}", cell.guarded(value, how, other))
+        else:
+            self.line(f"{word} {value}{on}", getattr(cell, word)(value))
+
+    def look(self, name=""):
+        cell = self.cell
+        replies = {
+            "try_take": cell.try_take,
+            "try_get": cell.try_get,
+            "is_set": lambda: str(cell.content is not None).lower(),
+            "waiting": lambda: str(len(cell.wait.tasks)),
+            "debug": cell.debug,
+            "purge": lambda: cell.happen("woke", *cell.wait.purge()) or "ok",
+        }
+        word = self.some(replies)
+        self.line(f"{word} {name}".strip(), replies[word]())
+
+    def poll(self, name):
+        word, task = self.made[name], self.some(TASKS)
+        if word[2] == "stream":
+            reply = self.cell.poll(word, task, "item").replace("closed", "end")
+            self.line(f"next {name} by {task}", reply)
+        else:
+            self.line(f"poll {name} by {task}", self.cell.poll(word, task))
+
+    def end(self, name):
+        """Drops or cancels a future or a stream."""
+        _, place, kind = self.made.pop(name)
+        if kind != "stream" and self.random.random() < 0.5:
+            self.cell.happen("woke", *self.cell.wait.cancel(place))
+            word = "cancel"
+        else:
+            self.cell.wait.leave(place)
+            word = "drop"
+        if kind == "owner":
+            self.cell.end_owner()
+        self.line(f"{word} {name}")
+
+
+def calls_on_a_cell(seed):
+    """Calls on a cell or an owner, beside futures that are kept."""
+    maker = Maker(seed, "cells owners", Cell())
+    maker.line("new")
+    for _ in range(LENGTH):
+        chosen = maker.random.randrange(8)
+        if chosen < 2 and len(maker.made) < 6:
+            name, takes = maker.name("f"), chosen == 0
+            maker.made[name] = [takes, None, "future"]
+            maker.line(f"{'take' if takes else 'get'} {name}")
+        elif chosen < 5 and maker.made:
+            maker.poll(maker.some(maker.made))
+        elif chosen == 5 and maker.made:
+            maker.end(maker.some(maker.made))
+        elif chosen == 6:
+            maker.look()
+        else:
+            maker.write()
+    return maker.text()
+
+
+class Owners(Maker):
+    """All that owners make: more owners, weak ones, guards, futures and streams."""
+
+    def __init__(self, seed):
+        super().__init__(seed, "owners", Cell())
+        self.owners, self.guards = ["it"], {}
+        self.line("new")
+        self.line("weak w")
+
+    def add(self):
+        """Makes one more thing."""
+        owner = self.some(self.owners)
+        word = self.some(["own", "guard", "take_shared", "get_shared", "take_weak", "get_weak", "values"])
+        name = self.name(word[0])
+        shared = word in ("own", "guard", "take_shared", "get_shared")
+        self.cell.owners += shared
+        if word == "own":
+            self.owners.append(name)
+        elif word == "guard":
+            self.guards[name] = self.value()
+            name = f"{name} {self.guards[name]}"
+        else:
+            kind = "stream" if word == "values" else "owner" if shared else "weak"
+            self.made[name] = [not word.startswith("get"), None, kind]
+        self.line(f"{word} {name} on {owner}")
+
+    def upgrade(self):
+        """Upgrades the weak owner, or makes a future of it."""
+        if self.random.random() < 0.5:
+            name = self.name("t")
+            self.made[name] = [True, None, "weak"]
+            return self.line(f"take {name} on w")
+        if not self.cell.owners:
+            return self.line("upgrade w none", "closed")
+        self.owners.append(self.name("u"))
+        self.cell.owners += 1
+        return self.line(f"upgrade w {self.owners[-1]}")
+
+    def end_guard(self):
+        name, value = self.some(self.guards), self.value()
+        cancel = self.guards.pop(name)
+        how = self.some(["drop", "release", "set", "or_set"])
+        self.cell.guarded(cancel, how, value)
+        self.cell.end_owner()
+        self.line(f"{how} {value} on {name}" if how.endswith("set") else f"{how} {name}")
+
+    def end_owner(self):
+        name = self.some(self.owners)
+        if self.random.random() < 0.4 and self.cell.owners > 1:
+            return self.line(f"into_inner {name}", "shared")
+        self.owners.remove(name)
+        if self.random.random() < 0.4 and self.cell.owners == 1:
+            content, self.cell.content = self.cell.content, None
+            self.cell.end_owner()
+            return self.line(f"into_inner {name}", "none" if content is None else f"inner {content}")
+        self.cell.end_owner()
+        return self.line(f"{self.some(['drop', 'end'])} {name}")
+
+    def step(self):
+        chosen = self.random.randrange(12)
+        if chosen < 4 and self.owners and len(self.made) < 6:
+            self.add()
+        elif chosen == 4:
+            self.upgrade()
+        elif chosen == 5 and self.guards:
+            self.end_guard()
+        elif chosen == 6 and self.made:
+            self.end(self.some(self.made))
+        elif chosen == 7 and self.owners:
+            self.end_owner()
+        elif chosen < 10 and self.owners:
+            name = self.some(self.owners)
+            self.write(f" on {name}") if chosen == 8 else self.look(name)
+        elif self.made:
+            self.poll(self.some(self.made))
+
+
+def would_wake(waker, other):
+    return waker % 2 == 0 if waker >= 100 else waker == other
+
+
+class Core(Cell):
+    """A core: a waker that any waiting one would wake is not added."""
+
+    def add(self, waker):
+        if not any(would_wake(it, waker) for it in self.wait.tasks):
+            self.wait.tasks.append(waker)
+        return "pending"
+
+    def fill(self, value):
+        old, self.content = self.content, value
+        if old is None and value is not None:
+            self.hand_out()
+        return old
+
+    def hand_out(self):
+        self.happen("woke", *self.wait.tasks)
+        self.wait.tasks = []
+
+    def poll_by(self, takes, waker):
+        if not self.owners:
+            return "closed"
+        if self.content is None:
+            return self.add(waker)
+        return self.try_take().replace("some", "ready") if takes else self.cloned("ready")
+
+    def close(self):
+        """Ends an owner: the reply of a core."""
+        if not self.owners:
+            return "closed"
+        self.owners -= 1
+        if self.owners:
+            return "none"
+        self.hand_out()
+        content, self.content = self.content, None
+        return "none" if content is None else f"inner {content}"
+
+
+def step_of_core(maker):
+    """Makes a call. Where a lock drops what a core gives back, a note says so."""
+    cell, value = maker.cell, maker.value()
+    chosen = maker.random.randrange(10)
+    if chosen < 4:
+        takes, waker = chosen < 2, maker.some([1, 2, 3, 100, 101])
+        maker.line(f"{'take' if takes else 'get'} by {waker}", cell.poll_by(takes, waker))
+    elif chosen == 4:
+        reply = "ok" if cell.owners else "closed"
+        cell.owners += bool(cell.owners)
+        maker.line("add_owner", reply)
+    elif chosen == 5 and cell.owners > 1:
+        maker.line("take_inner", "shared")
+    elif chosen == 5 and not maker.random.randrange(3):
+        maker.line("take_inner", cell.close())
+    elif chosen == 6 and cell.owners > 1:
+        cell.owners -= 1
+        maker.line("end_owner", "none", ["  on locked -> ok"])
+    elif chosen == 7:
+        replies = {
+            "try_take": cell.try_take,
+            "try_get": cell.try_get,
+            "is_set": lambda: str(cell.content is not None).lower(),
+            "is_closed": lambda: str(not cell.owners).lower(),
+            "waiting": lambda: str(len(cell.wait.tasks)),
+            "owners": lambda: str(cell.owners),
+        }
+        word = maker.some(replies)
+        maker.line(word, replies[word]())
+    elif not cell.owners:
+        maker.line(f"{maker.some(['set', 'or_set', 'replace'])} {value}", f"back {value}")
+    else:
+        word = maker.some(["set", "replace", "update"])
+        if word == "update":
+            how = maker.some(["none", "keep", ""])
+            maker.line(f"update {how or value}", cell.update(how, value))
+        else:
+            maker.line(f"{word} {value}", getattr(cell, word)(value))
+
+
+def calls_on_a_core(seed):
+    maker = Maker(seed, "core locked", Core())
+    maker.line("new")
+    for _ in range(LENGTH):
+        step_of_core(maker)
+    return maker.text()
+
+
+class States(Maker):
+    """Owners and followers of a latest state. A follower lends itself to one future at a time."""
+
+    def __init__(self, seed):
+        super().__init__(seed, "states", Cell())
+        self.cell.content, self.version = 1, 1
+        self.owners, self.seen, self.lent = ["it"], {"f": 1}, {}
+        self.line("new 1")
+        self.line("follow f")
+
+    def write(self, on=""):
+        value, old = self.value(), self.cell.content
+        word = self.some(["set", "replace", "update"])
+        if word == "update":
+            self.cell.happen("saw", old)
+        self.cell.content, self.version = value, self.version + 1
+        self.cell.happen("woke", *self.cell.wait.end())
+        if word != "replace":
+            self.cell.drop(old)
+        self.line(f"{word} {value}{on}", f"old {old}" if word == "replace" else "ok")
+
+    def follow(self):
+        name, of = self.name("f"), self.some([*self.owners, *self.free()])
+        self.seen[name] = self.seen.get(of, self.version)
+        self.line(f"clone {of} {name}" if of in self.seen else f"follow {name} on {of}")
+
+    def free(self):
+        """The followers that are not lent."""
+        return [it for it in self.seen if it not in self.lent.values()]
+
+    def look(self, name=""):
+        cell, has_changed = self.cell, self.seen[name] != self.version
+        word = self.some(["read", "read_and_update", "peek", "has_changed", "is_closed", "mark_unchanged", "mark_changed"])
+        if word.startswith("mark") or word.endswith("update"):
+            self.seen[name] = 0 if word == "mark_changed" else self.version
+        replies = {
+            "peek": str(cell.content),
+            "has_changed": str(has_changed).lower(),
+            "is_closed": str(not cell.owners).lower(),
+        }
+        reply = cell.cloned("some") if word.startswith("read") else replies.get(word, "ok")
+        self.line(f"{word} {name}", reply)
+
+    def lend(self):
+        """Makes a future or a stream of a follower: its place, and the state that it looked at."""
+        of, name = self.some(self.free()), self.name("c")
+        kind = self.some(["changed", "wait_for", "states"])
+        wanted = self.value() if kind == "wait_for" else 0
+        if kind == "states":
+            self.seen[name] = self.seen[of]
+        self.lent[name] = name if kind == "states" else of
+        self.made[name] = [kind, None, 0 if kind == "wait_for" else None, wanted]
+        self.line(f"{kind} {wanted} {name} on {of}" if wanted or kind == "wait_for" else f"{kind} {name} on {of}")
+
+    def poll(self, name):
+        future, of, task = self.made[name], self.lent[name], self.some(TASKS)
+        kind, place, looked, wanted = future
+        seen = self.seen[of] if looked is None else looked
+        reply = None
+        if seen != self.version:
+            if kind == "wait_for":
+                self.cell.happen("saw", self.cell.content)
+            if kind != "wait_for" or self.cell.content >= wanted:
+                future[1] = None
+                words = {"wait_for": "ready", "states": "item"}
+                reply = self.cell.cloned(words[kind]) if kind in words else "ready"
+            self.seen[of] = self.version
+            future[2] = None if looked is None else self.version
+        if not reply and not self.cell.owners:
+            reply = "end" if kind == "states" else "closed"
+        if not reply:
+            future[1], let_go = self.cell.wait.wait(place, task)
+            self.cell.happen("woke", *let_go)
+            reply = "pending"
+        self.line(f"{'next' if kind == 'states' else 'poll'} {name} by {task}", reply)
+
+    def end(self, name):
+        place, word = self.made.pop(name)[1], self.some(["drop", "cancel"])
+        self.lent.pop(name)
+        self.seen.pop(name, None)
+        if word == "cancel":
+            self.cell.happen("woke", *self.cell.wait.cancel(place))
+        else:
+            self.cell.wait.leave(place)
+        self.line(f"{word} {name}")
+
+    def own(self):
+        """Adds an owner, or ends one."""
+        name = self.some(self.owners)
+        if self.random.random() < 0.5:
+            self.owners.append(self.name("o"))
+            self.cell.owners += 1
+            return self.line(f"own {self.owners[-1]} on {name}")
+        self.owners.remove(name)
+        self.cell.owners -= 1
+        if not self.owners:
+            self.cell.happen("woke", *self.cell.wait.end())
+        self.line(f"{self.some(['drop', 'end'])} {name}")
+
+    def step(self):
+        chosen, on = self.random.randrange(10), self.owners and f" on {self.some(self.owners)}"
+        if chosen < 2 and self.owners:
+            self.write(on)
+        elif chosen == 2 and self.owners:
+            self.own()
+        elif chosen == 3 and len(self.seen) < 5 and (self.owners or self.free()):
+            self.follow()
+        elif chosen == 4 and self.free() and len(self.made) < 5:
+            self.lend()
+        elif chosen == 5 and self.made:
+            self.end(self.some(self.made))
+        elif chosen == 6 and self.free():
+            self.look(self.some(self.free()))
+        elif self.made:
+            self.poll(self.some(self.made))
+
+
+def steps_of(maker):
+    """Writes a case of a maker that makes its own steps."""
+    for _ in range(LENGTH):
+        maker.step()
+    return maker.text()
+
+
+def cases(count, first=0):
+    """Returns the text of so many cases of each sort."""
+    seeds = range(first, first + count)
+    made = [sort(seed) for sort in (calls_on_a_cell, calls_on_a_core) for seed in seeds]
+    made += [steps_of(sort(seed)) for sort in (Owners, States) for seed in seeds]
+    return "".join(made)
