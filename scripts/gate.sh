@@ -1,12 +1,13 @@
 #!/usr/bin/env bash
-# The whole gate, which CI runs too: a look at the deliberate bugs, `rt ci`, the deliberate bugs of
-# bugs/, the built program, the built tests with each request for memory refused and on a small
-# stack, the cases of misuse that must not compile, the tests of values that call their own cell,
-# the first program in a repository of its own, and the snippets of the pages. Prints a line at
-# least every minute, at the end a line for each step with what it has shown, and last 'N passed, M
-# failed', with the totals of `rt ci` and of the deliberate bugs. A step fails if its status is not
-# 0, or if its last line is not as it has to be. The first one that fails ends the gate, whose
-# status is then not 0. A failure of a step that is not among the totals counts as one.
+# The whole gate, which CI runs too: a look at the deliberate bugs and at the pages, all tests without
+# a proof, `rt ci`, the check of the script that tries deliberate bugs, the deliberate bugs of bugs/,
+# the built program, also with each request for memory refused, the cases of misuse that must not
+# compile, the first program in a repository of its own, and the snippets of the pages. Prints a line
+# at least every minute, at the end a line for each step with what it has shown and how long it took,
+# and last 'N passed, M failed', with the totals of the tests, of `rt ci` and of the deliberate bugs.
+# A step fails if its status is not 0, or if its last line is not as it has to be. The first one that
+# fails ends the gate, whose status is then not 0. A failure of a step that is not among the totals
+# counts as one.
 set -u
 cd "$(dirname "$0")/.." || exit 1
 work=$(mktemp -d)
@@ -41,7 +42,7 @@ finish() {
 # if its status is 0 and that line is as the pattern says. The status of a pipe is that of its first
 # command here.
 step() {
-    local name=$1 wanted=$2 status
+    local name=$1 wanted=$2 status begun=$SECONDS
     shift 2
     echo "gate: $name"
     : >"$work/log"
@@ -55,7 +56,7 @@ step() {
     wait "$ticker" 2>/dev/null
     ticker=
     last=$(tail -n 1 "$work/log")
-    echo "gate: $name: $last" >>"$work/shown"
+    echo "gate: $name, $((SECONDS - begun)) s: $last" >>"$work/shown"
     [ "$status" -eq 0 ] && [[ $last =~ $wanted ]]
 }
 
@@ -79,20 +80,21 @@ count() {
     finish 1
 }
 
-# The last line of a step that counts, and those of two that do not.
+# The last line of a step that counts, and those of three that do not.
 counts='^([a-z]+: )?[1-9][0-9]* passed, 0 failed$'
 applied='^[1-9][0-9]* deliberate bugs, 0 of which cannot be applied$'
+read='^pages: [1-9][0-9]* read, 0 faults$'
 vendored='^vendor_check: .* runs in a repository of its own: .'
 
 show 'the deliberate bugs can be applied' "$applied" python3 scripts/check_edits.py
-count 'proofs, tests, programs, and the bugs of must-fail/ (rt ci)' rt ci
+show 'the pages (scripts/pages.py)' "$read" python3 scripts/pages.py
+count 'all tests, without a proof (scripts/tests.sh)' bash scripts/tests.sh
+count 'proofs, programs, and the bugs of must-fail/ (rt ci)' rt ci
+show 'what tries deliberate bugs (scripts/edits_check.py)' "$counts" python3 scripts/edits_check.py
 count 'the bugs of bugs/ (scripts/edits.py)' python3 scripts/edits.py proved
 show 'the built program (scripts/program.sh)' "$counts" bash scripts/program.sh
 show 'no memory (scripts/memory.sh)' "$counts" bash scripts/memory.sh
-show 'a million wakers (scripts/many.sh)' "$counts" bash scripts/many.sh
 show 'misuse that must not compile (misuse/check.sh)' "$counts" bash misuse/check.sh
-show 'values that call their own cell (misuse/check.sh reentry)' "$counts" \
-    bash misuse/check.sh reentry
 show 'a project of its own (scripts/vendor_check.sh)' "$vendored" bash scripts/vendor_check.sh
 show 'the snippets of the pages (scripts/snippets.py)' "$counts" python3 scripts/snippets.py
 finish 0
