@@ -4,8 +4,11 @@
 The player is the program tests/player. It is laid out with the crates that it plays in a temporary
 project, built once, without a proof, and plays the cases twice: as they are, and with each request
 for memory of each case refused in turn. Prints a line for each thing that came out otherwise than a
-case says, and last `N passed, M failed`. Words name the files of cases to play (none: all).
+case says, and last `N passed, M failed`. Words name the files of cases to play. Without any, all are
+played, and random ones: so many of each sort as --random says, from the seed --seed on, and of a
+tenth of them each request is refused. One that fails is printed, to be pasted into tests/cases.
 """
+import argparse
 import os
 import re
 import shutil
@@ -14,6 +17,8 @@ import sys
 import tempfile
 
 import edits_kit
+import random_cases
+from lay_out import copy_crates, lay_crate, read, write
 
 TOP = os.path.dirname(os.path.dirname(os.path.abspath(__file__)))
 USED = ["model", "cons", "core", "latest", "latest_unsync", "latest_sync", "unsync", "sync"]
@@ -23,23 +28,10 @@ SECONDS = "300"
 
 def lay_out(folder):
     """Lays the player and the crates below it out as a project."""
-    os.makedirs(f"{folder}/crates")
-    shutil.copy(f"{TOP}/HANDLES", folder)
-    for crate in CRATES:
-        for part in ("src", "specs", "proofs"):
-            if os.path.isdir(f"{TOP}/crates/{crate}/{part}"):
-                shutil.copytree(f"{TOP}/crates/{crate}/{part}", f"{folder}/crates/{crate}/{part}")
-    for at, _, names in os.walk(f"{TOP}/tests/player/src"):
-        made = f"{folder}/crates/player/src{at[len(TOP + '/tests/player/src'):]}"
-        os.makedirs(made)
-        for name in names:
-            shutil.copy(f"{at}/{name}", f"{made}/{name.removesuffix('.txt')}")
-    with open(f"{TOP}/crates.txt", encoding="utf-8") as file:
-        lines = [it for it in file if it.split(":")[0] in CRATES]
-    with open(f"{folder}/crates.txt", "w", encoding="utf-8") as file:
-        file.writelines(lines)
-        file.write(f"player: {' '.join(CRATES)} futures\n")
-    subprocess.run(["git", "init", "-q", folder], check=True)
+    copy_crates(folder, CRATES)
+    used = [it for it in read(f"{TOP}/crates.txt").split("\n") if it.split(":")[0] in CRATES]
+    write(f"{folder}/crates.txt", "\n".join(used) + "\n")
+    lay_crate(folder, "player", f"{TOP}/tests/player")
 
 
 def compiled(folder):
@@ -69,34 +61,55 @@ def build_and_play(folder, inputs, objects):
     rt.rtlib.guarded()
     crate = next(it for it in rt.rtlib.crates_below(folder) if it.name == "player")
     os.chdir(crate.folder)
+    # (its look at names, beside the try, is for what is to be proved)
+    rt.rtlib.RATTLE = "true"
     # (before the kit's own libraries, so that their functions of memory are not looked for)
     rt.rtlib.TRY_FLAGS.append("--link")
     links = [word for it in objects for word in ("--link", it)]
     return crate.try_unproved([*links, "--cases", inputs, "--seconds", SECONDS], [])
 
 
-def play(words):
-    """Does so in a process of its own. Prints its lines, and returns what each run counted."""
+def play(words, random_text):
+    """Does so in a process of its own. Prints its lines, each random case once that came out
+    otherwise, and returns what each run counted."""
     words = [sys.executable, os.path.abspath(__file__), "--play", *words]
-    counts = []
+    counts, told = [], set()
     with subprocess.Popen(words, stdout=subprocess.PIPE, stderr=subprocess.STDOUT, text=True) as ran:
         for line in ran.stdout:
             found = re.match(r"(\d+) passed, (\d+) failed$", line)
             if found:
                 counts.append((int(found[1]), int(found[2])))
-            print(line, end="", flush=True)
+            case = shown(line, random_text)
+            print(line, end="" if not case or case in told else f"\n{case}\n", flush=True)
+            told.add(case)
     return counts
 
 
-def main(chosen):
+def shown(line, random_text):
+    """Returns the random case of which this line tells that something differs, or nothing."""
+    found = re.match(r"random:(\d+) on ", line)
+    if not found:
+        return ""
+    lines = random_text.split("\n")
+    begin = max(it for it in range(int(found[1])) if lines[it].startswith("#"))
+    return "\n".join(lines[begin : lines.index("", begin)]) + "\n"
+
+
+def main(words):
+    reader = argparse.ArgumentParser(description=__doc__.split("\n\n", maxsplit=1)[0])
+    reader.add_argument("--random", type=int, default=20, help="how many of each sort")
+    reader.add_argument("--seed", type=int, default=0, help="the first seed")
+    reader.add_argument("files", nargs="*", help="files of tests/cases")
+    asked = reader.parse_args(words)
+    made = "" if asked.files else random_cases.cases(asked.random, asked.seed)
     with tempfile.TemporaryDirectory(prefix="cases-") as folder:
         lay_out(f"{folder}/project")
         os.mkdir(f"{folder}/inputs")
-        text = cases(chosen) + ("" if chosen else "all\n")
-        for name, before in (("plain", ""), ("refusing", "refuse\n")):
-            with open(f"{folder}/inputs/{name}", "w", encoding="utf-8") as file:
-                file.write(before + text)
-        counts = play([f"{folder}/project", f"{folder}/inputs", *compiled(folder)])
+        text = cases(asked.files) + ("" if asked.files else "all\n")
+        write(f"{folder}/inputs/plain", f"{text}file random\n{made}")
+        few = random_cases.cases(-(-asked.random // 10), asked.seed) if made else ""
+        write(f"{folder}/inputs/refusing", f"refuse\n{text}file random refused\n{few}")
+        counts = play([f"{folder}/project", f"{folder}/inputs", *compiled(folder)], made)
     passed, failed = (sum(it) for it in zip((0, 0), *counts))
     failed += 2 - len(counts)
     print(f"{passed} passed, {failed} failed")

@@ -87,17 +87,24 @@ class Trial:
             self.progress.judge(bug, False, f"it cannot be applied: {bug.fault}")
         left = [it for it in self.bugs if not it.fault]
         if self.is_proved:
-            self.progress.step[self.crate] = "many at a time, of proved functions"
-            left = self.try_groups(left, None, MOST, 0)
-            left = self.try_groups(left, None, FEW, 1)
-            self.progress.step[self.crate] = "one at a time, of proved functions"
-            left = self.try_singly(left)
+            with tempfile.TemporaryDirectory(prefix="edits-") as kept:
+                left = self.try_functions(left, kept)
         if left:
             self.try_over_proof(left)
         self.progress.step.pop(self.crate, None)
         seconds = int(time.monotonic() - self.begun)
         number = f"{len(self.bugs)} edits, {self.number} checks, {self.alone} alone"
         self.progress.say(f"{self.crate}: {number}, {seconds} s")
+
+    def try_functions(self, left, kept):
+        """Tries edits by checks of the functions that they change, and returns what these say
+        nothing of. The folder gets what the first check proves, which the others have not to prove
+        again: mostly the functions that the edited ones call."""
+        self.progress.step[self.crate] = "many at a time, of proved functions"
+        left = self.try_groups(left, kept, MOST, 0)
+        left = self.try_groups(left, kept, FEW, 1)
+        self.progress.step[self.crate] = "one at a time, of proved functions"
+        return self.try_singly(left, kept)
 
     def try_over_proof(self, left):
         """Proves the crate without an edit, and tries these edits over what that has kept."""
@@ -123,14 +130,14 @@ class Trial:
             is_refused, text = tried.result()
             self.progress.judge(bug, is_refused, f"alone, {text}")
 
-    def try_singly(self, bugs):
+    def try_singly(self, bugs, kept):
         """Tries edits one by one, by a check of those functions alone whose bodies or contracts
         they change, and returns those of which it says nothing. No other edit is in the check and
         the crate is proved without, so that each complaint is about the edit, wherever it stands."""
         named = [(it, it.names()) for it in bugs if it.names()]
         self.number += len(named)
         check = functools.partial(self.checks.submit, self.kit.complaints, self.crate)
-        given = [(it, check(it.applied_to({}), None, names)) for it, names in named]
+        given = [(it, check(it.applied_to({}), kept, names)) for it, names in named]
         left = [it for it in bugs if not it.names()]
         for bug, complaints in given:
             found = complaints.result()
@@ -142,20 +149,25 @@ class Trial:
         return left
 
     def try_groups(self, bugs, kept, most, least):
-        """Tries edits many at a time, and returns those of which the checks say nothing. Takes
-        groups of more than the least number of edits, and of at most the other. Without kept work
-        only the functions that are edited are checked."""
+        """Tries edits many at a time, over what is kept, and returns those of which the checks say
+        nothing. Takes groups of more than the least number of edits, and of at most the other."""
         found = groups_of([it for it in bugs if it.functions], most)
         groups = [it for it in found if len(it.bugs) > least]
-        self.number += len(groups)
-        given = [
-            self.checks.submit(self.kit.complaints, self.crate, it.texts, kept, it.names())
-            for it in groups
-        ]
         left = [it for it in bugs if not any(it in group.bugs for group in groups)]
-        for group, complaints in zip(groups, given):
+        if groups and not os.listdir(kept):
+            first = groups.pop(0)
+            left += self.judge(first, self.check(first, kept, True).result())
+        given = [(it, self.check(it, kept, False)) for it in groups]
+        for group, complaints in given:
             left += self.judge(group, complaints.result())
         return left
+
+    def check(self, group, kept, keeps):
+        """Begins a check of a group: of the functions that it edits, where the crate is proved."""
+        self.number += 1
+        names = group.names() if self.is_proved else None
+        complain = self.kit.complaints
+        return self.checks.submit(complain, self.crate, group.texts, kept, names, keeps)
 
     def judge(self, group, complaints):
         """Judges each edit of a group that the complaints name, and returns the others."""

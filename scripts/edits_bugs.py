@@ -30,11 +30,12 @@ def fault_of(path):
 
 class Bug:
     """An edit of a crate: why it cannot be applied (or None), the functions whose bodies it changes
-    (none if it changes anything else too), and those whose signature or contract it changes."""
+    (none if it changes anything else too), those whose signature or contract it changes, and whether
+    it writes a loop."""
 
     def __init__(self, crate, path):
         self.crate, self.path, self.name = crate, path, os.path.basename(path)
-        self.fault, self.heads, texts = fault_of(path), set(), {}
+        self.fault, self.heads, self.has_loop, texts = fault_of(path), set(), False, {}
         self.pairs = [] if self.fault else check_edits.pairs_of(path)
         found = [self.function(texts, *it) for it in self.pairs]
         self.functions = {} if None in found else {it.key(): it for it in found}
@@ -49,6 +50,7 @@ class Bug:
         if not file.startswith("src/"):
             return None
         functions, change = functions_of(file, text), Change(text, old, new)
+        self.has_loop |= change.has_loop
         headed = change.headed(functions)
         if headed:
             self.heads.add(headed.name())
@@ -101,7 +103,9 @@ class Group:
 
     def takes(self, bug, most):
         is_free = len(self.bugs) < most and not any(it.overlaps(bug) for it in self.bugs)
-        return is_free and bug.applied_to(self.texts) is not None
+        # (where a loop has no measure, the check does not come to the functions that call it)
+        has_loop = any(it.has_loop for it in [bug, *self.bugs])
+        return is_free and not has_loop and bug.applied_to(self.texts) is not None
 
     def names(self):
         """Returns the names of the edited functions."""

@@ -23,6 +23,7 @@ TOYS = f"{HERE}/edits_check"
 FAILED, REFUSED = "FAILED", "refused"
 IN_GROUP, SINGLY = r"src/lib\.rt:\d+: it is not proved", r"singly, src/"
 ALONE, STILL_PROVED = "alone, .*: refused, as", "alone, .*: NOT REFUSED: the crate is still proved"
+LOOPS = "    loop { if x == 0 { break; } } true"
 ADDED = "pub fn is_none(x: u8) -> bool ensures { IsTrue result ↔ x ≡ 0 } { x == 1 } fn other(x: u8) -> bool"
 
 # An edit: its crate and name, what is to be said of it, how the reason begins, and its pairs of an old
@@ -34,6 +35,7 @@ CASES = [
     Case("lo", "a_wrong_head", REFUSED, SINGLY, [("pub fn is_none(x: u8) -> bool", ADDED)]),
     Case("lo", "b_same_meaning", FAILED, STILL_PROVED, [("    x + 1", "    1 + x")]),
     Case("lo", "b_two_bodies", REFUSED, IN_GROUP, [("    x + STEP", "    x"), ("{ x } else", "{ 1 } else")]),
+    Case("lo", "c_endless", REFUSED, "proofs/is_none/.*: expected a measure", [("    x == 0", LOOPS)]),
     # (a constant between two functions, and a bug of the one below it in the same check)
     Case("lo", "a_constant", FAILED, STILL_PROVED, [("u8 = 2;", "u8 = 1;")]),
     Case("lo", "a_bug_below_it", REFUSED, IN_GROUP, [("    x + STEP", "    STEP")]),
@@ -135,7 +137,7 @@ def try_answers(kit, room, checks):
         checks.show(f"'{text[len('must-fail lo/it.edit: '):][:44]}'", bool(is_refused) == wanted, said)
     for name, (text, status, wanted) in ENDS.items():
         ran = types.SimpleNamespace(stdout=f"{text}\n", returncode=status)
-        found = kit_that(kit, checked=lambda *_: ran).complaints("lo", {}, None, ["f"])
+        found = kit_that(kit, checked=lambda *_: ran).complaints("lo", {}, room, ["f"])
         checks.show(name, bool(found) == wanted, f"{len(found)} complaints")
 
 

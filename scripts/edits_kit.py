@@ -16,12 +16,13 @@ ONE_JOB = ["--jobs", "1"]
 # Each name in rt or in its module rtlib.
 NEEDED = ("checked", "must_fail", "unread", "REFUSED")
 NEEDED += ("rtlib.crates_below", "rtlib.guarded", "rtlib.STALE")
-# A complaint at a line of a function, and one in a proof file that names the goal. What a proof
-# file names and an edit took away shows nothing of a contract.
+# A complaint at a line of a function, one in a proof file that names the goal, and one of a loop that
+# need not end. What a proof file names and an edit took away shows nothing of a contract.
 IN_CODE = re.compile(r"note: (?:\./)?(src/\S+?):(\d+):\d+: (it is not proved .*)")
 IN_PROOF = re.compile(r"(?:\./)?(proofs/\S+?):(\d+):\d+: error: (`[^`]*`: .*)")
+NO_MEASURE = re.compile(r"fn \S+: no proof: (expected a measure in (?:\./)?(proofs/\S+\.antt))")
 # The last line of a check that judged a crate, or some of its functions.
-JUDGED = re.compile(r"logic=not-proved|only=\d+ proved=\d+$")
+JUDGED = re.compile(r"logic=not-proved|only=\d+ proved=\d+( incremental=trusted)?$")
 # What is said of a name that is of no function, or of several.
 NO_FUNCTION = re.compile(r"error: `\w+` has no function `(\S+?)`")
 SEVERAL = re.compile(r"error: several functions are named `(\S+?)`: help: write one of (.*)")
@@ -116,11 +117,18 @@ class Kit:
         ran = self.rt.checked(self.crates[name], {}, ["--jobs", str(jobs)], kept)
         return "\n".join(ran.stdout.split("\n")[-8:]) if ran.returncode else None
 
-    def complaints(self, name, texts, kept, functions):
+    def complaints(self, name, texts, kept, functions=None, keeps=False):
         """Returns (file, line, words) of each complaint about a crate with these texts, or nothing
-        where the check says nothing of its contracts. Without kept work only the functions of these
-        names are checked."""
-        ran = self.checked(name, texts, kept) if kept else self.only(name, texts, functions)
+        where the check says nothing of its contracts. It is a check over kept work: of the whole
+        crate, or of the functions of these names and of what they call. Where it keeps, the folder
+        kept has afterwards what it proved."""
+        # (over a copy, since a kept folder holds one version of a function: a check over what edits
+        # left would prove each of those functions again)
+        with tempfile.TemporaryDirectory(prefix="edits-") as room:
+            over = shutil.copytree(kept, f"{room}/kept")
+            ran = self.checked(name, texts, over, functions)
+            if keeps and ran.returncode in (0, 1):
+                shutil.copytree(over, kept, dirs_exist_ok=True)
         said = ran.stdout.rstrip("\n").split("\n")
         is_judged = ran.returncode == 1 and JUDGED.match(said[-1])
         if not is_judged or self.rt.rtlib.STALE.search(ran.stdout):
@@ -129,23 +137,17 @@ class Kit:
             return []
         lines = [it for it in said if not TAKEN_AWAY.search(it)]
         found = [IN_CODE.match(it) or IN_PROOF.match(it) for it in lines]
-        return [(it[1], int(it[2]), it[3]) for it in found if it]
+        endless = [it for it in map(NO_MEASURE.match, lines) if it]
+        told = [(it[1], int(it[2]), it[3]) for it in found if it]
+        return told + [(it[2], 1, it[1]) for it in endless]
 
-    def checked(self, name, texts, kept):
-        """Checks a crate with these texts over kept work."""
-        # (over a copy, since a kept folder holds one version of a function: a check over what edits
-        # left would prove each of those functions again)
-        with tempfile.TemporaryDirectory(prefix="edits-") as room:
-            shutil.copytree(kept, f"{room}/kept")
-            return self.rt.checked(self.crates[name], texts, ONE_JOB, f"{room}/kept")
-
-    def only(self, name, texts, functions):
-        """Checks these functions of a crate with these texts. Where a name is of none, it looks for
-        the last part of it, and where it is of several, it takes all."""
-        words = dict.fromkeys(functions)
+    def checked(self, name, texts, over, functions):
+        """Checks a crate with these texts, or these functions of it. Where a name is of none, it
+        looks for the last part of it, and where it is of several, it takes all."""
+        words = dict.fromkeys(functions or [])
         while True:
             flags = [flag for it in words for flag in ("--only", it)]
-            ran = self.rt.checked(self.crates[name], texts, [*ONE_JOB, *flags], None)
+            ran = self.rt.checked(self.crates[name], texts, [*ONE_JOB, *flags], over)
             none, several = NO_FUNCTION.search(ran.stdout), SEVERAL.search(ran.stdout)
             if none and none[1] in words and "::" in none[1]:
                 words.pop(none[1])

@@ -8,6 +8,8 @@ import re
 
 FN = re.compile(r"( *)(?:pub(?:\([a-z]+\))? )?(?:const )?(?:unsafe )?fn (\w+)")
 IMPL = re.compile(r"impl\b")
+# A change that has one of these words may need a measure, without which the callers get no verdict.
+LOOP = re.compile(r"\b(loop|while|for)\b")
 # A change with one of these words is of more than a body, wherever it stands.
 BEYOND = re.compile(r"\b(fn|ensures|requires|ghost|invariant|macro_rules)\b|#\[")
 
@@ -158,6 +160,7 @@ class Change:
         self.begin, self.end = at + before, at + len(old) - after
         self.old, self.new = old[before : len(old) - after], new[before : len(new) - after]
         self.line = text.count("\n", 0, self.begin)
+        self.has_loop = bool(LOOP.search(self.new))
 
     def function(self, functions):
         """Returns the function whose body has it all, and stays one body with it, or None. Where it

@@ -1,7 +1,7 @@
 #!/usr/bin/env python3
 """Tells which test, and which case, catches each deliberate bug.
 
-    scripts/planted.py [--table FILE] [--compare FILE] [--edits FOLDER] [--enough N]
+    scripts/planted.py [--table FILE] [--compare FILE] [--edits FOLDER] [--enough N] [--only WORDS]
                        [--without WORDS] [--keep FOLDER] [tests] [cases]
 
 The bugs are the files crates/NAME/must-fail/*.edit and crates/NAME/bugs/*.edit. All that change no
@@ -13,13 +13,15 @@ changes more than bodies, is listed as not wrapped. First all is run without a b
 
 --table FILE writes a table: the bug, the tests and the cases that catch it, between tabs.
 --compare FILE reads such a table, and fails if a bug that was caught there is not caught now.
---edits FOLDER takes the bugs of another checkout. --without WORDS leaves out the tests and cases
-whose names this regular expression finds, such as tests of threads on a busy machine. --keep FOLDER
-keeps the programs there, and takes those that it has. JOBS says how many runs go side by side. The
-status is 0 where all passes without a bug, some bug is caught, and --compare finds nothing lost.
+--edits FOLDER takes the bugs of another checkout. --only WORDS tries the bugs whose names this
+regular expression finds, and --without WORDS leaves out the tests and cases whose names it finds,
+such as tests of threads on a busy machine. --keep FOLDER keeps the programs there, and takes those
+that it has. JOBS says how many runs go side by side. The status is 0 where all passes without a
+bug, some bug is caught, and --compare finds nothing lost.
 """
 import argparse
 import os
+import re
 import sys
 import tempfile
 from concurrent.futures import ThreadPoolExecutor
@@ -40,7 +42,7 @@ def name_of(bug):
 def asked():
     """Returns what the words of the command ask for."""
     said = argparse.ArgumentParser(usage=__doc__)
-    for flag in ("--table", "--compare", "--keep", "--without"):
+    for flag in ("--table", "--compare", "--keep", "--without", "--only"):
         said.add_argument(flag)
     said.add_argument("--edits", default=TOP)
     said.add_argument("--enough", type=int, default=3)
@@ -122,10 +124,10 @@ def read_table(path):
     return {name: dict(zip(KINDS, it)) for name, *it in lines}
 
 
-def lost(before, rows):
+def lost(before, rows, only):
     """Prints what became of the bugs that were caught before, and returns how many are lost."""
     caught = [it for it, row in before.items() if is_caught(row)]
-    gone = [it for it in caught if it not in rows]
+    gone = [it for it in caught if it not in rows and not only]
     now = [it for it in caught if it in rows and not is_caught(rows[it])]
     for it in gone:
         print(f"gone: {it}, which was caught, is no bug any more")
@@ -152,12 +154,13 @@ def main():
         made = programs(how, bugs, how.keep or room)
         runners = ready(how, made)
         failed = faults(runners)
-        rows = try_all(how, bugs, runners, made)
+        tried_now = [it for it in bugs if re.search(how.only or "", name_of(it[1]))]
+        rows = try_all(how, tried_now, runners, made)
     if how.table:
         write_table(how.table, rows)
     caught = sum(is_caught(it) for it in rows.values())
     refused = sum(any(it.startswith("not wrapped") for it in row.values()) for row in rows.values())
-    failed += lost(read_table(how.compare), rows) if how.compare else 0
+    failed += lost(read_table(how.compare), rows, how.only) if how.compare else 0
     print(f"{len(rows)} bugs: {caught} caught, {refused} not wrapped, "
           f"{len(rows) - caught - refused} only by a contract; {failed} failed")
     return 1 if failed or not caught else 0

@@ -71,8 +71,8 @@ def tests_of(program):
 
 
 def cases_of(text):
-    """Returns the cases of a text as inputs, by their files and titles: each as it is, and then with
-    each request for memory refused. A case ends at an empty line."""
+    """Returns the cases of a text as inputs, by their files and titles: each as it is, and if it is
+    no random one, with each request for memory refused. A case ends at an empty line."""
     plain, refusing = {}, {}
     for of_file in re.split(r"^file ", text, flags=re.M)[1:]:
         file, _, rest = of_file.partition("\n")
@@ -81,7 +81,9 @@ def cases_of(text):
             if title and re.search(r"^on ", case, re.M):
                 name, given = f"{file}: {title[1]}", f"file {file}\n{case.strip()}\n\n"
                 plain[name] = Input([], given, PLAYED)
-                refusing[f"{name}, refused"] = plain[name]._replace(given=f"refuse\n{given}")
+                if file != "random":
+                    refused = plain[name]._replace(given=f"refuse\n{given}")
+                    refusing[f"{name}, refused"] = refused
     return {**plain, **refusing}
 
 
