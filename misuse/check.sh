@@ -4,9 +4,9 @@
 # together as `rt try --test` reads them, which proves nothing and so needs no library's proof. As
 # modules of the crate they may use what is private in it. A case is either refused, by one error at
 # one line of its snippet, or accepted, and then the tests of its snippet pass. An error of one kind
-# hides those that are looked for after it: what a reading says nothing of is read again without what
-# was refused, until a reading refuses none of it. Prints a line for each reading and each case, and
-# at the end how many passed and failed; the status is 0 if none failed.
+# hides those that are looked for after it: what a reading says nothing of is read again without
+# what was refused, until a reading refuses none of it. Prints a line for each reading and each
+# case, and at the end how many passed and failed; the status is 0 if none failed.
 set -u
 top=$(cd "$(dirname "$0")/.." && pwd)
 cases=$top/misuse

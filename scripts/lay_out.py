@@ -1,12 +1,13 @@
 """Lays the tests out as a crate of a project of its own.
 
     python3 scripts/lay_out.py FOLDER [MODULE..]   makes the project in a new folder, with these
-                                                   modules of the tests and what they use (none: all)
+                                                   modules of the tests, and what they use
     python3 scripts/lay_out.py --format            formats the texts of tests/ as `rt fmt` does
 
 The texts of tests/code are no .rt files, so that no check of the repository reads them: they are
-tried and not proved. In the project they are the modules of one crate, `tests`, beside copies of the
-crates that they test. `rt try --test` in FOLDER/crates/tests then runs all of them.
+tried and not proved. In the project they are the modules of one crate, `tests`, beside copies of
+the crates that they test: all modules, if none is named. `rt try --test` in FOLDER/crates/tests
+then runs them.
 
 The crate cellrun is a program, which no other crate can name. So a copy of its modules is a module
 of the tests, and its own tests are laid into that.
@@ -66,7 +67,8 @@ def with_used(modules):
         module = left.pop()
         if module not in found and texts_of(module):
             found.append(module)
-            left += re.findall(r"\bcrate::(\w+)::", "".join(read(f"{CODE}/{it}") for it in texts_of(module)))
+            text = "".join(read(f"{CODE}/{it}") for it in texts_of(module))
+            left += re.findall(r"\bcrate::(\w+)::", text)
     return sorted(found)
 
 
@@ -88,7 +90,8 @@ def lay_program(folder):
     tests = [it.removesuffix(".rt").split("/") for it in files_below(to)]
     for it in files_below(source):
         # (its proofs are named as those of the crate, whatever that is)
-        text = re.sub(r"\bcrate::(?!proofs::|specs::)", f"crate::{PROGRAM}::", read(f"{source}/{it}"))
+        text = read(f"{source}/{it}")
+        text = re.sub(r"\bcrate::(?!proofs::|specs::)", f"crate::{PROGRAM}::", text)
         inside = [name for *module, name in tests if f"{'/'.join(module)}.rt" == it]
         write(f"{to}/{it}", text + "".join(f"\nmod {name};\n" for name in inside))
     os.rename(f"{to}/main.rt", f"{to}.rt")
@@ -105,24 +108,24 @@ def lay_out(folder, modules=None):
         lay_program(folder)
 
 
-def format_texts():
-    """Formats the texts of tests/, and returns the names of those that were not formatted."""
+def formatted():
+    """Returns, by their names from tests/ on, the texts that `rt fmt` would write otherwise."""
     texts = [it for it in files_below(f"{TOP}/tests") if it.endswith(".rt.txt")]
     with tempfile.TemporaryDirectory() as folder:
         write(f"{folder}/crates.txt", "texts:\n")
         made = {it: f"{folder}/crates/texts/src/{it.removesuffix('.txt')}" for it in texts}
         for it, path in made.items():
             write(path, read(f"{TOP}/tests/{it}"))
-        subprocess.run(["rt", "fmt"], cwd=f"{folder}/crates/texts", check=True)
-        changed = [it for it, path in made.items() if read(path) != read(f"{TOP}/tests/{it}")]
-        for it in changed:
-            write(f"{TOP}/tests/{it}", read(made[it]))
-    return changed
+        how = {"cwd": f"{folder}/crates/texts", "stdout": subprocess.DEVNULL}
+        subprocess.run(["rt", "fmt"], check=True, **how)
+        every = {it: read(path) for it, path in made.items()}
+    return {it: text for it, text in every.items() if text != read(f"{TOP}/tests/{it}")}
 
 
 def main(words):
     if words == ["--format"]:
-        for it in format_texts():
+        for it, text in formatted().items():
+            write(f"{TOP}/tests/{it}", text)
             print(f"formatted tests/{it}")
     elif not words or words[0].startswith("-") or os.path.exists(words[0]):
         sys.exit(__doc__)

@@ -1,8 +1,8 @@
 #!/usr/bin/env bash
 # Runs the built program with each request for memory refused in turn: with the first, then with the
 # second, and on until a run asks for no more. Prints a line, and at the end how many passed and
-# failed; the status is 0 if none failed. It proves nothing: the gate, or `rt run` in crates/cellrun,
-# builds the program. The tests run so in scripts/tests.sh.
+# failed; the status is 0 if none failed. It proves nothing: the gate, or `rt run` in
+# crates/cellrun, builds the program. The tests run so in scripts/tests.sh.
 set -euo pipefail
 top=$(cd "$(dirname "$0")/.." && pwd)
 work=$(mktemp -d)

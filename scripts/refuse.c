@@ -1,8 +1,8 @@
-/* Refuses a program's Nth request for memory, where N is the value of REFUSE, and tells of it on the
-   file descriptor that is the value of TELL. Linked into a program that is tried, it stands in the place of the three functions
-   by which the kit's programs ask for memory. Compiled with PRELOADED, it is preloaded into a program
-   that was built: malloc and realloc are all that one asks by. It takes no header, so that the kit's
-   own compiler can build it. */
+/* Refuses a program's Nth request for memory, where N is the value of REFUSE, and tells of it on
+   the file descriptor that is the value of TELL. Linked into a program that is tried, it stands in
+   the place of the three functions by which the kit's programs ask for memory. Compiled with
+   PRELOADED, it is preloaded into a program that was built: malloc and realloc are all that one
+   asks by. It takes no header, so that the kit's own compiler can build it. */
 typedef __SIZE_TYPE__ size;
 
 extern char *getenv(const char *name);
@@ -12,7 +12,9 @@ extern long write(int file, const void *bytes, size count);
 static int is_refused(void) {
     static long requests;
     const char *refuse = getenv("REFUSE"), *tell = getenv("TELL");
-    if (!refuse || !tell || __atomic_add_fetch(&requests, 1, __ATOMIC_SEQ_CST) != strtol(refuse, 0, 10))
+    if (!refuse || !tell)
+        return 0;
+    if (__atomic_add_fetch(&requests, 1, __ATOMIC_SEQ_CST) != strtol(refuse, 0, 10))
         return 0;
     write(strtol(tell, 0, 10), "refused\n", 8);
     return 1;

@@ -62,8 +62,9 @@ class Ran:
 
 def names(program):
     """The names of all tests of the program."""
-    listed = subprocess.run([*program, "--list"], env={}, capture_output=True, text=True, check=True)
-    return [it.removesuffix(": test") for it in listed.stdout.splitlines() if it.endswith(": test")]
+    how = {"env": {}, "stdout": subprocess.PIPE, "text": True, "check": True}
+    listed = subprocess.run([*program, "--list"], **how).stdout.splitlines()
+    return [it.removesuffix(": test") for it in listed if it.endswith(": test")]
 
 
 def listed_again(path):

@@ -1,10 +1,11 @@
 """Runs all tests without a proof: what scripts/tests.sh calls, with words of their names, or none.
 
-The tests of tests/code are compiled as one program, and each is run in a process of its own; those of
-tests/again.txt run again, with requests for memory refused. Beside them scripts/cases.py plays the
-cases of tests/cases, if no word is given. Prints a line for each folder of tests as it ends, the
-output of each test that fails, and at the end how many passed and failed.
+The tests of tests/code are compiled as one program, and each is run in a process of its own; those
+of tests/again.txt run again, with requests for memory refused. Beside them scripts/cases.py plays
+the cases of tests/cases, if no word is given. Prints a line for each folder of tests as it ends,
+the output of each test that fails, and at the end how many passed and failed.
 """
+import collections
 import concurrent.futures
 import os
 import re
@@ -45,7 +46,7 @@ class Told:
 
 
 class Results:
-    """How many tests of each group passed and failed."""
+    """How many tests passed and failed."""
 
     def __init__(self, told):
         self.told = told
@@ -60,24 +61,31 @@ class Results:
             self.told.say(f"failed {name}:")
             print(complaint, flush=True)
 
-    def counted(self, group, passed, failed):
-        """Counts what was counted by another program."""
+    def add(self, passed, failed):
+        """Counts what another program has counted."""
         self.passed += passed
         self.failed += failed
-        self.told.say(f"{group}: {passed} passed, {failed} failed")
 
 
 def build(told, room, words):
     """Lays the tests out, those of one module if the words name it, and compiles them. Returns the
     words by which the program is called, or None, and what the compiler said."""
-    lib = try_kit.load()
-    if not lib:
-        return None, "this kit's rt has not what scripts/try_kit.py needs"
     named = [it for it in (word.split("::")[0] for word in words) if lay_out.texts_of(it)]
     lay_out.lay_out(f"{room}/project", [*named, "checks"] if named else None)
     told.begin("compiling, some two minutes")
+    lib = try_kit.load()
+    if not lib:
+        return None, tried_plainly(f"{room}/project/crates/tests")
     refuses = try_kit.compiled(lib, f"{lay_out.TOP}/scripts/refuse.c", f"{room}/refuse.o")
     return try_kit.built(lib, f"{room}/project/crates/tests", [refuses], f"{room}/built")
+
+
+def tried_plainly(folder):
+    """Tries the tests by `rt try`, with a kit whose rt has not what scripts/try_kit.py needs. None
+    of them is run again. Returns what they printed."""
+    words = ["rt", "try", "--test", "--seconds", str(test_runs.SECONDS)]
+    how = {"stdin": subprocess.DEVNULL, "stdout": subprocess.PIPE, "stderr": subprocess.STDOUT}
+    return subprocess.run(words, cwd=folder, text=True, **how).stdout
 
 
 def chosen(program, words):
@@ -91,19 +99,22 @@ def chosen(program, words):
 
 
 def run(program, runs, results):
-    """Runs the tests, as many side by side as there are processors, and tells of each group once all
-    of it have ended."""
-    left = {group: [it for it in runs if it[0] == group] for group, _, _ in runs}
-    sums = {group: len(it) for group, it in left.items()}
+    """Runs the tests, as many side by side as there are processors, and tells of each group once
+    all of it have ended."""
+    left = collections.Counter(group for group, _, _ in runs)
+    failed = collections.Counter()
+    wanted = dict(left)
     with concurrent.futures.ThreadPoolExecutor(len(os.sched_getaffinity(0))) as pool:
         begun = {pool.submit(test_runs.complaint_of, program, *it[1:]): it for it in runs}
-        for ended in concurrent.futures.as_completed(begun):
-            group, test, way = begun[ended]
+        for ended in concurrent.futures.as_completed(list(begun)):
+            group, test, way = begun.pop(ended)
             results.count(test if way == "once" else f"{test}, {way}", ended.result())
-            left[group].remove((group, test, way))
-            results.told.doing = f"running {next((it[1] for them in left.values() for it in them), '')}"
+            left[group] -= 1
+            failed[group] += ended.result() is not None
+            results.told.doing = "running " + ", ".join(it[1] for it in list(begun.values())[:1])
             if not left[group]:
-                results.told.say(f"{group}: {sums[group]} ended")
+                passed = wanted[group] - failed[group]
+                results.told.say(f"{group}: {passed} passed, {failed[group]} failed")
 
 
 def begin_cases():
@@ -119,14 +130,18 @@ def read_cases(played, results):
     lines = played.communicate()[0].splitlines()
     found = re.fullmatch(r"(\d+) passed, (\d+) failed", lines[-1] if lines else "")
     passed, failed = (int(it) for it in found.groups()) if found else (0, 1)
-    if failed or played.returncode:
+    failed = max(failed, int(played.returncode != 0))
+    results.add(passed, failed)
+    results.told.say(f"cases: {passed} passed, {failed} failed")
+    if failed:
         print("\n".join(lines), flush=True)
-    results.counted("cases", passed, max(failed, int(played.returncode != 0)))
 
 
 def main(words):
     results = Results(Told())
     played = None if words else begin_cases()
+    for it in [] if words else lay_out.formatted():
+        results.count(f"tests/{it}", "not as `python3 scripts/lay_out.py --format` writes it")
     with tempfile.TemporaryDirectory(prefix="tests-") as room:
         program, said = build(results.told, room, words)
         runs = chosen(program, words) if program else []
@@ -134,7 +149,7 @@ def main(words):
             results.told.say(f"compiled: {len(runs)} runs of tests")
             run(program, runs, results)
         else:
-            results.count("the tests", f"{said}\nno test ran")
+            results.count("the tests", f"{said}\nnot each test ran in each way")
     if played:
         read_cases(played, results)
     print(f"{results.passed} passed, {results.failed} failed")
