@@ -23,7 +23,7 @@ from lay_out import copy_crates, lay_crate, read, write
 TOP = os.path.dirname(os.path.dirname(os.path.abspath(__file__)))
 USED = ["model", "cons", "core", "latest", "latest_unsync", "latest_sync", "unsync", "sync"]
 CRATES = [f"async_cell_{it}" for it in USED]
-SECONDS = "300"
+SECONDS = "600"
 
 
 def lay_out(folder):
