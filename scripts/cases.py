@@ -18,20 +18,22 @@ import tempfile
 
 import edits_kit
 import random_cases
-from lay_out import copy_crates, lay_crate, read, write
+from lay_out import copy_crates, files_below, read, write
 
 TOP = os.path.dirname(os.path.dirname(os.path.abspath(__file__)))
+PLAYER = f"{TOP}/tests/player"
 USED = ["model", "cons", "core", "latest", "latest_unsync", "latest_sync", "unsync", "sync"]
 CRATES = [f"async_cell_{it}" for it in USED]
-SECONDS = "300"
+SECONDS = "600"
 
 
 def lay_out(folder):
     """Lays the player and the crates below it out as a project."""
     copy_crates(folder, CRATES)
     used = [it for it in read(f"{TOP}/crates.txt").split("\n") if it.split(":")[0] in CRATES]
-    write(f"{folder}/crates.txt", "\n".join(used) + "\n")
-    lay_crate(folder, "player", f"{TOP}/tests/player")
+    write(f"{folder}/crates.txt", "\n".join(used) + "\n" + read(f"{PLAYER}/crates.line"))
+    for it in (it for it in files_below(PLAYER) if it.endswith(".rt.txt")):
+        write(f"{folder}/crates/player/src/{it[: -len('.txt')]}", read(f"{PLAYER}/{it}"))
 
 
 def compiled(folder):
@@ -39,9 +41,9 @@ def compiled(folder):
     kit = os.path.dirname(os.path.dirname(os.path.realpath(shutil.which("rt"))))
     clang = [f"{kit}/toolchain/bin/clang", "--target=x86_64-unknown-linux-gnu"]
     made = []
-    for name in sorted(os.listdir(f"{TOP}/tests/player/c")):
+    for name in sorted(os.listdir(f"{PLAYER}/c")):
         made.append(f"{folder}/{name.removesuffix('.c')}.o")
-        words = ["-O1", "-Wall", "-Werror", "-fPIC", "-c", f"{TOP}/tests/player/c/{name}"]
+        words = ["-O1", "-Wall", "-Werror", "-fPIC", "-c", f"{PLAYER}/c/{name}"]
         subprocess.run([*clang, *words, "-o", made[-1]], check=True)
     return made
 
