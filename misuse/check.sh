@@ -1,17 +1,16 @@
 #!/usr/bin/env bash
-# Tries each snippet that FOLDER/cases.tsv names: `bash misuse/check.sh [FOLDER [NAME..]]`. FOLDER is
-# misuse if none is named; with NAMEs only those cases are tried. The snippets of a crate are added
-# to a copy of it as test modules, and read together as `rt try --test` reads them, which proves
-# nothing and so needs no library's proof. As modules of the crate they may use what is private in
-# it. A case is either refused, by one error at one line of its snippet, or accepted, and then the
-# tests of its snippet pass. An error of one kind hides those that are looked for after it: what a
-# reading says nothing of is read again without what was refused, until a reading refuses none of
-# it. Prints a line for each reading and each case, and at the end how many passed and failed; the
-# status is 0 if none failed.
+# Tries each snippet that misuse/cases.tsv names: `bash misuse/check.sh [NAME..]`. With NAMEs only
+# those cases are tried. The snippets of a crate are added to a copy of it as test modules, and read
+# together as `rt try --test` reads them, which proves nothing and so needs no library's proof. As
+# modules of the crate they may use what is private in it. A case is either refused, by one error at
+# one line of its snippet, or accepted, and then the tests of its snippet pass. An error of one kind
+# hides those that are looked for after it: what a reading says nothing of is read again without what
+# was refused, until a reading refuses none of it. Prints a line for each reading and each case, and
+# at the end how many passed and failed; the status is 0 if none failed.
 set -u
 top=$(cd "$(dirname "$0")/.." && pwd)
-cases=$top/${1:-misuse}
-only=" ${*:2} "
+cases=$top/misuse
+only=" $* "
 work=$(mktemp -d)
 trap 'rm -rf "$work"' EXIT
 log=$work/log

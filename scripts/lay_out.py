@@ -1,8 +1,12 @@
-"""Lays out the tests as a crate of a project of its own: `python3 scripts/lay_out.py FOLDER`.
+"""Lays the tests out as a crate of a project of its own.
+
+    python3 scripts/lay_out.py FOLDER [MODULE..]   makes the project in a new folder, with these
+                                                   modules of the tests and what they use (none: all)
+    python3 scripts/lay_out.py --format            formats the texts of tests/ as `rt fmt` does
 
 The texts of tests/code are no .rt files, so that no check of the repository reads them: they are
-tried and not proved. In the new FOLDER they are the modules of one crate, `tests`, beside copies of
-the crates that they test. `cd FOLDER/crates/tests && rt try --test` then runs all of them.
+tried and not proved. In the project they are the modules of one crate, `tests`, beside copies of the
+crates that they test. `rt try --test` in FOLDER/crates/tests then runs all of them.
 
 The crate cellrun is a program, which no other crate can name. So a copy of its modules is a module
 of the tests, and its own tests are laid into that.
@@ -12,9 +16,12 @@ import re
 import shutil
 import subprocess
 import sys
+import tempfile
 
 TOP = os.path.dirname(os.path.dirname(os.path.abspath(__file__)))
 PARTS = ("src", "specs", "proofs")
+CODE = f"{TOP}/tests/code"
+PROGRAM = "cellrun"
 
 
 def read(path):
@@ -46,37 +53,83 @@ def copy_crates(folder, names=None):
     subprocess.run(["git", "init", "-q", folder], check=True)
 
 
-def lay_crate(folder, name, texts):
-    """Lays the .rt.txt files of a folder of tests/ out as the crate of that name."""
-    for it in files_below(texts):
-        if it.endswith(".rt.txt"):
-            write(f"{folder}/crates/{name}/src/{it[:-len('.txt')]}", read(f"{texts}/{it}"))
+def texts_of(module):
+    """The texts of a module of the tests, from tests/code on."""
+    return [it for it in files_below(CODE) if re.match(rf"{module}(/|\.rt\.txt$)", it)]
+
+
+def with_used(modules):
+    """Returns these modules of the tests, and those that they use."""
+    found = []
+    left = list(modules)
+    while left:
+        module = left.pop()
+        if module not in found and texts_of(module):
+            found.append(module)
+            left += re.findall(r"\bcrate::(\w+)::", "".join(read(f"{CODE}/{it}") for it in texts_of(module)))
+    return sorted(found)
+
+
+def lay_tests(folder, modules):
+    """Lays modules out as the crate `tests`."""
+    source = f"{folder}/crates/tests/src"
+    for it in (it for module in modules for it in texts_of(module)):
+        write(f"{source}/{it.removesuffix('.txt')}", read(f"{CODE}/{it}"))
+    declared = "".join(f"#[cfg(test)]\nmod {it};\n" for it in modules)
+    write(f"{source}/lib.rt", f"//! Tests.\n#![tactic(auto)]\n\n{declared}")
     with open(f"{folder}/crates.txt", "a", encoding="utf-8") as file:
-        file.write(read(f"{texts}/crates.line"))
+        file.write(read(f"{CODE}/crates.line"))
 
 
-def lay_program_in(folder, crate, program):
-    """Lays the modules of a program into a crate, as modules of one that has the program's name,
+def lay_program(folder):
+    """Lays the modules of the program into the crate `tests`, as modules of one that has its name,
     and declares in each the tests that lie there already."""
-    source, to = f"{folder}/crates/{program}/src", f"{folder}/crates/{crate}/src/{program}"
-    tests = [os.path.splitext(it)[0].split("/") for it in files_below(to)] if os.path.isdir(to) else []
+    source, to = f"{folder}/crates/{PROGRAM}/src", f"{folder}/crates/tests/src/{PROGRAM}"
+    tests = [it.removesuffix(".rt").split("/") for it in files_below(to)]
     for it in files_below(source):
-        text = re.sub(r"\bcrate::(?!proofs::|specs::)", f"crate::{program}::", read(f"{source}/{it}"))
+        # (its proofs are named as those of the crate, whatever that is)
+        text = re.sub(r"\bcrate::(?!proofs::|specs::)", f"crate::{PROGRAM}::", read(f"{source}/{it}"))
         inside = [name for *module, name in tests if f"{'/'.join(module)}.rt" == it]
-        text += "".join(f"\nmod {name};\n" for name in inside)
-        write(f"{to}/{it}", text)
+        write(f"{to}/{it}", text + "".join(f"\nmod {name};\n" for name in inside))
     os.rename(f"{to}/main.rt", f"{to}.rt")
 
 
-def lay_out(folder, crates=None):
-    """Makes the project in a new folder."""
-    copy_crates(folder, crates)
-    lay_crate(folder, "tests", f"{TOP}/tests/code")
-    lay_program_in(folder, "tests", "cellrun")
+def lay_out(folder, modules=None):
+    """Makes the project in a new folder, with these modules of the tests and what they use, or with
+    all."""
+    copy_crates(folder)
+    every = sorted({it.split("/")[0].removesuffix(".rt.txt") for it in files_below(CODE)})
+    chosen = with_used(modules or [it for it in every if texts_of(it)])
+    lay_tests(folder, chosen)
+    if PROGRAM in chosen:
+        lay_program(folder)
+
+
+def format_texts():
+    """Formats the texts of tests/, and returns the names of those that were not formatted."""
+    texts = [it for it in files_below(f"{TOP}/tests") if it.endswith(".rt.txt")]
+    with tempfile.TemporaryDirectory() as folder:
+        write(f"{folder}/crates.txt", "texts:\n")
+        made = {it: f"{folder}/crates/texts/src/{it.removesuffix('.txt')}" for it in texts}
+        for it, path in made.items():
+            write(path, read(f"{TOP}/tests/{it}"))
+        subprocess.run(["rt", "fmt"], cwd=f"{folder}/crates/texts", check=True)
+        changed = [it for it, path in made.items() if read(path) != read(f"{TOP}/tests/{it}")]
+        for it in changed:
+            write(f"{TOP}/tests/{it}", read(made[it]))
+    return changed
+
+
+def main(words):
+    if words == ["--format"]:
+        for it in format_texts():
+            print(f"formatted tests/{it}")
+    elif not words or words[0].startswith("-") or os.path.exists(words[0]):
+        sys.exit(__doc__)
+    else:
+        lay_out(words[0], words[1:])
+        print(f"laid out: cd {words[0]}/crates/tests && rt try --test")
 
 
 if __name__ == "__main__":
-    if len(sys.argv) != 2 or os.path.exists(sys.argv[1]):
-        sys.exit(__doc__)
-    lay_out(sys.argv[1])
-    print(f"laid out: cd {sys.argv[1]}/crates/tests && rt try --test")
+    main(sys.argv[1:])

@@ -1,158 +1,19 @@
-"""Makes random cases for the player, with what a plain model says must come back.
+"""Makes random cases for the player, with what scripts/random_model.py says must come back.
 
-The model is written from docs/DEFINITIONS.md and docs/GUIDE.md: a content, a number of owners, and
-the places of those who wait. A case is a list of calls on a cell, on all that an owner makes, on a
-core with wakers that are numbers, or on a latest state. Each is made from a seed, which its title
-has, so a case that fails can be made again, or pasted into tests/cases.
+A case is a list of calls on a cell, on all that an owner makes, on a core with wakers that are
+numbers, or on a latest state. Each is made from a seed, which its title has, so a case that fails
+can be made again, or pasted into tests/cases.
 """
 import random
 
+from random_model import Cell, Core
+
 TASKS = range(1, 8)
 LENGTH = 40
-
-
-def once(tasks):
-    """Who is woken, each once."""
-    return list(dict.fromkeys(it for it in tasks if it))
-
-
-class Wait:
-    """The places of those who wait. A dropped future leaves its waker in its place, which is then
-    free; the one that was left last is taken over first. Each fill, and the close, ends a round."""
-
-    def __init__(self):
-        self.round, self.tasks, self.free = 0, [], []
-
-    def end(self):
-        woken = once(self.tasks)
-        self.round, self.tasks, self.free = self.round + 1, [], []
-        return woken
-
-    def wait(self, place, task):
-        """Returns the place in which the task waits, and whom it lets go of."""
-        if not place or place[0] != self.round:
-            if not self.free:
-                self.tasks.append(task)
-                return (self.round, len(self.tasks) - 1), []
-            place = self.round, self.free.pop()
-        before, self.tasks[place[1]] = self.tasks[place[1]], task
-        return place, [before] if before and before != task else []
-
-    def leave(self, place):
-        if place and place[0] == self.round:
-            self.free.append(place[1])
-
-    def cancel(self, place):
-        """Returns whom the cancelled future lets go of."""
-        if not place or place[0] != self.round:
-            return []
-        self.free.append(place[1])
-        woken, self.tasks[place[1]] = self.tasks[place[1]], None
-        return once([woken])
-
-    def purge(self):
-        woken = [self.tasks[it] for it in sorted(self.free)]
-        for it in self.free:
-            self.tasks[it] = None
-        return once(woken)
-
-
-class Cell:
-    """A cell: what each call replies, and what happens in it. An event is a word and a number."""
-
-    def __init__(self, owners=1):
-        self.content, self.owners, self.wait, self.events = None, owners, Wait(), []
-
-    def happen(self, word, *numbers):
-        self.events += [(word, it) for it in numbers]
-
-    def fill(self, value):
-        """Puts a value in, and returns the old one."""
-        old, self.content = self.content, value
-        if old is None and value is not None:
-            self.happen("woke", *self.wait.end())
-        return old
-
-    def drop(self, value):
-        if value is not None:
-            self.happen("dropped", value)
-
-    def set(self, value):
-        self.drop(self.fill(value))
-        return "ok"
-
-    def or_set(self, value):
-        if self.content is None:
-            self.fill(value)
-        else:
-            self.drop(value)
-        return "ok"
-
-    def try_set(self, value):
-        return f"back {value}" if self.content is not None else self.set(value)
-
-    def replace(self, value):
-        old = self.fill(value)
-        return "none" if old is None else f"old {old}"
-
-    def update(self, how, value):
-        old = self.content
-        self.happen("saw", "none" if old is None else old)
-        if how == "add":
-            value = None if old is None else old + value
-        self.fill({"none": None, "keep": old}.get(how, value))
-        return "ok"
-
-    def update_some(self, how, value):
-        if self.content is not None:
-            return self.update(how, value)
-        if not how:
-            self.drop(value)
-        return "ok"
-
-    def try_take(self):
-        taken, self.content = self.content, None
-        return "none" if taken is None else f"some {taken}"
-
-    def try_get(self):
-        return "none" if self.content is None else self.cloned("some")
-
-    def cloned(self, word):
-        self.happen("cloned", self.content)
-        return f"{word} {self.content}'"
-
-    def poll(self, future, task, word="ready"):
-        """Polls a future: a list of whether it takes, and its place."""
-        if not self.owners:
-            return "closed"
-        if self.content is None:
-            future[1], let_go = self.wait.wait(future[1], task)
-            self.happen("woke", *let_go)
-            return "pending"
-        future[1] = None
-        return self.try_take().replace("some", word) if future[0] else self.cloned(word)
-
-    def guarded(self, cancel, how, value):
-        """Ends a guard."""
-        if how == "drop":
-            return self.or_set(cancel)
-        if how != "release":
-            getattr(self, how)(value)
-        self.drop(cancel)
-        return "ok"
-
-    def end_owner(self):
-        self.owners -= 1
-        if not self.owners:
-            self.happen("woke", *self.wait.end())
-            self.drop(self.content)
-            self.content = None
-        return "ok"
-
-    def debug(self):
-        if self.content is not None:
-            return f"AsyncCell::Full({self.content})"
-        return "AsyncCell::Pending" if any(self.wait.tasks) else "AsyncCell::Empty"
+WRITES = ["set", "or_set", "try_set", "replace", "update", "update_some", "guarded"]
+MAKES = ["own", "guard", "take_shared", "get_shared", "take_weak", "get_weak", "values"]
+MARKS = ["mark_unchanged", "mark_changed", "read_and_update"]
+LOOKS = ["read", "peek", "has_changed", "is_closed", *MARKS]
 
 
 class Maker:
@@ -190,7 +51,7 @@ class Maker:
     def write(self, on=""):
         """Makes a call that may write."""
         cell, value, other = self.cell, self.value(), self.value()
-        word = self.some(["set", "or_set", "try_set", "replace", "update", "update_some", "guarded"])
+        word = self.some(WRITES)
         if word.startswith("update"):
             how = self.some(["", "add", "keep"] + (["none"] if word == "update" else []))
             shown = how if how in ("none", "keep") else f"{how} {value}".strip()
@@ -270,7 +131,7 @@ class Owners(Maker):
     def add(self):
         """Makes one more thing."""
         owner = self.some(self.owners)
-        word = self.some(["own", "guard", "take_shared", "get_shared", "take_weak", "get_weak", "values"])
+        word = self.some(MAKES)
         name = self.name(word[0])
         shared = word in ("own", "guard", "take_shared", "get_shared")
         self.cell.owners += shared
@@ -312,7 +173,8 @@ class Owners(Maker):
         if self.random.random() < 0.4 and self.cell.owners == 1:
             content, self.cell.content = self.cell.content, None
             self.cell.end_owner()
-            return self.line(f"into_inner {name}", "none" if content is None else f"inner {content}")
+            reply = "none" if content is None else f"inner {content}"
+            return self.line(f"into_inner {name}", reply)
         self.cell.end_owner()
         return self.line(f"{self.some(['drop', 'end'])} {name}")
 
@@ -333,47 +195,6 @@ class Owners(Maker):
             self.write(f" on {name}") if chosen == 8 else self.look(name)
         elif self.made:
             self.poll(self.some(self.made))
-
-
-def would_wake(waker, other):
-    return waker % 2 == 0 if waker >= 100 else waker == other
-
-
-class Core(Cell):
-    """A core: a waker that any waiting one would wake is not added."""
-
-    def add(self, waker):
-        if not any(would_wake(it, waker) for it in self.wait.tasks):
-            self.wait.tasks.append(waker)
-        return "pending"
-
-    def fill(self, value):
-        old, self.content = self.content, value
-        if old is None and value is not None:
-            self.hand_out()
-        return old
-
-    def hand_out(self):
-        self.happen("woke", *self.wait.tasks)
-        self.wait.tasks = []
-
-    def poll_by(self, takes, waker):
-        if not self.owners:
-            return "closed"
-        if self.content is None:
-            return self.add(waker)
-        return self.try_take().replace("some", "ready") if takes else self.cloned("ready")
-
-    def close(self):
-        """Ends an owner: the reply of a core."""
-        if not self.owners:
-            return "closed"
-        self.owners -= 1
-        if self.owners:
-            return "none"
-        self.hand_out()
-        content, self.content = self.content, None
-        return "none" if content is None else f"inner {content}"
 
 
 def step_of_core(maker):
@@ -456,8 +277,8 @@ class States(Maker):
 
     def look(self, name=""):
         cell, has_changed = self.cell, self.seen[name] != self.version
-        word = self.some(["read", "read_and_update", "peek", "has_changed", "is_closed", "mark_unchanged", "mark_changed"])
-        if word.startswith("mark") or word.endswith("update"):
+        word = self.some(LOOKS)
+        if word in MARKS:
             self.seen[name] = 0 if word == "mark_changed" else self.version
         replies = {
             "peek": str(cell.content),
@@ -476,7 +297,8 @@ class States(Maker):
             self.seen[name] = self.seen[of]
         self.lent[name] = name if kind == "states" else of
         self.made[name] = [kind, None, 0 if kind == "wait_for" else None, wanted]
-        self.line(f"{kind} {wanted} {name} on {of}" if wanted or kind == "wait_for" else f"{kind} {name} on {of}")
+        called = f"wait_for {wanted}" if kind == "wait_for" else kind
+        self.line(f"{called} {name} on {of}")
 
     def poll(self, name):
         future, of, task = self.made[name], self.lent[name], self.some(TASKS)
@@ -524,9 +346,9 @@ class States(Maker):
         self.line(f"{self.some(['drop', 'end'])} {name}")
 
     def step(self):
-        chosen, on = self.random.randrange(10), self.owners and f" on {self.some(self.owners)}"
+        chosen = self.random.randrange(10)
         if chosen < 2 and self.owners:
-            self.write(on)
+            self.write(f" on {self.some(self.owners)}")
         elif chosen == 2 and self.owners:
             self.own()
         elif chosen == 3 and len(self.seen) < 5 and (self.owners or self.free()):

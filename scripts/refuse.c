@@ -1,22 +1,26 @@
-/* Preloaded into a program, this refuses its Nth request for memory, where N is the value of
-   REFUSE: malloc and realloc are all that a Rattle program asks by. It tells of the refusal on
-   file descriptor 3. It takes no header, so that the kit's own compiler can build it. */
+/* Refuses a program's Nth request for memory, where N is the value of REFUSE, and tells of it on the
+   file descriptor that is the value of TELL. Linked into a program that is tried, it stands in the place of the three functions
+   by which the kit's programs ask for memory. Compiled with PRELOADED, it is preloaded into a program
+   that was built: malloc and realloc are all that one asks by. It takes no header, so that the kit's
+   own compiler can build it. */
 typedef __SIZE_TYPE__ size;
 
-extern void *__libc_malloc(size bytes);
-extern void *__libc_realloc(void *place, size bytes);
 extern char *getenv(const char *name);
 extern long strtol(const char *text, char **end, int base);
 extern long write(int file, const void *bytes, size count);
 
 static int is_refused(void) {
     static long requests;
-    const char *refuse = getenv("REFUSE");
-    if (!refuse || __atomic_add_fetch(&requests, 1, __ATOMIC_SEQ_CST) != strtol(refuse, 0, 10))
+    const char *refuse = getenv("REFUSE"), *tell = getenv("TELL");
+    if (!refuse || !tell || __atomic_add_fetch(&requests, 1, __ATOMIC_SEQ_CST) != strtol(refuse, 0, 10))
         return 0;
-    write(3, "refused\n", 8);
+    write(strtol(tell, 0, 10), "refused\n", 8);
     return 1;
 }
+
+#ifdef PRELOADED
+extern void *__libc_malloc(size bytes);
+extern void *__libc_realloc(void *place, size bytes);
 
 void *malloc(size bytes) {
     return is_refused() ? 0 : __libc_malloc(bytes);
@@ -25,3 +29,33 @@ void *malloc(size bytes) {
 void *realloc(void *place, size bytes) {
     return is_refused() ? 0 : __libc_realloc(place, bytes);
 }
+#else
+extern void *malloc(size bytes);
+extern void *realloc(void *place, size bytes);
+extern void free(void *place);
+
+struct got {
+    size is_some;
+    void *place;
+};
+
+static char nothing[16];
+
+static struct got got(void *place) {
+    struct got got = {place != 0, place ? place : nothing};
+    return got;
+}
+
+struct got rattle_alloc(size bytes, size align) {
+    return got(is_refused() ? 0 : malloc(bytes ? bytes : align));
+}
+
+struct got rattle_realloc(void *old, size kept, size bytes, size align) {
+    (void)kept;
+    return got(is_refused() ? 0 : realloc(old, bytes ? bytes : align));
+}
+
+void rattle_dealloc(void *place) {
+    free(place);
+}
+#endif

@@ -1,0 +1,71 @@
+//! Callers of `async_cell_latest`: each call of a `Latest`.
+use anyhow::Result;
+use async_cell_latest::{Latest, Named};
+
+/// A state is written and read, by its first writer.
+fn states(rt: HostRuntime) -> Result<()> {
+    let mut latest: Latest<u32, Named> = Latest::new(rt.alloc(), 1);
+    println!(rt; "latest: read {:?}", latest.read())?;
+    println!(rt; "latest: write {:?}", latest.write(2))?;
+    println!(rt;
+        "latest: version {}, get {:?}",
+        latest.version(),
+        latest.get()
+    )?;
+    println!(rt;
+        "latest: changed_since {:?} {:?}",
+        latest.changed_since(1),
+        latest.changed_since(2)
+    )?;
+    println!(rt; "latest: into_inner {:?}", latest.into_inner())?;
+    Ok(())
+}
+
+/// One name waits for a later state, and another finds one.
+fn polls(rt: HostRuntime) -> Result<()> {
+    let mut latest: Latest<u32, Named> = Latest::from_parts(rt.alloc(), 3, 7, 1);
+    latest.reserve(1)?;
+    println!(rt;
+        "latest: poll_changed {:?}",
+        latest.poll_changed(7, &Named(1))
+    )?;
+    println!(rt;
+        "latest: poll_changed {:?}",
+        latest.poll_changed(6, &Named(2))
+    )?;
+    println!(rt;
+        "latest: waiting {}, write {:?}",
+        latest.waiting(),
+        latest.write(4)
+    )?;
+    Ok(())
+}
+
+/// Writers come and go, and the last one closes the state.
+fn writers(rt: HostRuntime) -> Result<()> {
+    let mut latest: Latest<u32, Named> = Latest::new(rt.alloc(), 5);
+    println!(rt;
+        "latest: add_writer {:?}, writers {}",
+        latest.add_writer(),
+        latest.writers()
+    )?;
+    println!(rt;
+        "latest: end_writer {:?}, is_closed {}",
+        latest.end_writer(),
+        latest.is_closed()
+    )?;
+    println!(rt;
+        "latest: end_writer {:?}, is_closed {}",
+        latest.end_writer(),
+        latest.is_closed()
+    )?;
+    println!(rt; "latest: {latest:?}")?;
+    Ok(())
+}
+
+/// Makes each of them.
+pub fn all(rt: HostRuntime) -> Result<()> {
+    states(rt)?;
+    polls(rt)?;
+    writers(rt)
+}

@@ -1,0 +1,90 @@
+//! Callers with impls of a program's own: a waker that would wake any other, and pointers to cells.
+ghost use Rattle.std.specs.Prelude.{true};
+ghost use Rattle.std.proofs.Common.{rules};
+
+use anyhow::Result;
+use async_cell_core::{Core, Wakes};
+use async_cell_sync::AsyncCell;
+use futures::executor::block_on;
+use std::alloc::AllocGlobal;
+use std::io::Print;
+use std::random::RandomSource;
+use std::sync::Wait;
+
+/// A waker that would wake every other.
+#[derive(Clone, Copy, Debug)]
+struct Bell;
+
+impl Wakes for Bell {
+    ghost will_wake = { λ a b. true };
+
+    ghost SURE_CLONE = { true };
+
+    const SURE_CLONE: bool = true;
+
+    fn will_wake(&self, _: &Self) -> bool {
+        true
+    }
+
+    fn wake(self) {}
+
+    ghost clone_is_source = { Prim.search rules };
+
+    ghost clone_is_sure = { Prim.search rules };
+}
+
+/// A second bell need not wait.
+pub fn bells(rt: HostRuntime) -> Result<()> {
+    let mut core: Core<u32, Bell> = Core::new(rt.alloc());
+    println!(rt; "bell: poll_take {:?}", core.poll_take(&Bell))?;
+    println!(rt;
+        "bell: poll_get {:?}, waiting {}",
+        core.poll_get(&Bell),
+        core.waiting()
+    )?;
+    Ok(())
+}
+
+/// A pointer to a cell of one thread.
+#[derive(Drop)]
+struct Near<'a>(&'a async_cell_unsync::AsyncCell<u32>);
+
+impl async_cell_unsync::CellRef for Near<'_> {
+    type Value = u32;
+
+    fn cell(&self) -> &async_cell_unsync::AsyncCell<u32> {
+        self.0
+    }
+}
+
+/// A pointer to a cell that threads share.
+#[derive(Drop)]
+struct Far<'a>(&'a AsyncCell<u32>);
+
+impl async_cell_sync::CellRef for Far<'_> {
+    type Value = u32;
+
+    fn cell(&self) -> &AsyncCell<u32> {
+        self.0
+    }
+
+    fn leave<R: Wait>(self, _: &R) {}
+}
+
+/// Futures over both pointers.
+pub fn pointers<R>(rt: R) -> Result<()>
+where
+    R: AllocGlobal + Copy + Print + RandomSource + Wait,
+{
+    let near = async_cell_unsync::AsyncCell::new_with(rt.alloc(), 1u32);
+    println!(rt;
+        "near: get {}",
+        block_on(&rt, async_cell_unsync::Get(Near(&near)))??
+    )?;
+    let far = AsyncCell::new_with(rt.alloc(), 2u32);
+    println!(rt;
+        "far: take {}",
+        block_on(&rt, async_cell_sync::Take(Far(&far)).with(rt))??
+    )?;
+    Ok(())
+}

@@ -1,0 +1,190 @@
+"""A plain model of a cell, of its owners and of those who wait, for scripts/random_cases.py.
+
+It is written from docs/DEFINITIONS.md and docs/GUIDE.md: what each call replies, what happens in it,
+and in which order.
+"""
+
+
+def once(tasks):
+    """Who is woken, each once."""
+    return list(dict.fromkeys(it for it in tasks if it))
+
+
+class Wait:
+    """The places of those who wait. A dropped future leaves its waker in its place, which is then
+    free; the one that was left last is taken over first. Each fill, and the close, ends a round."""
+
+    def __init__(self):
+        self.round, self.tasks, self.free = 0, [], []
+
+    def end(self):
+        woken = once(self.tasks)
+        self.round, self.tasks, self.free = self.round + 1, [], []
+        return woken
+
+    def wait(self, place, task):
+        """Returns the place in which the task waits, and whom it lets go of."""
+        if not place or place[0] != self.round:
+            if not self.free:
+                self.tasks.append(task)
+                return (self.round, len(self.tasks) - 1), []
+            place = self.round, self.free.pop()
+        before, self.tasks[place[1]] = self.tasks[place[1]], task
+        return place, [before] if before and before != task else []
+
+    def leave(self, place):
+        if place and place[0] == self.round:
+            self.free.append(place[1])
+
+    def cancel(self, place):
+        """Returns whom the cancelled future lets go of."""
+        if not place or place[0] != self.round:
+            return []
+        self.free.append(place[1])
+        woken, self.tasks[place[1]] = self.tasks[place[1]], None
+        return once([woken])
+
+    def purge(self):
+        woken = [self.tasks[it] for it in sorted(self.free)]
+        for it in self.free:
+            self.tasks[it] = None
+        return once(woken)
+
+
+class Cell:
+    """A cell: what each call replies, and what happens in it. An event is a word and a number."""
+
+    def __init__(self, owners=1):
+        self.content, self.owners, self.wait, self.events = None, owners, Wait(), []
+
+    def happen(self, word, *numbers):
+        self.events += [(word, it) for it in numbers]
+
+    def fill(self, value):
+        """Puts a value in, and returns the old one."""
+        old, self.content = self.content, value
+        if old is None and value is not None:
+            self.happen("woke", *self.wait.end())
+        return old
+
+    def drop(self, value):
+        if value is not None:
+            self.happen("dropped", value)
+
+    def set(self, value):
+        self.drop(self.fill(value))
+        return "ok"
+
+    def or_set(self, value):
+        if self.content is None:
+            self.fill(value)
+        else:
+            self.drop(value)
+        return "ok"
+
+    def try_set(self, value):
+        return f"back {value}" if self.content is not None else self.set(value)
+
+    def replace(self, value):
+        old = self.fill(value)
+        return "none" if old is None else f"old {old}"
+
+    def update(self, how, value):
+        old = self.content
+        self.happen("saw", "none" if old is None else old)
+        if how == "add":
+            value = None if old is None else old + value
+        self.fill({"none": None, "keep": old}.get(how, value))
+        return "ok"
+
+    def update_some(self, how, value):
+        if self.content is not None:
+            return self.update(how, value)
+        if not how:
+            self.drop(value)
+        return "ok"
+
+    def try_take(self):
+        taken, self.content = self.content, None
+        return "none" if taken is None else f"some {taken}"
+
+    def try_get(self):
+        return "none" if self.content is None else self.cloned("some")
+
+    def cloned(self, word):
+        self.happen("cloned", self.content)
+        return f"{word} {self.content}'"
+
+    def poll(self, future, task, word="ready"):
+        """Polls a future: a list of whether it takes, and its place."""
+        if not self.owners:
+            return "closed"
+        if self.content is None:
+            future[1], let_go = self.wait.wait(future[1], task)
+            self.happen("woke", *let_go)
+            return "pending"
+        future[1] = None
+        return self.try_take().replace("some", word) if future[0] else self.cloned(word)
+
+    def guarded(self, cancel, how, value):
+        """Ends a guard."""
+        if how == "drop":
+            return self.or_set(cancel)
+        if how != "release":
+            getattr(self, how)(value)
+        self.drop(cancel)
+        return "ok"
+
+    def end_owner(self):
+        self.owners -= 1
+        if not self.owners:
+            self.happen("woke", *self.wait.end())
+            self.drop(self.content)
+            self.content = None
+        return "ok"
+
+    def debug(self):
+        if self.content is not None:
+            return f"AsyncCell::Full({self.content})"
+        return "AsyncCell::Pending" if any(self.wait.tasks) else "AsyncCell::Empty"
+
+
+def would_wake(waker, other):
+    return waker % 2 == 0 if waker >= 100 else waker == other
+
+
+class Core(Cell):
+    """A core: a waker that any waiting one would wake is not added."""
+
+    def add(self, waker):
+        if not any(would_wake(it, waker) for it in self.wait.tasks):
+            self.wait.tasks.append(waker)
+        return "pending"
+
+    def fill(self, value):
+        old, self.content = self.content, value
+        if old is None and value is not None:
+            self.hand_out()
+        return old
+
+    def hand_out(self):
+        self.happen("woke", *self.wait.tasks)
+        self.wait.tasks = []
+
+    def poll_by(self, takes, waker):
+        if not self.owners:
+            return "closed"
+        if self.content is None:
+            return self.add(waker)
+        return self.try_take().replace("some", "ready") if takes else self.cloned("ready")
+
+    def close(self):
+        """Ends an owner: the reply of a core."""
+        if not self.owners:
+            return "closed"
+        self.owners -= 1
+        if self.owners:
+            return "none"
+        self.hand_out()
+        content, self.content = self.content, None
+        return "none" if content is None else f"inner {content}"

@@ -1,0 +1,145 @@
+"""Runs all tests without a proof: what scripts/tests.sh calls, with words of their names, or none.
+
+The tests of tests/code are compiled as one program, and each is run in a process of its own; those of
+tests/again.txt run again, with requests for memory refused. Beside them scripts/cases.py plays the
+cases of tests/cases, if no word is given. Prints a line for each folder of tests as it ends, the
+output of each test that fails, and at the end how many passed and failed.
+"""
+import concurrent.futures
+import os
+import re
+import subprocess
+import sys
+import tempfile
+import threading
+import time
+
+import lay_out
+import test_runs
+import try_kit
+
+AGAIN = f"{lay_out.TOP}/tests/again.txt"
+
+
+class Told:
+    """What is printed: a line at least every half minute."""
+
+    def __init__(self):
+        self.begun = self.last = time.monotonic()
+        self.doing = ""
+        threading.Thread(target=self.tick, daemon=True).start()
+
+    def say(self, text):
+        self.last = time.monotonic()
+        print(f"{self.last - self.begun:4.0f} s  {text}", flush=True)
+
+    def begin(self, doing):
+        self.doing = doing
+        self.say(doing)
+
+    def tick(self):
+        while True:
+            time.sleep(1)
+            if time.monotonic() - self.last > 25:
+                self.say(f"{self.doing} ..")
+
+
+class Results:
+    """How many tests of each group passed and failed."""
+
+    def __init__(self, told):
+        self.told = told
+        self.passed = self.failed = 0
+
+    def count(self, name, complaint):
+        """Counts a test, and prints it if there is a complaint."""
+        if complaint is None:
+            self.passed += 1
+        else:
+            self.failed += 1
+            self.told.say(f"failed {name}:")
+            print(complaint, flush=True)
+
+    def counted(self, group, passed, failed):
+        """Counts what was counted by another program."""
+        self.passed += passed
+        self.failed += failed
+        self.told.say(f"{group}: {passed} passed, {failed} failed")
+
+
+def build(told, room, words):
+    """Lays the tests out, those of one module if the words name it, and compiles them. Returns the
+    words by which the program is called, or None, and what the compiler said."""
+    lib = try_kit.load()
+    if not lib:
+        return None, "this kit's rt has not what scripts/try_kit.py needs"
+    named = [it for it in (word.split("::")[0] for word in words) if lay_out.texts_of(it)]
+    lay_out.lay_out(f"{room}/project", [*named, "checks"] if named else None)
+    told.begin("compiling, some two minutes")
+    refuses = try_kit.compiled(lib, f"{lay_out.TOP}/scripts/refuse.c", f"{room}/refuse.o")
+    return try_kit.built(lib, f"{room}/project/crates/tests", [refuses], f"{room}/built")
+
+
+def chosen(program, words):
+    """Returns (group, test, way) for each run that the words choose."""
+    every = test_runs.names(program)
+    runs = [(it.split("::")[0], it, "once") for it in every]
+    again = test_runs.listed_again(AGAIN)
+    # (of a test that was left out, as the words name another module, no run is wanted)
+    runs += [(f"again, {way}", it, way) for it, way in again if not words or it in every]
+    return [it for it in runs if not words or any(word in it[1] for word in words)]
+
+
+def run(program, runs, results):
+    """Runs the tests, as many side by side as there are processors, and tells of each group once all
+    of it have ended."""
+    left = {group: [it for it in runs if it[0] == group] for group, _, _ in runs}
+    sums = {group: len(it) for group, it in left.items()}
+    with concurrent.futures.ThreadPoolExecutor(len(os.sched_getaffinity(0))) as pool:
+        begun = {pool.submit(test_runs.complaint_of, program, *it[1:]): it for it in runs}
+        for ended in concurrent.futures.as_completed(begun):
+            group, test, way = begun[ended]
+            results.count(test if way == "once" else f"{test}, {way}", ended.result())
+            left[group].remove((group, test, way))
+            results.told.doing = f"running {next((it[1] for them in left.values() for it in them), '')}"
+            if not left[group]:
+                results.told.say(f"{group}: {sums[group]} ended")
+
+
+def begin_cases():
+    """Begins to play the cases."""
+    words = [sys.executable, f"{lay_out.TOP}/scripts/cases.py"]
+    how = {"stdin": subprocess.DEVNULL, "stdout": subprocess.PIPE, "stderr": subprocess.STDOUT}
+    return subprocess.Popen(words, text=True, **how)
+
+
+def read_cases(played, results):
+    """Waits until the cases are played, counts them, and prints what did not come out right."""
+    results.told.doing = "playing the cases"
+    lines = played.communicate()[0].splitlines()
+    found = re.fullmatch(r"(\d+) passed, (\d+) failed", lines[-1] if lines else "")
+    passed, failed = (int(it) for it in found.groups()) if found else (0, 1)
+    if failed or played.returncode:
+        print("\n".join(lines), flush=True)
+    results.counted("cases", passed, max(failed, int(played.returncode != 0)))
+
+
+def main(words):
+    results = Results(Told())
+    played = None if words else begin_cases()
+    with tempfile.TemporaryDirectory(prefix="tests-") as room:
+        program, said = build(results.told, room, words)
+        runs = chosen(program, words) if program else []
+        if runs:
+            results.told.say(f"compiled: {len(runs)} runs of tests")
+            run(program, runs, results)
+        else:
+            results.count("the tests", f"{said}\nno test ran")
+    if played:
+        read_cases(played, results)
+    print(f"{results.passed} passed, {results.failed} failed")
+    return 1 if results.failed else 0
+
+
+if __name__ == "__main__":
+    sys.exit(main(sys.argv[1:]))
