@@ -18,7 +18,7 @@ import tempfile
 
 import edits_kit
 import random_cases
-from lay_out import copy_crates, lay_crate, read, write
+from lay_out import copy_crates, files_below, read, write
 
 TOP = os.path.dirname(os.path.dirname(os.path.abspath(__file__)))
 USED = ["model", "cons", "core", "latest", "latest_unsync", "latest_sync", "unsync", "sync"]
@@ -30,8 +30,11 @@ def lay_out(folder):
     """Lays the player and the crates below it out as a project."""
     copy_crates(folder, CRATES)
     used = [it for it in read(f"{TOP}/crates.txt").split("\n") if it.split(":")[0] in CRATES]
+    used += read(f"{TOP}/tests/player/crates.line").split("\n")
     write(f"{folder}/crates.txt", "\n".join(used) + "\n")
-    lay_crate(folder, "player", f"{TOP}/tests/player")
+    for it in (it for it in files_below(f"{TOP}/tests/player") if it.endswith(".rt.txt")):
+        to = f"{folder}/crates/player/src/{it.removesuffix('.txt')}"
+        write(to, read(f"{TOP}/tests/player/{it}"))
 
 
 def compiled(folder):
