@@ -11,12 +11,14 @@ import time
 from collections import namedtuple
 from concurrent.futures import ThreadPoolExecutor
 
-from planted_program import kit_folder
+from planted_program import TOP, kit_folder, read
 
 MOST = 4096  # (as in planted.c)
 # A wrong body may wait for ever, or ask for ever more memory, or print for ever.
 SECONDS, BLOCKS = 10, 20_000
 CHECKS = "abort_on_error=1:allocator_may_return_null=1:symbolize=0:hard_rss_limit_mb=1500"
+# How many cases are tried one by one before the rest is played as one.
+FEW = 6
 # How the output of a test ends that holds, and that of a case.
 HOLDS, PLAYED = r"test result: ok\n\Z", r"(\A|\n)[1-9]\d* passed, 0 failed\n\Z"
 LIMITED = f'ulimit -c 0; ulimit -f {BLOCKS}; exec "$@"'
@@ -71,20 +73,32 @@ def tests_of(program):
 
 
 def cases_of(text):
-    """Returns the cases of a text as inputs, by their files and titles: each as it is, and if it is
-    no random one, with each request for memory refused. A case ends at an empty line."""
+    """Returns the cases of a text as inputs, on each kind alone, by their files, titles and kinds:
+    each as it is, and if it is no random one, with each request for memory refused. A case ends at
+    an empty line."""
     plain, refusing = {}, {}
     for of_file in re.split(r"^file ", text, flags=re.M)[1:]:
         file, _, rest = of_file.partition("\n")
         for case in re.split(r"\n\s*\n", rest):
-            title = re.search(r"^# (.*)", case, re.M)
-            if title and re.search(r"^on ", case, re.M):
-                name, given = f"{file}: {title[1]}", f"file {file}\n{case.strip()}\n\n"
-                plain[name] = Input([], given, PLAYED)
+            for name, of_kind in on_each(case.strip()).items():
+                given = Input([], f"file {file}\n{of_kind}\n\n", PLAYED)
+                plain[f"{file}: {name}"] = given
                 if file != "random":
-                    refused = plain[name]._replace(given=f"refuse\n{given}")
-                    refusing[f"{name}, refused"] = refused
+                    refused = given._replace(given=f"refuse\n{given.given}")
+                    refusing[f"{file}: {name}, refused"] = refused
     return {**plain, **refusing}
+
+
+def on_each(case):
+    """Returns the text of a case for each kind that it is played on, by its title and the kind."""
+    title, kinds = re.search(r"^# (.*)", case, re.M), re.search(r"^on (.*)", case, re.M)
+    if not title or not kinds:
+        return {}
+    groups = read(f"{TOP}/tests/player/words.rt.txt")
+    members = dict(re.findall(r'^    \("(\w+)", "([\w ]+)"\),$', groups, re.M))
+    found = [kind for word in kinds[1].split() for kind in members.get(word, word).split()]
+    before, after = case[: kinds.start()], case[kinds.end() :]
+    return {f"{title[1]} on {it}": f"{before}on {it}{after}" for it in found}
 
 
 class Runner:
@@ -92,7 +106,7 @@ class Runner:
 
     def __init__(self, program, inputs, without, jobs):
         """Runs each input without a bug; `without` says which are left out."""
-        self.program = program
+        self.program, self.is_played = program, any(it.given for it in inputs.values())
         chosen = {it: of for it, of in inputs.items() if not (without and re.search(without, it))}
         self.inputs, self.left_out = chosen, len(inputs) - len(chosen)
         with ThreadPoolExecutor(jobs) as pool:
@@ -108,14 +122,44 @@ class Runner:
         found = [it for it, numbers in self.reached.items() if number in numbers]
         return sorted(found, key=lambda it: (self.seconds[it] > 1, len(self.reached[it])))
 
-    def catching(self, number, enough):
-        """Returns what catches a bug; it stops after so many."""
-        caught, names = [], self.reaching(number)
-        for at, name in enumerate(names):
-            seconds = SECONDS + 10 * self.seconds[name]
-            ran = run(self.program, self.inputs[name], number, seconds=seconds)
-            if not is_passed(self.inputs[name], ran):
+    def fails(self, number, names):
+        """Returns whether a run with a bug fails. Cases are played as one."""
+        given = self.inputs[names[0]]
+        if len(names) > 1:
+            text = "".join(self.inputs[it].given for it in names)
+            given = given._replace(given=text)
+        seconds = SECONDS + sum(self.seconds[it] for it in names) * (1 if names[1:] else 10)
+        return not is_passed(given, run(self.program, given, number, seconds=seconds))
+
+    def one_by_one(self, number, names, enough):
+        """Returns what catches a bug among these, and how many were run."""
+        caught = []
+        for at, name in enumerate(names, 1):
+            if self.fails(number, [name]):
                 caught.append(name)
             if len(caught) == enough:
-                return Caught(caught, at + 1 < len(names))
-        return Caught(caught, False)
+                return caught, at
+        return caught, len(names)
+
+    def by_halves(self, number, names, enough):
+        """Returns what catches a bug among these cases."""
+        if not names or not self.fails(number, names):
+            return []
+        if len(names) == 1:
+            return names
+        half = len(names) // 2
+        caught = self.by_halves(number, names[:half], enough)
+        if len(caught) < enough:
+            caught = caught + self.by_halves(number, names[half:], enough - len(caught))
+        return caught
+
+    def catching(self, number, enough):
+        """Returns what catches a bug; it stops after so many."""
+        names = self.reaching(number)
+        few = names[:FEW] if self.is_played else names
+        caught, count = self.one_by_one(number, few, enough)
+        # (a line `refuse` is for all that follows)
+        rest = sorted(names[count:], key=lambda it: self.inputs[it].given.startswith("refuse"))
+        if self.is_played and len(caught) < enough:
+            caught, rest = caught + self.by_halves(number, rest, enough - len(caught)), []
+        return Caught(caught, bool(rest) or len(caught) == enough)

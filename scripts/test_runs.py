@@ -74,7 +74,7 @@ def listed_again(path):
     return [(test, way) for way, test in pairs]
 
 
-def refused_in_turn(program, test, wanted):
+def refused_in_turn(program, test):
     """Runs a test until it asks for no more memory. Returns a complaint, or None."""
     outcomes = []
     while not outcomes or outcomes[-1] in ("own", "held"):
@@ -82,15 +82,15 @@ def refused_in_turn(program, test, wanted):
         outcomes.append(ran.outcome())
     if outcomes[-1] == "wrong":
         return f"with request {len(outcomes)} refused: {ran.complaint()}"
-    found = "refused" if "held" in outcomes else "spared"
-    counts = f"requests: {len(outcomes) - 1}, its own: {outcomes.count('own')}"
-    return None if found == wanted else f"a call of its was not {wanted}: {counts}"
+    if "held" not in outcomes:
+        return f"each of the {len(outcomes) - 1} requests that were refused was the test's own"
+    return None
 
 
 def complaint_of(program, test, way):
     """Runs a test in a way: "once", or one of the list. Returns a complaint, or None."""
-    if way in ("refused", "spared"):
-        return refused_in_turn(program, test, way)
+    if way == "refused":
+        return refused_in_turn(program, test)
     if way not in ("once", "small"):
         return f"tests/again.txt: no way is named {way}"
     return Ran(program, test, is_small=way == "small").complaint()
