@@ -72,13 +72,14 @@ def newest(paths):
 def is_of_the_gate(crate):
     """Returns whether the library in out/ is one that the gate has built from the present text.
 
-    The gate writes no stamp beside it, so what counts is that no text is younger.
+    The gate writes no stamp beside it, and the files of one that it had kept are older than a fresh
+    checkout. But it makes the folder anew, so what counts is that no text is younger than that.
     """
     folder = crate.folder
     if os.path.exists(f"{folder}/out/rlib/stamp") or not os.path.isfile(f"{crate.rlib}/format"):
         return False
     texts = [f"{folder}/{it}" for it in ("src", "specs", "proofs")]
-    return newest(texts) < os.path.getmtime(f"{crate.rlib}/format")
+    return newest(texts) < os.stat(crate.rlib).st_ctime
 
 
 class Kit:
