@@ -5,6 +5,7 @@ ghost use Rattle.async_cell_cons.specs.Lacking.{LacksWaker};
 use crate::wakes::Wakes;
 use futures::task::{Context, Source, Waker};
 use std::alloc::AllocError;
+use std::cell::Cell;
 use std::marker::Model;
 
 /// The link of a place that a future holds.
@@ -19,8 +20,9 @@ const FREE: usize = 1;
 pub struct TaskWaker {
     /// `None` while the waker is taken out of its place.
     waker: Option<Waker>,
-    /// `HELD`, or for a free place `FREE` and the number of the next free one.
-    link: usize,
+    /// `HELD`, or for a free place `FREE` and the number of the next free one. A place becomes free
+    /// where it lies, also while the list is only looked at.
+    link: Cell<usize>,
 }
 
 /// Contracts see a value without parts.
@@ -49,7 +51,7 @@ impl TaskWaker {
     pub fn of(waker: Waker) -> TaskWaker {
         TaskWaker {
             waker: Some(waker),
-            link: HELD,
+            link: Cell::new(HELD),
         }
     }
 
@@ -57,28 +59,25 @@ impl TaskWaker {
     pub(crate) fn taken_out() -> TaskWaker {
         TaskWaker {
             waker: None,
-            link: HELD,
+            link: Cell::new(HELD),
         }
     }
 
-    /// Returns this waker for a place that is free, before the one of this number.
-    pub(crate) fn left_before(self, next: usize) -> TaskWaker {
-        TaskWaker {
-            waker: self.into_waker(),
-            link: FREE.saturating_add(next),
-        }
+    /// Makes the place of this waker a free one, before the one of this number.
+    pub(crate) fn leave_before(&self, next: usize) {
+        self.link.set(FREE.saturating_add(next));
     }
 
     /// Returns the number of the next free place: 0 if there is none.
     pub(crate) fn next_free(&self) -> usize {
-        self.link.saturating_sub(FREE)
+        self.link.get().saturating_sub(FREE)
     }
 
     /// Returns the waker of a free place, and what stays in the place. Leaves that of a place that
     /// is held where it is.
     pub(crate) fn let_go(self) -> (Option<Waker>, TaskWaker) {
         let TaskWaker { waker, link } = self;
-        match link {
+        match link.get() {
             HELD => (None, TaskWaker { waker, link }),
             _ => (waker, TaskWaker { waker: None, link }),
         }

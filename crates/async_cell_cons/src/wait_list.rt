@@ -6,6 +6,7 @@ mod places;
 use crate::wakers::Wakers;
 use crate::wakes::Wakes;
 use std::alloc::{AllocError, Global};
+use std::cell::Cell;
 use std::marker::Model;
 use std::mem;
 
@@ -18,7 +19,7 @@ pub struct WaitList<W> {
     /// Begins with 1 and grows with each `hand_out`: places of other rounds are given up.
     round: u64,
     /// The number of the free place that is taken over next, counted from 1: 0 if none is free.
-    free: usize,
+    free: Cell<usize>,
 }
 
 /// Contracts see the wakers in order of registration, and the room for more.
@@ -44,7 +45,7 @@ impl<W: Drop> WaitList<W> {
             first: None,
             rest: Vec::new(alloc),
             round: 1,
-            free: 0,
+            free: Cell::new(0),
         }
     }
 
@@ -108,7 +109,7 @@ impl<W: Drop> WaitList<W> {
     {
         if self.rest.capacity() == 0 {
             self.round = self.round.wrapping_add(1);
-            self.free = 0;
+            self.free.set(0);
             return Wakers::of(self.first.take());
         }
         self.hand_out_all()
@@ -121,7 +122,7 @@ impl<W: Drop> WaitList<W> {
         ensures leaves_none { self.new ≡ record { wakers = []; room = 0 } }
     {
         self.round = self.round.wrapping_add(1);
-        self.free = 0;
+        self.free.set(0);
         let first = self.first.take();
         let none = Vec::new(*self.rest.allocator());
         let rest = mem::replace(&mut self.rest, none);

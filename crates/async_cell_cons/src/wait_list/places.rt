@@ -46,18 +46,15 @@ impl WaitList<TaskWaker> {
         }
     }
 
-    /// Leaves the place free. Its waker stays there: to drop it would wake the task. Returns the
-    /// index of the place, unless it was given up.
-    pub fn leave(&mut self, place: Place) -> Option<usize>
-        ensures unchanged { self.new ≡ self.old }
-    {
+    /// Leaves the place free, also while the list is only looked at. Its waker stays there: to drop
+    /// it would wake the task. Returns the index of the place, unless it was given up.
+    pub fn leave(&self, place: Place) -> Option<usize> {
         if !place.is_of(self.round) {
             return None;
         }
         let index = place.index();
-        let waker = self.exchange(index, TaskWaker::taken_out()).ok()?;
-        let _ = self.exchange(index, waker.left_before(self.free));
-        self.free = index.saturating_add(1);
+        self.at(index)?.leave_before(self.free.get());
+        self.free.set(index.saturating_add(1));
         Some(index)
     }
 
@@ -74,7 +71,7 @@ impl WaitList<TaskWaker> {
     /// Returns whether a future with this place has to be added: it has none, and none is free.
     #[inline(always)]
     fn is_new(&self, place: &Place) -> bool {
-        !place.is_of(self.round) && self.free == 0
+        !place.is_of(self.round) && self.free.get() == 0
     }
 
     /// Stores a waker as the last of the list, which is the place from then on.
@@ -104,17 +101,25 @@ impl WaitList<TaskWaker> {
         if place.is_of(self.round) {
             return self.exchange(place.index(), waker);
         }
-        let Some(index) = self.free.checked_sub(1) else {
+        let Some(index) = self.free.get().checked_sub(1) else {
             return Err(waker);
         };
         let left = self.exchange(index, waker)?;
-        self.free = left.next_free();
+        self.free.set(left.next_free());
         *place = Place::at(self.round, index);
         Ok(left)
     }
 }
 
 impl<W: Drop> WaitList<W> {
+    /// Returns the waker at `index`, if there is one.
+    fn at(&self, index: usize) -> Option<&W> {
+        match index.checked_sub(1) {
+            None => self.first.as_ref(),
+            Some(index) => self.rest.get(index),
+        }
+    }
+
     /// Stores a waker in place of the one at `index`, which is returned. If there is none, the
     /// waker is returned in the error. For types of wakers that contracts do not tell apart.
     fn exchange(&mut self, index: usize, waker: W) -> Result<W, W>

@@ -72,12 +72,10 @@ impl<T: Drop> Latest<T, TaskWaker> {
 
     /// Internal: may change without notice.
     ///
-    /// Leaves the place free. Its waker stays there: to drop it would wake the task. Returns the
-    /// index of the place, unless it was given up.
+    /// Leaves the place free, also while the state is only looked at. Its waker stays there: to drop
+    /// it would wake the task. Returns the index of the place, unless it was given up.
     #[doc(hidden)]
-    pub fn leave(&mut self, place: Place) -> Option<usize>
-        ensures unchanged { self.new ≡ self.old }
-    {
+    pub fn leave(&self, place: Place) -> Option<usize> {
         self.waiting.leave(place)
     }
 
