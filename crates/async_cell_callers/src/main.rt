@@ -5,7 +5,6 @@
 
 mod bare;
 mod cell_core;
-mod cons;
 mod followed;
 mod host;
 mod latest;
@@ -19,11 +18,12 @@ mod unsync_cell;
 mod unsync_latest;
 mod unsync_owner;
 mod unsync_shared;
+mod wakers;
 
 use anyhow::Result;
 
 fn main(rt: HostRuntime) -> Result<()> {
-    cons::all(rt)?;
+    wakers::all(rt)?;
     cell_core::all(rt)?;
     println!(rt; "-- unsync")?;
     unsync_cell::all(rt)?;

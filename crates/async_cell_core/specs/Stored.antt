@@ -1,6 +1,6 @@
 -- The state of a core, made of its fields.
 use Rattle.std.specs.Prelude.{ℕ, Option, nat_eq, if◌then◌else◌}
-use Rattle.async_cell_cons.specs.WaitList.{ListState}
+use Rattle.async_cell_wakers.specs.WaitList.{ListState}
 use Rattle.async_cell_model.specs.declared.cell.Cell.{Cell}
 use Rattle.async_cell_model.specs.declared.cell.Cell.TheVariants.{Closed, Open}
 use Rattle.async_cell_model.specs.History.{State}

@@ -11,8 +11,8 @@ mod places;
 mod polls;
 mod unique;
 
-use async_cell_cons::{WaitList, Wakers, Wakes};
 use async_cell_model::{Cell, Kept, Refusal, Reply};
+use async_cell_wakers::{WaitList, Wakers, Wakes};
 use futures::task::Poll;
 use std::alloc::Global;
 use std::marker::Model;

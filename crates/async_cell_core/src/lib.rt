@@ -8,8 +8,8 @@ mod guard;
 pub mod laws;
 mod runs;
 
-pub use async_cell_cons::{Named, Place, TaskWaker, Wakers, Wakes};
 pub use async_cell_model::{Refusal, Reply};
+pub use async_cell_wakers::{Named, Place, TaskWaker, Wakers, Wakes};
 pub use call::{Answer, Call};
 pub use cell_core::Core;
 pub use edit::Edit;

@@ -1,6 +1,6 @@
 //! An edit of a caller's own, for lists of calls.
 ghost use Rattle.std.specs.Prelude.{◌≡◌, IfSome, Some, map, true, vec_len};
-ghost use Rattle.async_cell_cons.specs.Named.{same_name};
+ghost use Rattle.async_cell_wakers.specs.Named.{same_name};
 ghost use Rattle.async_cell_core.specs.Kept.{history_of};
 ghost use Rattle.async_cell_model.specs.Legal.{Runs};
 

@@ -3,7 +3,7 @@ use Rattle.std.proofs.Common.{◌≡◌, inl, inr, ℕ, Bool, true, false, not, 
 use Rattle.std.specs.Prelude.{is_some, if◌then◌else◌, option_to_list}
 use Rattle.std.specs.List.{filter_map}
 use Rattle.std.specs.Option.{option_map}
-use Rattle.async_cell_cons.specs.declared.named.Named.{Named}
+use Rattle.async_cell_wakers.specs.declared.named.Named.{Named}
 use Rattle.async_cell_model.specs.declared.cell.Cell.{Cell}
 use Rattle.async_cell_model.specs.declared.cell.Cell.TheVariants.{Closed, Open}
 use Rattle.async_cell_model.specs.declared.entry.Entry.{Entry}
@@ -29,7 +29,7 @@ use Rattle.async_cell_driver.specs.DriverState.{DriverState, mark_at, result_at,
 use Rattle.async_cell_driver.specs.Log.{Line, kinds, is_ready, is_poll_of, started}
 use Rattle.async_cell_driver.specs.History.{history, handed_out, line_of, call_of, reply_of, entry_of, names_by, kept_update}
 use Rattle.async_cell_driver.specs.Drives.{Drives, FitsTold}
-use Rattle.async_cell_cons.specs.Named.{same_name}
+use Rattle.async_cell_wakers.specs.Named.{same_name}
 use Rattle.async_cell_driver.proofs.ReadyNow.{awake, ready_now, started_now}
 use Rattle.async_cell_driver.proofs.WokenTasks.{mark-wake_each, woken_if, kinds-wake_each, results-wake_each, named-wait_list, named-append}
 

@@ -6,14 +6,14 @@ use Rattle.std.proofs.lemmas.Bool.{eqb-true, eqb-false, eq-eqb, ne_eqb}
 use Rattle.std.proofs.lemmas.List.{get_or-map, length-map}
 use Rattle.std.proofs.lemmas.Map.Keys.{IsDistinct-from_apart}
 use Rattle.std.proofs.lemmas.Map.Steps.{length-le_from_distinct_below}
-use Rattle.async_cell_cons.specs.declared.named.Named.{Named}
+use Rattle.async_cell_wakers.specs.declared.named.Named.{Named}
 use Rattle.async_cell_model.specs.History.{IsSound}
 use Rattle.async_cell_model.proofs.OneMoreWaker.{wait_list-distinct}
 use Rattle.async_cell_driver.specs.declared.task.Mark.{Mark}
 use Rattle.async_cell_driver.specs.declared.task.Mark.TheVariants.{Waiting}
 use Rattle.async_cell_driver.specs.declared.task.Task.{Task}
 use Rattle.async_cell_driver.specs.DriverState.{DriverState, mark_at, name_of, IsCovered, is_named}
-use Rattle.async_cell_cons.specs.Named.{same_name}
+use Rattle.async_cell_wakers.specs.Named.{same_name}
 
 numbers_apart : (a b : Named) → a ≢ b → nat_eq a.0 b.0 ≡ false
 numbers_apart a b other = ne_eqb a.0 b.0 (λ same. other (λ k. record { 0 = same k }))

@@ -5,7 +5,7 @@ use Rattle.std.specs.Option.{option_map}
 use Rattle.std.proofs.lemmas.Bool.{eqb-true}
 use Rattle.std.proofs.Math.Bool.{or-true}
 use Rattle.std.proofs.lemmas.List.{map-append, length-map, reverse-append}
-use Rattle.async_cell_cons.specs.declared.named.Named.{Named}
+use Rattle.async_cell_wakers.specs.declared.named.Named.{Named}
 use Rattle.async_cell_model.specs.declared.cell.Cell.{Cell}
 use Rattle.async_cell_model.specs.History.{History, IsSound, cell_after}
 use Rattle.async_cell_model.proofs.JoinedHistory.{cell_after-append}
@@ -26,7 +26,7 @@ use Rattle.async_cell_driver.specs.DriverState.{DriverState, mark_at, is_named, 
 use Rattle.async_cell_driver.specs.Log.{Line, Log, lines, log_of, with_edit, kinds, is_started, is_done, waits, is_due, is_ready, is_poll_of, was_ready, was_pending, was_refused, started}
 use Rattle.async_cell_driver.specs.History.{line_of, history, handed_out, call_of, reply_of, entry_of}
 use Rattle.async_cell_driver.specs.Drives.{Drives, FitsTold, IsLegal, IsSpared, AllSpared}
-use Rattle.async_cell_cons.specs.Named.{same_name}
+use Rattle.async_cell_wakers.specs.Named.{same_name}
 use Rattle.async_cell_driver.proofs.ReadyNow.{awake, started_now}
 
 not_started_mark : (m : Option Mark) → is_some m ≡ false → is_due_mark m ≡ true

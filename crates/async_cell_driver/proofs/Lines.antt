@@ -19,7 +19,7 @@ use Rattle.async_cell_driver.specs.DriverState.{DriverState, mark_at, IsCovered,
 use Rattle.async_cell_driver.specs.Log.{is_ready}
 use Rattle.async_cell_driver.specs.History.{line_of}
 use Rattle.async_cell_driver.specs.Drives.{Drives}
-use Rattle.async_cell_cons.specs.Named.{same_name}
+use Rattle.async_cell_wakers.specs.Named.{same_name}
 use Rattle.async_cell_driver.proofs.ReadyNow.{awake}
 
 module _ {T : Type 0} where

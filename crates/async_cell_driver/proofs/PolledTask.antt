@@ -6,7 +6,7 @@ use Rattle.std.proofs.lemmas.Bool.{eqb-true, eqb-false, eq-eqb}
 use Rattle.std.proofs.Math.Bool.{or-false, or-true}
 use Rattle.futures.specs.declared.task.Poll.{Poll}
 use Rattle.futures.specs.declared.task.Poll.TheVariants.{Ready, Pending}
-use Rattle.async_cell_cons.specs.declared.named.Named.{Named}
+use Rattle.async_cell_wakers.specs.declared.named.Named.{Named}
 use Rattle.async_cell_model.specs.declared.cell.Cell.{Cell}
 use Rattle.async_cell_model.specs.declared.cell.Cell.TheVariants.{Closed, Open}
 use Rattle.async_cell_model.specs.declared.reply.Reply.{Reply}
@@ -35,7 +35,7 @@ use Rattle.async_cell_driver.specs.Log.{Line, kinds, is_ready, is_poll_of, was_r
 use Rattle.async_cell_driver.specs.History.{poll_of, told_of, line_of, history, handed_out}
 use Rattle.async_cell_driver.specs.Asked.{waiting_when, mark_after, polled_of, IsPolledWith}
 use Rattle.async_cell_driver.specs.Drives.{Drives, FitsTold, IsSpared}
-use Rattle.async_cell_cons.specs.Named.{same_name}
+use Rattle.async_cell_wakers.specs.Named.{same_name}
 use Rattle.async_cell_driver.proofs.ReadyNow.{awake, ready_now, started_now, ready_by}
 use Rattle.async_cell_driver.proofs.WokenTasks.{slice_get-change_same, slice_get-change_other, says_same, map-change, named-append}
 

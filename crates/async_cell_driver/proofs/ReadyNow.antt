@@ -9,7 +9,7 @@ use Rattle.async_cell_driver.specs.Mark.{is_done_mark, waits_mark, is_due_mark, 
 use Rattle.async_cell_driver.specs.DriverState.{DriverState, mark_at, AllNamed, is_named}
 use Rattle.async_cell_driver.specs.Log.{is_ready}
 use Rattle.async_cell_driver.specs.Drives.{IsAwake}
-use Rattle.async_cell_cons.specs.Named.{same_name}
+use Rattle.async_cell_wakers.specs.Named.{same_name}
 
 pub ready_by : (mark : Option Mark) → (is_some mark && (not (is_done_mark mark) && is_due_mark mark)) ≡ is_ready_mark mark
 ready_by None = refl

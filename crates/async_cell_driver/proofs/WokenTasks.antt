@@ -4,14 +4,14 @@ use Rattle.std.specs.Prelude.{slice_get, nat_eq, fold, if◌then◌else◌}
 use Rattle.std.specs.Option.{option_map}
 use Rattle.std.proofs.lemmas.Bool.{eqb-true, eqb-false}
 use Rattle.std.proofs.lemmas.List.Folds.{list_any-append}
-use Rattle.async_cell_cons.specs.declared.named.Named.{Named}
+use Rattle.async_cell_wakers.specs.declared.named.Named.{Named}
 use Rattle.async_cell_model.specs.WaitList.{wait_list, skips, with_one_more}
 use Rattle.async_cell_driver.specs.declared.task.Mark.{Mark}
 use Rattle.async_cell_driver.specs.declared.task.Mark.TheVariants.{Ready, Waiting, Woken, Done}
 use Rattle.async_cell_driver.specs.declared.task.Task.{Task}
 use Rattle.async_cell_driver.specs.Mark.{woken}
 use Rattle.async_cell_driver.specs.DriverState.{mark_at, result_of, result_at, is_named, change, wake, wake_each}
-use Rattle.async_cell_cons.specs.Named.{same_name}
+use Rattle.async_cell_wakers.specs.Named.{same_name}
 
 module _ {T : Type 0} where
   pub slice_get-change_same : (f : Task T → Task T) (i : ℕ) (tasks : List (Task T)) → slice_get (change f i tasks) i ≡ option_map f (slice_get tasks i)

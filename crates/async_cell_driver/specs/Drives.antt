@@ -1,7 +1,7 @@
 -- What a driver promises: which log runs from one state of it to another.
 use Rattle.std.specs.Prelude.{◌≡◌, ℕ, Bool, true, false, List, [], ◌∷◌, Option, ⊤, map, length, MatchOption}
-use Rattle.async_cell_cons.specs.Named.{same_name}
-use Rattle.async_cell_cons.specs.declared.named.Named.{Named}
+use Rattle.async_cell_wakers.specs.Named.{same_name}
+use Rattle.async_cell_wakers.specs.declared.named.Named.{Named}
 use Rattle.async_cell_model.specs.declared.refusal.Refusal.TheVariants.{Memory}
 use Rattle.async_cell_model.specs.Cell.{content, is_vacant}
 use Rattle.async_cell_model.specs.declared.cell.Cell.{Cell}

@@ -1,7 +1,7 @@
 -- The calls that a log makes on the core.
 use Rattle.std.specs.Prelude.{map, ℕ, ◌++◌, List, [], ◌∷◌, Option, Some, None, Result, Ok, Err, slice_get, option_to_list}
 use Rattle.std.specs.Option.{option_map}
-use Rattle.async_cell_cons.specs.declared.named.Named.{Named}
+use Rattle.async_cell_wakers.specs.declared.named.Named.{Named}
 use Rattle.async_cell_model.specs.declared.cell.Cell.{Cell}
 use Rattle.async_cell_model.specs.declared.cell.Cell.TheVariants.{Closed, Open}
 use Rattle.async_cell_model.specs.declared.entry.Entry.{Entry}

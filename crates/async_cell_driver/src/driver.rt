@@ -7,7 +7,7 @@ ghost use Rattle.async_cell_driver.specs.DriverState.{is_named, kind_at};
 ghost use Rattle.async_cell_driver.specs.Log.{is_ready, waits};
 ghost use Rattle.async_cell_driver.specs.History.{poll_of, told_of};
 ghost use Rattle.async_cell_driver.specs.Drives.{Happens, KeepsResults};
-ghost use Rattle.async_cell_cons.specs.Named.{same_name};
+ghost use Rattle.async_cell_wakers.specs.Named.{same_name};
 ghost use Rattle.async_cell_driver.specs.Asked.{ClonesContent, TakesContent, waiting_when, mark_after, polled_of};
 
 mod apply;

@@ -1,6 +1,6 @@
 -- A state that many follow: its value and version, its writers, and who waits for the next write.
 use Rattle.std.specs.Prelude.{◌≡◌, ◌≤◌, ◌-◌, ℕ, Bool, true, not, ◌&&◌, List, [], nat_eq, nat_lt, if◌then◌else◌}
-use Rattle.async_cell_cons.specs.WaitList.{ListState}
+use Rattle.async_cell_wakers.specs.WaitList.{ListState}
 use Rattle.async_cell_model.specs.WaitList.{skips, wait_list, with_one_more}
 
 -- the last version: no write comes after it

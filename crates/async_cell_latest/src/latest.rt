@@ -8,7 +8,7 @@ mod places;
 mod polls;
 mod writers;
 
-use async_cell_cons::{WaitList, Wakers, Wakes};
+use async_cell_wakers::{WaitList, Wakers, Wakes};
 use std::alloc::Global;
 use std::marker::Model;
 use std::mem;

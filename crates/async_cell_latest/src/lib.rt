@@ -6,7 +6,7 @@
 mod latest;
 pub mod laws;
 
-pub use async_cell_cons::{Named, Place, TaskWaker, Wakers, Wakes};
 pub use async_cell_model::Refusal;
+pub use async_cell_wakers::{Named, Place, TaskWaker, Wakers, Wakes};
 pub use futures::task::Poll;
 pub use latest::Latest;

@@ -3,7 +3,7 @@ use Rattle.std.proofs.Common.{◌≡◌, ◌≤◌, ◌<◌, ◌^◌, ◌+◌, �
 use Rattle.std.specs.Prelude.{if◌then◌else◌}
 use Rattle.std.proofs.lemmas.List.{map-append}
 use Rattle.std.proofs.lemmas.List.Elements.{All-push}
-use Rattle.async_cell_cons.specs.declared.named.Named.{Named}
+use Rattle.async_cell_wakers.specs.declared.named.Named.{Named}
 use Rattle.async_cell_model.specs.declared.cell.Cell.{Cell}
 use Rattle.async_cell_model.specs.declared.entry.Entry as model
 use Rattle.async_cell_model.specs.Step.{is_memory, reply}
@@ -13,7 +13,7 @@ use Rattle.async_cell_model.proofs.LegalHistories.{Runs-join}
 use Rattle.async_cell_model.proofs.Whole.{after-nil}
 use Rattle.async_cell_recorded.specs.declared.entry.Entry.{Entry}
 use Rattle.async_cell_recorded.specs.Recording.{Recording, IsRecorded, plain_entry, made_by, start, state}
-use Rattle.async_cell_cons.specs.Named.{same_name}
+use Rattle.async_cell_wakers.specs.Named.{same_name}
 use Rattle.std.specs.Prelude.{slice_set, replicate}
 use Rattle.std.proofs.lemmas.List.{length-set, length-replicate, get_or-replicate}
 use Rattle.async_cell_recorded.proofs.Serials.{serials_more, each_more}

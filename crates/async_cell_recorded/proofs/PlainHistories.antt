@@ -2,14 +2,14 @@
 use Rattle.std.proofs.Common.{◌≡◌, ◌≤◌, ◌<◌, ◌+◌, ℕ, suc, true, false, List, [], ◌∷◌, ◌++◌, length, map, refl, ap, sym, subst, ◌∙◌, arith, append-nil, append_assoc}
 use Rattle.std.specs.List.{All}
 use Rattle.std.proofs.lemmas.List.Elements.{All-nil, All-cons, All-head, All-tail, All-map}
-use Rattle.async_cell_cons.specs.declared.named.Named.{Named}
+use Rattle.async_cell_wakers.specs.declared.named.Named.{Named}
 use Rattle.async_cell_model.specs.declared.entry.Entry as model
 use Rattle.async_cell_model.specs.History.{History}
 use Rattle.async_cell_model.specs.Legal.{IsLegal}
 use Rattle.async_cell_model.specs.Step.{is_memory}
 use Rattle.async_cell_recorded.specs.declared.entry.Entry.{Entry}
 use Rattle.async_cell_recorded.specs.Recording.{Recording, PlainRecording, IsRecorded, IsPlain, plain_entry, without_shares, of_one_share, with_one_share, made_by, serials_of, numbers_below, start}
-use Rattle.async_cell_cons.specs.Named.{same_name}
+use Rattle.async_cell_wakers.specs.Named.{same_name}
 use Rattle.async_cell_recorded.proofs.Serials.{serials_more, made_by_same}
 
 module _ {T : Type 0} where

@@ -1,11 +1,11 @@
 -- What shares and books count.
 use Rattle.std.specs.Prelude.{◌≡◌, ◌+◌, ◌<◌, ℕ, suc, zero, Bool, List, [], ◌∷◌, ◌++◌, length, map, slice_index, if◌then◌else◌}
-use Rattle.async_cell_cons.specs.declared.named.Named.{Named}
+use Rattle.async_cell_wakers.specs.declared.named.Named.{Named}
 use Rattle.async_cell_model.specs.History.{State, after}
 use Rattle.async_cell_model.specs.Legal.{wakes}
 use Rattle.async_cell_recorded.specs.declared.entry.Entry.{Entry}
 use Rattle.async_cell_recorded.specs.Recording.{Recording, plain_entry, start, state, made_by, IsRecorded}
-use Rattle.async_cell_cons.specs.Named.{same_name}
+use Rattle.async_cell_wakers.specs.Named.{same_name}
 
 -- a share: its number, how many calls were made with it, and how many of their results were picked
 pub record ShareState : Type 0 where

@@ -1,8 +1,8 @@
 -- Recorded histories: from which state they start, which are legal, which serials their entries
 -- have, and to which state they lead. All of it is said in the terms of the model.
 use Rattle.std.specs.Prelude.{◌≡◌, ◌≤◌, ◌<◌, ◌+◌, ℕ, zero, suc, Bool, true, false, List, [], ◌∷◌, ◌++◌, None, All, map, filter, count_by, nat_eq}
-use Rattle.async_cell_cons.specs.Named.{same_name}
-use Rattle.async_cell_cons.specs.declared.named.Named.{Named}
+use Rattle.async_cell_wakers.specs.Named.{same_name}
+use Rattle.async_cell_wakers.specs.declared.named.Named.{Named}
 use Rattle.async_cell_model.specs.declared.cell.Cell.TheVariants.{Open}
 use Rattle.async_cell_model.specs.declared.entry.Entry as model
 use Rattle.async_cell_model.specs.Cell.{owners_limit}

@@ -4,7 +4,7 @@ ghost use Rattle.async_cell_model.specs.Cell.{content};
 ghost use Rattle.async_cell_model.specs.Step.{is_memory};
 ghost use Rattle.async_cell_model.specs.Legal.{Steps};
 ghost use Rattle.async_cell_core.specs.Kept.{kept_call};
-ghost use Rattle.async_cell_cons.specs.Named.{same_name};
+ghost use Rattle.async_cell_wakers.specs.Named.{same_name};
 ghost use Rattle.async_cell_recorded.specs.Keeping.{kept_before, kept_after};
 
 use crate::entry::{Kept, Plain};

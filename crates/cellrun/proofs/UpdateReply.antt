@@ -1,7 +1,7 @@
 -- The reply to an update, and what is printed for it, by what a history stores of the update.
 use Rattle.std.proofs.Common.{◌≡◌, ◌++◌, ◌↔◌, inl, inr, ℕ, ℤ, true, false, List, [], codes, Option, None, Result, Ok, Err, OnOk, OnErr, IsOk, refl, sym, ap, subst, ◌∙◌}
 use Rattle.std.specs.Result.{result_ok}
-use Rattle.async_cell_cons.specs.declared.named.Named.{Named}
+use Rattle.async_cell_wakers.specs.declared.named.Named.{Named}
 use Rattle.async_cell_model.specs.declared.cell.Cell.{Cell}
 use Rattle.async_cell_model.specs.declared.cell.Cell.TheVariants.{Open, Closed}
 use Rattle.async_cell_model.specs.declared.entry.Kept.{Kept}
@@ -16,7 +16,7 @@ use Rattle.async_cell_model.specs.History.{State}
 use Rattle.async_cell_model.specs.Legal.{Steps}
 use Rattle.async_cell_core.specs.IsStep.{update_answer}
 use Rattle.cellrun.specs.CallPrints.{kept_update, kept_update_some, reply_text, refusal_text, end_text, done_text}
-use Rattle.async_cell_cons.specs.Named.{same_name}
+use Rattle.async_cell_wakers.specs.Named.{same_name}
 use Rattle.cellrun.specs.declared.command.Command.{Command}
 
 -- what follows from a fact about a result that is `Ok`

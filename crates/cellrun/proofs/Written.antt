@@ -2,7 +2,7 @@
 use Rattle.std.proofs.Common.{◌≡◌, ℕ, ℤ, ◌+◌, List, [], ◌++◌, Option, Some, None, IfSome, Result, Ok, Err, IsErr, refl, sym, ap, ◌∙◌, append-nil, append_assoc}
 use Rattle.std.specs.Result.{result_unwrap_or}
 use Rattle.std.specs.Io.KnownBytes.{Keeps, Appends, append_known}
-use Rattle.async_cell_cons.specs.declared.named.Named.{Named}
+use Rattle.async_cell_wakers.specs.declared.named.Named.{Named}
 use Rattle.async_cell_model.specs.History.{State}
 use Rattle.cellrun.specs.CallPrints.{CallPrints}
 use Rattle.cellrun.specs.Next.{IsNext}

@@ -1,7 +1,7 @@
 -- What a script writes, by the bytes of its input.
 use Rattle.std.specs.Prelude.{◌≡◌, ◌≢◌, ℕ, ℤ, ◌+◌, List, [], ◌++◌, Option, Some, None, IfSome}
 use Rattle.std.specs.Io.KnownBytes.{append_known}
-use Rattle.async_cell_cons.specs.declared.named.Named.{Named}
+use Rattle.async_cell_wakers.specs.declared.named.Named.{Named}
 use Rattle.async_cell_model.specs.declared.cell.Cell.TheVariants.{Open}
 use Rattle.async_cell_model.specs.History.{State}
 use Rattle.cellrun.specs.CallPrints.{CallPrints}

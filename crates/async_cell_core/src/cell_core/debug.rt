@@ -1,5 +1,5 @@
 use super::Core;
-use async_cell_cons::Wakes;
+use async_cell_wakers::Wakes;
 use std::fmt;
 
 /// Prints `AsyncCell::Full(..)` with the value's own debug text, or `AsyncCell::Closed`. Prints

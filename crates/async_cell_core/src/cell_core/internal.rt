@@ -5,8 +5,8 @@ ghost use Rattle.async_cell_model.specs.History.{IsSound};
 ghost use Rattle.async_cell_core.specs.IsStep.{IsStep, replies, replace_answer, poll_answer};
 
 use super::Core;
-use async_cell_cons::Wakes;
 use async_cell_model::{Kept, Refusal, Reply};
+use async_cell_wakers::Wakes;
 use futures::task::Poll;
 use std::mem;
 

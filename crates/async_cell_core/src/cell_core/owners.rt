@@ -4,8 +4,8 @@ ghost use Rattle.async_cell_model.specs.Cell.{content, owners_of, owners_limit, 
 ghost use Rattle.async_cell_core.specs.IsStep.{IsStep, done_answer, end_answer};
 
 use super::Core;
-use async_cell_cons::{Wakers, Wakes};
 use async_cell_model::{Cell, Kept, Refusal};
+use async_cell_wakers::{Wakers, Wakes};
 
 impl<T: Drop, W: Wakes> Core<T, W> {
     /// Adds an owner. Fails with `Closed` if the cell is closed, and with `OwnersFull` if it has

@@ -5,8 +5,8 @@ ghost use Rattle.async_cell_model.specs.Cell.{is_vacant};
 ghost use Rattle.async_cell_core.specs.IsStep.{IsStep, wait_answer};
 
 use super::Core;
-use async_cell_cons::{Place, TaskWaker, Wakes};
 use async_cell_model::Kept;
+use async_cell_wakers::{Place, TaskWaker, Wakes};
 use futures::task::Waker;
 
 impl<T: Drop, W: Wakes> Core<T, W> {

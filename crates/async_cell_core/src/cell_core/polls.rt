@@ -9,8 +9,8 @@ ghost use Rattle.async_cell_core.specs.Polled.{IsExact, IsCloneOf, IsReadyWith};
 ghost use Rattle.async_cell_core.specs.Waiting.{NeedsNoMemory, OnlyRoomGrows};
 
 use super::Core;
-use async_cell_cons::Wakes;
 use async_cell_model::{Kept, Refusal};
+use async_cell_wakers::Wakes;
 use futures::task::Poll;
 use std::alloc::AllocError;
 

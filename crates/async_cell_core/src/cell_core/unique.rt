@@ -7,8 +7,8 @@ ghost use Rattle.async_cell_model.specs.Refusal.{FailsWithMemory};
 ghost use Rattle.async_cell_core.specs.IsStep.{IsStep, wait_answer};
 
 use super::Core;
-use async_cell_cons::Wakes;
 use async_cell_model::{Kept, Refusal};
+use async_cell_wakers::Wakes;
 
 impl<T: Drop, W: Wakes> Core<T, W> {
     /// Internal: may change without notice.

@@ -1,6 +1,6 @@
 //! Lists of events that happen in order.
 ghost use Rattle.std.specs.Prelude.{◌≡◌, List, [], map, length, vec_len, IsOk, IfOk, IfErr, OnErr};
-ghost use Rattle.async_cell_cons.specs.declared.named.Named.{Named as Name};
+ghost use Rattle.async_cell_wakers.specs.declared.named.Named.{Named as Name};
 ghost use Rattle.async_cell_driver.specs.Log.{log_of, with_edit};
 ghost use Rattle.async_cell_driver.specs.History.{done_or};
 ghost use Rattle.async_cell_driver.specs.Drives.{AllSpared, Drives, Happens, IsSpared, KeepsResults};

@@ -5,8 +5,8 @@ ghost use Rattle.async_cell_latest.specs.Step.{Read, Shown};
 ghost use Rattle.async_cell_latest.specs.IsStep.{IsStep, replies};
 
 use super::Latest;
-use async_cell_cons::Wakes;
 use async_cell_model::Refusal;
+use async_cell_wakers::Wakes;
 use std::alloc::AllocError;
 use std::fmt;
 

@@ -5,7 +5,7 @@ ghost use Rattle.async_cell_latest.specs.Step.{PollChanged};
 ghost use Rattle.async_cell_latest.specs.IsStep.{IsStep, wait_answer};
 
 use super::Latest;
-use async_cell_cons::{Place, TaskWaker, Wakes};
+use async_cell_wakers::{Place, TaskWaker, Wakes};
 use futures::task::Waker;
 
 impl<T: Drop, W: Wakes> Latest<T, W> {

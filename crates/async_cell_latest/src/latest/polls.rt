@@ -7,8 +7,8 @@ ghost use Rattle.async_cell_latest.specs.History.{needs_no_memory};
 ghost use Rattle.async_cell_latest.specs.IsStep.{IsStep, changed_answer, wait_answer};
 
 use super::Latest;
-use async_cell_cons::Wakes;
 use async_cell_model::Refusal;
+use async_cell_wakers::Wakes;
 use futures::task::Poll;
 
 impl<T: Drop, W: Wakes> Latest<T, W> {

@@ -5,8 +5,8 @@ ghost use Rattle.async_cell_latest.specs.Step.{AddWriter, EndWriter};
 ghost use Rattle.async_cell_latest.specs.IsStep.{IsStep, add_answer, end_answer};
 
 use super::Latest;
-use async_cell_cons::{Wakers, Wakes};
 use async_cell_model::Refusal;
+use async_cell_wakers::{Wakers, Wakes};
 
 impl<T: Drop, W: Wakes> Latest<T, W> {
     /// Adds a writer. Fails with `Closed` if the state is closed, and with `OwnersFull` if it has

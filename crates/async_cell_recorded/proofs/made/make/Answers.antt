@@ -1,6 +1,6 @@
 use Rattle.std.proofs.Common.{◌≡◌, true, false, rules}
 use Rattle.async_cell_model.specs.Step.{is_memory}
-use Rattle.async_cell_cons.specs.Named.{same_name}
+use Rattle.async_cell_wakers.specs.Named.{same_name}
 use Rattle.async_cell_recorded.proofs.KeptEntry.{kept_made, refused_unchanged}
 use Rattle.async_cell_recorded.proofs.made.make.Goals as goal
 

@@ -2,7 +2,7 @@ use Rattle.std.proofs.Common.{◌≡◌, true, [], Some, None, OnOk, rules, refl
 use Rattle.async_cell_model.specs.Cell.{content}
 use Rattle.async_cell_model.specs.Legal.{Steps}
 use Rattle.async_cell_model.specs.declared.reply.Reply.TheVariants.{Refused}
-use Rattle.async_cell_cons.specs.Named.{same_name}
+use Rattle.async_cell_wakers.specs.Named.{same_name}
 use Rattle.cellrun.specs.declared.command.Command.TheVariants.{UpdatePut, UpdateNone, UpdateKeep}
 use Rattle.cellrun.proofs.UpdateReply.{told, put_prints, not_changed}
 use Rattle.cellrun.proofs.session.Session.step.Goals as goal

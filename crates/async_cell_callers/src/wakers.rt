@@ -1,7 +1,7 @@
-//! Callers of `async_cell_cons`: those that wait, and the places of futures.
+//! Callers of `async_cell_wakers`: those that wait, and the places of futures.
 use anyhow::Result;
-use async_cell_cons::{Named, Place, TaskWaker, WaitList, Wakers, Wakes};
 use async_cell_model::Refusal;
+use async_cell_wakers::{Named, Place, TaskWaker, WaitList, Wakers, Wakes};
 use futures::task::Source;
 use futures::test::MockTask;
 

@@ -26,7 +26,7 @@ pub struct WaitList<W> {
 impl<W> Model for WaitList<W> {
     ghost use Rattle.std.specs.Prelude.{◌≡◌, ◌-◌, [], None};
     ghost use Rattle.std.specs.Vec.{vec_capacity, vec_len};
-    ghost use Rattle.async_cell_cons.specs.WaitList.{ListState, first_then};
+    ghost use Rattle.async_cell_wakers.specs.WaitList.{ListState, first_then};
 
     ghost Value = { ListState W };
 

@@ -1,6 +1,6 @@
 ghost use Rattle.std.specs.Prelude.{IfNone};
 ghost use Rattle.futures.specs.Task.{Hears, IsArmed, Keeps};
-ghost use Rattle.async_cell_cons.specs.Lacking.{LacksWaker};
+ghost use Rattle.async_cell_wakers.specs.Lacking.{LacksWaker};
 
 use crate::wakes::Wakes;
 use futures::task::{Context, Source, Waker};

@@ -8,7 +8,7 @@ pub struct Named(pub u64);
 impl Wakes for Named {
     ghost use Rattle.std.specs.Prelude.{true};
     ghost use Rattle.std.proofs.Common.{rules};
-    ghost use Rattle.async_cell_cons.specs.Named.{same_name};
+    ghost use Rattle.async_cell_wakers.specs.Named.{same_name};
 
     ghost will_wake = { same_name };
 

@@ -1,5 +1,5 @@
 ghost use Rattle.std.specs.Prelude.{◌≡◌, List, [], ◌∷◌, length, IsTrue, IsNone, IfSome, IfNone, ◌↔◌};
-ghost use Rattle.async_cell_cons.specs.WaitList.{first_then};
+ghost use Rattle.async_cell_wakers.specs.WaitList.{first_then};
 
 use crate::wakes::Wakes;
 use std::marker::Model;
@@ -18,7 +18,7 @@ pub struct Wakers<W> {
 impl<W> Model for Wakers<W> {
     ghost use Rattle.std.specs.Prelude.{List};
     ghost use Rattle.std.specs.Vec.Iter.{into_iter_items};
-    ghost use Rattle.async_cell_cons.specs.WaitList.{first_then, items_left};
+    ghost use Rattle.async_cell_wakers.specs.WaitList.{first_then, items_left};
 
     ghost Value = { List W };
 

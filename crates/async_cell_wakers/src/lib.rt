@@ -1,6 +1,5 @@
 //! The trait of wakers, the wait list of a cell with the places of waiting futures, and the list of
-//! the wakers to wake. The crate is called `cons` after the file in which the Rust crate
-//! `async_cell` has its list of wakers.
+//! the wakers to wake.
 //!
 //! `WaitList` is for the crates that build on this one. The others are re-exported by
 //! `async_cell_core`.
