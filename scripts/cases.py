@@ -22,7 +22,8 @@ from lay_out import copy_crates, files_below, read, write
 
 TOP = os.path.dirname(os.path.dirname(os.path.abspath(__file__)))
 PLAYER = f"{TOP}/tests/player"
-USED = ["model", "wakers", "core", "latest", "latest_unsync", "latest_sync", "unsync", "sync"]
+USED = ["model", "wakers", "core", "waiting", "unsync", "sync"]
+USED += ["latest", "latest_unsync", "latest_sync"]
 CRATES = [f"async_cell_{it}" for it in USED]
 SECONDS = "600"
 

@@ -69,7 +69,7 @@ words_of() {
 }
 
 # Two crates in one call, into a project that has no files yet.
-below=(async_cell_{model,wakers,core})
+below=(async_cell_{model,wakers,core,waiting})
 git init -q "$work/mine"
 cd "$work/mine"
 refused 'no crate async_cell_none' async_cell_none crates
