@@ -73,6 +73,7 @@ macro_rules! values {
         println!($rt; "values: {:?}", run($rt, values.next())?)?;
         drop(owner);
         println!($rt; "values: {:?}", run($rt, values.next())?)?;
+        values.cancel();
         Ok(())
     }};
 }
