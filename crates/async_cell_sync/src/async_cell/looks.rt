@@ -1,5 +1,6 @@
 //! The calls that change nothing, of a cell and by an owner.
-ghost use Rattle.std.specs.Prelude.{IsOk};
+ghost use Rattle.std.specs.Prelude.{IsOk, IfSome};
+ghost use Rattle.std.specs.Fn.{FnOnceReturnsAt};
 ghost use Rattle.async_cell_model.specs.Refusal.{FailsWithMemory};
 
 use super::AsyncCell;
@@ -19,6 +20,20 @@ impl<T: Drop> AsyncCell<T> {
         ensures refused { FailsWithMemory result }
     {
         Steps::on(&self.core, rt).try_get()
+    }
+
+    /// Calls the closure on the value, if there is one, and returns what it returns. No other call
+    /// comes in between: the lock is held meanwhile, so a closure that calls its own cell waits
+    /// forever.
+    pub fn peek<A, F, R>(&self, look: F, rt: &R) -> Option<A>
+    where
+        F: FnOnce(&T) -> A + Drop,
+        R: Wait,
+        requires { F.IsAlwaysCallable look }
+        ensures called { IfSome result (λ answer. (seen : T)
+            × FnOnceReturnsAt F.FnOnce look seen answer) }
+    {
+        Steps::on(&self.core, rt).peek(look)
     }
 
     /// Returns whether the cell holds a value.
@@ -53,6 +68,19 @@ impl<T: Drop, R: Wait + Drop> Owner<T, R> {
         ensures refused { FailsWithMemory result }
     {
         self.shared.cell.try_get(&self.rt)
+    }
+
+    /// Calls the closure on the value, if there is one, and returns what it returns. No other call
+    /// comes in between: the lock is held meanwhile, so a closure that calls its own cell waits
+    /// forever.
+    pub fn peek<A, F>(&self, look: F) -> Option<A>
+    where
+        F: FnOnce(&T) -> A + Drop,
+        requires { F.IsAlwaysCallable look }
+        ensures called { IfSome result (λ answer. (seen : T)
+            × FnOnceReturnsAt F.FnOnce look seen answer) }
+    {
+        self.shared.cell.peek(look, &self.rt)
     }
 
     /// Returns whether the cell holds a value.

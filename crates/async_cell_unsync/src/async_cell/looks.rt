@@ -1,5 +1,6 @@
 //! The calls that change nothing, of a cell and by an owner.
-ghost use Rattle.std.specs.Prelude.{IsOk};
+ghost use Rattle.std.specs.Prelude.{IsOk, IfSome};
+ghost use Rattle.std.specs.Fn.{FnOnceReturnsAt};
 ghost use Rattle.async_cell_model.specs.Refusal.{FailsWithMemory};
 
 use super::AsyncCell;
@@ -21,6 +22,21 @@ impl<T: Drop> AsyncCell<T> {
             Some(value) => Ok(Some(self.copy_back(value)?)),
             None => Ok(None),
         }
+    }
+
+    /// Calls the closure on the value, if there is one, and returns what it returns. The value is
+    /// taken out meanwhile, and then stored over whatever calls made from inside have left.
+    pub fn peek<A, F>(&self, look: F) -> Option<A>
+    where
+        F: FnOnce(&T) -> A + Drop,
+        requires { F.IsAlwaysCallable look }
+        ensures called { IfSome result (λ answer. (seen : T)
+            × FnOnceReturnsAt F.FnOnce look seen answer) }
+    {
+        let value = self.try_take()?;
+        let answer = look(&value);
+        self.put_back(Some(value));
+        Some(answer)
     }
 
     /// Returns whether the cell holds a value.
@@ -53,6 +69,18 @@ impl<T: Drop> Owner<T> {
         ensures refused { FailsWithMemory result }
     {
         self.cell().try_get()
+    }
+
+    /// Calls the closure on the value, if there is one, and returns what it returns. The value is
+    /// taken out meanwhile, and then stored over whatever calls made from inside have left.
+    pub fn peek<A, F>(&self, look: F) -> Option<A>
+    where
+        F: FnOnce(&T) -> A + Drop,
+        requires { F.IsAlwaysCallable look }
+        ensures called { IfSome result (λ answer. (seen : T)
+            × FnOnceReturnsAt F.FnOnce look seen answer) }
+    {
+        self.cell().peek(look)
     }
 
     /// Returns whether the cell holds a value.

@@ -1,5 +1,6 @@
 //! The looks at a cell: what a step reads of its core, and the steps that change nothing.
-ghost use Rattle.std.specs.Prelude.{IsOk};
+ghost use Rattle.std.specs.Prelude.{IsOk, IfOk, IfSome};
+ghost use Rattle.std.specs.Fn.{FnOnceReturnsAt};
 ghost use Rattle.async_cell_model.specs.Refusal.{FailsWithMemory};
 
 use super::CellCore;
@@ -47,6 +48,16 @@ impl<T: Drop, W: Wakes> CellCore<T, W> {
         Held::of(self.core.try_get())
     }
 
+    /// The closure is also held, if it was not called.
+    #[inline(always)]
+    fn peek<A, F: FnOnce(&T) -> A>(&self, look: F) -> Held<Result<A, F>>
+        requires { F.IsAlwaysCallable look }
+        ensures called { IfOk result.answer (λ answer. (seen : T)
+            × FnOnceReturnsAt F.FnOnce look seen answer) }
+    {
+        Held::of(self.core.peek(look))
+    }
+
     /// Returns the debug text of the core. Fails with `Memory`.
     fn debug_text(&self, alloc: Global) -> Held<Result<String, Refusal>>
     where
@@ -80,6 +91,23 @@ where
         };
         let copied = core.peek().try_get();
         end(core, copied)
+    }
+
+    /// Calls the closure on the value, if there is one, all in one step, and returns what it
+    /// returns. A closure that was not called is dropped after the step.
+    pub fn peek<A, F>(self, look: F) -> Option<A>
+    where
+        F: FnOnce(&T) -> A + Drop,
+        requires { F.IsAlwaysCallable look }
+        ensures called { IfSome result (λ answer. (seen : T)
+            × FnOnceReturnsAt F.FnOnce look seen answer) }
+    {
+        let core = self.open()?;
+        let looked = core.peek().peek(look);
+        match end(core, looked) {
+            Ok(answer) => Some(answer),
+            Err(_not_called) => None,
+        }
     }
 
     /// Returns whether the cell holds a value.
