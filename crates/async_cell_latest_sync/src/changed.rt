@@ -1,4 +1,4 @@
-ghost use Rattle.std.specs.Prelude.{◌≡◌, ◌≢◌, Result, OnOk, OnErr, ⊤};
+ghost use Rattle.std.specs.Prelude.{◌≡◌, ◌≢◌, OnOk, OnErr};
 ghost use Rattle.futures.specs.Poll.{IfReady, OnPending};
 ghost use Rattle.futures.specs.Task.{Covers, Keeps};
 ghost use Rattle.async_cell_model.specs.Refusal.{FailsWithMemoryOrClosed};
@@ -65,9 +65,6 @@ impl<T: Drop, R: Wait + Drop> Future for Changed<'_, T, R> {
             (self.new.follower.now ≡ self.old.follower.now)) }
         ensures unchanged { OnPending result (self.new.follower.now ≡ self.old.follower.now) }
         ensures value { IfReady result FailsWithMemoryOrClosed }
-        ensures again { OnPending result ⊤ }
-        ensures same { OnPending result ((told : Result (Unit {0}) Refusal)
-            → FailsWithMemoryOrClosed told → FailsWithMemoryOrClosed told) }
         ensures registered { OnPending result (Covers cx.new
             (λ s. s ≡ source_of (cell_followed self.new.follower.now))) }
         ensures kept { Keeps cx.old cx.new }

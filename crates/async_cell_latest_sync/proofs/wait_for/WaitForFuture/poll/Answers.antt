@@ -2,16 +2,10 @@ use Rattle.std.proofs.Common.{◌≡◌, inr, [], ◌∷◌, Ok, Err, Bool, fals
 use Rattle.std.specs.Prelude.{Result}
 use Rattle.std.specs.Borrow.{Bor}
 use Rattle.std.specs.Fn.{Mut, CalledAt}
-use Rattle.futures.specs.Poll.{OnPending}
-use Rattle.futures.specs.declared.task.Poll.{Poll}
-use Rattle.futures.specs.declared.task.Poll.TheVariants as poll
 use Rattle.async_cell_model.specs.declared.refusal.Refusal.{Refusal}
 use Rattle.async_cell_latest_sync.specs.Found.{IsFound}
+use Rattle.async_cell_latest_sync.proofs.Polled.{on_pending}
 use Rattle.async_cell_latest_sync.proofs.wait_for.WaitForFuture.poll.Goals as goal
-
-on_pending : {A P : Type 0} (polled : Poll A) → P → OnPending polled P
-on_pending (poll.Ready answer) holds = tt
-on_pending poll.Pending holds = holds
 
 -- a value that the predicate was false on comes before those that it is called on later
 denied : {F T : Type 0} (calls : Mut F (Bor T × Unit {0}) Bool) (is_clone : T → T → Type 0) (p q : F) (value : T) (answer : Result T Refusal) → CalledAt calls p value false q → IsFound calls is_clone q answer → IsFound calls is_clone p answer
