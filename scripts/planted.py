@@ -27,7 +27,7 @@ import tempfile
 from concurrent.futures import ThreadPoolExecutor
 
 import planted_program
-from planted_program import TOP
+from lay_out import TOP
 from planted_runs import Runner, cases_of, tests_of
 
 KINDS = ("tests", "cases")

@@ -11,7 +11,7 @@ import time
 from collections import namedtuple
 from concurrent.futures import ThreadPoolExecutor
 
-from planted_program import TOP, kit_folder, read
+from lay_out import TOP, kit_folder, read
 
 MOST = 4096  # (as in planted.c)
 # A wrong body may wait for ever, or ask for ever more memory, or print for ever.

@@ -36,14 +36,14 @@ class Maker:
         self.count += 1
         return f"{letter}{self.count}"
 
-    def line(self, call, reply="ok", notes=()):
+    def line(self, call, reply="ok"):
         """Writes a call, its reply, and what has happened in it."""
         told, last = reply, None
         for word, number in self.cell.events:
             told += f" {number}" if word == last else f", {word} {number}"
             last = word
         self.cell.events = []
-        self.lines += [call if told == "ok" else f"{call} -> {told}", *notes]
+        self.lines.append(call if told == "ok" else f"{call} -> {told}")
 
     def text(self):
         return "\n".join(self.lines) + "\n\n"
@@ -198,7 +198,7 @@ class Owners(Maker):
 
 
 def step_of_core(maker):
-    """Makes a call. Where a lock drops what a core gives back, a note says so."""
+    """Makes a call. Where a lock drops what a core gives back, the reply there is another."""
     cell, value = maker.cell, maker.value()
     chosen = maker.random.randrange(10)
     if chosen < 4:
@@ -214,7 +214,7 @@ def step_of_core(maker):
         maker.line("take_inner", cell.close())
     elif chosen == 6 and cell.owners > 1:
         cell.owners -= 1
-        maker.line("end_owner", "none", ["  on locked -> ok"])
+        maker.line("end_owner", "none; on locked -> ok")
     elif chosen == 7:
         replies = {
             "try_take": cell.try_take,
@@ -286,6 +286,8 @@ class States(Maker):
             "is_closed": str(not cell.owners).lower(),
         }
         reply = cell.cloned("some") if word.startswith("read") else replies.get(word, "ok")
+        if word == "peek":
+            cell.happen("saw", cell.content)
         self.line(f"{word} {name}", reply)
 
     def lend(self):
