@@ -13,7 +13,7 @@ bench="$work/crates/bench"
 mkdir -p "$bench/src" "$work/programs"
 cp "$top/HANDLES" "$work/"
 git init -q "$work"
-needed=(async_cell_{model,wakers,core,unsync,sync,latest,latest_sync})
+needed=(async_cell_{model,wakers,core,waiting,unsync,sync,latest,latest_sync,within})
 for crate in "${needed[@]}"; do
     cp -a "$top/crates/$crate" "$work/crates/"
     grep "^$crate:" "$top/crates.txt" >>"$work/crates.txt"

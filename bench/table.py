@@ -40,6 +40,8 @@ The rows:
 - Owner: the same as Shared, and each future holds a place, as those of an Owner do.
 - latest: a state that many follow, behind a lock. Its followers are streams, which hold a place; in
   a fan-out each is polled twice, since it then sees the state.
+- block_on, within: what a set and a take by an Owner cost with that wait around the take, which is
+  ready. Of a wait that is not, the time is that of its sleep.
 - bare: what the wakers of `futures` cost without a cell; take it off the rows between.
 """
 import os
@@ -61,6 +63,8 @@ KINDS = {
     "sync weak": "weak",
     "sync Owner": "owner",
     "latest": "latest",
+    "block_on": "within",
+    "within": "within",
     "bare": "cells",
 }
 # Title, workload, waiters, rounds of a timed run.
@@ -86,6 +90,8 @@ def applies(kind, workload, waiters):
     """Returns whether the operation is one of this kind of cell."""
     if workload == "threads":
         return kind in IN_THREADS
+    if kind in ("block_on", "within"):
+        return workload == "watch"
     if kind == "latest":
         return workload in ("watch", "fan")
     return waiters <= 1024 or kind not in NAMED_WAKERS

@@ -11,41 +11,46 @@ tenth of them each request is refused. One that fails is printed, to be pasted i
 import argparse
 import os
 import re
-import shutil
 import subprocess
 import sys
 import tempfile
 
 import edits_kit
+import lay_out
 import random_cases
-from lay_out import copy_crates, files_below, read, write
+from lay_out import TOP, copy_crates, files_below, read, without_lock, write
 
-TOP = os.path.dirname(os.path.dirname(os.path.abspath(__file__)))
 PLAYER = f"{TOP}/tests/player"
-USED = ["model", "wakers", "core", "latest", "latest_unsync", "latest_sync", "unsync", "sync"]
+USED = ["model", "wakers", "core", "waiting", "unsync", "sync"]
+USED += ["latest", "latest_unsync", "latest_sync"]
 CRATES = [f"async_cell_{it}" for it in USED]
 SECONDS = "600"
+# Texts that are laid out twice: as they are for what threads share, and for what one thread has.
+TWICE = {"cells": ("sync", "unsync"), "states": ("sync_latest", "unsync_latest")}
 
 
-def lay_out(folder):
+def laid_out(name):
+    """Returns what a text of the player is laid out as: names below src/, each with its text."""
+    text, (folder, file) = read(f"{PLAYER}/{name}"), os.path.split(name.removesuffix(".rt.txt"))
+    if file not in TWICE:
+        return {name.removesuffix(".txt"): text}
+    pair = text, without_lock(text)
+    return {f"{folder}/{it}.rt": each for it, each in zip(TWICE[file], pair)}
+
+
+def lay_player(folder):
     """Lays the player and the crates below it out as a project."""
     copy_crates(folder, CRATES)
     used = [it for it in read(f"{TOP}/crates.txt").split("\n") if it.split(":")[0] in CRATES]
     write(f"{folder}/crates.txt", "\n".join(used) + "\n" + read(f"{PLAYER}/crates.line"))
-    for it in (it for it in files_below(PLAYER) if it.endswith(".rt.txt")):
-        write(f"{folder}/crates/player/src/{it[: -len('.txt')]}", read(f"{PLAYER}/{it}"))
+    for name in (it for it in files_below(PLAYER) if it.endswith(".rt.txt")):
+        for it, text in laid_out(name).items():
+            write(f"{folder}/crates/player/src/{it}", text)
 
 
 def compiled(folder):
-    """Compiles the player's C by the kit's own compiler, and returns the objects."""
-    kit = os.path.dirname(os.path.dirname(os.path.realpath(shutil.which("rt"))))
-    clang = [f"{kit}/toolchain/bin/clang", "--target=x86_64-unknown-linux-gnu"]
-    made = []
-    for name in sorted(os.listdir(f"{PLAYER}/c")):
-        made.append(f"{folder}/{name.removesuffix('.c')}.o")
-        words = ["-O1", "-Wall", "-Werror", "-fPIC", "-c", f"{PLAYER}/c/{name}"]
-        subprocess.run([*clang, *words, "-o", made[-1]], check=True)
-    return made
+    """Compiles what refuses the player's requests for memory. Returns the objects."""
+    return [lay_out.compiled(f"{TOP}/scripts/refuse.c", f"{folder}/refuse.o", "-DPLAYER")]
 
 
 def cases(chosen):
@@ -105,7 +110,7 @@ def main(words):
     asked = reader.parse_args(words)
     made = "" if asked.files else random_cases.cases(asked.random, asked.seed)
     with tempfile.TemporaryDirectory(prefix="cases-") as folder:
-        lay_out(f"{folder}/project")
+        lay_player(f"{folder}/project")
         os.mkdir(f"{folder}/inputs")
         text = cases(asked.files) + ("" if asked.files else "all\n")
         write(f"{folder}/inputs/plain", f"{text}file random\n{made}")

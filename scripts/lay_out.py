@@ -23,6 +23,31 @@ TOP = os.path.dirname(os.path.dirname(os.path.abspath(__file__)))
 PARTS = ("src", "specs", "proofs")
 CODE = f"{TOP}/tests/code"
 PROGRAM = "cellrun"
+# Texts of tests of both cells, by their folder. As they stand they are of the cell that threads
+# share. That of one thread takes no right to wait for a lock, and its owners end by their drop.
+OF_BOTH = {"cells": ("sync", "unsync")}
+WITHOUT_LOCK = [
+    (r"(\bcrate::|_)sync\b", r"\1unsync"),
+    (r"use std::sync::Arc;\n", ""),
+    (r"\bArc::try_clone\(pointer\)", "pointer.clone()"),
+    (r"\bArc\b", "Rc"),
+    (r"\b(\w+)(\.0)?\.end\(&(world\.)?rt\)", r"drop(\1)"),
+    (r"<R: Wait>\(", "("),
+    (r",\s*rt: &(R|impl Wait),?(?=\s*\))", ""),
+    (r", [R_]>", ">"),
+    (r" as Request<R>>", " as Request<_>>"),
+    (r", R, ", ", "),
+    (r"(, )?&?world\.rt\)", ")"),
+    (r"((?:\.(?!now_or_never)|\btick_)\w+\()(?:((?:[^()\n]|\(\))*), )?&?rt\)", r"\1\2)"),
+    (r"(\w+::new\(rt\.alloc\(\)), rt\)", r"\1)"),
+]
+
+
+def without_lock(text):
+    """Returns a text on what threads share as one on what one thread has."""
+    for old, new in WITHOUT_LOCK:
+        text = re.sub(old, new, text)
+    return text
 
 
 def read(path):
@@ -34,6 +59,19 @@ def write(path, text):
     os.makedirs(os.path.dirname(path), exist_ok=True)
     with open(path, "w", encoding="utf-8") as file:
         file.write(text)
+
+
+def kit_folder():
+    """Returns the folder of the kit."""
+    return os.path.dirname(os.path.dirname(os.path.realpath(shutil.which("rt"))))
+
+
+def compiled(source, made, *words):
+    """Compiles a C file by the kit's own compiler. Returns the path of the object file."""
+    words = [*words, "--target=x86_64-unknown-linux-gnu", "-O1", "-Wall", "-Werror", "-fPIC"]
+    clang = f"{kit_folder()}/toolchain/bin/clang"
+    subprocess.run([clang, *words, "-c", source, "-o", made], check=True)
+    return made
 
 
 def files_below(folder):
@@ -59,6 +97,18 @@ def texts_of(module):
     return [it for it in files_below(CODE) if re.match(rf"{module}(/|\.rt\.txt$)", it)]
 
 
+def texts_by_name(module):
+    """Returns the texts of a module of the tests, by the names of the files that they are laid out
+    as."""
+    made = {it.removesuffix(".txt"): read(f"{CODE}/{it}") for it in texts_of(module)}
+    for folder, (with_lock, without) in OF_BOTH.items():
+        for it in texts_of(folder) if module in (with_lock, without) else []:
+            text = read(f"{CODE}/{it}")
+            name = f"{module}/{os.path.relpath(it, folder).removesuffix('.txt')}"
+            made[name] = text if module == with_lock else without_lock(text)
+    return made
+
+
 def with_used(modules):
     """Returns these modules of the tests, and those that they use."""
     found = []
@@ -67,7 +117,7 @@ def with_used(modules):
         module = left.pop()
         if module not in found and texts_of(module):
             found.append(module)
-            text = "".join(read(f"{CODE}/{it}") for it in texts_of(module))
+            text = "".join(texts_by_name(module).values())
             left += re.findall(r"\bcrate::(\w+)::", text)
     return sorted(found)
 
@@ -75,8 +125,9 @@ def with_used(modules):
 def lay_tests(folder, modules):
     """Lays modules out as the crate `tests`."""
     source = f"{folder}/crates/tests/src"
-    for it in (it for module in modules for it in texts_of(module)):
-        write(f"{source}/{it.removesuffix('.txt')}", read(f"{CODE}/{it}"))
+    for module in modules:
+        for name, text in texts_by_name(module).items():
+            write(f"{source}/{name}", text)
     declared = "".join(f"#[cfg(test)]\nmod {it};\n" for it in modules)
     write(f"{source}/lib.rt", f"//! Tests.\n#![tactic(auto)]\n\n{declared}")
     with open(f"{folder}/crates.txt", "a", encoding="utf-8") as file:
@@ -102,7 +153,7 @@ def lay_out(folder, modules=None):
     all."""
     copy_crates(folder)
     every = sorted({it.split("/")[0].removesuffix(".rt.txt") for it in files_below(CODE)})
-    chosen = with_used(modules or [it for it in every if texts_of(it)])
+    chosen = with_used(modules or [it for it in every if texts_of(it) and it not in OF_BOTH])
     lay_tests(folder, chosen)
     if PROGRAM in chosen:
         lay_program(folder)

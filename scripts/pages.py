@@ -2,9 +2,9 @@
 """Looks over the pages, in a second: `python3 scripts/pages.py [PAGE..]`; none: all *.md that git has.
 
 It finds a row of a table without a header (a blank line ends a table), a link to a file or to a
-heading that is not there, and a path of the repository, written as code, where nothing lies. Prints
-a line for each, and last how many pages it read and how many faults it found; the status is 0 if
-there is none.
+heading that is not there, and, written as code or in a shell's block, a path of the repository where
+nothing lies, or the name of a crate that is not there. Prints a line for each, and last how many
+pages it read and how many faults it found; the status is 0 if there is none.
 """
 import glob
 import os
@@ -12,21 +12,27 @@ import re
 import subprocess
 import sys
 
-LINK = re.compile(r"\[[^\]]*\]\(([^)\s]+)\)")
+# The end of a link, whose words may begin on the line above.
+LINK = re.compile(r"\]\(([^)\s]+)\)")
 CODE = re.compile(r"`([^`\n]+)`")
 # Paths of the repository begin so; what stands for any name is no path.
 PATH = re.compile(r"(?:crates|docs|scripts|tests|bench|misuse|reentry|examples)/[\w./*-]+")
+# Names of crates begin so.
+CRATE = re.compile(r"(?:async_cell|example)_\w+|cellrun")
 # What a page says of a project of its reader's.
-THEIRS = ("crates/my_program", "crates/railyarrow")
+THEIRS = ("crates/my_program", "crates/railyarrow", "crates/line_server")
 
 
 def prose_of(text):
-    """Returns the lines of a page with those of its blocks of code empty."""
-    lines, is_code = [], False
+    """Returns the lines of a page with those of its blocks of code empty, but for a shell's, each
+    of whose lines is code."""
+    lines, block = [], None
     for line in text.split("\n"):
-        is_fence = line.lstrip().startswith("```")
-        lines.append("" if is_fence or is_code else line)
-        is_code ^= is_fence
+        if line.lstrip().startswith("```"):
+            block = line.strip("` ") if block is None else None
+            lines.append("")
+        else:
+            lines.append(f"`{line}`" if block == "sh" else line if block is None else "")
     return lines
 
 
@@ -63,12 +69,16 @@ def dead_links(page, lines):
                 yield at, f"a link to {link}, and there is no such heading"
 
 
-def paths_of_nothing(lines):
+def names_of_nothing(lines):
     for at, line in enumerate(lines):
-        for path in PATH.findall(" ".join(CODE.findall(line))):
+        code = CODE.findall(line)
+        for path in PATH.findall(" ".join(code)):
             is_any_name = re.search(r"\b[A-Z]{3,}\b|\.\.\.?$", path) or path.startswith(THEIRS)
             if not is_any_name and not glob.glob(path.rstrip("./")):
                 yield at, f"`{path}`, where nothing lies"
+        for name in code:
+            if CRATE.fullmatch(name) and not os.path.isdir(f"crates/{name}"):
+                yield at, f"`{name}`, and there is no such crate"
 
 
 def read(path):
@@ -78,7 +88,7 @@ def read(path):
 
 def faults_of(page):
     lines = prose_of(read(page))
-    return [*rows_without_header(lines), *dead_links(page, lines), *paths_of_nothing(lines)]
+    return [*rows_without_header(lines), *dead_links(page, lines), *names_of_nothing(lines)]
 
 
 def main(pages):

@@ -17,7 +17,7 @@ limit=2048
 mkdir "$work/crates"
 cp "$top/HANDLES" "$work/"
 git init -q "$work"
-for crate in async_cell_{model,wakers,core,sync}; do
+for crate in async_cell_{model,wakers,core,waiting,sync}; do
     cp -r "$top/crates/$crate" "$work/crates/"
     grep "^$crate:" "$top/crates.txt" >>"$work/crates.txt"
 done

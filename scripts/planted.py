@@ -7,9 +7,10 @@
 The bugs are the files crates/NAME/must-fail/*.edit and crates/NAME/bugs/*.edit. All that change no
 more than bodies of functions are compiled into one program behind a switch, and the tests and cases
 (without words: both) that come by one are run with it. A case is played as it is, and with each
-request for memory refused. Nothing is proved. It prints a line for each bug: what catches it, or
-`only a contract`. It stops at the first N that do (3 if not said). A bug that does not compile, or
-changes more than bodies, is listed as not wrapped. First all is run without a bug, and has to pass.
+request for memory refused; so is a test that tests/again.txt lists. Nothing is proved. It prints a
+line for each bug: what catches it, or `only a contract`. It stops at the first N that do (3 if not
+said). A bug that does not compile, or changes more than bodies, is listed as not wrapped. First all
+is run without a bug, and has to pass.
 
 --table FILE writes a table: the bug, the tests and the cases that catch it, between tabs.
 --compare FILE reads such a table, and fails if a bug that was caught there is not caught now.
@@ -27,7 +28,7 @@ import tempfile
 from concurrent.futures import ThreadPoolExecutor
 
 import planted_program
-from planted_program import TOP
+from lay_out import TOP
 from planted_runs import Runner, cases_of, tests_of
 
 KINDS = ("tests", "cases")

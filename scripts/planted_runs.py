@@ -3,6 +3,7 @@
 A bug is tried with those tests and cases alone that come by it, which one run of each without a bug
 tells. Each run is a process of its own.
 """
+import itertools
 import os
 import re
 import subprocess
@@ -11,7 +12,8 @@ import time
 from collections import namedtuple
 from concurrent.futures import ThreadPoolExecutor
 
-from planted_program import TOP, kit_folder, read
+from lay_out import TOP, kit_folder, read
+from test_runs import OWN_ERRORS, listed_again
 
 MOST = 4096  # (as in planted.c)
 # A wrong body may wait for ever, or ask for ever more memory, or print for ever.
@@ -22,8 +24,9 @@ FEW = 6
 # How the output of a test ends that holds, and that of a case.
 HOLDS, PLAYED = r"test result: ok\n\Z", r"(\A|\n)[1-9]\d* passed, 0 failed\n\Z"
 LIMITED = f'ulimit -c 0; ulimit -f {BLOCKS}; exec "$@"'
-# What is run under a name: the program's words, what it reads, and what the end of its output is.
-Input = namedtuple("Input", "words given ended")
+# What is run under a name: the program's words, what it reads, what the end of its output is, and
+# which request for memory is refused: 0 for none.
+Input = namedtuple("Input", "words given ended refused", defaults=[0])
 # How a run ended: its status, or None where it did not, what it printed, and after how long.
 Run = namedtuple("Run", "status said seconds")
 # What caught a bug: names in the order in which they did, and whether there may be more.
@@ -35,6 +38,8 @@ def run(program, given, number=0, reached=None, seconds=60):
     kept = f"{kit_folder()}/toolchain/lib"
     loader = [f"{kept}/ld-linux-x86-64.so.2", "--inhibit-cache", "--library-path", kept]
     env = {"PLANTED": str(number), "ASAN_OPTIONS": CHECKS}
+    if given.refused:
+        env.update(REFUSE=str(given.refused), TELL="1")
     if reached:
         env["PLANTED_REACHED"] = reached
     words = ["/bin/sh", "-c", LIMITED, "sh", *loader, program, *given.words]
@@ -51,8 +56,10 @@ def run(program, given, number=0, reached=None, seconds=60):
 
 
 def is_passed(given, ran):
-    """Returns whether a run of an input ended well."""
-    return ran.status == 0 and bool(re.search(given.ended, ran.said))
+    """Returns whether a run of an input ended well: also with the error of a request of a test's
+    own that was refused."""
+    is_own = given.refused and OWN_ERRORS & set(ran.said.splitlines())
+    return bool(is_own or ran.status == 0 and re.search(given.ended, ran.said))
 
 
 def traced(program, given):
@@ -69,7 +76,18 @@ def tests_of(program):
     """Returns the tests of a program as inputs, by their names."""
     listed = run(program, Input(["--list"], "", "")).said
     names = re.findall(r"^(\S+): test$", listed, re.M)
-    return {it: Input([it], "", HOLDS) for it in names}
+    again = [it for it, way in listed_again(f"{TOP}/tests/again.txt") if way == "refused"]
+    refused = {name: given for it in again for name, given in refused_in_turn(program, it)}
+    return {**{it: Input([it], "", HOLDS) for it in names}, **refused}
+
+
+def refused_in_turn(program, test):
+    """Gives a test with each of its requests for memory refused, by names."""
+    for number in itertools.count(1):
+        given = Input([test], "", HOLDS, number)
+        if "refused" not in run(program, given).said.splitlines():
+            return
+        yield f"{test}, request {number} refused", given
 
 
 def cases_of(text):

@@ -12,7 +12,7 @@ TASKS = range(1, 8)
 LENGTH = 40
 WRITES = ["set", "or_set", "try_set", "replace", "update", "update_some", "guarded"]
 MAKES = ["own", "guard", "take_shared", "get_shared", "take_weak", "get_weak", "values"]
-MARKS = ["mark_unchanged", "mark_changed", "read_and_update"]
+MARKS = ["mark_unchanged", "mark_changed", "read_and_update", "peek_and_update"]
 LOOKS = ["read", "peek", "has_changed", "is_closed", *MARKS]
 
 
@@ -36,14 +36,14 @@ class Maker:
         self.count += 1
         return f"{letter}{self.count}"
 
-    def line(self, call, reply="ok", notes=()):
+    def line(self, call, reply="ok"):
         """Writes a call, its reply, and what has happened in it."""
         told, last = reply, None
         for word, number in self.cell.events:
             told += f" {number}" if word == last else f", {word} {number}"
             last = word
         self.cell.events = []
-        self.lines += [call if told == "ok" else f"{call} -> {told}", *notes]
+        self.lines.append(call if told == "ok" else f"{call} -> {told}")
 
     def text(self):
         return "\n".join(self.lines) + "\n\n"
@@ -198,7 +198,7 @@ class Owners(Maker):
 
 
 def step_of_core(maker):
-    """Makes a call. Where a lock drops what a core gives back, a note says so."""
+    """Makes a call. Where a lock drops what a core gives back, the reply there is another."""
     cell, value = maker.cell, maker.value()
     chosen = maker.random.randrange(10)
     if chosen < 4:
@@ -214,7 +214,7 @@ def step_of_core(maker):
         maker.line("take_inner", cell.close())
     elif chosen == 6 and cell.owners > 1:
         cell.owners -= 1
-        maker.line("end_owner", "none", ["  on locked -> ok"])
+        maker.line("end_owner", "none; on locked -> ok")
     elif chosen == 7:
         replies = {
             "try_take": cell.try_take,
@@ -257,14 +257,16 @@ class States(Maker):
 
     def write(self, on=""):
         value, old = self.value(), self.cell.content
-        word = self.some(["set", "replace", "update"])
-        if word == "update":
+        word = self.some(["set", "replace", "update", "modify add"])
+        replies = {"replace": f"old {old}", "modify add": str(old + value)}
+        if word.startswith(("update", "modify")):
             self.cell.happen("saw", old)
-        self.cell.content, self.version = value, self.version + 1
+        self.cell.content = old + value if word == "modify add" else value
+        self.version += 1
         self.cell.happen("woke", *self.cell.wait.end())
-        if word != "replace":
+        if word not in replies:
             self.cell.drop(old)
-        self.line(f"{word} {value}{on}", f"old {old}" if word == "replace" else "ok")
+        self.line(f"{word} {value}{on}", replies.get(word, "ok"))
 
     def follow(self):
         name, of = self.name("f"), self.some([*self.owners, *self.free()])
@@ -282,10 +284,13 @@ class States(Maker):
             self.seen[name] = 0 if word == "mark_changed" else self.version
         replies = {
             "peek": str(cell.content),
+            "peek_and_update": str(cell.content),
             "has_changed": str(has_changed).lower(),
             "is_closed": str(not cell.owners).lower(),
         }
         reply = cell.cloned("some") if word.startswith("read") else replies.get(word, "ok")
+        if word.startswith("peek"):
+            cell.happen("saw", cell.content)
         self.line(f"{word} {name}", reply)
 
     def lend(self):

@@ -1,10 +1,41 @@
-/* Refuses a program's Nth request for memory, where N is the value of REFUSE, and tells of it on
-   the file descriptor that is the value of TELL. Linked into a program that is tried, it stands in
-   the place of the three functions by which the kit's programs ask for memory. Compiled with
-   PRELOADED, it is preloaded into a program that was built: malloc and realloc are all that one
-   asks by. It takes no header, so that the kit's own compiler can build it. */
+/* Refuses requests for memory. Linked into a program that is tried, it stands in the place of the
+   three functions by which the kit's programs ask for memory, and refuses the Nth request, where N
+   is the value of REFUSE, and tells of it on the file descriptor that is the value of TELL. Compiled
+   with PLAYER, the player of cases says by calls which requests are counted, and which of them, or
+   all, are refused. Compiled with PRELOADED, it is preloaded into a program that was built: malloc
+   and realloc are all that one asks by. It takes no header, so that the kit's own compiler can build
+   it. */
 typedef __SIZE_TYPE__ size;
 
+#ifdef PLAYER
+static size count, refused_at;
+static int is_armed, refuses_all;
+
+static int is_refused(void) {
+    return is_armed && (refuses_all || ++count == refused_at);
+}
+
+/* Counts from here, and refuses the request of this number: 0 for none. */
+void player_count(size refused) {
+    count = 0;
+    refused_at = refused;
+}
+
+/* Counts requests, or does not. */
+void player_arm(size armed) {
+    is_armed = armed != 0;
+}
+
+/* Refuses every request that would be counted, or no longer. */
+void player_refuse_all(size all) {
+    refuses_all = all != 0;
+}
+
+/* How many were counted. */
+size player_counted(void) {
+    return count;
+}
+#else
 extern char *getenv(const char *name);
 extern long strtol(const char *text, char **end, int base);
 extern long write(int file, const void *bytes, size count);
@@ -19,6 +50,7 @@ static int is_refused(void) {
     write(strtol(tell, 0, 10), "refused\n", 8);
     return 1;
 }
+#endif
 
 #ifdef PRELOADED
 extern void *__libc_malloc(size bytes);

@@ -35,7 +35,7 @@ IMPORTS = {
     "async_cell_core": "Edit Named Refusal Wakes",
     "async_cell_sync": "AsyncCell Core LockedCore Owner",
     "futures::executor": "block_on",
-    "futures::future": "Either ready select",
+    "futures::future": "Either join lazy ready select",
     "futures::task": "Context Poll Source",
     "std::alloc": "AllocGlobal",
     "std::cell": "Cell",

@@ -76,7 +76,7 @@ def build(told, room, words):
     lib = try_kit.load()
     if not lib:
         return None, tried_plainly(f"{room}/project/crates/tests")
-    refuses = try_kit.compiled(lib, f"{lay_out.TOP}/scripts/refuse.c", f"{room}/refuse.o")
+    refuses = lay_out.compiled(f"{lay_out.TOP}/scripts/refuse.c", f"{room}/refuse.o")
     return try_kit.built(lib, f"{room}/project/crates/tests", [refuses], f"{room}/built")
 
 

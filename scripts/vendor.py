@@ -14,6 +14,11 @@ HOME = "railyarrow"
 LEFT_OUT = ("must-fail", "bugs", "out")
 HANDLES = ("Threads", "Wait", "Net", "Processes")
 LINK = re.compile(r"\[([^\]]*)\]\(([^)#\s]+)(#[^)\s]*)?\)")
+# What stands below the title of a copied page of docs/.
+COPIED = """
+(The programs and scripts named here are in Railyarrow's repository: `bash scripts/vendor.sh
+example_server FOLDER` there copies a program. FOLDER is your `crates`.)
+"""
 USAGE = """usage: bash scripts/vendor.sh CRATE.. FOLDER     copies the crates, or adds further ones
        bash scripts/vendor.sh --update FOLDER    brings what was copied up to date
        bash scripts/vendor.sh --lines FOLDER     prints the lines that the project's files need
@@ -114,7 +119,8 @@ def content(path, places):
         is_ours = (TOP / to).exists()
         return f"{words} (`{to}` of Railyarrow's repository)" if is_ours else link[0]
 
-    return LINK.sub(linked, (TOP / path).read_text()).encode()
+    title, end, rest = LINK.sub(linked, (TOP / path).read_text()).partition("\n")
+    return (title + end + (COPIED if path.startswith("docs/") else "") + rest).encode()
 
 
 def planned(crates):
@@ -251,9 +257,12 @@ def settle(project, needed):
             print(f"# {name} was not there, and was written\n{text}")
 
 
-def tell_of_tokio(words):
-    print("# HANDLES, if a program of the project uses the kit's tokio")
-    print(handles_line(words | {"Threads", "Wait", "Net"}))
+def tell_of_more(words):
+    """Prints what HANDLES is for programs that do more than the crates."""
+    for what, more in [("starts threads", set()), ("uses the kit's tokio", {"Net"})]:
+        more |= {"Threads", "Wait"}
+        if not more <= words:
+            print(f"# HANDLES, if a program of the project {what}: {handles_line(words | more)}")
 
 
 # The three commands
@@ -315,7 +324,7 @@ def bring(copy, wanted, lines):
     if gone & set(have):
         print("# crates.txt has to lose")
         print("\n".join(have[it] for it in have if it in gone))
-    tell_of_tokio(words)
+    tell_of_more(words)
 
 
 def tell(copy, lines):
@@ -326,7 +335,7 @@ def tell(copy, lines):
     words = handles_of(copy.folder, crates)
     print("# crates.txt", *[lines[it] for it in crates], sep="\n")
     print("# HANDLES has to allow", handles_line(words), "# .gitignore", "out/", sep="\n")
-    tell_of_tokio(words)
+    tell_of_more(words)
 
 
 def run(words):

@@ -10,6 +10,7 @@ work=$(mktemp -d)
 trap 'rm -rf "$work"' EXIT
 program=example_reply_slot
 allowed='Handles allowed: Threads, Wait.'
+tokio="# HANDLES, if a program of the project uses the kit's tokio: Handles allowed: Threads, Wait, Net."
 
 fail() {
     echo "vendor_check: $1" >&2
@@ -42,10 +43,9 @@ refused() {
 
 # The lines of crates.txt that these crates have, in their order there.
 lines_of() {
-    local crate
-    for crate in "$@"; do
-        grep "^$crate[ :]" "$work/clone/crates.txt" || echo "no line of $crate"
-    done
+    local names
+    names=$(printf '|%s' "$@")
+    grep -E "^(${names:1})[ :]" "$work/clone/crates.txt" || echo "no line of $*"
 }
 
 # Wants that these crates and no others are copied as they are, without their deliberate bugs and
@@ -69,12 +69,14 @@ words_of() {
 }
 
 # Two crates in one call, into a project that has no files yet.
-below=(async_cell_{model,wakers,core})
+below=(async_cell_{model,wakers,core,waiting})
 git init -q "$work/mine"
 cd "$work/mine"
 refused 'no crate async_cell_none' async_cell_none crates
 refused 'no crate async_cell_none' async_cell_unsync async_cell_none crates
-vendor async_cell_unsync async_cell_sync crates >/dev/null
+told=$(vendor async_cell_unsync async_cell_sync crates | grep '^# HANDLES, if')
+same 'what other programs write' "# HANDLES, if a program of the project starts threads: $allowed
+$tokio" "$told"
 are_copied "${below[@]}" async_cell_unsync async_cell_sync
 same HANDLES 'Handles allowed: Wait.' "$(cat HANDLES)"
 same .gitignore 'out/' "$(cat .gitignore)"
@@ -90,22 +92,22 @@ same 'the lines that are missing' "# crates.txt has to get
 $recorded
 # HANDLES has to be
 $allowed
-# HANDLES, if a program of the project uses the kit's tokio
-Handles allowed: Threads, Wait, Net." "$(cat "$work/lines")"
+$tokio" "$(cat "$work/lines")"
 same 'all lines' "# crates.txt
 $(lines_of "${below[@]}" async_cell_unsync async_cell_sync async_cell_recorded)
 # HANDLES has to allow
 $allowed
 # .gitignore
 out/
-# HANDLES, if a program of the project uses the kit's tokio
-Handles allowed: Threads, Wait, Net." "$(vendor --lines crates)"
+$tokio" "$(vendor --lines crates)"
 
 # What is no crate's: the licence, the pages, the state, and the checksums of all.
 cmp -s "$work/clone/LICENSE" crates/railyarrow/LICENSE || fail 'no licence'
 for page in DEFINITIONS GUIDE; do
+    same "the head of $page" '(The programs and scripts named here' \
+        "$(sed -n 3p "crates/railyarrow/$page.md" | cut -c 1-36)"
     same "the page $page" "$(words_of "$work/clone/docs/$page.md")" \
-        "$(words_of "crates/railyarrow/$page.md")"
+        "$(words_of "crates/railyarrow/$page.md" | sed 2,4d)"
 done
 lost=$(grep -roE '\]\([^)#:]+[)#]' --include='*.md' crates |
     while IFS=: read -r page link; do

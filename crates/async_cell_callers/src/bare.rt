@@ -14,6 +14,8 @@ macro_rules! calls {
         cell.purge($(&$right)?);
         println!($rt; "cell: debug_text {}", cell.debug_text($(&$right)?)?)?;
         println!($rt; "cell: try_get {:?}", cell.try_get($(&$right)?)?)?;
+        let seen = cell.peek(|value: &u32| value.wrapping_add(1) $(, &$right)?);
+        println!($rt; "cell: peek {seen:?}")?;
         println!($rt; "cell: is_closed {}", cell.is_closed($(&$right)?))?;
         println!($rt; "cell: try_take {:?}", cell.try_take($(&$right)?))?;
         println!($rt; "cell: is_set {}", cell.is_set($(&$right)?))?;

@@ -22,6 +22,10 @@ fn content(rt: HostRuntime) -> Result<()> {
         core.is_set(),
         core.try_get()
     )?;
+    println!(rt;
+        "core: peek {:?}",
+        core.peek(|value: &u32| value.wrapping_add(1)).ok()
+    )?;
     println!(rt; "core: try_take {:?}", core.try_take())?;
     println!(rt; "core: end_guard {:?}", end_guard(&mut core, Some(4)))?;
     println!(rt; "core: {core:?}")?;

@@ -17,6 +17,21 @@ macro_rules! owner {
     }};
 }
 
+/// The calls that change the value in one step, and what a follower is told of them.
+macro_rules! changes {
+    ($rt:ident $(, $right:ident)?) => {{
+        let owner = Owner::new($rt.alloc(), 1u32 $(, $right)?)?;
+        let mut follower = owner.follow()?;
+        println!($rt; "state: modify {:?}", owner.modify(|value| mem::replace(value, 7)))?;
+        println!($rt; "follower: peek_and_update {:?}", follower.peek_and_update(|value| *value))?;
+        println!($rt; "state: modify_if {:?}", owner.modify_if(|value| *value != 7))?;
+        println!($rt; "follower: has_changed {}", follower.has_changed())?;
+        println!($rt; "state: modify_if {:?}", owner.modify_if(|value| *value == 7))?;
+        println!($rt; "follower: has_changed {}", follower.has_changed())?;
+        Ok(())
+    }};
+}
+
 /// Each look of a follower.
 macro_rules! follower {
     ($rt:ident $(, $right:ident)?) => {{
@@ -58,6 +73,7 @@ macro_rules! waits {
     }};
 }
 
+pub(crate) use changes;
 pub(crate) use follower;
 pub(crate) use owner;
 pub(crate) use waits;

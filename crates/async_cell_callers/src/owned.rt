@@ -13,6 +13,7 @@ macro_rules! calls {
         owner.purge();
         println!($rt; "owner: debug_text {}, try_get {:?}", owner.debug_text()?, owner.try_get()?)?;
         println!($rt; "owner: is_set {}, is_closed {}", owner.is_set(), owner.is_closed())?;
+        println!($rt; "owner: peek {:?}", owner.peek(|value: &u32| value.wrapping_add(1)))?;
         println!($rt; "owner: try_take {:?}", owner.try_take())?;
         println!($rt; "owner: cell {}", owner.cell().is_set($(&$right)?))?;
         Ok(())
@@ -73,6 +74,7 @@ macro_rules! values {
         println!($rt; "values: {:?}", run($rt, values.next())?)?;
         drop(owner);
         println!($rt; "values: {:?}", run($rt, values.next())?)?;
+        values.cancel();
         Ok(())
     }};
 }

@@ -1,13 +1,19 @@
 //! Callers of `async_cell_latest_unsync`.
-use crate::followed::{follower, owner, waits};
+use crate::followed::{changes, follower, owner, waits};
 use crate::host::{Host, run};
 use anyhow::Result;
 use async_cell_latest_unsync::Owner;
 use futures::StreamExt;
+use std::mem;
 
 /// Each call of an owner.
 fn owner<R: Host>(rt: R) -> Result<()> {
     owner!(rt)
+}
+
+/// The changes in one step.
+fn changes<R: Host>(rt: R) -> Result<()> {
+    changes!(rt)
 }
 
 /// Each look of a follower.
@@ -23,6 +29,7 @@ fn waits<R: Host>(rt: R) -> Result<()> {
 /// Makes each of them.
 pub fn all<R: Host>(rt: R) -> Result<()> {
     owner(rt)?;
+    changes(rt)?;
     follower(rt)?;
     waits(rt)
 }

@@ -1,4 +1,5 @@
 ghost use Rattle.std.specs.Prelude.{◌≡◌, ◌≤◌, ◌<◌, ◌↔◌, [], ◌+◌, ◌-◌, None, Err, true, false, is_some, IsOk, IsSome, IsSomeAnd, IfSome, IfOk, IfErr, OnOk, OnErr};
+ghost use Rattle.std.specs.Fn.{FnOnceReturnsAt};
 ghost use Rattle.std.specs.Option.{ForSome};
 ghost use Rattle.async_cell_model.specs.Cell.{content, is_closed, is_full, is_vacant};
 ghost use Rattle.async_cell_model.specs.History.{IsSound};
@@ -201,6 +202,21 @@ impl<T: Drop, W: Wakes> Core<T, W> {
         ensures full { result ≡ is_full self.now.cell }
     {
         self.value.is_some()
+    }
+
+    /// Calls the closure on the value, if there is one, and returns what it returns. If there is
+    /// none, the closure is not called, and is returned in the error.
+    pub fn peek<A, F: FnOnce(&T) -> A>(&self, look: F) -> Result<A, F>
+        requires { F.IsAlwaysCallable look }
+        ensures called { IfOk result (λ answer. IsSomeAnd (content self.now.cell) (λ value.
+            FnOnceReturnsAt F.FnOnce look value answer)) }
+        ensures if_full { IsOk result ↔ (is_full self.now.cell ≡ true) }
+        ensures comes_back { IfErr result (λ back. back ≡ look) }
+    {
+        match &self.value {
+            Some(value) => Ok(look(value)),
+            None => Err(look),
+        }
     }
 
     /// Returns whether a poll would wait: the cell is open without a value.

@@ -1,10 +1,10 @@
 -- A closed state stays as it is.
-use Rattle.std.proofs.Common.{◌≡◌, ◌+◌, ◌-◌, ℕ, Bool, true, false, not, ◌&&◌, ◌||◌, List, [], ◌∷◌, refl, ap, sym, ◌∙◌, arith}
+use Rattle.std.proofs.Common.{◌≡◌, ◌+◌, ◌-◌, ℕ, Bool, true, false, not, ◌&&◌, ◌||◌, [], ◌∷◌, refl, ap, ◌∙◌, arith}
 use Rattle.std.proofs.lemmas.Bool.Decides.{nat_tests}
 use Rattle.std.specs.Prelude.{if◌then◌else◌, nat_eq, nat_lt}
 use Rattle.async_cell_latest.specs.State.{State, Stays, is_closed, is_waited_for, registered, versions_limit, writers_limit}
 use Rattle.async_cell_latest.specs.Step.{Call, Write, Read, PollChanged, AddWriter, EndWriter, next, written, closed}
-use Rattle.async_cell_latest.specs.History.{Entry, History, is_memory, then_state, after}
+use Rattle.async_cell_latest.specs.History.{History, is_memory, then_state, after}
 use Rattle.async_cell_latest.proofs.Versions.{either}
 
 module _ {T W : Type 0} where

@@ -1,10 +1,10 @@
 -- Each waker that waits is covered until all waiting ends.
-use Rattle.std.proofs.Common.{◌≡◌, ◌+◌, ◌-◌, ◌⊎◌, inl, inr, ℕ, Bool, true, false, not, ◌&&◌, ◌||◌, List, [], ◌∷◌, ◌++◌, Option, Some, None, refl, ap, sym, subst, ◌∙◌}
+use Rattle.std.proofs.Common.{◌≡◌, ◌+◌, ◌-◌, inl, inr, Bool, true, false, not, ◌&&◌, ◌||◌, List, [], ◌∷◌, ◌++◌, Some, None, refl, ap, sym, subst, ◌∙◌}
 use Rattle.std.specs.Prelude.{if◌then◌else◌, nat_eq}
 use Rattle.std.proofs.lemmas.List.Folds.{list_any-append}
 use Rattle.std.proofs.lemmas.List.Elements.{Contains-append_left, Contains-push}
 use Rattle.async_cell_model.specs.declared.refusal.Refusal.TheVariants as why
-use Rattle.async_cell_model.specs.WaitList.{skips, with_one_more, IsCovered}
+use Rattle.async_cell_model.specs.WaitList.{skips, IsCovered}
 use Rattle.async_cell_latest.specs.State.{State, is_closed, is_writable, is_waited_for, registered, writers_limit}
 use Rattle.async_cell_latest.specs.Step.{Call, Write, Read, PollChanged, AddWriter, EndWriter, Reply, Old, Shown, Pending, Ended, Done, Refused, reply, next, written, closed, ends_waiting, wakes}
 use Rattle.async_cell_latest.specs.History.{Entry, History, is_memory, then_state, after, may_refuse, MayFollow, IsLegal}

@@ -1,10 +1,10 @@
 -- Two histories, the second from the state where the first ends, are one.
-use Rattle.std.proofs.Common.{◌≡◌, ◌≤◌, ◌+◌, ◌-◌, ◌⊎◌, inl, inr, ℕ, Bool, true, false, not, ◌&&◌, ◌||◌, List, [], ◌∷◌, ◌++◌, refl, ap, sym, subst, ◌∙◌, arith, rules, le_refl, le_trans}
+use Rattle.std.proofs.Common.{◌≡◌, ◌≤◌, ◌+◌, ◌-◌, inl, inr, ℕ, Bool, true, false, not, ◌&&◌, ◌||◌, List, [], ◌∷◌, ◌++◌, refl, ap, sym, subst, ◌∙◌, arith, rules, le_refl, le_trans}
 use Rattle.std.proofs.lemmas.Grind.{common_steps}
 use Rattle.std.proofs.lemmas.Bool.Decides.{nat_tests}
 use Rattle.std.specs.Prelude.{if◌then◌else◌, nat_eq, nat_lt}
 use Rattle.async_cell_model.specs.WaitList.{is_empty, skips}
-use Rattle.async_cell_latest.specs.State.{State, IsSound, Stays, is_closed, is_writable, is_waited_for, registered, writers_limit}
+use Rattle.async_cell_latest.specs.State.{State, Stays, is_closed, is_writable, is_waited_for, registered, writers_limit}
 use Rattle.async_cell_latest.specs.Step.{Call, Write, Read, PollChanged, AddWriter, EndWriter, reply, next, written, closed, wakes}
 use Rattle.async_cell_latest.specs.History.{Entry, History, is_memory, then_state, after, all_woken, may_refuse, MayFollow, IsLegal, Runs}
 use Rattle.async_cell_latest.proofs.Versions.{after-append}

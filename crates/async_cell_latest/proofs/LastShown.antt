@@ -1,5 +1,5 @@
 -- What polls show after the last write.
-use Rattle.std.proofs.Common.{◌≡◌, ◌≤◌, ◌⊎◌, inl, inr, ℕ, Bool, true, false, not, ◌||◌, List, [], ◌∷◌, ◌++◌, Some, None, refl, ap, sym, subst, ◌∙◌, arith, le_refl, le_trans}
+use Rattle.std.proofs.Common.{◌≡◌, ◌⊎◌, inl, inr, ℕ, Bool, true, false, not, ◌||◌, [], ◌∷◌, ◌++◌, Some, None, refl, ap, sym, subst, ◌∙◌, arith}
 use Rattle.std.proofs.lemmas.Bool.Decides.{nat_tests}
 use Rattle.std.specs.Prelude.{if◌then◌else◌, nat_eq}
 use Rattle.async_cell_model.specs.declared.refusal.Refusal.TheVariants as why
@@ -7,7 +7,7 @@ use Rattle.async_cell_latest.specs.State.{State, is_closed, is_writable, writers
 use Rattle.async_cell_latest.specs.Step.{Call, Write, Read, PollChanged, AddWriter, EndWriter, Reply, Old, Shown, Pending, Ended, Done, Refused, reply, next, written}
 use Rattle.async_cell_latest.specs.History.{Entry, History, is_memory, then_state, after, MayFollow, IsLegal}
 use Rattle.async_cell_latest.specs.Follower.{seen_then, IsBy, IsFollower, seen_after, is_old, has_write}
-use Rattle.async_cell_latest.proofs.Versions.{after-later, after-same, after-kept, then-kept, IsLegal-rest, after-append}
+use Rattle.async_cell_latest.proofs.Versions.{after-same, after-kept, IsLegal-rest, after-append}
 
 abbrev is_shown : {T : Type 0} → Reply T → Bool
 is_shown (Shown version value) = true

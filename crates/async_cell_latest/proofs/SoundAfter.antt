@@ -1,13 +1,12 @@
 -- A legal history from a sound state ends in a sound state.
 use Rattle.std.proofs.Common.{◌≡◌, ◌≤◌, ◌+◌, ◌-◌, ℕ, Bool, true, false, not, ◌&&◌, ◌||◌, List, [], ◌∷◌, ◌++◌, refl, ap, sym, subst, ◌∙◌, arith, rules}
 use Rattle.std.proofs.lemmas.Bool.Decides.{nat_tests}
-use Rattle.std.proofs.lemmas.Grind.{common_steps}
 use Rattle.std.specs.Prelude.{if◌then◌else◌, nat_eq, nat_lt}
-use Rattle.async_cell_model.specs.WaitList.{skips, wait_list, with_one_more}
+use Rattle.async_cell_model.specs.WaitList.{skips, wait_list}
 use Rattle.async_cell_model.proofs.OneMoreWaker.{keep_added}
-use Rattle.async_cell_latest.specs.State.{State, IsSound, is_closed, is_writable, is_waited_for, registered, versions_limit, writers_limit, Stays}
+use Rattle.async_cell_latest.specs.State.{State, IsSound, is_closed, registered, versions_limit, writers_limit, Stays}
 use Rattle.async_cell_latest.specs.Step.{Call, Write, Read, PollChanged, AddWriter, EndWriter, next, written, closed}
-use Rattle.async_cell_latest.specs.History.{Entry, History, is_memory, then_state, after, Runs}
+use Rattle.async_cell_latest.specs.History.{History, is_memory, then_state, after, Runs}
 use Rattle.async_cell_latest.proofs.Versions.{either}
 
 module _ {W : Type 0} (will_wake : W → W → Bool) where

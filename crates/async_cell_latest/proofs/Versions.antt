@@ -1,9 +1,9 @@
 -- How a history moves the version on, and when the value changes.
-use Rattle.std.proofs.Common.{◌≡◌, ◌≤◌, ◌<◌, ◌+◌, ◌-◌, inl, inr, ℕ, Bool, true, false, not, ◌&&◌, ◌||◌, List, [], ◌∷◌, ◌++◌, Some, None, refl, ap, sym, subst, ◌∙◌, arith, le_refl, le_trans}
+use Rattle.std.proofs.Common.{◌≡◌, ◌≤◌, ◌+◌, ◌-◌, inl, inr, Bool, true, false, ◌||◌, [], ◌∷◌, ◌++◌, Some, refl, ap, sym, ◌∙◌, arith, le_refl, le_trans}
 use Rattle.std.specs.Prelude.{if◌then◌else◌, nat_eq}
 use Rattle.async_cell_model.specs.declared.refusal.Refusal.TheVariants as why
 use Rattle.async_cell_latest.specs.State.{State, is_closed, is_writable, is_waited_for, registered, writers_limit}
-use Rattle.async_cell_latest.specs.Step.{Call, Write, Read, PollChanged, AddWriter, EndWriter, Reply, Old, Shown, Pending, Ended, Done, Refused, reply, next, written, closed}
+use Rattle.async_cell_latest.specs.Step.{Call, Write, Read, PollChanged, AddWriter, EndWriter, Old, Refused, reply, next, written, closed}
 use Rattle.async_cell_latest.specs.History.{Entry, History, is_memory, then_state, after, MayFollow, IsLegal}
 use Rattle.async_cell_latest.specs.Follower.{is_old, has_write}
 

@@ -1,9 +1,9 @@
 -- What a follower is shown over a history, the writes of one, and the polls that wait.
-use Rattle.std.specs.Prelude.{◌≡◌, ◌≤◌, ◌<◌, ℕ, Bool, true, false, ◌||◌, List, [], ◌∷◌, Option, Some, None, ⊤}
+use Rattle.std.specs.Prelude.{◌≡◌, ◌≤◌, ◌<◌, ℕ, Bool, true, false, ◌||◌, [], ◌∷◌, Option, Some, None, ⊤}
 use Rattle.std.specs.List.{list_any}
 use Rattle.async_cell_latest.specs.State.{State}
 use Rattle.async_cell_latest.specs.Step.{Call, Read, PollChanged, Reply, Old, Shown, Pending, ends_waiting}
-use Rattle.async_cell_latest.specs.History.{Entry, History, then_state}
+use Rattle.async_cell_latest.specs.History.{History, then_state}
 
 -- the version that a follower has seen after a reply, if it had seen `seen` before
 abbrev pub seen_then : {T : Type 0} → ℕ → Reply T → ℕ

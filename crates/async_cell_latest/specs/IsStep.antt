@@ -39,6 +39,10 @@ module _ {T W : Type 0} where
   write_answer (Ok (old, woken)) = record { reply = Old old; woken = woken }
   write_answer (Err back) = replies (Refused why.Closed (Some back))
 
+  -- the answer of `modify` that changed this value and woke these wakers
+  abbrev pub change_answer : T → List W → Answer T W
+  change_answer old woken = record { reply = Old old; woken = woken }
+
   -- the answer of `poll_changed` on a state with this value, which can then be read
   abbrev pub changed_answer : T → Result (Poll (Option ℕ)) Refusal → Answer T W
   changed_answer value (Ok (poll.Ready (Some version))) = replies (Shown version value)

@@ -3,6 +3,7 @@ ghost use Rattle.async_cell_latest.specs.State.{IsSound, is_closed, is_writable}
 ghost use Rattle.async_cell_latest.specs.Step.{Write, Read, Shown};
 ghost use Rattle.async_cell_latest.specs.IsStep.{IsStep, replies, write_answer};
 
+mod changes;
 mod get;
 mod places;
 mod polls;
@@ -78,10 +79,7 @@ impl<T: Drop, W: Wakes> Latest<T, W> {
         ensures unchanged { OnErr result (self.new ≡ self.old) }
         ensures comes_back { IfErr result (λ back. back ≡ value) }
     {
-        if self.is_closed() {
-            return Err(value);
-        }
-        let Some(version) = self.version.checked_add(1) else {
+        let Some(version) = self.next_version() else {
             return Err(value);
         };
         self.version = version;

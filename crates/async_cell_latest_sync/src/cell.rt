@@ -1,12 +1,13 @@
 //! The state behind a lock. Wakers are woken and values are dropped after the lock is released.
-ghost use Rattle.std.specs.Prelude.{◌≡◌, ◌⊎◌, IsOk, IfErr};
-ghost use Rattle.std.specs.Fn.{FnOnceReturnsAt};
-ghost use Rattle.async_cell_model.specs.Refusal.{FailsWithMemory};
+ghost use Rattle.std.specs.Prelude.{◌≡◌, ◌⊎◌, Ok, Err, IsOk, IfOk, IfErr};
+ghost use Rattle.std.specs.Fn.{FnOnceReturnsAt, FnOnceReturnsAtMut};
+ghost use Rattle.async_cell_model.specs.Refusal.{FailsWithClosed, FailsWithMemory};
+ghost use Rattle.async_cell_latest.specs.State.{State};
 
 mod places;
 mod polls;
 
-use async_cell_latest::{Latest, Refusal, TaskWaker};
+use async_cell_latest::{Latest, Refusal, TaskWaker, Wakers};
 use futures::task::Source;
 use std::alloc::Global;
 use std::sync::{Mutex, MutexGuard, Wait};
@@ -48,42 +49,75 @@ impl<T: Drop> LatestCell<T> {
     {
         let mut core = self.lock(rt);
         let written = core.write(value);
-        drop(core); // What is woken or dropped may call this cell: never under the lock.
-        let (old, woken) = written?;
-        woken.wake_all();
-        Ok(old)
+        unlock_and_wake(core, written)
     }
 
-    /// Calls the closure on the value, and sets the one that it returns, all while the lock is
-    /// held. Wakes all waiters, and returns the old value. If the state takes no further write, the
-    /// new value is returned in the error.
+    /// Calls the closure on the value, and sets the one that it returns. Wakes all waiters, and
+    /// returns the old value. If the state takes no further write, the new value is returned in the
+    /// error.
     pub(crate) fn update<F, R>(&self, change: F, rt: &R) -> Result<T, T>
     where
         F: FnOnce(&T) -> T,
         R: Wait,
         requires { F.IsAlwaysCallable change }
+        ensures called { IfOk result (λ old. (new : T)
+            × FnOnceReturnsAt F.FnOnce change old new) }
+        ensures comes_back { IfErr result (λ back. (old : T)
+            × FnOnceReturnsAt F.FnOnce change old back) }
     {
         let mut core = self.lock(rt);
-        let (_, old) = core.read();
-        let value = change(old);
-        let written = core.write(value);
-        drop(core); // What is woken or dropped may call this cell: never under the lock.
-        let (old, woken) = written?;
-        woken.wake_all();
-        Ok(old)
+        let written = core.update(change);
+        unlock_and_wake(core, written)
     }
 
-    /// Calls the closure on the value, while the lock is held.
-    pub(crate) fn peek<A, F, R>(&self, look: F, rt: &R) -> A
+    /// Calls the closure on the value, which it may change in place, wakes all waiters, and returns
+    /// what the closure returned. Fails with `Closed` if the state takes no further write; the
+    /// closure is then not called.
+    pub(crate) fn modify<A, F, R>(&self, change: F, rt: &R) -> Result<A, Refusal>
+    where
+        F: FnOnce(&mut T) -> A + Drop,
+        R: Wait,
+        requires { F.IsAlwaysCallable change }
+        ensures called { IfOk result (λ answer. (old new : T)
+            × FnOnceReturnsAtMut F.FnOnce change old answer new) }
+        ensures refused { FailsWithClosed result }
+    {
+        let mut core = self.lock(rt);
+        let modified = core.modify(change);
+        unlock_and_wake(core, modified)
+    }
+
+    /// `modify`, if the closure returns `true`, which is then the answer. Otherwise nothing is
+    /// written, and nobody is woken.
+    pub(crate) fn modify_if<F, R>(&self, change: F, rt: &R) -> Result<bool, Refusal>
+    where
+        F: FnOnce(&mut T) -> bool + Drop,
+        R: Wait,
+        requires { F.IsAlwaysCallable change }
+        ensures called { IfOk result (λ changed. (old new : T)
+            × FnOnceReturnsAtMut F.FnOnce change old changed new) }
+        ensures refused { FailsWithClosed result }
+    {
+        let mut core = self.lock(rt);
+        match core.modify_if(change) {
+            Ok(None) => Ok(false),
+            Ok(Some(woken)) => unlock_and_wake(core, Ok((true, woken))),
+            Err(why) => Err(why),
+        }
+    }
+
+    /// Calls the closure on the value, while the lock is held. Returns the version too.
+    pub(crate) fn peek<A, F, R>(&self, look: F, rt: &R) -> (u64, A)
     where
         F: FnOnce(&T) -> A,
         R: Wait,
         requires { F.IsAlwaysCallable look }
-        ensures called { (seen : T) × FnOnceReturnsAt F.FnOnce look seen result }
+        ensures of_one_state { (s : State T TaskWaker) × (result.0 ≡ s.version)
+            × FnOnceReturnsAt F.FnOnce look s.value result.1 }
     {
         let core = self.lock(rt);
-        let (_, value) = core.read();
-        look(value)
+        let (version, value) = core.read();
+        (version, look(value))
     }
 
     /// Returns the version and a clone of the value, made while the lock is held. Fails with
@@ -91,6 +125,8 @@ impl<T: Drop> LatestCell<T> {
     pub(crate) fn get<R: Wait>(&self, rt: &R) -> Result<(u64, T), Refusal>
     where
         T: Clone,
+        ensures of_one_state { IfOk result (λ shown. (s : State T TaskWaker)
+            × (shown.0 ≡ s.version) × T.is_clone s.value shown.1) }
         ensures sure { ((value : T) → T.is_infallible value) → IsOk result }
         ensures refused { FailsWithMemory result }
     {
@@ -114,4 +150,20 @@ impl<T: Drop> LatestCell<T> {
             woken.wake_all();
         }
     }
+}
+
+/// Releases the lock, wakes what a call of the state handed out, and returns its answer. What is
+/// woken, and what the caller drops then, may call the state: never under the lock.
+#[inline(always)]
+fn unlock_and_wake<T: Drop, A, E>(
+    core: Locked<'_, T>,
+    written: Result<(A, Wakers<TaskWaker>), E>,
+) -> Result<A, E>
+    ensures answers { IfOk written (λ out. result ≡ Ok out.0) }
+    ensures refused { IfErr written (λ back. result ≡ Err back) }
+{
+    drop(core);
+    let (answer, woken) = written?;
+    woken.wake_all();
+    Ok(answer)
 }

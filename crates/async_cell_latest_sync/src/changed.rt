@@ -1,6 +1,9 @@
-ghost use Rattle.std.specs.Prelude.{◌≡◌};
+ghost use Rattle.std.specs.Prelude.{◌≡◌, ◌≢◌, OnOk, OnErr};
+ghost use Rattle.futures.specs.Poll.{IfReady, OnPending};
+ghost use Rattle.futures.specs.Task.{Covers, Keeps};
 ghost use Rattle.async_cell_model.specs.Refusal.{FailsWithMemoryOrClosed};
 ghost use Rattle.async_cell_latest_sync.specs.Names.{cell_followed};
+ghost use Rattle.async_cell_latest_sync.specs.Seen.{HasSeen};
 ghost use Rattle.async_cell_latest_sync.specs.Source.{source_of};
 
 use crate::follower::Follower;
@@ -55,7 +58,17 @@ impl<T: Drop, R: Wait + Drop> Future for Changed<'_, T, R> {
 
     ghost gives = { λ _. FailsWithMemoryOrClosed };
 
-    fn poll(&mut self, cx: &mut Context<'_>) -> Poll<Result<(), Refusal>> {
+    fn poll(&mut self, cx: &mut Context<'_>) -> Poll<Result<(), Refusal>>
+        ensures marks { IfReady result (λ told. OnOk told (HasSeen self.new.follower.now (λ s.
+            s.version ≢ self.old.follower.now.seen))) }
+        ensures unmarked { IfReady result (λ told. OnErr told
+            (self.new.follower.now ≡ self.old.follower.now)) }
+        ensures unchanged { OnPending result (self.new.follower.now ≡ self.old.follower.now) }
+        ensures value { IfReady result FailsWithMemoryOrClosed }
+        ensures registered { OnPending result (Covers cx.new
+            (λ s. s ≡ source_of (cell_followed self.new.follower.now))) }
+        ensures kept { Keeps cx.old cx.new }
+    {
         self.follower.poll_changed(&mut self.place, cx)
     }
 }

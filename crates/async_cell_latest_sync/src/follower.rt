@@ -1,8 +1,10 @@
-ghost use Rattle.std.specs.Prelude.{◌≡◌, IsOk, OnErr};
+ghost use Rattle.std.specs.Prelude.{◌≡◌, ◌≢◌, ◌↔◌, true, IsOk, IfOk, OnErr};
 ghost use Rattle.std.specs.Arc.{arc_value};
 ghost use Rattle.std.specs.Fn.{FnOnceReturnsAt};
 ghost use Rattle.async_cell_model.specs.Refusal.{FailsWithMemory};
+ghost use Rattle.async_cell_latest.specs.State.{State};
 ghost use Rattle.async_cell_latest_sync.specs.Names.{cell_followed};
+ghost use Rattle.async_cell_latest_sync.specs.Seen.{HasSeen};
 
 mod polled;
 
@@ -10,7 +12,7 @@ use crate::cell::LatestCell;
 use crate::changed::Changed;
 use crate::states::States;
 use crate::wait_for::WaitFor;
-use async_cell_latest::Refusal;
+use async_cell_latest::{Refusal, TaskWaker};
 use std::alloc::AllocError;
 use std::sync::{Arc, Wait};
 
@@ -80,6 +82,7 @@ impl<T: Drop, R: Wait + Drop> Follower<T, R> {
     pub fn read(&self) -> Result<T, Refusal>
     where
         T: Clone,
+        ensures clones { IfOk result (λ copy. (value : T) × T.is_clone value copy) }
         ensures sure { ((value : T) → T.is_infallible value) → IsOk result }
         ensures refused { FailsWithMemory result }
     {
@@ -92,6 +95,8 @@ impl<T: Drop, R: Wait + Drop> Follower<T, R> {
     pub fn read_and_update(&mut self) -> Result<T, Refusal>
     where
         T: Clone,
+        ensures of_one_state { IfOk result (λ copy. HasSeen self.new (λ s.
+            T.is_clone s.value copy)) }
         ensures sure { ((value : T) → T.is_infallible value) → IsOk result }
         ensures refused { FailsWithMemory result }
         ensures unmarked { OnErr result (self.new ≡ self.old) }
@@ -110,12 +115,30 @@ impl<T: Drop, R: Wait + Drop> Follower<T, R> {
         requires { F.IsAlwaysCallable look }
         ensures called { (seen : T) × FnOnceReturnsAt F.FnOnce look seen result }
     {
-        self.cell.peek(look, &self.rt)
+        self.cell.peek(look, &self.rt).1
     }
 
-    /// Returns whether there is a state that this follower has not seen. Marks nothing.
-    pub fn has_changed(&self) -> bool {
-        self.cell.lock(&self.rt).version() != self.seen
+    /// `peek`, of a value that is then marked as seen.
+    pub fn peek_and_update<A, F>(&mut self, look: F) -> A
+    where
+        F: FnOnce(&T) -> A,
+        requires { F.IsAlwaysCallable look }
+        ensures of_one_state { HasSeen self.new (λ s.
+            FnOnceReturnsAt F.FnOnce look s.value result) }
+        ensures of_this { cell_followed self.new ≡ cell_followed self.old }
+    {
+        let (version, answer) = self.cell.peek(look, &self.rt);
+        self.seen = version;
+        answer
+    }
+
+    /// Returns whether there is a state that this follower has not seen, also after the end of the
+    /// last owner. Marks nothing.
+    pub fn has_changed(&self) -> bool
+        ensures of_one_state { (s : State T TaskWaker)
+            × ((result ≡ true) ↔ (self.now.seen ≢ s.version)) }
+    {
+        self.cell.lock(&self.rt).is_unseen(self.seen)
     }
 
     /// Returns whether the last owner has ended: the state is then the last one.

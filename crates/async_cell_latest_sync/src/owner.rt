@@ -1,6 +1,6 @@
 ghost use Rattle.std.specs.Prelude.{◌≡◌, IsOk, IfOk, IfErr};
-ghost use Rattle.std.specs.Fn.{FnOnceReturnsAt};
-ghost use Rattle.async_cell_model.specs.Refusal.{FailsWithMemory, IsOwnerRefusal};
+ghost use Rattle.std.specs.Fn.{FnOnceReturnsAt, FnOnceReturnsAtMut};
+ghost use Rattle.async_cell_model.specs.Refusal.{FailsWithClosed, FailsWithMemory, IsOwnerRefusal};
 ghost use Rattle.async_cell_latest_sync.specs.Names.{cell_followed, cell_owned};
 
 use crate::cell::LatestCell;
@@ -14,9 +14,9 @@ use std::sync::{Arc, Wait};
 /// last value stays, and each follower is told of it before it is told of the end.
 ///
 /// Wakers are woken and old values are dropped after the lock is released, so whatever runs then
-/// may call the state. The closures of `peek` and `update`, and the clone of the value, run while
-/// the lock is held: one that calls its own state, or drops an owner or a waiting future of it,
-/// waits forever.
+/// may call the state. The closures of `peek`, `update`, `modify` and `modify_if`, and the clone of
+/// the value, run while the lock is held: one that calls its own state, or drops an owner or a
+/// waiting future of it, waits forever.
 ///
 /// A state takes 18,446,744,073,709,551,614 writes, and no further one.
 ///
@@ -83,14 +83,48 @@ impl<T: Drop, R: Wait + Drop> Owner<T, R> {
     where
         F: FnOnce(&T) -> T,
         requires { F.IsAlwaysCallable change }
+        ensures called { (old new : T) × FnOnceReturnsAt F.FnOnce change old new }
     {
         let _ = self.cell.update(change, &self.rt);
+    }
+
+    /// Calls the closure on the value, which it may change in place, and returns what it returns.
+    /// Wakes all followers that wait. No other call comes in between: the lock is held meanwhile,
+    /// so a closure that calls its own state, or drops a value that does, waits forever.
+    ///
+    /// Fails with `Closed` if the state takes no further write; the closure is then not called.
+    pub fn modify<A, F>(&self, change: F) -> Result<A, Refusal>
+    where
+        F: FnOnce(&mut T) -> A + Drop,
+        requires { F.IsAlwaysCallable change }
+        ensures called { IfOk result (λ answer. (old new : T)
+            × FnOnceReturnsAtMut F.FnOnce change old answer new) }
+        ensures refused { FailsWithClosed result }
+    {
+        self.cell.modify(change, &self.rt)
+    }
+
+    /// `modify`, if the closure returns `true`. If it returns `false`, nothing is written: nobody
+    /// is woken, and no follower is told of a new state. Returns what the closure returned.
+    ///
+    /// A closure that returns `false` is to leave the value as it was: what it changed stays, and
+    /// nobody is told.
+    pub fn modify_if<F>(&self, change: F) -> Result<bool, Refusal>
+    where
+        F: FnOnce(&mut T) -> bool + Drop,
+        requires { F.IsAlwaysCallable change }
+        ensures called { IfOk result (λ changed. (old new : T)
+            × FnOnceReturnsAtMut F.FnOnce change old changed new) }
+        ensures refused { FailsWithClosed result }
+    {
+        self.cell.modify_if(change, &self.rt)
     }
 
     /// Returns a clone of the value. Fails with `Memory` if the clone fails.
     pub fn read(&self) -> Result<T, Refusal>
     where
         T: Clone,
+        ensures clones { IfOk result (λ copy. (value : T) × T.is_clone value copy) }
         ensures sure { ((value : T) → T.is_infallible value) → IsOk result }
         ensures refused { FailsWithMemory result }
     {
@@ -106,7 +140,7 @@ impl<T: Drop, R: Wait + Drop> Owner<T, R> {
         requires { F.IsAlwaysCallable look }
         ensures called { (seen : T) × FnOnceReturnsAt F.FnOnce look seen result }
     {
-        self.cell.peek(look, &self.rt)
+        self.cell.peek(look, &self.rt).1
     }
 
     /// Lets go of all wakers that dropped futures left in the state. The task of each is polled

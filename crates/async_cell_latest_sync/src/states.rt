@@ -2,6 +2,7 @@ ghost use Rattle.std.specs.Prelude.{◌≡◌, IfSome};
 ghost use Rattle.std.specs.List.{AllByRecursion};
 ghost use Rattle.async_cell_model.specs.Refusal.{FailsWithMemory};
 ghost use Rattle.async_cell_latest_sync.specs.Names.{cell_followed};
+ghost use Rattle.async_cell_latest_sync.specs.Seen.{AreTold};
 ghost use Rattle.async_cell_latest_sync.specs.Source.{source_of};
 
 use crate::follower::Follower;
@@ -55,8 +56,9 @@ impl<T: Clone, R: Wait + Drop> Stream for States<T, R> {
 
     ghost needs = { λ states s. s ≡ source_of (cell_followed states.follower) };
 
-    ghost yields = { λ _ items last.
-        AllByRecursion FailsWithMemory items × IfSome last FailsWithMemory };
+    ghost yields = { λ states items last.
+        AllByRecursion FailsWithMemory items × IfSome last FailsWithMemory
+        × AreTold T.is_clone states.follower.seen items last };
 
     fn poll_next(&mut self, cx: &mut Context<'_>) -> Poll<Option<Result<T, Refusal>>> {
         match self.follower.poll_state(&mut self.place, cx) {

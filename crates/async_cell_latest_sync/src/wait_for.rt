@@ -1,7 +1,10 @@
-ghost use Rattle.std.specs.Prelude.{◌≡◌, true, IfOk};
+ghost use Rattle.std.specs.Prelude.{◌≡◌, ◌⊎◌, true, false, Err, IfOk};
 ghost use Rattle.std.specs.Fn.{CalledAt};
-ghost use Rattle.async_cell_model.specs.Refusal.{FailsWithMemoryOrClosed};
+ghost use Rattle.futures.specs.Poll.{IfReady, OnPending};
+ghost use Rattle.futures.specs.Task.{Covers, Keeps};
+ghost use Rattle.async_cell_latest_sync.specs.Found.{IsFound};
 ghost use Rattle.async_cell_latest_sync.specs.Names.{cell_followed};
+ghost use Rattle.async_cell_latest_sync.specs.Seen.{HasSeen};
 ghost use Rattle.async_cell_latest_sync.specs.Source.{source_of};
 
 use crate::follower::Follower;
@@ -68,11 +71,28 @@ impl<T: Clone, R: Wait + Drop, F: FnMut(&T) -> bool + Drop> Future for WaitFor<'
 
     ghost needs = { λ future s. s ≡ source_of (cell_followed future.follower.now) };
 
-    ghost gives = { λ _ answer. FailsWithMemoryOrClosed answer
-        × IfOk answer (λ copy. (value : T) × T.is_clone value copy
-        × (f g : F) × CalledAt F.FnMut f value true g) };
+    ghost gives = { λ future. IsFound F.FnMut T.is_clone future.predicate };
 
-    fn poll(&mut self, cx: &mut Context<'_>) -> Poll<Result<T, Refusal>> {
+    fn poll(&mut self, cx: &mut Context<'_>) -> Poll<Result<T, Refusal>>
+        requires can_poll { F.IsAlwaysCallable self.old.predicate }
+        ensures of_one_state { IfReady result (λ answer. IfOk answer (λ copy.
+            HasSeen self.new.follower.now (λ s. T.is_clone s.value copy
+            × CalledAt F.FnMut self.old.predicate s.value true self.new.predicate))) }
+        ensures unmarked { result ≡ Poll.Ready (Err Refusal.Memory)
+            → self.new.follower.now ≡ self.old.follower.now }
+        ensures value { IfReady result (IsFound F.FnMut T.is_clone self.old.predicate) }
+        ensures same { OnPending result ((answer : _)
+            → IsFound F.FnMut T.is_clone self.new.predicate answer
+            → IsFound F.FnMut T.is_clone self.old.predicate answer) }
+        ensures again { OnPending result (F.IsAlwaysCallable self.new.predicate) }
+        ensures looked { OnPending result (((self.new.predicate ≡ self.old.predicate)
+            × (self.new.follower.now ≡ self.old.follower.now))
+            ⊎ HasSeen self.new.follower.now (λ s.
+            CalledAt F.FnMut self.old.predicate s.value false self.new.predicate)) }
+        ensures registered { OnPending result (Covers cx.new
+            (λ s. s ≡ source_of (cell_followed self.new.follower.now))) }
+        ensures kept { Keeps cx.old cx.new }
+    {
         let follower = &mut *self.follower;
         let cell = follower.cell.as_ref();
         let core = match cell.poll_unseen(self.looked_at, &mut self.place, cx, &follower.rt) {

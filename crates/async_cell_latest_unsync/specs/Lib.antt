@@ -1,2 +1,4 @@
+pub mod Found
 pub mod Names
+pub mod Seen
 pub mod Source

@@ -1,12 +1,15 @@
 //! The state of one thread. Wakers are woken and values are dropped while nothing is borrowed.
 ghost use Rattle.std.specs.Prelude.{◌≡◌, ◌⊎◌, IfErr};
 
+mod changes;
+mod late;
 mod looks;
 mod places;
 mod polls;
 
 use async_cell_latest::{Latest, Refusal, TaskWaker};
 use futures::task::Source;
+use late::Late;
 use std::alloc::Global;
 use std::cell::{Cell, RefCell, RefMut};
 
@@ -19,12 +22,9 @@ pub struct LatestCell<T> {
     core: RefCell<Latest<T, TaskWaker>>,
     /// The source that waiting tasks register with.
     source: Source,
-    /// Whether a look has left something to do when it ends.
-    is_late: Cell<bool>,
-    /// The value that was written last during a look.
-    late: Cell<Option<T>>,
-    /// How many owners ended during a look.
-    late_ends: Cell<u32>,
+    late: Late<T>,
+    /// The version of the state that is being changed in place, while that lasts.
+    changing: Cell<u64>,
 }
 
 impl<T: Drop> LatestCell<T> {
@@ -33,21 +33,20 @@ impl<T: Drop> LatestCell<T> {
         LatestCell {
             core: RefCell::new(Latest::new(alloc, value)),
             source: Source::new(),
-            is_late: Cell::new(false),
-            late: Cell::new(None),
-            late_ends: Cell::new(0),
+            late: Late::new(),
+            changing: Cell::new(0),
         }
     }
 
-    /// Borrows the state for one step. Returns `None` during a look, and during another step, which
-    /// no caller ever sees: a step calls nothing that could call the cell.
+    /// Borrows the state for one step. Returns `None` during a look, and during a change in place:
+    /// other steps call nothing that could call the cell.
     #[inline(always)]
     fn lend(&self) -> Option<Lent<'_, T>> {
         self.core.try_borrow_mut().ok()
     }
 
-    /// Sets the value, wakes all waiters and returns the old value. During a look, and if the state
-    /// takes no further write, the value is returned in the error.
+    /// Sets the value, wakes all waiters and returns the old value. During a look or a change, and
+    /// if the state takes no further write, the value is returned in the error.
     pub(crate) fn replace(&self, value: T) -> Result<T, T>
         ensures comes_back { IfErr result (λ back. back ≡ value) }
     {
@@ -68,8 +67,7 @@ impl<T: Drop> LatestCell<T> {
             return;
         };
         if self.lend().is_none() {
-            self.is_late.set(true);
-            drop(self.late.replace(Some(value)));
+            self.late.write(value);
         }
     }
 
@@ -86,8 +84,7 @@ impl<T: Drop> LatestCell<T> {
     /// look it ends with the look.
     pub(crate) fn end_owner(&self) {
         let Some(mut core) = self.lend() else {
-            self.is_late.set(true);
-            self.late_ends.set(self.late_ends.get().saturating_add(1));
+            self.late.end_owner();
             return;
         };
         let ended = core.end_writer();

@@ -1,6 +1,9 @@
-ghost use Rattle.std.specs.Prelude.{◌≡◌};
+ghost use Rattle.std.specs.Prelude.{◌≡◌, ◌≢◌, OnOk, OnErr};
+ghost use Rattle.futures.specs.Poll.{IfReady, OnPending};
+ghost use Rattle.futures.specs.Task.{Covers, Keeps};
 ghost use Rattle.async_cell_model.specs.Refusal.{FailsWithMemoryOrClosed};
 ghost use Rattle.async_cell_latest_unsync.specs.Names.{cell_followed};
+ghost use Rattle.async_cell_latest_unsync.specs.Seen.{HasSeen};
 ghost use Rattle.async_cell_latest_unsync.specs.Source.{source_of};
 
 use crate::follower::Follower;
@@ -31,6 +34,8 @@ impl<'a, T: Drop> Changed<'a, T> {
     /// Drops the future, and the waker that it left in the state: the task that polled it last is
     /// polled once more. A waker keeps what its executor needs to wake the task, so cancel a wait
     /// that came to nothing on a state that is written seldom, as when its time is up.
+    ///
+    /// From inside a look the waker is let go of when the look ends, as by `Owner::purge`.
     pub fn cancel(self) {
         let Changed { follower, place } = self;
         follower.cancel(place);
@@ -52,7 +57,19 @@ impl<T: Drop> Future for Changed<'_, T> {
 
     ghost gives = { λ _. FailsWithMemoryOrClosed };
 
-    fn poll(&mut self, cx: &mut Context<'_>) -> Poll<Result<(), Refusal>> {
+    fn poll(&mut self, cx: &mut Context<'_>) -> Poll<Result<(), Refusal>>
+        ensures marks { IfReady result (λ told. OnOk told (HasSeen self.new.follower.now (λ s.
+            s.version ≢ self.old.follower.now.seen))) }
+        ensures unmarked { IfReady result (λ told. OnErr told
+            (self.new.follower.now ≡ self.old.follower.now)) }
+        ensures unchanged { OnPending result (self.new.follower.now ≡ self.old.follower.now) }
+        ensures of_this { cell_followed self.new.follower.now
+            ≡ cell_followed self.old.follower.now }
+        ensures value { IfReady result FailsWithMemoryOrClosed }
+        ensures registered { OnPending result
+            (Covers cx.new (λ s. s ≡ source_of (cell_followed self.new.follower.now))) }
+        ensures kept { Keeps cx.old cx.new }
+    {
         self.follower.poll_changed(&mut self.place, cx)
     }
 }

@@ -1,8 +1,9 @@
-ghost use Rattle.std.specs.Prelude.{◌≡◌, IfSome, OnErr};
+ghost use Rattle.std.specs.Prelude.{◌≡◌, IfSome, IfNone, IfOk, OnErr};
 ghost use Rattle.std.specs.Rc.{rc_value};
 ghost use Rattle.std.specs.Fn.{FnOnceReturnsAt};
 ghost use Rattle.async_cell_model.specs.Refusal.{FailsWithMemory};
 ghost use Rattle.async_cell_latest_unsync.specs.Names.{cell_followed};
+ghost use Rattle.async_cell_latest_unsync.specs.Seen.{HasSeen};
 
 mod polled;
 
@@ -69,7 +70,7 @@ impl<T: Drop> Follower<T> {
     }
 
     /// Returns a clone of the last value. It is not marked as seen. Fails with `Memory` if the
-    /// clone fails.
+    /// clone fails, and from inside a closure of `Owner::modify`.
     pub fn read(&self) -> Result<T, Refusal>
     where
         T: Clone,
@@ -79,11 +80,13 @@ impl<T: Drop> Follower<T> {
         Ok(value)
     }
 
-    /// Returns a clone of the last value, and marks it as seen. Fails with `Memory` if the clone
-    /// fails; nothing is then marked.
+    /// Returns a clone of the last value, and marks it as seen. Fails as `read` does; nothing is
+    /// then marked.
     pub fn read_and_update(&mut self) -> Result<T, Refusal>
     where
         T: Clone,
+        ensures of_one_state { IfOk result (λ copy. HasSeen self.new (λ s.
+            T.is_clone s.value copy)) }
         ensures refused { FailsWithMemory result }
         ensures unmarked { OnErr result (self.new ≡ self.old) }
         ensures of_this { cell_followed self.new ≡ cell_followed self.old }
@@ -94,7 +97,7 @@ impl<T: Drop> Follower<T> {
     }
 
     /// Calls the closure on the last value, and returns what it returns. The value is not marked as
-    /// seen. The contract also allows `None`, which does not happen.
+    /// seen. Returns `None` from inside a closure of `Owner::modify`, without the call.
     pub fn peek<A, F>(&self, look: F) -> Option<A>
     where
         F: FnOnce(&T) -> A,
@@ -102,12 +105,30 @@ impl<T: Drop> Follower<T> {
         ensures called { IfSome result (λ answer.
             (seen : T) × FnOnceReturnsAt F.FnOnce look seen answer) }
     {
-        self.cell.peek(look)
+        let (_, answer) = self.cell.peek(look)?;
+        Some(answer)
+    }
+
+    /// Calls the closure on the last value, marks it as seen, and returns what the closure returns.
+    /// What the closure writes is not marked. Returns `None` as `peek` does, and marks nothing
+    /// then.
+    pub fn peek_and_update<A, F>(&mut self, look: F) -> Option<A>
+    where
+        F: FnOnce(&T) -> A,
+        requires { F.IsAlwaysCallable look }
+        ensures of_one_state { IfSome result (λ answer. HasSeen self.new (λ s.
+            FnOnceReturnsAt F.FnOnce look s.value answer)) }
+        ensures unmarked { IfNone result (self.new ≡ self.old) }
+        ensures of_this { cell_followed self.new ≡ cell_followed self.old }
+    {
+        let (version, answer) = self.cell.peek(look)?;
+        self.seen = version;
+        Some(answer)
     }
 
     /// Returns whether there is a state that this follower has not seen. Marks nothing.
     pub fn has_changed(&self) -> bool {
-        self.cell.version() != self.seen
+        self.cell.is_unseen(self.seen)
     }
 
     /// Returns whether the last owner has ended: the state is then the last one.

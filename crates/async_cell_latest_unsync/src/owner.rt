@@ -1,6 +1,6 @@
 ghost use Rattle.std.specs.Prelude.{◌≡◌, IfOk, IfErr, IfSome};
-ghost use Rattle.std.specs.Fn.{FnOnceReturnsAt};
-ghost use Rattle.async_cell_model.specs.Refusal.{FailsWithMemory, IsOwnerRefusal};
+ghost use Rattle.std.specs.Fn.{FnOnceReturnsAt, FnOnceReturnsAtMut};
+ghost use Rattle.async_cell_model.specs.Refusal.{FailsWithClosed, FailsWithMemory, IsOwnerRefusal};
 ghost use Rattle.async_cell_latest_unsync.specs.Names.{cell_followed, cell_owned};
 
 use crate::cell::LatestCell;
@@ -14,10 +14,13 @@ use std::rc::Rc;
 /// told of it before it is told of the end.
 ///
 /// Wakers are woken and old values are dropped when the state is consistent again, so whatever runs
-/// then may call it. A look is the run of a closure of `peek`, `update` or `wait_for`, or of a
-/// clone of the value. From inside a look, other looks see the same value, and what is written or
-/// dropped takes effect when the last look ends: of several values, the one that was written last.
-/// `replace` and `another` are refused then, and futures ask to be polled again. No call waits.
+/// then may call it. A look is the run of a closure of `peek`, `peek_and_update`, `update` or
+/// `wait_for`, or of a clone of the value. From inside a look, other looks see the same value, and
+/// what is written, ended or purged takes effect when the last look ends: of several values, the
+/// one that was written last. `replace`, `another`, `modify` and `modify_if` are refused then, and
+/// futures that have to wait ask to be polled again. A future that is dropped inside a look leaves
+/// its place free at once; the task of one that is cancelled is woken when the look ends. No call
+/// waits.
 ///
 /// A state takes 18,446,744,073,709,551,614 writes, and no further one.
 pub struct Owner<T: Drop> {
@@ -73,8 +76,9 @@ impl<T: Drop> Owner<T> {
         self.cell.replace(value)
     }
 
-    /// Calls the closure on the value, sets the one that it returns, and drops the old one. Wakes
-    /// all followers that wait. What the closure itself writes is written before.
+    /// Calls the closure on the value, sets the one that it returns, and drops the old one: in one
+    /// step, so that what the closure itself writes is overwritten. Wakes all followers that wait.
+    /// From inside a look it is written when the look ends.
     pub fn update<F>(&self, change: F)
     where
         F: FnOnce(&T) -> T,
@@ -83,7 +87,43 @@ impl<T: Drop> Owner<T> {
         self.cell.update(change);
     }
 
-    /// Returns a clone of the value. Fails with `Memory` if the clone fails.
+    /// Calls the closure on the value, which it may change in place, wakes all followers that wait,
+    /// and returns what the closure returned: a write, in one step. Fails with `Closed` if the
+    /// state takes no further write, and from inside a look or another change; the closure is then
+    /// not called.
+    ///
+    /// The closure holds the state. From inside it `peek` returns `None`, `read` fails with
+    /// `Memory`, an `update` writes nothing, futures ask to be polled again, and `has_changed` and
+    /// a new follower go by the state before. All else is as in a look: what is written, ended or
+    /// purged takes effect when the closure has returned, after the change.
+    pub fn modify<A, F>(&self, change: F) -> Result<A, Refusal>
+    where
+        F: FnOnce(&mut T) -> A + Drop,
+        requires { F.IsAlwaysCallable change }
+        ensures called { IfOk result (λ answer. (before after : T)
+            × FnOnceReturnsAtMut F.FnOnce change before answer after) }
+        ensures refused { FailsWithClosed result }
+    {
+        self.cell.modify(change)
+    }
+
+    /// `modify`, if the closure returns `true`, and returns what it returned. If it returns `false`
+    /// nothing is written: nobody is woken, and no follower is told. The value stands as the
+    /// closure left it, so a closure that says `false` is to leave it as it was. If it drops a
+    /// future that waits, the tasks of all that wait are polled once more.
+    pub fn modify_if<F>(&self, change: F) -> Result<bool, Refusal>
+    where
+        F: FnOnce(&mut T) -> bool + Drop,
+        requires { F.IsAlwaysCallable change }
+        ensures called { IfOk result (λ answer. (before after : T)
+            × FnOnceReturnsAtMut F.FnOnce change before answer after) }
+        ensures refused { FailsWithClosed result }
+    {
+        self.cell.modify_if(change)
+    }
+
+    /// Returns a clone of the value. Fails with `Memory` if the clone fails, and from inside a
+    /// closure of `modify`.
     pub fn read(&self) -> Result<T, Refusal>
     where
         T: Clone,
@@ -93,8 +133,8 @@ impl<T: Drop> Owner<T> {
         Ok(value)
     }
 
-    /// Calls the closure on the value, and returns what it returns. The contract also allows
-    /// `None`, which does not happen.
+    /// Calls the closure on the value, and returns what it returns: `None` from inside a closure of
+    /// `modify`, without the call.
     pub fn peek<A, F>(&self, look: F) -> Option<A>
     where
         F: FnOnce(&T) -> A,
@@ -102,11 +142,13 @@ impl<T: Drop> Owner<T> {
         ensures called { IfSome result (λ answer.
             (seen : T) × FnOnceReturnsAt F.FnOnce look seen answer) }
     {
-        self.cell.peek(look)
+        let (_, answer) = self.cell.peek(look)?;
+        Some(answer)
     }
 
     /// Lets go of all wakers that dropped futures left in the state. The task of each is polled
-    /// once more. Futures that still wait keep their wakers. Does nothing from inside a look.
+    /// once more. Futures that still wait keep their wakers. From inside a look it does so when the
+    /// look ends.
     ///
     /// A future that is dropped while it waits leaves its waker in the state, up to the next write,
     /// and a waker keeps what its executor needs to wake the task. Call this where many waits end

@@ -1,7 +1,10 @@
-ghost use Rattle.std.specs.Prelude.{◌≡◌, IfSome};
+ghost use Rattle.std.specs.Prelude.{◌≡◌, ◌≢◌, IfSome, IfNone, IfOk, OnOk, OnErr};
 ghost use Rattle.std.specs.List.{AllByRecursion};
+ghost use Rattle.futures.specs.Poll.{IfReady, OnPending};
+ghost use Rattle.futures.specs.Task.{Covers, Keeps};
 ghost use Rattle.async_cell_model.specs.Refusal.{FailsWithMemory};
 ghost use Rattle.async_cell_latest_unsync.specs.Names.{cell_followed};
+ghost use Rattle.async_cell_latest_unsync.specs.Seen.{HasSeen};
 ghost use Rattle.async_cell_latest_unsync.specs.Source.{source_of};
 
 use crate::follower::Follower;
@@ -56,7 +59,21 @@ impl<T: Clone> Stream for States<T> {
     ghost yields = { λ _ items last.
         AllByRecursion FailsWithMemory items × IfSome last FailsWithMemory };
 
-    fn poll_next(&mut self, cx: &mut Context<'_>) -> Poll<Option<Result<T, Refusal>>> {
+    fn poll_next(&mut self, cx: &mut Context<'_>) -> Poll<Option<Result<T, Refusal>>>
+        ensures of_one_state { IfReady result (λ item. IfSome item (λ told. IfOk told (λ copy.
+            HasSeen self.new.follower (λ s. (s.version ≢ self.old.follower.seen)
+            × T.is_clone s.value copy)))) }
+        ensures unmarked { IfReady result (λ item. IfSome item (λ told. OnErr told
+            (self.new.follower ≡ self.old.follower))) }
+        ensures ended { IfReady result (λ item. IfNone item
+            (self.new.follower ≡ self.old.follower)) }
+        ensures value { IfReady result (λ item. IfSome item FailsWithMemory) }
+        ensures unchanged { OnPending result (self.new.follower ≡ self.old.follower) }
+        ensures of_this { cell_followed self.new.follower ≡ cell_followed self.old.follower }
+        ensures registered { OnPending result
+            (Covers cx.new (λ s. s ≡ source_of (cell_followed self.new.follower))) }
+        ensures kept { Keeps cx.old cx.new }
+    {
         match self.follower.poll_state(&mut self.place, cx) {
             Poll::Ready(Ok(value)) => Poll::Ready(Some(Ok(value))),
             Poll::Ready(Err(Refusal::Closed)) => Poll::Ready(None),

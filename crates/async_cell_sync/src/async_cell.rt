@@ -1,18 +1,16 @@
-ghost use Rattle.std.specs.Prelude.{◌≡◌, IsOk, IfOk, IfErr};
+ghost use Rattle.std.specs.Prelude.{◌≡◌, IfOk, IfErr};
 ghost use Rattle.async_cell_model.specs.Refusal.{FailsWithMemory};
 ghost use Rattle.async_cell_sync.specs.Names.{cell_of};
 
-mod debug;
-mod places;
-mod polls;
+mod looks;
 mod steps;
 
 use crate::get::Get;
 use crate::guarded_cell::GuardedCell;
-use crate::locked_core::LockedCore;
 use crate::shared::Shared;
 use crate::take::Take;
 use async_cell_core::{Core, Refusal, TaskWaker};
+use async_cell_waiting::{CellCore, Lock, Steps, purge};
 use futures::task::Source;
 use std::alloc::Global;
 use std::sync::Wait;
@@ -29,7 +27,7 @@ use std::sync::Wait;
 /// that waits may add one waker, which stays until the next fill or close.
 #[derive(Drop)]
 pub struct AsyncCell<T> {
-    core: LockedCore<T, TaskWaker>,
+    core: Lock<CellCore<T, TaskWaker>>,
     /// The source that waiting tasks register with.
     source: Source,
     alloc: Global,
@@ -64,12 +62,12 @@ impl<T: Drop> AsyncCell<T> {
 
     /// Sets the value and drops the old one. Wakes all waiters.
     pub fn set<R: Wait>(&self, value: T, rt: &R) {
-        let _ = self.core.set(value, rt);
+        let _ = Steps::on(&self.core, rt).set(value);
     }
 
     /// Sets the value and wakes all waiters, if the cell holds no value. Drops `value` otherwise.
     pub fn or_set<R: Wait>(&self, value: T, rt: &R) {
-        let _ = self.core.or_set(value, rt);
+        let _ = Steps::on(&self.core, rt).or_set(value);
     }
 
     /// Sets the value and wakes all waiters, if the cell is open and holds no value. Otherwise
@@ -77,12 +75,13 @@ impl<T: Drop> AsyncCell<T> {
     pub fn try_set<R: Wait>(&self, value: T, rt: &R) -> Result<(), T>
         ensures comes_back { IfErr result (λ back. back ≡ value) }
     {
-        self.core.try_set(value, rt)
+        Steps::on(&self.core, rt).try_set(value)
     }
 
     /// Sets the value and returns the old one. Wakes all waiters.
     pub fn replace<R: Wait>(&self, value: T, rt: &R) -> Option<T> {
-        self.core.replace(value, rt).unwrap_or(None)
+        let replaced = Steps::on(&self.core, rt).replace(value);
+        replaced.unwrap_or(None)
     }
 
     /// Calls the closure on the content and stores what it returns. Wakes all waiters if that puts
@@ -93,7 +92,7 @@ impl<T: Drop> AsyncCell<T> {
         R: Wait,
         requires { F.IsAlwaysCallable change }
     {
-        let _ = self.core.update(change, rt);
+        let _ = Steps::on(&self.core, rt).update(change);
     }
 
     /// Calls the closure on the value, if there is one, and stores what it returns. No other call
@@ -104,33 +103,22 @@ impl<T: Drop> AsyncCell<T> {
         R: Wait,
         requires { F.IsAlwaysCallable change }
     {
-        let _ = self.core.update_some(change, rt);
+        let _ = Steps::on(&self.core, rt).update_some(change);
     }
 
     /// Takes the value, if there is one. The waiters stay registered.
     pub fn try_take<R: Wait>(&self, rt: &R) -> Option<T> {
-        self.core.try_take(rt)
+        Steps::on(&self.core, rt).try_take()
     }
 
-    /// Returns a clone of the value, if there is one. Fails with `Memory` if the clone fails; the
-    /// value then stays in the cell.
-    pub fn try_get<R: Wait>(&self, rt: &R) -> Result<Option<T>, Refusal>
-    where
-        T: Clone,
-        ensures sure { ((value : T) → T.is_infallible value) → IsOk result }
-        ensures refused { FailsWithMemory result }
-    {
-        self.core.try_get(rt)
-    }
-
-    /// Returns whether the cell holds a value.
-    pub fn is_set<R: Wait>(&self, rt: &R) -> bool {
-        self.core.is_set(rt)
-    }
-
-    /// Returns whether the cell is closed.
-    pub fn is_closed<R: Wait>(&self, rt: &R) -> bool {
-        self.core.is_closed(rt)
+    /// Lets go of all wakers that dropped futures left in the cell. The task of each is polled once
+    /// more. Futures that still wait keep their wakers.
+    ///
+    /// A future that is dropped while it waits leaves its waker in the cell, and a waker keeps what
+    /// its executor needs to wake the task. Call this where many waits end early on a cell that
+    /// lives on. It takes the lock once for each place, and needs no memory.
+    pub fn purge<R: Wait>(&self, rt: &R) {
+        purge(&self.core, rt);
     }
 
     /// Returns the content. Wakes all waiters. Does not take the lock.
@@ -140,7 +128,7 @@ impl<T: Drop> AsyncCell<T> {
             source: _,
             alloc: _,
         } = self;
-        core.into_inner()
+        core.into_inner().into_inner()
     }
 
     /// Returns a future that takes the value.

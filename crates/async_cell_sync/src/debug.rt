@@ -7,10 +7,8 @@ use crate::guarded_cell::GuardedCell;
 use crate::owner::Owner;
 use crate::shared::Shared;
 use crate::take::Take;
-use crate::values::Values;
 use crate::weak::{GetWeak, TakeWeak, Weak};
 use crate::weak_owner::WeakOwner;
-use crate::with::{Request, With};
 use std::fmt;
 use std::sync::Wait;
 
@@ -56,12 +54,6 @@ impl<T> fmt::Debug for GetWeak<T> {
     }
 }
 
-impl<P: Request, R: Wait> fmt::Debug for With<P, R> {
-    fn fmt<F: fmt::Write>(&self, f: &mut fmt::Formatter<F>) -> fmt::Result {
-        f.debug_struct("With").finish_non_exhaustive()
-    }
-}
-
 impl<T: Drop, R: Wait + Drop> fmt::Debug for Owner<T, R> {
     fn fmt<F: fmt::Write>(&self, f: &mut fmt::Formatter<F>) -> fmt::Result {
         f.debug_struct("Owner").finish_non_exhaustive()
@@ -77,11 +69,5 @@ impl<T, R> fmt::Debug for WeakOwner<T, R> {
 impl<T: Drop, C: CellRef<Value = T>, R: Wait + Drop> fmt::Debug for Guard<T, C, R> {
     fn fmt<F: fmt::Write>(&self, f: &mut fmt::Formatter<F>) -> fmt::Result {
         f.debug_struct("Guard").finish_non_exhaustive()
-    }
-}
-
-impl<T: Drop, R: Wait + Drop> fmt::Debug for Values<T, R> {
-    fn fmt<F: fmt::Write>(&self, f: &mut fmt::Formatter<F>) -> fmt::Result {
-        f.debug_struct("Values").finish_non_exhaustive()
     }
 }

@@ -4,8 +4,8 @@ ghost use Rattle.futures.specs.Task.{Covers, Keeps};
 ghost use Rattle.async_cell_model.specs.Refusal.{FailsWithMemoryOrClosed};
 
 use crate::cell_ref::CellRef;
-use crate::with::With;
 use async_cell_core::Refusal;
+use async_cell_waiting::With;
 use futures::task::{Context, Poll};
 use std::sync::Wait;
 

@@ -7,29 +7,27 @@ mod debug;
 mod get;
 mod guard;
 mod guarded_cell;
-mod locked;
 mod locked_core;
 mod owner;
+mod requests;
 mod shared;
 mod take;
-mod values;
 mod weak;
 mod weak_owner;
-mod with;
 
 pub use async_cell::AsyncCell;
 pub use async_cell_core::{Core, Poll, Refusal, TaskWaker, Wakers, Wakes};
+#[doc(hidden)]
+pub use async_cell_waiting::Request;
+pub use async_cell_waiting::With;
 pub use cell_ref::CellRef;
 pub use get::Get;
 pub use guard::Guard;
 pub use guarded_cell::GuardedCell;
 pub use locked_core::LockedCore;
 pub use owner::Owner;
+pub use requests::Values;
 pub use shared::Shared;
 pub use take::Take;
-pub use values::Values;
 pub use weak::{GetWeak, TakeWeak, Weak};
 pub use weak_owner::WeakOwner;
-#[doc(hidden)]
-pub use with::Request;
-pub use with::With;

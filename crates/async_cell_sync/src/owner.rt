@@ -23,8 +23,8 @@ use std::sync::Wait;
 /// **Letting one go may wait for the lock**, as its other calls may. `Shared` is the owner that
 /// must be consumed by a call, so that each end stands in the program.
 pub struct Owner<T: Drop, R: Wait + Drop> {
-    shared: Shared<T>,
-    rt: R,
+    pub(crate) shared: Shared<T>,
+    pub(crate) rt: R,
 }
 
 impl<T: Drop> Shared<T> {

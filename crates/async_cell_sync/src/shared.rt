@@ -18,7 +18,7 @@ use std::sync::{Arc, Wait};
 /// It is not `Drop` and must be consumed: by `end`, `leave` or `try_into_inner`, or by `with`,
 /// which makes it an `Owner`, and that ends by its drop.
 pub struct Shared<T> {
-    cell: Arc<AsyncCell<T>>,
+    pub(crate) cell: Arc<AsyncCell<T>>,
 }
 
 impl<T: Drop> Shared<T> {

@@ -16,8 +16,8 @@ use crate::async_cell::AsyncCell;
 use crate::get::Get;
 use crate::shared::Shared;
 use crate::take::Take;
-use crate::with::With;
-use async_cell_core::{Place, Refusal};
+use async_cell_core::Refusal;
+use async_cell_waiting::{Polled, With};
 use futures::task::{Context, Poll};
 use std::alloc::AllocError;
 use std::sync::{Arc, Wait};
@@ -115,30 +115,6 @@ impl<T: Drop> TakeWeak<T> {
         self.poll_at(None, cx, rt)
     }
 
-    /// `poll_shared`, for a future that waits in this place, if any.
-    pub(crate) fn poll_at<R: Wait>(
-        &self,
-        place: Option<&mut Place>,
-        cx: &mut Context<'_>,
-        rt: &R,
-    ) -> Poll<Result<Option<T>, Refusal>>
-        ensures lost { IsLost self.now.0 → result ≡ Poll.Ready (Err Refusal.Memory) }
-        ensures registered { OnPending result (Covers cx.new (IsSourceOf self.now.0)) }
-        ensures kept { Keeps cx.old cx.new }
-        ensures refused { IfReady result FailsWithMemory }
-    {
-        let polled = match self.0.cell() {
-            Ok(cell) => cell.poll_take(place, cx, rt),
-            Err(why) => return Poll::Ready(Err(why)),
-        };
-        match polled {
-            Poll::Ready(Ok(value)) => Poll::Ready(Ok(Some(value))),
-            Poll::Ready(Err(Refusal::Closed)) => Poll::Ready(Ok(None)),
-            Poll::Ready(Err(why)) => Poll::Ready(Err(why)),
-            Poll::Pending => Poll::Pending,
-        }
-    }
-
     /// Returns the future. It stores `rt`, the right to wait for the lock, because a poll of
     /// `futures` is not passed one.
     pub fn with<R: Wait>(self, rt: R) -> With<Self, R>
@@ -190,30 +166,6 @@ impl<T: Clone> GetWeak<T> {
         ensures refused { IfReady result FailsWithMemory }
     {
         self.poll_at(None, cx, rt)
-    }
-
-    /// `poll_shared`, for a future that waits in this place, if any.
-    pub(crate) fn poll_at<R: Wait>(
-        &self,
-        place: Option<&mut Place>,
-        cx: &mut Context<'_>,
-        rt: &R,
-    ) -> Poll<Result<Option<T>, Refusal>>
-        ensures lost { IsLost self.now.0 → result ≡ Poll.Ready (Err Refusal.Memory) }
-        ensures registered { OnPending result (Covers cx.new (IsSourceOf self.now.0)) }
-        ensures kept { Keeps cx.old cx.new }
-        ensures refused { IfReady result FailsWithMemory }
-    {
-        let polled = match self.0.cell() {
-            Ok(cell) => cell.poll_get(place, cx, rt),
-            Err(why) => return Poll::Ready(Err(why)),
-        };
-        match polled {
-            Poll::Ready(Ok(value)) => Poll::Ready(Ok(Some(value))),
-            Poll::Ready(Err(Refusal::Closed)) => Poll::Ready(Ok(None)),
-            Poll::Ready(Err(why)) => Poll::Ready(Err(why)),
-            Poll::Pending => Poll::Pending,
-        }
     }
 }
 

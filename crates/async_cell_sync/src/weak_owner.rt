@@ -12,8 +12,8 @@ ghost use Rattle.async_cell_sync.specs.Owned.{cell_owned};
 use crate::owner::Owner;
 use crate::shared::Shared;
 use crate::weak::{GetWeak, TakeWeak, Weak};
-use crate::with::With;
 use async_cell_core::Refusal;
+use async_cell_waiting::With;
 use std::alloc::AllocError;
 use std::sync::Wait;
 

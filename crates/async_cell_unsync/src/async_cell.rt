@@ -1,19 +1,17 @@
-ghost use Rattle.std.specs.Prelude.{◌≡◌, IsOk, IfOk, IfErr, Some};
+ghost use Rattle.std.specs.Prelude.{◌≡◌, IfOk, IfErr, Some};
 ghost use Rattle.async_cell_model.specs.History.{IsSound};
 ghost use Rattle.async_cell_model.specs.Refusal.{FailsWithMemory};
 ghost use Rattle.async_cell_unsync.specs.Names.{cell_of};
 
-mod debug;
-mod places;
-mod polls;
+mod looks;
 mod steps;
 
 use crate::get::Get;
 use crate::guarded_cell::GuardedCell;
-use crate::lent::{Held, Lender};
 use crate::shared::Shared;
 use crate::take::Take;
 use async_cell_core::{Core, Refusal, TaskWaker, Wakes};
+use async_cell_waiting::{CellCore, Lender, OneThread, Steps, purge};
 use futures::task::Source;
 use std::alloc::Global;
 
@@ -31,7 +29,7 @@ use std::alloc::Global;
 /// the future is dropped.
 #[derive(Drop)]
 pub struct AsyncCell<T> {
-    core: Lender<T>,
+    core: Lender<CellCore<T, TaskWaker>>,
     /// The source that waiting tasks register with.
     source: Source,
     alloc: Global,
@@ -66,16 +64,12 @@ impl<T: Drop> AsyncCell<T> {
 
     /// Sets the value and drops the old one. Wakes all waiters.
     pub fn set(&self, value: T) {
-        drop(self.replace(value));
+        let _ = Steps::on(&self.core, &OneThread).replace(value);
     }
 
     /// Sets the value and wakes all waiters, if the cell holds no value. Drops `value` otherwise.
     pub fn or_set(&self, value: T) {
-        let Some(mut core) = self.lend() else {
-            return;
-        };
-        let written = core.or_set(value);
-        let _ = core.give_back_and_wake(written);
+        let _ = Steps::on(&self.core, &OneThread).or_set(value);
     }
 
     /// Sets the value and wakes all waiters, if the cell is open and holds no value. Otherwise
@@ -83,23 +77,14 @@ impl<T: Drop> AsyncCell<T> {
     pub fn try_set(&self, value: T) -> Result<(), T>
         ensures comes_back { IfErr result (λ back. back ≡ value) }
     {
-        let Some(mut core) = self.lend() else {
-            return Err(value);
-        };
-        let written = core.try_set(value);
-        core.give_back_and_wake(written)
+        Steps::on(&self.core, &OneThread).try_set(value)
     }
 
     /// Sets the value and returns the old one. Wakes all waiters.
     #[inline]
     pub fn replace(&self, value: T) -> Option<T> {
-        let mut core = self.lend()?;
-        if core.is_set() {
-            let old = core.overwrite(value); // Nobody waits on a cell that holds a value.
-            return core.give_back(old).ok();
-        }
-        let replaced = core.replace(value);
-        core.give_back_and_wake(replaced).unwrap_or(None)
+        let replaced = Steps::on(&self.core, &OneThread).replace(value);
+        replaced.unwrap_or(None)
     }
 
     /// Calls the closure on the content and stores what it returns, over whatever calls made from
@@ -107,7 +92,7 @@ impl<T: Drop> AsyncCell<T> {
     pub fn update<F: FnOnce(Option<T>) -> Option<T> + Drop>(&self, change: F)
         requires { F.IsAlwaysCallable change }
     {
-        if let Some(content) = self.take_out() {
+        if let Some(content) = Steps::on(&self.core, &OneThread).take_out() {
             let answer = change(content);
             self.put_back(answer);
         }
@@ -124,43 +109,20 @@ impl<T: Drop> AsyncCell<T> {
         }
     }
 
+    /// Lets go of all wakers that dropped futures left in the cell. The task of each is polled once
+    /// more. Futures that still wait keep their wakers.
+    ///
+    /// A future that is dropped while it waits leaves its waker in the cell, and a waker keeps what
+    /// its executor needs to wake the task. Call this where many waits end early on a cell that
+    /// lives on. It needs no memory. It lets go of what futures that hold a place left (see
+    /// `With`).
+    pub fn purge(&self) {
+        purge(&self.core, &OneThread);
+    }
+
     /// Takes the value, if there is one. The waiters stay registered.
     pub fn try_take(&self) -> Option<T> {
-        let mut core = self.lend()?;
-        let taken = core.try_take();
-        core.give_back(taken)
-    }
-
-    /// Returns a clone of the value, if there is one. Fails with `Memory` if the clone fails; the
-    /// value then stays in the cell.
-    pub fn try_get(&self) -> Result<Option<T>, Refusal>
-    where
-        T: Clone,
-        ensures sure { ((value : T) → T.is_infallible value) → IsOk result }
-        ensures refused { FailsWithMemory result }
-    {
-        match self.try_take() {
-            Some(value) => Ok(Some(self.copy_back(value)?)),
-            None => Ok(None),
-        }
-    }
-
-    /// Returns whether the cell holds a value.
-    pub fn is_set(&self) -> bool {
-        let Some(core) = self.lend() else {
-            return false;
-        };
-        let is_set = core.is_set();
-        core.give_back(Held::of(is_set))
-    }
-
-    /// Returns whether the cell is closed.
-    pub fn is_closed(&self) -> bool {
-        let Some(core) = self.lend() else {
-            return false;
-        };
-        let is_closed = core.is_closed();
-        core.give_back(Held::of(is_closed))
+        Steps::on(&self.core, &OneThread).try_take()
     }
 
     /// Returns the content. Wakes all waiters.
@@ -170,7 +132,7 @@ impl<T: Drop> AsyncCell<T> {
             source: _,
             alloc: _,
         } = self;
-        core.into_inner()
+        core.into_inner().into_inner()
     }
 
     /// Internal: may change without notice. Returns the core of the cell. Ensures what holds of
@@ -183,7 +145,7 @@ impl<T: Drop> AsyncCell<T> {
             source: _,
             alloc: _,
         } = self;
-        core.into_core()
+        core.into_inner().into_core()
     }
 
     /// Returns a future that takes the value.

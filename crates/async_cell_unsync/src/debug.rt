@@ -6,10 +6,8 @@ use crate::guarded_cell::GuardedCell;
 use crate::owner::Owner;
 use crate::shared::Shared;
 use crate::take::Take;
-use crate::values::Values;
 use crate::weak::{GetWeak, TakeWeak, Weak};
 use crate::weak_owner::WeakOwner;
-use crate::with::{Request, With};
 use std::fmt;
 
 impl<T> fmt::Debug for Shared<T> {
@@ -54,12 +52,6 @@ impl<T> fmt::Debug for GetWeak<T> {
     }
 }
 
-impl<P: Request> fmt::Debug for With<P> {
-    fn fmt<F: fmt::Write>(&self, f: &mut fmt::Formatter<F>) -> fmt::Result {
-        f.debug_struct("With").finish_non_exhaustive()
-    }
-}
-
 impl<T: Drop> fmt::Debug for Owner<T> {
     fn fmt<F: fmt::Write>(&self, f: &mut fmt::Formatter<F>) -> fmt::Result {
         f.debug_struct("Owner").finish_non_exhaustive()
@@ -69,11 +61,5 @@ impl<T: Drop> fmt::Debug for Owner<T> {
 impl<T> fmt::Debug for WeakOwner<T> {
     fn fmt<F: fmt::Write>(&self, f: &mut fmt::Formatter<F>) -> fmt::Result {
         f.debug_struct("WeakOwner").finish_non_exhaustive()
-    }
-}
-
-impl<T: Drop> fmt::Debug for Values<T> {
-    fn fmt<F: fmt::Write>(&self, f: &mut fmt::Formatter<F>) -> fmt::Result {
-        f.debug_struct("Values").finish_non_exhaustive()
     }
 }

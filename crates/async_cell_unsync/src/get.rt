@@ -4,8 +4,9 @@ ghost use Rattle.futures.specs.Task.{Covers, Keeps};
 ghost use Rattle.async_cell_model.specs.Refusal.{FailsWithMemoryOrClosed};
 
 use crate::cell_ref::CellRef;
-use crate::with::{InPlace, With};
+use crate::requests::{InPlace, With};
 use async_cell_core::Refusal;
+use async_cell_waiting::OneThread;
 use futures::future::Future;
 use futures::task::{Context, Poll};
 
@@ -37,7 +38,7 @@ impl<C: CellRef> Get<C> {
     pub fn with(self) -> With<Self>
         ensures polls { result.polled ≡ self }
     {
-        With::new(self)
+        With::new(self, OneThread)
     }
 
     /// Returns the future that holds one place in the wait list while it waits, as `with` does.

@@ -6,26 +6,23 @@ mod cell_ref;
 mod debug;
 mod get;
 mod guarded_cell;
-mod lent;
 mod owner;
+mod requests;
 mod shared;
 mod take;
-mod values;
 mod weak;
 mod weak_owner;
-mod with;
 
 pub use async_cell::AsyncCell;
 pub use async_cell_core::{Refusal, TaskWaker};
+#[doc(hidden)]
+pub use async_cell_waiting::Request;
 pub use cell_ref::CellRef;
 pub use get::Get;
 pub use guarded_cell::{Guard, GuardedCell};
 pub use owner::Owner;
+pub use requests::{InPlace, Values, With};
 pub use shared::Shared;
 pub use take::Take;
-pub use values::Values;
 pub use weak::{GetWeak, TakeWeak, Weak};
 pub use weak_owner::WeakOwner;
-#[doc(hidden)]
-pub use with::Request;
-pub use with::{InPlace, With};

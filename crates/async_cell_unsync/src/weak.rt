@@ -15,10 +15,11 @@ ghost use Rattle.async_cell_unsync.specs.Source.{source_of, IsSourceOf};
 
 use crate::async_cell::AsyncCell;
 use crate::get::Get;
+use crate::requests::{InPlace, With};
 use crate::shared::Shared;
 use crate::take::Take;
-use crate::with::{InPlace, With};
-use async_cell_core::{Place, Refusal};
+use async_cell_core::Refusal;
+use async_cell_waiting::{OneThread, Polled};
 use futures::future::Future;
 use futures::task::{Context, Poll};
 use std::alloc::AllocError;
@@ -109,37 +110,14 @@ impl<T: Drop> TakeWeak<T> {
         ensures kept { Keeps cx.old cx.new }
         ensures refused { IfReady result FailsWithMemory }
     {
-        self.poll_at(None, cx)
-    }
-
-    /// `poll_shared`, for a future that waits in this place, if any.
-    pub(crate) fn poll_at(
-        &self,
-        place: Option<&mut Place>,
-        cx: &mut Context<'_>,
-    ) -> Poll<Result<Option<T>, Refusal>>
-        ensures lost { IsLost self.now.0 → result ≡ Poll.Ready (Err Refusal.Memory) }
-        ensures registered { OnPending result (Covers cx.new (IsSourceOf self.now.0)) }
-        ensures kept { Keeps cx.old cx.new }
-        ensures refused { IfReady result FailsWithMemory }
-    {
-        let polled = match self.0.cell() {
-            Ok(cell) => cell.poll_take(place, cx),
-            Err(why) => return Poll::Ready(Err(why)),
-        };
-        match polled {
-            Poll::Ready(Ok(value)) => Poll::Ready(Ok(Some(value))),
-            Poll::Ready(Err(Refusal::Closed)) => Poll::Ready(Ok(None)),
-            Poll::Ready(Err(why)) => Poll::Ready(Err(why)),
-            Poll::Pending => Poll::Pending,
-        }
+        self.poll_at(None, cx, &OneThread)
     }
 
     /// Returns the future that holds one place in the wait list while it waits.
     pub fn with(self) -> With<Self>
         ensures polls { result.polled ≡ self }
     {
-        With::new(self)
+        With::new(self, OneThread)
     }
 
     /// Returns the future that holds one place in the wait list while it waits, as `with` does.
@@ -199,30 +177,7 @@ impl<T: Clone> GetWeak<T> {
         ensures kept { Keeps cx.old cx.new }
         ensures refused { IfReady result FailsWithMemory }
     {
-        self.poll_at(None, cx)
-    }
-
-    /// `poll_shared`, for a future that waits in this place, if any.
-    pub(crate) fn poll_at(
-        &self,
-        place: Option<&mut Place>,
-        cx: &mut Context<'_>,
-    ) -> Poll<Result<Option<T>, Refusal>>
-        ensures lost { IsLost self.now.0 → result ≡ Poll.Ready (Err Refusal.Memory) }
-        ensures registered { OnPending result (Covers cx.new (IsSourceOf self.now.0)) }
-        ensures kept { Keeps cx.old cx.new }
-        ensures refused { IfReady result FailsWithMemory }
-    {
-        let polled = match self.0.cell() {
-            Ok(cell) => cell.poll_get(place, cx),
-            Err(why) => return Poll::Ready(Err(why)),
-        };
-        match polled {
-            Poll::Ready(Ok(value)) => Poll::Ready(Ok(Some(value))),
-            Poll::Ready(Err(Refusal::Closed)) => Poll::Ready(Ok(None)),
-            Poll::Ready(Err(why)) => Poll::Ready(Err(why)),
-            Poll::Pending => Poll::Pending,
-        }
+        self.poll_at(None, cx, &OneThread)
     }
 }
 
@@ -231,7 +186,7 @@ impl<T: Drop> GetWeak<T> {
     pub fn with(self) -> With<Self>
         ensures polls { result.polled ≡ self }
     {
-        With::new(self)
+        With::new(self, OneThread)
     }
 
     /// Returns the future that holds one place in the wait list while it waits, as `with` does.

@@ -3,8 +3,8 @@ ghost use Rattle.async_cell_unsync.specs.Names.{IsLost, NameAtMostTheSame, Names
 ghost use Rattle.async_cell_unsync.specs.Owned.{cell_owned};
 
 use crate::owner::Owner;
+use crate::requests::With;
 use crate::weak::{GetWeak, TakeWeak, Weak};
-use crate::with::With;
 use async_cell_core::Refusal;
 use std::alloc::AllocError;
 

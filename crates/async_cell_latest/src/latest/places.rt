@@ -5,7 +5,7 @@ ghost use Rattle.async_cell_latest.specs.Step.{PollChanged};
 ghost use Rattle.async_cell_latest.specs.IsStep.{IsStep, wait_answer};
 
 use super::Latest;
-use async_cell_wakers::{Place, TaskWaker, Wakes};
+use async_cell_wakers::{Place, TaskWaker, Wakers, Wakes};
 use futures::task::Waker;
 
 impl<T: Drop, W: Wakes> Latest<T, W> {
@@ -87,5 +87,17 @@ impl<T: Drop> Latest<T, TaskWaker> {
         ensures unchanged { self.new ≡ self.old }
     {
         self.waiting.take_left(index)
+    }
+
+    /// Internal: may change without notice.
+    ///
+    /// Hands out all waiting wakers, to be woken by the caller, and gives up all places: each task
+    /// is polled once more, and waits again. Nothing is written.
+    #[doc(hidden)]
+    pub fn hand_out(&mut self) -> Wakers<TaskWaker>
+        ensures hands_out_all { result ≡ self.old.waiting }
+        ensures state_stays { Stays self.old self.new }
+    {
+        self.waiting.hand_out()
     }
 }

@@ -12,6 +12,14 @@ use async_cell_wakers::Wakes;
 use futures::task::Poll;
 
 impl<T: Drop, W: Wakes> Latest<T, W> {
+    /// Returns whether the state has another version than this one, which a follower has seen. It
+    /// is told so also of a state that is closed.
+    pub fn is_unseen(&self, seen: u64) -> bool
+        ensures { (result ≡ true) ↔ (seen ≢ self.now.version) }
+    {
+        seen != self.version
+    }
+
     /// Returns what a follower is told that has seen this version: `Ready(Some(version))` if the
     /// state has another version, `Ready(None)` if it has this one and is closed, and `Pending` if
     /// a poll would wait. Registers nothing.
@@ -24,7 +32,7 @@ impl<T: Drop, W: Wakes> Latest<T, W> {
             → result ≡ Poll.Ready None }
         ensures pending { (result ≡ Poll.Pending) ↔ (is_waited_for self.now seen ≡ true) }
     {
-        if seen != self.version {
+        if self.is_unseen(seen) {
             return Poll::Ready(Some(self.version));
         }
         if self.is_closed() {

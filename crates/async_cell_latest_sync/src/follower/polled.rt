@@ -1,9 +1,10 @@
 //! The polls of a follower, and the places of its futures.
-ghost use Rattle.std.specs.Prelude.{◌≡◌, ◌≢◌, OnOk, OnErr};
+ghost use Rattle.std.specs.Prelude.{◌≡◌, ◌≢◌, IfOk, OnOk, OnErr};
 ghost use Rattle.futures.specs.Poll.{IfReady, OnPending};
 ghost use Rattle.futures.specs.Task.{Covers, Keeps};
 ghost use Rattle.async_cell_model.specs.Refusal.{FailsWithMemoryOrClosed};
 ghost use Rattle.async_cell_latest_sync.specs.Names.{cell_followed};
+ghost use Rattle.async_cell_latest_sync.specs.Seen.{HasSeen};
 ghost use Rattle.async_cell_latest_sync.specs.Source.{source_of};
 
 use super::Follower;
@@ -22,7 +23,8 @@ impl<T: Drop, R: Wait> Follower<T, R> {
         ensures registered { OnPending result
             (Covers cx.new (λ s. s ≡ source_of (cell_followed self.new))) }
         ensures kept { Keeps cx.old cx.new }
-        ensures marks { IfReady result (λ told. OnOk told (self.new.seen ≢ self.old.seen)) }
+        ensures marks { IfReady result (λ told. OnOk told (HasSeen self.new (λ s.
+            s.version ≢ self.old.seen))) }
         ensures unchanged { OnPending result (self.new ≡ self.old) }
         ensures unmarked { IfReady result (λ told. OnErr told (self.new ≡ self.old)) }
         ensures of_this { cell_followed self.new ≡ cell_followed self.old }
@@ -53,7 +55,8 @@ impl<T: Drop, R: Wait> Follower<T, R> {
         ensures registered { OnPending result
             (Covers cx.new (λ s. s ≡ source_of (cell_followed self.new))) }
         ensures kept { Keeps cx.old cx.new }
-        ensures marks { IfReady result (λ told. OnOk told (self.new.seen ≢ self.old.seen)) }
+        ensures of_one_state { IfReady result (λ told. IfOk told (λ copy. HasSeen self.new (λ s.
+            (s.version ≢ self.old.seen) × T.is_clone s.value copy))) }
         ensures unchanged { OnPending result (self.new ≡ self.old) }
         ensures unmarked { IfReady result (λ told. OnErr told (self.new ≡ self.old)) }
         ensures of_this { cell_followed self.new ≡ cell_followed self.old }

@@ -1,8 +1,9 @@
 //! Looks at the value: while one runs the state is borrowed beside other looks, and what is written
 //! or ended meanwhile takes effect when the last of them ends.
-ghost use Rattle.std.specs.Prelude.{IfSome};
+ghost use Rattle.std.specs.Prelude.{◌≢◌, IfSome, IfOk};
 ghost use Rattle.std.specs.Fn.{FnOnceReturnsAt};
-ghost use Rattle.async_cell_model.specs.Refusal.{FailsWithMemory};
+ghost use Rattle.async_cell_model.specs.Refusal.{FailsWithMemory, FailsWithMemoryOrClosed};
+ghost use Rattle.async_cell_latest_unsync.specs.Seen.{OfOneState};
 
 use super::LatestCell;
 use async_cell_latest::{Latest, Refusal, TaskWaker};
@@ -10,44 +11,54 @@ use std::cell::Ref;
 
 impl<T: Drop> LatestCell<T> {
     /// Borrows the state for a look. Whoever does so calls `settle` when the look has ended.
-    /// Returns `None` during a step, which no caller ever sees.
+    /// Returns `None` during a change in place: other steps call nothing that could call the cell.
     pub(crate) fn glance(&self) -> Option<Ref<'_, Latest<T, TaskWaker>>> {
         self.core.try_borrow().ok()
     }
 
-    /// Calls the closure on the value. Returns `None` during a step, which no caller ever sees.
-    pub(crate) fn peek<A, F>(&self, look: F) -> Option<A>
+    /// Calls the closure on the value, and returns the version and what it returns. Returns `None`
+    /// during a change.
+    pub(crate) fn peek<A, F>(&self, look: F) -> Option<(u64, A)>
     where
         F: FnOnce(&T) -> A,
         requires { F.IsAlwaysCallable look }
-        ensures called { IfSome result (λ answer.
-            (seen : T) × FnOnceReturnsAt F.FnOnce look seen answer) }
+        ensures of_one_state { IfSome result (λ seen. OfOneState seen.0 (λ s.
+            FnOnceReturnsAt F.FnOnce look s.value seen.1)) }
     {
         let core = self.glance()?;
-        let (_, value) = core.read();
+        let (version, value) = core.read();
         let answer = look(value);
         drop(core);
         self.settle();
-        Some(answer)
+        Some((version, answer))
     }
 
-    /// Calls the closure on the value, and sets the one that it returns, over whatever was written
-    /// in the meantime.
+    /// Calls the closure on the value, and sets the one that it returns, at once: over whatever was
+    /// written in the meantime.
     pub(crate) fn update<F>(&self, change: F)
     where
         F: FnOnce(&T) -> T,
         requires { F.IsAlwaysCallable change }
     {
-        if let Some(value) = self.peek(change) {
-            self.set(value);
-        }
+        let Some(core) = self.glance() else {
+            return;
+        };
+        let (_, value) = core.read();
+        let value = change(value);
+        drop(core);
+        let unwritten = self.late.take_value();
+        self.set(value);
+        drop(unwritten);
+        self.settle();
     }
 
     /// Returns the version and a clone of the value. Fails with `Memory` if there is no memory for
-    /// the clone, and during a step, which no caller ever sees.
+    /// the clone, and during a change.
     pub(crate) fn get(&self) -> Result<(u64, T), Refusal>
     where
         T: Clone,
+        ensures of_one_state { IfOk result (λ shown. OfOneState shown.0 (λ s.
+            T.is_clone s.value shown.1)) }
         ensures refused { FailsWithMemory result }
     {
         let Some(core) = self.glance() else {
@@ -59,27 +70,45 @@ impl<T: Drop> LatestCell<T> {
         copy
     }
 
-    /// Returns the version; 0 during a step, which no caller ever sees.
-    pub(crate) fn version(&self) -> u64 {
-        self.glance().map_or(0, |core| core.version())
+    /// `get`, if the state has another version than the one that was seen. Fails with `Closed` if
+    /// it is the last state, and with `Memory` as `get` does. Returns `None` for a state that has
+    /// to be waited for, and during a change.
+    #[inline(always)]
+    pub(crate) fn get_unseen(&self, seen: u64) -> Option<Result<(u64, T), Refusal>>
+    where
+        T: Clone,
+        ensures of_one_state { IfSome result (λ found. IfOk found (λ shown. OfOneState shown.0
+            (λ s. (s.version ≢ seen) × T.is_clone s.value shown.1))) }
+        ensures refused { IfSome result FailsWithMemoryOrClosed }
+    {
+        let core = self.glance()?;
+        let state = &*core;
+        if state.is_unseen(seen) {
+            let copy = state.get();
+            drop(core);
+            self.settle();
+            Some(copy)
+        } else if state.is_closed() {
+            Some(Err(Refusal::Closed))
+        } else {
+            None
+        }
     }
 
-    /// Returns whether the state is closed.
+    /// Returns the version: during a change, that of the state that is being changed.
+    pub(crate) fn version(&self) -> u64 {
+        self.glance()
+            .map_or(self.changing.get(), |core| core.version())
+    }
+
+    /// Returns whether the state has another version than the one that was seen.
+    pub(crate) fn is_unseen(&self, seen: u64) -> bool {
+        self.glance()
+            .map_or(self.changing.get() != seen, |core| core.is_unseen(seen))
+    }
+
+    /// Returns whether the state is closed. One that is being changed is open.
     pub(crate) fn is_closed(&self) -> bool {
         self.glance().is_some_and(|core| core.is_closed())
-    }
-
-    /// Does what was put off during the look that has ended, unless another look still runs.
-    pub(crate) fn settle(&self) {
-        if !self.is_late.get() || self.lend().is_none() {
-            return;
-        }
-        self.is_late.set(false);
-        if let Some(value) = self.late.take() {
-            self.set(value);
-        }
-        for _ in 0..self.late_ends.take() {
-            self.end_owner();
-        }
     }
 }

@@ -4,9 +4,13 @@ use super::LatestCell;
 use async_cell_latest::Place;
 
 impl<T: Drop> LatestCell<T> {
-    /// Lets go of all wakers that dropped futures left. The task of each is polled once more.
-    /// Futures that still wait keep their wakers.
+    /// Lets go of all wakers that dropped futures left, after a look if one runs. The task of each
+    /// is polled once more. Futures that still wait keep their wakers.
     pub(crate) fn purge(&self) {
+        if self.lend().is_none() {
+            self.late.purge();
+            return;
+        }
         for index in 0..self.waiting() {
             let left = match self.lend() {
                 Some(mut core) => core.take_left(index),
@@ -18,7 +22,7 @@ impl<T: Drop> LatestCell<T> {
 
     /// Returns the number of places in the wait list.
     pub(crate) fn waiting(&self) -> usize {
-        self.lend().map_or(0, |core| core.waiting())
+        self.glance().map_or(0, |core| core.waiting())
     }
 
     /// Leaves the place of a future that is dropped.
@@ -32,17 +36,23 @@ impl<T: Drop> LatestCell<T> {
     /// `leave`, of a place that may still be held.
     #[inline(never)]
     fn leave_held(&self, place: Place) {
-        if let Some(mut core) = self.lend() {
-            let _ = core.leave(place);
+        match self.glance() {
+            Some(core) => {
+                let _ = core.leave(place);
+            }
+            None => self.late.lose_place(),
         }
     }
 
-    /// Leaves the place of a future that is cancelled, and lets go of its waker.
+    /// Leaves the place of a future that is cancelled, and lets go of its waker: after a look, if
+    /// one runs, by a purge.
     pub(crate) fn cancel(&self, place: Place) {
         if !place.was_held() {
             return;
         }
         let Some(mut core) = self.lend() else {
+            self.leave_held(place);
+            self.late.purge();
             return;
         };
         let left = match core.leave(place) {

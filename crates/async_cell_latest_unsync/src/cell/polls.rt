@@ -6,31 +6,33 @@ ghost use Rattle.futures.specs.Poll.{IfReady, OnPending};
 ghost use Rattle.futures.specs.Task.{Hears, IsArmed, Keeps};
 ghost use Rattle.async_cell_model.specs.Refusal.{FailsWithClosed, FailsWithMemoryOrClosed};
 ghost use Rattle.async_cell_latest.specs.State.{is_closed};
+ghost use Rattle.async_cell_latest_unsync.specs.Seen.{OfOneState};
 ghost use Rattle.async_cell_latest_unsync.specs.Source.{source_of};
 
 use super::{LatestCell, Lent};
-use async_cell_latest::{Place, Refusal, TaskWaker};
+use async_cell_latest::{Latest, Place, Refusal, TaskWaker};
 use futures::task::{Context, Poll, Waker};
 
 impl<T: Drop> LatestCell<T> {
     /// Returns the version of the state, if it is another one than the one that was seen. Otherwise
     /// waits in the place. Fails with `Closed` if it is the last state, and with `Memory` if there
-    /// is no memory for the task's waker or for the growth of the list. During a look it asks to be
-    /// polled again.
+    /// is no memory for the task's waker or for the growth of the list. Where it would wait during
+    /// a look, it asks to be polled again.
     pub(crate) fn poll_unseen(
         &self,
         seen: u64,
         place: &mut Place,
         cx: &mut Context<'_>,
     ) -> Poll<Result<u64, Refusal>>
-        ensures told { IfReady result (λ found. IfOk found (λ version. version ≢ seen)) }
+        ensures told { IfReady result (λ found. IfOk found (λ version. OfOneState {T = T} version
+            (λ s. s.version ≢ seen))) }
         ensures armed { OnPending result (IsArmed cx.new) }
         ensures heard { OnPending result (Hears cx.new (source_of self.now)) }
         ensures kept { Keeps cx.old cx.new }
         ensures refused { IfReady result FailsWithMemoryOrClosed }
     {
         let Some(mut core) = self.lend() else {
-            return cx.yield_now();
+            return self.poll_inside(seen, place, cx);
         };
         if let Some(found) = unseen(&core, seen) {
             place.forget();
@@ -39,6 +41,61 @@ impl<T: Drop> LatestCell<T> {
         match core.take_back(place) {
             None => self.wait_at(core, place, cx),
             Some(waker) => self.renew(core, waker, seen, place, cx),
+        }
+    }
+
+    /// `poll_unseen`, with a clone of the value of the state that is found. Fails with `Memory`
+    /// also if the clone fails.
+    pub(crate) fn poll_get(
+        &self,
+        seen: u64,
+        place: &mut Place,
+        cx: &mut Context<'_>,
+    ) -> Poll<Result<(u64, T), Refusal>>
+    where
+        T: Clone,
+        ensures of_one_state { IfReady result (λ found. IfOk found (λ shown. OfOneState shown.0
+            (λ s. (s.version ≢ seen) × T.is_clone s.value shown.1))) }
+        ensures armed { OnPending result (IsArmed cx.new) }
+        ensures heard { OnPending result (Hears cx.new (source_of self.now)) }
+        ensures kept { Keeps cx.old cx.new }
+        ensures refused { IfReady result FailsWithMemoryOrClosed }
+    {
+        if let Some(found) = self.get_unseen(seen) {
+            place.forget();
+            return Poll::Ready(found);
+        }
+        match self.poll_unseen(seen, place, cx) {
+            Poll::Pending => Poll::Pending,
+            Poll::Ready(Err(why)) => Poll::Ready(Err(why)),
+            Poll::Ready(Ok(_)) => cx.yield_now(), // What a drop of the waker ran has written.
+        }
+    }
+
+    /// `poll_unseen`, from inside a look.
+    #[inline(never)]
+    fn poll_inside(
+        &self,
+        seen: u64,
+        place: &mut Place,
+        cx: &mut Context<'_>,
+    ) -> Poll<Result<u64, Refusal>>
+        ensures told { IfReady result (λ found. IfOk found (λ version. OfOneState {T = T} version
+            (λ s. s.version ≢ seen))) }
+        ensures armed { OnPending result (IsArmed cx.new) }
+        ensures heard { OnPending result (Hears cx.new (source_of self.now)) }
+        ensures kept { Keeps cx.old cx.new }
+        ensures refused { IfReady result FailsWithClosed }
+    {
+        let Some(core) = self.glance() else {
+            return cx.yield_now();
+        };
+        match unseen(&core, seen) {
+            Some(found) => {
+                place.forget();
+                Poll::Ready(found)
+            }
+            None => cx.yield_now(),
         }
     }
 
@@ -73,7 +130,8 @@ impl<T: Drop> LatestCell<T> {
         place: &mut Place,
         cx: &mut Context<'_>,
     ) -> Poll<Result<u64, Refusal>>
-        ensures told { IfReady result (λ found. IfOk found (λ version. version ≢ seen)) }
+        ensures told { IfReady result (λ found. IfOk found (λ version. OfOneState {T = T} version
+            (λ s. s.version ≢ seen))) }
         ensures armed { OnPending result (IsArmed cx.new) }
         ensures heard { OnPending result (Hears cx.new (source_of self.now)) }
         ensures kept { Keeps cx.old cx.new }
@@ -102,15 +160,19 @@ impl<T: Drop> LatestCell<T> {
 /// Returns what is found without a wait: the version, if it is another one than the one that was
 /// seen, or `Closed` if it is the last. Returns `None` for a state that has to be waited for.
 #[inline(always)]
-fn unseen<T: Drop>(core: &Lent<'_, T>, seen: u64) -> Option<Result<u64, Refusal>>
-    ensures told { IfSome result (λ found. IfOk found (λ version. version ≢ seen)) }
+fn unseen<T: Drop>(core: &Latest<T, TaskWaker>, seen: u64) -> Option<Result<u64, Refusal>>
+    ensures found { IfSome result (λ found. IfOk found (λ version. version ≡ core.now.version)) }
+    ensures told { IfSome result (λ found. IfOk found (λ version. OfOneState {T = T} version (λ s.
+        s.version ≢ seen))) }
     ensures refused { IfSome result FailsWithClosed }
-    ensures open { IfNone result (is_closed (ref_mut_value core.now) ≡ false) }
+    ensures open { IfNone result (is_closed core.now ≡ false) }
 {
-    match core.changed_since(seen) {
-        Poll::Ready(Some(version)) => Some(Ok(version)),
-        Poll::Ready(None) => Some(Err(Refusal::Closed)),
-        Poll::Pending => None,
+    if core.is_unseen(seen) {
+        Some(Ok(core.version()))
+    } else if core.is_closed() {
+        Some(Err(Refusal::Closed))
+    } else {
+        None
     }
 }
 

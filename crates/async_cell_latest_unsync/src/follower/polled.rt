@@ -1,9 +1,10 @@
 //! The polls of a follower, and the places of its futures.
-ghost use Rattle.std.specs.Prelude.{◌≡◌, ◌≢◌, OnOk, OnErr};
+ghost use Rattle.std.specs.Prelude.{◌≡◌, ◌≢◌, IfOk, OnOk, OnErr};
 ghost use Rattle.futures.specs.Poll.{IfReady, OnPending};
 ghost use Rattle.futures.specs.Task.{Covers, Keeps};
 ghost use Rattle.async_cell_model.specs.Refusal.{FailsWithMemoryOrClosed};
 ghost use Rattle.async_cell_latest_unsync.specs.Names.{cell_followed};
+ghost use Rattle.async_cell_latest_unsync.specs.Seen.{HasSeen};
 ghost use Rattle.async_cell_latest_unsync.specs.Source.{source_of};
 
 use super::Follower;
@@ -21,7 +22,8 @@ impl<T: Drop> Follower<T> {
         ensures registered { OnPending result
             (Covers cx.new (λ s. s ≡ source_of (cell_followed self.new))) }
         ensures kept { Keeps cx.old cx.new }
-        ensures marks { IfReady result (λ told. OnOk told (self.new.seen ≢ self.old.seen)) }
+        ensures marks { IfReady result (λ told. OnOk told (HasSeen self.new (λ s.
+            s.version ≢ self.old.seen))) }
         ensures unchanged { OnPending result (self.new ≡ self.old) }
         ensures unmarked { IfReady result (λ told. OnErr told (self.new ≡ self.old)) }
         ensures of_this { cell_followed self.new ≡ cell_followed self.old }
@@ -49,23 +51,20 @@ impl<T: Drop> Follower<T> {
         ensures registered { OnPending result
             (Covers cx.new (λ s. s ≡ source_of (cell_followed self.new))) }
         ensures kept { Keeps cx.old cx.new }
-        ensures marks { IfReady result (λ told. OnOk told (self.new.seen ≢ self.old.seen)) }
+        ensures of_one_state { IfReady result (λ told. IfOk told (λ copy. HasSeen self.new (λ s.
+            (s.version ≢ self.old.seen) × T.is_clone s.value copy))) }
         ensures unchanged { OnPending result (self.new ≡ self.old) }
         ensures unmarked { IfReady result (λ told. OnErr told (self.new ≡ self.old)) }
         ensures of_this { cell_followed self.new ≡ cell_followed self.old }
         ensures refused { IfReady result FailsWithMemoryOrClosed }
     {
-        let version = match self.cell.poll_unseen(self.seen, place, cx) {
-            Poll::Ready(Ok(version)) => version,
-            Poll::Ready(Err(why)) => return Poll::Ready(Err(why)),
-            Poll::Pending => return Poll::Pending,
-        };
-        match self.cell.get() {
-            Ok((_, value)) => {
+        match self.cell.poll_get(self.seen, place, cx) {
+            Poll::Ready(Ok((version, value))) => {
                 self.seen = version;
                 Poll::Ready(Ok(value))
             }
-            Err(why) => Poll::Ready(Err(why)),
+            Poll::Ready(Err(why)) => Poll::Ready(Err(why)),
+            Poll::Pending => Poll::Pending,
         }
     }
 

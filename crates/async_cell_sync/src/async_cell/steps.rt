@@ -1,10 +1,14 @@
-//! The steps on the core. Wakers are woken and values are dropped after the lock is released.
-ghost use Rattle.std.specs.Prelude.{◌≡◌, IfErr, ◌⊎◌};
+//! The calls of the cell for its owners, guards and futures.
+ghost use Rattle.std.specs.Prelude.{◌≡◌, ◌⊎◌, IfErr};
+ghost use Rattle.futures.specs.Poll.{IfReady, OnPending};
+ghost use Rattle.futures.specs.Task.{Hears, IsArmed, Keeps};
+ghost use Rattle.async_cell_model.specs.Refusal.{FailsWithMemoryOrClosed};
+ghost use Rattle.async_cell_sync.specs.Source.{source_of};
 
 use super::AsyncCell;
-use crate::locked_core::LockedCore;
-use async_cell_core::{Core, Refusal, TaskWaker};
-use futures::task::Source;
+use async_cell_core::{Core, Place, Refusal, TaskWaker};
+use async_cell_waiting::{CellCore, Cloning, Lock, Places, Steps, Taking, cancel, leave, poll};
+use futures::task::{Context, Poll, Source};
 use std::alloc::Global;
 use std::sync::Wait;
 
@@ -12,17 +16,50 @@ impl<T: Drop> AsyncCell<T> {
     /// Wraps a core in a cell.
     pub(super) fn of(alloc: Global, core: Core<T, TaskWaker>) -> Self {
         AsyncCell {
-            core: LockedCore::new(core),
+            core: Lock::new(CellCore::of(core)),
             source: Source::new(),
             alloc,
         }
     }
 
+    /// Takes the value, or waits for one, in the place if any. Fails with `Memory` if there is no
+    /// memory for the task's waker or for the growth of the list. Fails with `Closed` on a closed
+    /// cell.
+    pub(crate) fn poll_take<R: Wait>(
+        &self,
+        place: Option<&mut Place>,
+        cx: &mut Context<'_>,
+        rt: &R,
+    ) -> Poll<Result<T, Refusal>>
+        ensures armed { OnPending result (IsArmed cx.new) }
+        ensures heard { OnPending result (Hears cx.new (source_of self.now)) }
+        ensures kept { Keeps cx.old cx.new }
+        ensures refused { IfReady result FailsWithMemoryOrClosed }
+    {
+        poll(&self.core, &self.source, Taking, place, cx, rt)
+    }
+
+    /// Clones the value and leaves it, or waits for one as `poll_take` does. Also fails with
+    /// `Memory` if the clone of the value fails.
+    pub(crate) fn poll_get<R: Wait>(
+        &self,
+        place: Option<&mut Place>,
+        cx: &mut Context<'_>,
+        rt: &R,
+    ) -> Poll<Result<T, Refusal>>
+    where
+        T: Clone,
+        ensures armed { OnPending result (IsArmed cx.new) }
+        ensures heard { OnPending result (Hears cx.new (source_of self.now)) }
+        ensures kept { Keeps cx.old cx.new }
+        ensures refused { IfReady result FailsWithMemoryOrClosed }
+    {
+        poll(&self.core, &self.source, Cloning, place, cx, rt)
+    }
+
     /// Ends a guard: `cancel` is its cancel value, or `None` if it was released.
     pub(crate) fn end_guard<R: Wait>(&self, cancel: Option<T>, rt: &R) {
-        let mut core = self.core.lock(rt);
-        let ended = core.end_guard(cancel);
-        drop(core.unlock_and_wake(ended));
+        Steps::on(&self.core, rt).end_guard(cancel);
     }
 
     /// Adds an owner. Fails with `Closed` or `OwnersFull`.
@@ -30,27 +67,38 @@ impl<T: Drop> AsyncCell<T> {
         ensures refused { IfErr result (λ why.
             (why ≡ Refusal.Closed) ⊎ (why ≡ Refusal.OwnersFull)) }
     {
-        self.core.add_owner(rt)
+        Steps::on(&self.core, rt).add_owner()
     }
 
     /// Ends one owner. The last one closes the cell, drops the value and wakes all waiters.
     pub(crate) fn end_owner<R: Wait>(&self, rt: &R) {
-        let _ = self.core.end_owner(rt);
+        let _ = Steps::on(&self.core, rt).end_owner();
     }
 
     /// Closes the cell and returns its content, if there is one owner. Wakes all waiters. Fails
     /// with `Closed`, or with `StillShared` if there are other owners.
     pub(crate) fn take_inner<R: Wait>(&self, rt: &R) -> Result<Option<T>, Refusal> {
-        self.core.take_inner(rt)
+        Steps::on(&self.core, rt).take_inner()
     }
 
     /// Internal: may change without notice. Returns the number of places in the wait list.
     pub fn waiting<R: Wait>(&self, rt: &R) -> usize {
-        self.core.waiting(rt)
+        Steps::on(&self.core, rt).waiting()
     }
 
     /// Returns the allocator that the cell was made with.
     pub(crate) fn allocator(&self) -> Global {
         self.alloc
+    }
+}
+
+impl<T: Drop, R: Wait> Places<R> for AsyncCell<T> {
+    #[inline(always)]
+    fn leave(&self, place: Place, rt: &R) {
+        leave(&self.core, place, rt);
+    }
+
+    fn cancel(&self, place: Place, rt: &R) {
+        cancel(&self.core, place, rt);
     }
 }

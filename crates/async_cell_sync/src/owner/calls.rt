@@ -1,21 +1,18 @@
 //! The calls of the cell, by an owner that keeps its right to wait.
-ghost use Rattle.std.specs.Prelude.{◌≡◌, IsOk, IfErr};
-ghost use Rattle.async_cell_model.specs.Refusal.{FailsWithMemory};
+ghost use Rattle.std.specs.Prelude.{◌≡◌, IfErr};
 
 use super::Owner;
-use async_cell_core::Refusal;
-use std::fmt;
 use std::sync::Wait;
 
 impl<T: Drop, R: Wait + Drop> Owner<T, R> {
     /// Sets the value and drops the old one. Wakes all waiters.
     pub fn set(&self, value: T) {
-        self.cell().set(value, &self.rt);
+        self.shared.cell.set(value, &self.rt);
     }
 
     /// Sets the value and wakes all waiters, if the cell holds no value. Drops `value` otherwise.
     pub fn or_set(&self, value: T) {
-        self.cell().or_set(value, &self.rt);
+        self.shared.cell.or_set(value, &self.rt);
     }
 
     /// Sets the value and wakes all waiters, if the cell is open and holds no value. Otherwise
@@ -23,12 +20,12 @@ impl<T: Drop, R: Wait + Drop> Owner<T, R> {
     pub fn try_set(&self, value: T) -> Result<(), T>
         ensures comes_back { IfErr result (λ back. back ≡ value) }
     {
-        self.cell().try_set(value, &self.rt)
+        self.shared.cell.try_set(value, &self.rt)
     }
 
     /// Sets the value and returns the old one. Wakes all waiters.
     pub fn replace(&self, value: T) -> Option<T> {
-        self.cell().replace(value, &self.rt)
+        self.shared.cell.replace(value, &self.rt)
     }
 
     /// Calls the closure on the content and stores what it returns. Wakes all waiters if that puts
@@ -39,7 +36,7 @@ impl<T: Drop, R: Wait + Drop> Owner<T, R> {
         F: FnOnce(Option<T>) -> Option<T> + Drop,
         requires { F.IsAlwaysCallable change }
     {
-        self.cell().update(change, &self.rt);
+        self.shared.cell.update(change, &self.rt);
     }
 
     /// Calls the closure on the value, if there is one, and stores what it returns. No other call
@@ -50,47 +47,17 @@ impl<T: Drop, R: Wait + Drop> Owner<T, R> {
         F: FnOnce(T) -> T + Drop,
         requires { F.IsAlwaysCallable change }
     {
-        self.cell().update_some(change, &self.rt);
+        self.shared.cell.update_some(change, &self.rt);
     }
 
     /// Lets go of all wakers that dropped futures left in the cell (see `AsyncCell::purge`).
     pub fn purge(&self) {
-        self.cell().purge(&self.rt);
+        self.shared.cell.purge(&self.rt);
     }
 
     /// Takes the value, if there is one. The waiters stay registered.
     pub fn try_take(&self) -> Option<T> {
-        self.cell().try_take(&self.rt)
-    }
-
-    /// Returns a clone of the value, if there is one. Fails with `Memory` if the clone fails; the
-    /// value then stays in the cell.
-    pub fn try_get(&self) -> Result<Option<T>, Refusal>
-    where
-        T: Clone,
-        ensures sure { ((value : T) → T.is_infallible value) → IsOk result }
-        ensures refused { FailsWithMemory result }
-    {
-        self.cell().try_get(&self.rt)
-    }
-
-    /// Returns whether the cell holds a value.
-    pub fn is_set(&self) -> bool {
-        self.cell().is_set(&self.rt)
-    }
-
-    /// Returns whether the cell is closed. It is open as long as an owner lives.
-    pub fn is_closed(&self) -> bool {
-        self.cell().is_closed(&self.rt)
-    }
-
-    /// Returns the text of the cell as `AsyncCell::debug_text` does. Fails with `Memory`.
-    pub fn debug_text(&self) -> Result<String, Refusal>
-    where
-        T: fmt::Debug,
-        ensures refused { FailsWithMemory result }
-    {
-        self.cell().debug_text(&self.rt)
+        self.shared.cell.try_take(&self.rt)
     }
 }
 

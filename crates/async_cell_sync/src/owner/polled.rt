@@ -11,8 +11,8 @@ use crate::guard::Guard;
 use crate::guarded_cell::GuardedCell;
 use crate::take::Take;
 use crate::weak::{GetWeak, TakeWeak};
-use crate::with::With;
 use async_cell_core::Refusal;
+use async_cell_waiting::With;
 use std::sync::Wait;
 
 impl<T: Drop, R: Wait + Copy> Owner<T, R> {

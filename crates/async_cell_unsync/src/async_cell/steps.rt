@@ -1,36 +1,24 @@
-//! The steps on the core. Between two steps the cell is consistent, and only then are wakers woken
-//! and values dropped.
+//! The calls of the cell for its owners, guards and futures.
 ghost use Rattle.std.specs.Prelude.{◌≡◌, ◌⊎◌, IsOk, IfErr};
-ghost use Rattle.async_cell_model.specs.Refusal.{FailsWithMemory};
+ghost use Rattle.futures.specs.Poll.{IfReady, OnPending};
+ghost use Rattle.futures.specs.Task.{Hears, IsArmed, Keeps};
+ghost use Rattle.async_cell_model.specs.Refusal.{FailsWithMemory, FailsWithMemoryOrClosed};
+ghost use Rattle.async_cell_unsync.specs.Source.{source_of};
 
 use super::AsyncCell;
-use crate::lent::{Held, Lender, Lent};
-use async_cell_core::{Core, Refusal, TaskWaker};
-use futures::task::Source;
+use async_cell_core::{Core, Place, Refusal, TaskWaker};
+use async_cell_waiting::{CellCore, Lender, OneThread, Places, Steps, Taking, cancel, leave, poll};
+use futures::task::{Context, Poll, Source};
 use std::alloc::{AllocError, Global};
 
 impl<T: Drop> AsyncCell<T> {
     /// Wraps a core in a cell.
     pub(super) fn of(alloc: Global, core: Core<T, TaskWaker>) -> Self {
         AsyncCell {
-            core: Lender::new(core),
+            core: Lender::new(CellCore::of(core)),
             source: Source::new(),
             alloc,
         }
-    }
-
-    /// Borrows the core for one step. Returns `None` during another step, which no caller ever
-    /// sees: a step calls nothing that could call the cell.
-    #[inline(always)]
-    pub(super) fn lend(&self) -> Option<Lent<'_, T>> {
-        self.core.lend()
-    }
-
-    /// Takes the content out of an open cell. Returns `None` if the cell is closed.
-    pub(super) fn take_out(&self) -> Option<Option<T>> {
-        let mut core = self.lend()?;
-        let content = core.take_out();
-        core.give_back(content)
     }
 
     /// Stores a content that was taken out, over whatever was stored in the meantime. A cell that
@@ -57,13 +45,47 @@ impl<T: Drop> AsyncCell<T> {
         Ok(copy?)
     }
 
+    /// Takes the value, or waits for one, in the place if any. Fails with `Memory` if there is no
+    /// memory for the task's waker or for the growth of the list. Fails with `Closed` on a closed
+    /// cell.
+    #[inline(always)]
+    pub(crate) fn poll_take(
+        &self,
+        place: Option<&mut Place>,
+        cx: &mut Context<'_>,
+    ) -> Poll<Result<T, Refusal>>
+        ensures armed { OnPending result (IsArmed cx.new) }
+        ensures heard { OnPending result (Hears cx.new (source_of self.now)) }
+        ensures kept { Keeps cx.old cx.new }
+        ensures refused { IfReady result FailsWithMemoryOrClosed }
+    {
+        poll(&self.core, &self.source, Taking, place, cx, &OneThread)
+    }
+
+    /// Clones the value and leaves it, or waits for one as `poll_take` does. Also fails with
+    /// `Memory` if the clone of the value fails.
+    #[inline]
+    pub(crate) fn poll_get(
+        &self,
+        place: Option<&mut Place>,
+        cx: &mut Context<'_>,
+    ) -> Poll<Result<T, Refusal>>
+    where
+        T: Clone,
+        ensures armed { OnPending result (IsArmed cx.new) }
+        ensures heard { OnPending result (Hears cx.new (source_of self.now)) }
+        ensures kept { Keeps cx.old cx.new }
+        ensures refused { IfReady result FailsWithMemoryOrClosed }
+    {
+        match self.poll_take(place, cx) {
+            Poll::Ready(Ok(value)) => Poll::Ready(self.copy_back(value)),
+            other => other,
+        }
+    }
+
     /// Ends a guard: `cancel` is its cancel value, or `None` if it was released.
     pub(crate) fn end_guard(&self, cancel: Option<T>) {
-        let Some(mut core) = self.lend() else {
-            return;
-        };
-        let ended = core.end_guard(cancel);
-        drop(core.give_back_and_wake(ended));
+        Steps::on(&self.core, &OneThread).end_guard(cancel);
     }
 
     /// Adds an owner. Fails with `Closed` or `OwnersFull`.
@@ -71,39 +93,38 @@ impl<T: Drop> AsyncCell<T> {
         ensures refused { IfErr result (λ why.
             (why ≡ Refusal.Closed) ⊎ (why ≡ Refusal.OwnersFull)) }
     {
-        let mut core = self.lend().ok_or(Refusal::Closed)?;
-        let added = core.add_owner();
-        core.give_back(added)
+        Steps::on(&self.core, &OneThread).add_owner()
     }
 
     /// Ends one owner. The last one closes the cell, drops the value and wakes all waiters.
     pub(crate) fn end_owner(&self) {
-        let Some(mut core) = self.lend() else {
-            return;
-        };
-        let ended = core.end_owner();
-        let _ = core.give_back_and_wake(ended);
+        let _ = Steps::on(&self.core, &OneThread).end_owner();
     }
 
     /// Closes the cell and returns its content, if there is one owner. Wakes all waiters. Fails
     /// with `Closed`, or with `StillShared` if there are other owners.
     pub(crate) fn take_inner(&self) -> Result<Option<T>, Refusal> {
-        let mut core = self.lend().ok_or(Refusal::Closed)?;
-        let taken = core.take_inner();
-        core.give_back_and_wake(taken)
+        Steps::on(&self.core, &OneThread).take_inner()
     }
 
     /// Internal: may change without notice. Returns the number of places in the wait list.
     pub fn waiting(&self) -> usize {
-        let Some(core) = self.lend() else {
-            return 0;
-        };
-        let waiting = core.waiting();
-        core.give_back(Held::of(waiting))
+        Steps::on(&self.core, &OneThread).waiting()
     }
 
     /// Returns the allocator that the cell was made with.
     pub(crate) fn allocator(&self) -> Global {
         self.alloc
+    }
+}
+
+impl<T: Drop> Places<OneThread> for AsyncCell<T> {
+    #[inline(always)]
+    fn leave(&self, place: Place, rt: &OneThread) {
+        leave(&self.core, place, rt);
+    }
+
+    fn cancel(&self, place: Place, rt: &OneThread) {
+        cancel(&self.core, place, rt);
     }
 }

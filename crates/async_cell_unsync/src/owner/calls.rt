@@ -1,10 +1,8 @@
 //! The calls of the cell, by an owner.
-ghost use Rattle.std.specs.Prelude.{◌≡◌, IsOk, IfErr};
-ghost use Rattle.async_cell_model.specs.Refusal.{FailsWithMemory};
+ghost use Rattle.std.specs.Prelude.{◌≡◌, IfErr};
 
 use super::Owner;
 use async_cell_core::Refusal;
-use std::fmt;
 
 impl<T: Drop> Owner<T> {
     /// Sets the value and drops the old one. Wakes all waiters.
@@ -54,36 +52,6 @@ impl<T: Drop> Owner<T> {
     /// Takes the value, if there is one. The waiters stay registered.
     pub fn try_take(&self) -> Option<T> {
         self.cell().try_take()
-    }
-
-    /// Returns a clone of the value, if there is one. Fails with `Memory` if the clone fails; the
-    /// value then stays in the cell.
-    pub fn try_get(&self) -> Result<Option<T>, Refusal>
-    where
-        T: Clone,
-        ensures sure { ((value : T) → T.is_infallible value) → IsOk result }
-        ensures refused { FailsWithMemory result }
-    {
-        self.cell().try_get()
-    }
-
-    /// Returns whether the cell holds a value.
-    pub fn is_set(&self) -> bool {
-        self.cell().is_set()
-    }
-
-    /// Returns the text of the cell as `AsyncCell::debug_text` does. Fails with `Memory`.
-    pub fn debug_text(&self) -> Result<String, Refusal>
-    where
-        T: fmt::Debug,
-        ensures refused { FailsWithMemory result }
-    {
-        self.cell().debug_text()
-    }
-
-    /// Returns whether the cell is closed. It is open as long as an owner lives.
-    pub fn is_closed(&self) -> bool {
-        self.cell().is_closed()
     }
 }
 

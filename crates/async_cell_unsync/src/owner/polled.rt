@@ -8,9 +8,9 @@ use super::Owner;
 use crate::async_cell::AsyncCell;
 use crate::get::Get;
 use crate::guarded_cell::{Guard, GuardedCell};
+use crate::requests::With;
 use crate::take::Take;
 use crate::weak::{GetWeak, TakeWeak};
-use crate::with::With;
 use async_cell_core::Refusal;
 
 impl<T: Drop> Owner<T> {

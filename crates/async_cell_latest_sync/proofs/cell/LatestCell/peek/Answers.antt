@@ -1,8 +1,7 @@
-use Rattle.std.proofs.Common.{refl}
 use Rattle.async_cell_latest_sync.proofs.cell.LatestCell.peek.Goals as goal
 
--- the value that was read is the one that the closure was called on
+-- the state that was read is the one that the closure was called on
 pub returns : goal.returns
 returns g c = record {
-  called = (c.read.result.1.now, (c.read.result.1, c.look.ensures, refl));
+  of_one_state = (c.deref.result.now, c.read-version.ensures.version, (c.read-version.result.1, c.look.ensures, c.read-version.ensures.gives));
 }

@@ -1,0 +1,101 @@
+//! Writes whose value is made of the value that was there, each in one step.
+ghost use Rattle.std.specs.Prelude.{◌≡◌, ◌↔◌, ◌+◌, true, is_some, IsOk, IfOk, IfErr, IsSome, IfSome, IfNone, OnOk, OnErr};
+ghost use Rattle.std.specs.Fn.{FnOnceReturnsAt, FnOnceReturnsAtMut};
+ghost use Rattle.async_cell_latest.specs.State.{is_writable};
+ghost use Rattle.async_cell_latest.specs.Step.{Write};
+ghost use Rattle.async_cell_latest.specs.IsStep.{IsStep, change_answer, write_answer};
+
+use super::Latest;
+use async_cell_model::Refusal;
+use async_cell_wakers::{Wakers, Wakes};
+
+impl<T: Drop, W: Wakes> Latest<T, W> {
+    /// Calls the closure on the value, and writes what it returns, as `write` does: in one step.
+    /// The closure is called also if the state takes no further write; what it returned is then
+    /// returned in the error.
+    pub fn update<F: FnOnce(&T) -> T>(&mut self, change: F) -> Result<(T, Wakers<W>), T>
+        requires { F.IsAlwaysCallable change }
+        ensures model { (value : T) × FnOnceReturnsAt F.FnOnce change self.old.value value
+            × IsStep W.Wakes self.old (Write value) (write_answer result) self.new }
+
+        ensures called { OnOk result
+            (FnOnceReturnsAt F.FnOnce change self.old.value self.new.value) }
+        ensures if_open { IsOk result ↔ (is_writable self.old ≡ true) }
+        ensures counted { OnOk result (self.new.version ≡ self.old.version + 1) }
+        ensures gives_old { IfOk result (λ answer. answer.0 ≡ self.old.value) }
+        ensures hands_out_all { IfOk result (λ answer. answer.1 ≡ self.old.waiting) }
+        ensures unchanged { OnErr result (self.new ≡ self.old) }
+        ensures comes_back { IfErr result (FnOnceReturnsAt F.FnOnce change self.old.value) }
+    {
+        let value = change(&self.value);
+        self.write(value)
+    }
+
+    /// Calls the closure on the value, which it may change in place, and moves the version on by
+    /// one: a write of what the closure left there. Returns what the closure returned and all
+    /// waiting wakers, to be woken by the caller. Fails with `Closed` if the state takes no further
+    /// write; the closure is then not called.
+    pub fn modify<A, F: FnOnce(&mut T) -> A + Drop>(
+        &mut self,
+        change: F,
+    ) -> Result<(A, Wakers<W>), Refusal>
+        requires { F.IsAlwaysCallable change }
+        ensures model { IfOk result (λ answer. IsStep W.Wakes self.old
+            (Write self.new.value) (change_answer self.old.value answer.1) self.new) }
+        ensures called { IfOk result (λ answer.
+            FnOnceReturnsAtMut F.FnOnce change self.old.value answer.0 self.new.value) }
+
+        ensures if_open { IsOk result ↔ (is_writable self.old ≡ true) }
+        ensures counted { OnOk result (self.new.version ≡ self.old.version + 1) }
+        ensures hands_out_all { IfOk result (λ answer. answer.1 ≡ self.old.waiting) }
+        ensures unchanged { OnErr result (self.new ≡ self.old) }
+        ensures refused { IfErr result (λ why. why ≡ Refusal.Closed) }
+    {
+        let version = self.next_version().ok_or(Refusal::Closed)?;
+        let answer = change(&mut self.value);
+        self.version = version;
+        Ok((answer, self.waiting.hand_out()))
+    }
+
+    /// `modify`, if the closure returns `true`. If it returns `false`, nothing is written: the
+    /// version and the wait list stay, and the answer is `None`. The value stands as the closure
+    /// left it, so a closure that says `false` is to leave it as it was: of a change that it made
+    /// nobody would be told.
+    pub fn modify_if<F: FnOnce(&mut T) -> bool + Drop>(
+        &mut self,
+        change: F,
+    ) -> Result<Option<Wakers<W>>, Refusal>
+        requires { F.IsAlwaysCallable change }
+        ensures model { IfOk result (λ answer. IfSome answer (λ woken. IsStep W.Wakes self.old
+            (Write self.new.value) (change_answer self.old.value woken) self.new)) }
+        ensures called { IfOk result (λ answer. FnOnceReturnsAtMut
+            F.FnOnce change self.old.value (is_some answer) self.new.value) }
+
+        ensures if_open { IsOk result ↔ (is_writable self.old ≡ true) }
+        ensures hands_out_all { IfOk result (λ answer. IfSome answer (λ woken.
+            (woken ≡ self.old.waiting) × (self.new.version ≡ self.old.version + 1))) }
+        ensures value_alone { IfOk result (λ answer. IfNone answer
+            (self.new ≡ record self.old { value = self.new.value })) }
+        ensures unchanged { OnErr result (self.new ≡ self.old) }
+        ensures refused { IfErr result (λ why. why ≡ Refusal.Closed) }
+    {
+        let version = self.next_version().ok_or(Refusal::Closed)?;
+        if change(&mut self.value) {
+            self.version = version;
+            return Ok(Some(self.waiting.hand_out()));
+        }
+        Ok(None)
+    }
+
+    /// Returns the version of the next write: `None` if the state takes no further write.
+    #[inline(always)]
+    pub(crate) fn next_version(&self) -> Option<u64>
+        ensures writable { IsSome result ↔ (is_writable self.now ≡ true) }
+        ensures counted { IfSome result (λ version. version ≡ self.now.version + 1) }
+    {
+        if self.is_closed() {
+            return None;
+        }
+        self.version.checked_add(1)
+    }
+}

@@ -1,0 +1,106 @@
+//! The wait list of the core of a cell, and what polls ask it.
+use super::CellCore;
+use crate::ended::Held;
+use crate::query::Query;
+use crate::room::Room;
+use async_cell_core::{Place, Refusal, TaskWaker};
+use futures::task::Waker;
+
+impl<T: Drop> Room for CellCore<T, TaskWaker> {
+    ghost use Rattle.std.specs.Prelude.{◌≡◌, true};
+    ghost use Rattle.async_cell_model.specs.Cell.{is_vacant};
+
+    ghost vacant = { λ cell. is_vacant cell.core.cell ≡ true };
+
+    #[inline(always)]
+    fn add(&mut self, waker: TaskWaker) -> Held<Result<(), TaskWaker>> {
+        Held::of(self.core.add(waker))
+    }
+
+    #[inline(always)]
+    fn take_back(&mut self, place: &mut Place) -> Option<Held<Waker>> {
+        Held::of(self.core.take_back(place)).each()
+    }
+
+    #[inline(always)]
+    fn store(
+        &mut self,
+        place: &mut Place,
+        waker: TaskWaker,
+    ) -> Held<Result<Option<TaskWaker>, TaskWaker>> {
+        Held::of(self.core.store(place, waker))
+    }
+
+    #[inline(always)]
+    fn leave(&mut self, place: Place) -> Option<usize> {
+        self.core.leave(place)
+    }
+
+    #[inline(always)]
+    fn take_left(&mut self, index: usize) -> Held<Option<Waker>> {
+        Held::of(self.core.take_left(index))
+    }
+
+    #[inline(always)]
+    fn places(&self) -> usize {
+        self.waiting()
+    }
+}
+
+/// Takes the value of a cell.
+#[derive(Clone, Copy, Drop)]
+pub struct Taking;
+
+/// Clones the value of a cell, during the step.
+#[derive(Clone, Copy, Drop)]
+pub struct Cloning;
+
+impl<T: Drop> Query<CellCore<T, TaskWaker>> for Taking {
+    ghost use Rattle.std.specs.Prelude.{⊤};
+
+    type Found = ();
+
+    type Answer = T;
+
+    ghost tells = { λ _ _. ⊤ };
+
+    ghost gives = { λ _ _. ⊤ };
+
+    #[inline(always)]
+    fn look(self, core: &CellCore<T, TaskWaker>) -> Option<()> {
+        match core.is_vacant() {
+            true => None,
+            false => Some(()),
+        }
+    }
+
+    #[inline(always)]
+    fn answer(self, core: &mut CellCore<T, TaskWaker>, _: ()) -> Held<Result<T, Refusal>> {
+        Held::of(core.core.try_take().ok_or(Refusal::Closed))
+    }
+}
+
+impl<T: Clone> Query<CellCore<T, TaskWaker>> for Cloning {
+    ghost use Rattle.std.specs.Prelude.{⊤};
+
+    type Found = ();
+
+    type Answer = T;
+
+    ghost tells = { λ _ _. ⊤ };
+
+    ghost gives = { λ _ _. ⊤ };
+
+    #[inline(always)]
+    fn look(self, core: &CellCore<T, TaskWaker>) -> Option<()> {
+        Taking.look(core)
+    }
+
+    #[inline(always)]
+    fn answer(self, core: &mut CellCore<T, TaskWaker>, _: ()) -> Held<Result<T, Refusal>> {
+        match core.core.try_get() {
+            Ok(copy) => Held::of(copy.ok_or(Refusal::Closed)),
+            Err(why) => Held::of(Err(why)),
+        }
+    }
+}

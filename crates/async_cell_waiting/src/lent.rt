@@ -1,0 +1,74 @@
+ghost use Rattle.std.specs.Prelude.{◌≡◌};
+ghost use Rattle.std.specs.RefCell.{ref_mut_value};
+
+use crate::ended::Held;
+use crate::room::{Room, Waits};
+use crate::store::{OneThread, Step, Store};
+use async_cell_wakers::Place;
+use futures::task::Waker;
+use std::cell::{RefCell, RefMut};
+
+/// A core of one thread.
+#[derive(Drop)]
+pub struct Lender<C> {
+    core: RefCell<C>,
+}
+
+/// A core that is lent. It is not `Drop` and must be consumed.
+pub struct Lent<'a, C> {
+    core: RefMut<'a, C>,
+}
+
+impl<C> Lender<C> {
+    /// Wraps the core, whatever its state.
+    pub fn new(core: C) -> Self {
+        Lender {
+            core: RefCell::new(core),
+        }
+    }
+
+    /// Returns the core.
+    pub fn into_inner(self) -> C {
+        let Lender { core } = self;
+        core.into_inner()
+    }
+}
+
+impl<'a, C> Store<OneThread> for &'a Lender<C> {
+    type Open = Lent<'a, C>;
+
+    #[inline(always)]
+    fn open(self, _: &OneThread) -> Option<Lent<'a, C>> {
+        let core = self.core.try_borrow_mut().ok()?;
+        Some(Lent { core })
+    }
+}
+
+impl<C> Step for Lent<'_, C> {
+    type Core = C;
+
+    ghost shows = { λ lent. ref_mut_value lent.core };
+
+    #[inline(always)]
+    fn peek(&self) -> &C {
+        &*self.core
+    }
+
+    #[inline(always)]
+    fn core(&mut self) -> &mut C {
+        &mut *self.core
+    }
+
+    #[inline(always)]
+    fn release(self) {
+        let Lent { core } = self;
+        drop(core);
+    }
+}
+
+impl<C: Room> Waits for Lent<'_, C> {
+    #[inline(always)]
+    fn take_back(&mut self, place: &mut Place) -> Option<Held<Waker>> {
+        (*self.core).take_back(place)
+    }
+}

@@ -1,0 +1,27 @@
+//! The one text for waiting: what lends a core for a step, how a step ends, and the polls and calls
+//! that are made of steps. For the crates that build on this one: may change without notice.
+#![tactic(auto)]
+
+mod cell_core;
+mod ended;
+mod lent;
+mod locked;
+mod places;
+mod polls;
+mod query;
+mod room;
+mod steps;
+mod store;
+mod with;
+
+pub use cell_core::{CellCore, Cloning, Taking};
+pub use ended::{Held, Waking, end, end_and_wake, open_holding};
+pub use lent::{Lender, Lent};
+pub use locked::{Lock, Locked};
+pub use places::{cancel, leave, purge, waiting};
+pub use polls::poll;
+pub use query::Query;
+pub use room::{Room, Waits};
+pub use steps::Steps;
+pub use store::{OneThread, Step, Store};
+pub use with::{Places, Polled, Request, Takes, Upgrade, Values, With, weakly};

@@ -1,0 +1,171 @@
+//! Polls, over any store: each either finds what need not be waited for, or registers the task and
+//! adds its waker to the wait list. The waker of a future that keeps a place is stored in that
+//! place.
+ghost use Rattle.std.specs.Prelude.{◌≡◌, Err, IfOk, IfErr};
+ghost use Rattle.futures.specs.Poll.{IfReady, OnPending};
+ghost use Rattle.futures.specs.Task.{Hears, IsArmed, Keeps};
+ghost use Rattle.async_cell_model.specs.Refusal.{FailsWithMemory, FailsWithMemoryOrClosed};
+
+use crate::ended::{Held, end, open_holding};
+use crate::query::Query;
+use crate::room::{Room, Waits};
+use crate::store::{Step, Store};
+use async_cell_model::Refusal;
+use async_cell_wakers::{Place, TaskWaker};
+use futures::task::{Context, Poll, Source, Waker};
+
+/// Answers the query, or waits, in the place if any. Fails with `Memory` if there is no memory for
+/// the task's waker or for the growth of the list. Asks to be polled again if the core is not lent.
+#[inline(always)]
+pub fn poll<S, G, C, Q, R>(
+    store: S,
+    source: &Source,
+    query: Q,
+    place: Option<&mut Place>,
+    cx: &mut Context<'_>,
+    rt: &R,
+) -> Poll<Result<Q::Answer, Refusal>>
+where
+    S: Store<R, Open = G>,
+    G: Step<Core = C> + Waits,
+    C: Room,
+    Q: Query<C>,
+    ensures told { IfReady result (λ answer. IfOk answer (λ told. Q.gives query told)) }
+    ensures armed { OnPending result (IsArmed cx.new) }
+    ensures heard { OnPending result (Hears cx.new source.now.id) }
+    ensures kept { Keeps cx.old cx.new }
+    ensures refused { IfReady result FailsWithMemoryOrClosed }
+{
+    let Some(mut core) = store.open(rt) else {
+        return cx.yield_now();
+    };
+    if let Some(found) = query.look(core.peek()) {
+        if let Some(place) = place {
+            place.forget();
+        }
+        let answer = query.answer(core.core(), found);
+        return Poll::Ready(end(core, answer));
+    }
+    let Some(place) = place else {
+        return waits(add(core, source, cx));
+    };
+    match core.take_back(place) {
+        None => waits(wait_at(core, source, place, cx)),
+        Some(waker) => renew(store, core, waker, source, query, place, cx, rt),
+    }
+}
+
+/// Registers the task, and adds its waker as the last. It is a new waker: so nothing is dropped,
+/// and nobody woken, during the step. Fails with `Memory` if there is no memory for the waker or
+/// for the growth of the list.
+fn add<G, C>(mut core: G, source: &Source, cx: &mut Context<'_>) -> Result<(), Refusal>
+where
+    G: Step<Core = C>,
+    C: Room,
+    requires { C.vacant (G.shows core) }
+    ensures armed { IsArmed cx.new }
+    ensures heard { Hears cx.new source.now.id }
+    ensures kept { Keeps cx.old cx.new }
+    ensures refused { FailsWithMemory result }
+{
+    let Some(new) = TaskWaker::register(cx, source) else {
+        return end(core, Held::of(Err(Refusal::Memory)));
+    };
+    let added = core.core().add(new);
+    match end(core, added) {
+        Ok(()) => Ok(()),
+        Err(_unused) => Err(Refusal::Memory),
+    }
+}
+
+/// `add`, in a place that has no waker: the place is then that of the waker.
+fn wait_at<G, C>(
+    core: G,
+    source: &Source,
+    place: &mut Place,
+    cx: &mut Context<'_>,
+) -> Result<(), Refusal>
+where
+    G: Step<Core = C>,
+    C: Room,
+    requires { C.vacant (G.shows core) }
+    ensures armed { IsArmed cx.new }
+    ensures heard { Hears cx.new source.now.id }
+    ensures kept { Keeps cx.old cx.new }
+    ensures refused { FailsWithMemory result }
+{
+    match TaskWaker::register(cx, source) {
+        Some(waker) => put(core, place, Held::of(waker)),
+        None => end(core, Held::of(Err(Refusal::Memory))),
+    }
+}
+
+/// Stores the waker in the place, or as the last.
+#[inline(always)]
+fn put<G, C>(mut core: G, place: &mut Place, waker: Held<TaskWaker>) -> Result<(), Refusal>
+where
+    G: Step<Core = C>,
+    C: Room,
+    requires { C.vacant (G.shows core) }
+    ensures refused { FailsWithMemory result }
+{
+    let stored = waker.store_in(core.core(), place);
+    match end(core, stored) {
+        Ok(_before) => Ok(()),
+        Err(_unused) => Err(Refusal::Memory),
+    }
+}
+
+/// Registers the task with the waker of its place, which was taken out, and stores it again. If it
+/// was another task's, it is dropped, which wakes that task: so no step runs meanwhile.
+#[inline(never)]
+fn renew<S, G, C, Q, R>(
+    store: S,
+    core: G,
+    waker: Held<Waker>,
+    source: &Source,
+    query: Q,
+    place: &mut Place,
+    cx: &mut Context<'_>,
+    rt: &R,
+) -> Poll<Result<Q::Answer, Refusal>>
+where
+    S: Store<R, Open = G>,
+    G: Step<Core = C>,
+    C: Room,
+    Q: Query<C>,
+    ensures told { IfReady result (λ answer. IfOk answer (λ told. Q.gives query told)) }
+    ensures armed { OnPending result (IsArmed cx.new) }
+    ensures heard { OnPending result (Hears cx.new source.now.id) }
+    ensures kept { Keeps cx.old cx.new }
+    ensures refused { IfReady result FailsWithMemoryOrClosed }
+{
+    let mut slot = Some(end(core, waker));
+    let _ = cx.register::<()>(source, &mut slot);
+    let Some((mut core, slot)) = open_holding(store, slot, rt) else {
+        return cx.yield_now();
+    };
+    // Between the two steps the core may have been written to, or closed.
+    if let Some(found) = query.look(core.peek()) {
+        place.forget();
+        let answer = query.answer(core.core(), found);
+        let (answer, _left) = end(core, answer.and(slot));
+        return Poll::Ready(answer);
+    }
+    match slot.each() {
+        Some(waker) => waits(put(core, place, waker.renewed())),
+        None => waits(end(core, Held::of(Err(Refusal::Memory)))),
+    }
+}
+
+/// The answer of a poll that has to wait.
+#[inline(always)]
+fn waits<A>(waited: Result<(), Refusal>) -> Poll<Result<A, Refusal>>
+    ensures refused { IfReady result (λ answer. IfErr answer (λ why. waited ≡ Err why)) }
+    ensures none { IfReady result (λ answer. IfOk answer (λ _. ⊥)) }
+{
+    match waited {
+        Ok(()) => Poll::Pending,
+        Err(why) => Poll::Ready(Err(why)),
+    }
+}

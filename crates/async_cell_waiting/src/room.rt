@@ -1,0 +1,50 @@
+ghost use Rattle.std.specs.Prelude.{◌≡◌};
+
+use crate::ended::Held;
+use crate::store::Step;
+use async_cell_wakers::{Place, TaskWaker};
+use futures::task::Waker;
+
+/// The calls of a core for futures that wait. A waker that is dropped wakes its task, so each that
+/// is not stored is held until the step ends.
+pub trait Room {
+    /// A waker can be stored: a poll has to wait.
+    ghost vacant: { Self → Type 0 };
+
+    /// Adds a waker as the last. If there is no memory to grow the list, it is returned in the
+    /// error.
+    fn add(&mut self, waker: TaskWaker) -> Held<Result<(), TaskWaker>>
+        requires { vacant self.old };
+
+    /// Takes the waker out of the place, or out of a free place that is taken over. Returns `None`
+    /// if there is neither. The waker may be another task's.
+    fn take_back(&mut self, place: &mut Place) -> Option<Held<Waker>>
+        ensures unchanged { self.new ≡ self.old };
+
+    /// Stores a waker in the place, in a free place that is taken over, or as the last. Returns the
+    /// waker that was there, if any. If there is no memory to grow the list, the waker is returned
+    /// in the error.
+    fn store(
+        &mut self,
+        place: &mut Place,
+        waker: TaskWaker,
+    ) -> Held<Result<Option<TaskWaker>, TaskWaker>>
+        requires { vacant self.old };
+
+    /// Leaves the place free. Its waker stays there. Returns the index of the place, unless it was
+    /// given up.
+    fn leave(&mut self, place: Place) -> Option<usize>;
+
+    /// Takes the waker out of the place at `index`, if that place is free.
+    fn take_left(&mut self, index: usize) -> Held<Option<Waker>>;
+
+    /// Returns the number of places in the wait list.
+    fn places(&self) -> usize;
+}
+
+/// A room that is lent: the one call after which the text of a poll needs to know the room.
+pub trait Waits: Step {
+    /// `Room::take_back`.
+    fn take_back(&mut self, place: &mut Place) -> Option<Held<Waker>>
+        ensures unchanged { Self.shows self.new ≡ Self.shows self.old };
+}

@@ -1,0 +1,83 @@
+//! The values of a cell, as a stream.
+ghost use Rattle.std.specs.Prelude.{◌≡◌, IfSome};
+ghost use Rattle.std.specs.List.{AllByRecursion};
+ghost use Rattle.futures.specs.Poll.{IfReady, OnPending};
+ghost use Rattle.futures.specs.Task.{Covers, Keeps};
+ghost use Rattle.async_cell_model.specs.Refusal.{FailsWithMemory};
+
+use super::{Polled, With};
+use async_cell_model::Refusal;
+use async_cell_wakers::Place;
+use futures::stream::Stream;
+use futures::task::{Context, Poll};
+use std::fmt;
+
+/// A request that takes one value after another: a `TakeWeak`.
+pub trait Takes<R>: Polled<R> {
+    /// The type of the values.
+    type Value: Drop;
+
+    /// Polls for the next value, and waits in the place. Returns `Ok(None)` on a closed cell.
+    fn poll_value(
+        &self,
+        place: &mut Place,
+        cx: &mut Context<'_>,
+        rt: &R,
+    ) -> Poll<Result<Option<Self::Value>, Refusal>>
+        ensures gives { IfReady result FailsWithMemory }
+        ensures registered { OnPending result (Covers cx.new (Self.waits_for self.now)) }
+        ensures kept { Keeps cx.old cx.new };
+}
+
+/// The values of a cell, as a stream: it takes each value that it is in time for, and ends when the
+/// last owner has ended. It is not an owner. Two such streams of one cell share its values: each
+/// value goes to one of them.
+///
+/// **The last value may be lost**: the end of the last owner drops a value that was not yet taken.
+/// An item is an error (`Memory`) if a poll was refused; the stream may be polled on.
+#[derive(Drop)]
+pub struct Values<P: Takes<R>, R: Drop> {
+    taker: With<P, R>,
+}
+
+impl<P: Takes<R>, R: Drop> With<P, R> {
+    /// Returns the stream of the values that this future would take, one after another.
+    pub fn values(self) -> Values<P, R>
+        ensures takes { result.taker ≡ self }
+    {
+        Values { taker: self }
+    }
+}
+
+impl<P: Takes<R>, R: Drop> Values<P, R> {
+    /// Drops the stream, and the waker that it left in the cell, as `With::cancel` does.
+    pub fn cancel(self) {
+        let Values { taker } = self;
+        taker.cancel();
+    }
+}
+
+impl<P: Takes<R>, R: Drop> Stream for Values<P, R> {
+    type Item = Result<P::Value, Refusal>;
+
+    ghost needs = { λ values. P.waits_for values.taker.polled };
+
+    ghost yields = { λ _ items last.
+        AllByRecursion FailsWithMemory items × IfSome last FailsWithMemory };
+
+    fn poll_next(&mut self, cx: &mut Context<'_>) -> Poll<Option<Result<P::Value, Refusal>>> {
+        let taker = &mut self.taker;
+        match taker.polled.poll_value(&mut taker.place, cx, &taker.rt) {
+            Poll::Ready(Ok(Some(value))) => Poll::Ready(Some(Ok(value))),
+            Poll::Ready(Ok(None)) => Poll::Ready(None),
+            Poll::Ready(Err(why)) => Poll::Ready(Some(Err(why))),
+            Poll::Pending => Poll::Pending,
+        }
+    }
+}
+
+impl<P: Takes<R>, R: Drop> fmt::Debug for Values<P, R> {
+    fn fmt<F: fmt::Write>(&self, f: &mut fmt::Formatter<F>) -> fmt::Result {
+        f.debug_struct("Values").finish_non_exhaustive()
+    }
+}

@@ -1,0 +1,51 @@
+//! A wait on the calling thread that ends when its limit has passed.
+#![tactic(auto)]
+
+ghost use Rattle.std.specs.Prelude.{IfErr, IfNone, IfOk, IfSome};
+
+mod napper;
+
+use futures::future::Future;
+use futures::task::Poll;
+use napper::Napper;
+use std::alloc::AllocGlobal;
+use std::io;
+use std::random::RandomSource;
+use std::time::{Clock, Duration, Instant};
+
+/// Polls `future` on this thread until it is ready, or until `limit` has passed: then it returns
+/// `None`. The future stays with its caller: after a `None` or an error it may be waited for again.
+///
+/// The future is polled at once, when it is woken, and once more when the limit has passed, so what
+/// is there by then is returned. A wait is never shorter than its limit. A poll that takes long is
+/// not cut off.
+///
+/// The thread naps and looks whether the future was woken. A nap takes a sixteenth of the time that
+/// the wait took so far, from 50 microseconds up to 5 milliseconds, so what wakes the future is
+/// seen that much late. `block_on`, which has no limit, sleeps until it is woken.
+///
+/// Fails if there is no memory, no random name for the task that polls, or no clock.
+pub fn within<R, F>(rt: &R, future: &mut F, limit: Duration) -> io::Result<Option<F::Output>>
+where
+    R: Clock + RandomSource + AllocGlobal,
+    F: Future,
+    requires { F.can_poll future.old }
+    ensures ready { IfOk result (λ polled. IfSome polled (F.gives future.old)) }
+    ensures late { IfOk result (λ polled. IfNone polled (F.can_poll future.new)) }
+    ensures late_gives { IfOk result (λ polled. IfNone polled ((x : _) → F.gives future.new x → F.gives future.old x)) }
+    ensures failed { IfErr result (λ _. F.can_poll future.new) }
+    ensures failed_gives { IfErr result (λ _. (x : _) → F.gives future.new x → F.gives future.old x) }
+{
+    let start = Instant::now(rt)?;
+    let napper = Napper::new(rt)?;
+    for _ in 0..u64::MAX {
+        if let Poll::Ready(output) = napper.poll(future) {
+            return Ok(Some(output));
+        }
+        if start.elapsed(rt)? >= limit {
+            return Ok(None);
+        }
+        napper.nap_until_woken(rt, start, limit)?;
+    }
+    Ok(None)
+}
