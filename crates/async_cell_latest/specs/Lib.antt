@@ -1,5 +1,6 @@
 pub mod Follower
 pub mod History
 pub mod IsStep
+pub mod OneState
 pub mod State
 pub mod Step

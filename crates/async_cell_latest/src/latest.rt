@@ -7,12 +7,14 @@ mod changes;
 mod get;
 mod places;
 mod polls;
+mod waits;
 mod writers;
 
 use async_cell_wakers::{WaitList, Wakers, Wakes};
 use std::alloc::Global;
 use std::marker::Model;
 use std::mem;
+pub use waits::{Unseen, UnseenState};
 
 /// A value that is always there, with its version, counted writers, and the wait list of the wakers
 /// of followers that have seen this version.

@@ -9,4 +9,4 @@ pub mod laws;
 pub use async_cell_model::Refusal;
 pub use async_cell_wakers::{Named, Place, TaskWaker, Wakers, Wakes};
 pub use futures::task::Poll;
-pub use latest::Latest;
+pub use latest::{Latest, Unseen, UnseenState};

@@ -4,16 +4,15 @@ ghost use Rattle.std.specs.Fn.{FnOnceReturnsAt, FnOnceReturnsAtMut};
 ghost use Rattle.async_cell_model.specs.Refusal.{FailsWithClosed, FailsWithMemory};
 ghost use Rattle.async_cell_latest.specs.State.{State};
 
-mod places;
+mod locked;
 mod polls;
 
 use async_cell_latest::{Latest, Refusal, TaskWaker, Wakers};
+use async_cell_waiting::{Held, Waking, end, end_and_wake};
 use futures::task::Source;
+use locked::Locked;
 use std::alloc::Global;
 use std::sync::{Mutex, MutexGuard, Wait};
-
-/// A state that is locked.
-pub(crate) type Locked<'a, T> = MutexGuard<'a, Latest<T, TaskWaker>>;
 
 /// A state that threads share, behind a lock. Owners and followers point to it.
 #[derive(Drop)]
@@ -32,13 +31,21 @@ impl<T: Drop> LatestCell<T> {
         }
     }
 
-    /// Waits for the lock.
+    /// Waits for the lock, for a step which hands out nothing that wakes a task.
     #[inline(always)]
-    pub(crate) fn lock<R: Wait>(&self, rt: &R) -> Locked<'_, T> {
+    pub(crate) fn lock<R: Wait>(&self, rt: &R) -> MutexGuard<'_, Latest<T, TaskWaker>> {
         // To try first costs less while nobody holds the lock.
         match self.core.try_lock() {
             Some(core) => core,
             None => self.core.lock(rt),
+        }
+    }
+
+    /// Waits for the lock, for a step which must be ended.
+    #[inline(always)]
+    fn step<R: Wait>(&self, rt: &R) -> Locked<'_, T> {
+        Locked {
+            state: self.lock(rt),
         }
     }
 
@@ -47,9 +54,9 @@ impl<T: Drop> LatestCell<T> {
     pub(crate) fn replace<R: Wait>(&self, value: T, rt: &R) -> Result<T, T>
         ensures comes_back { IfErr result (λ back. back ≡ value) }
     {
-        let mut core = self.lock(rt);
-        let written = core.write(value);
-        unlock_and_wake(core, written)
+        let mut core = self.step(rt);
+        let written = core.state.write(value);
+        end_written(core, written)
     }
 
     /// Calls the closure on the value, and sets the one that it returns. Wakes all waiters, and
@@ -65,9 +72,9 @@ impl<T: Drop> LatestCell<T> {
         ensures comes_back { IfErr result (λ back. (old : T)
             × FnOnceReturnsAt F.FnOnce change old back) }
     {
-        let mut core = self.lock(rt);
-        let written = core.update(change);
-        unlock_and_wake(core, written)
+        let mut core = self.step(rt);
+        let written = core.state.update(change);
+        end_written(core, written)
     }
 
     /// Calls the closure on the value, which it may change in place, wakes all waiters, and returns
@@ -82,9 +89,9 @@ impl<T: Drop> LatestCell<T> {
             × FnOnceReturnsAtMut F.FnOnce change old answer new) }
         ensures refused { FailsWithClosed result }
     {
-        let mut core = self.lock(rt);
-        let modified = core.modify(change);
-        unlock_and_wake(core, modified)
+        let mut core = self.step(rt);
+        let modified = core.state.modify(change);
+        end_written(core, modified)
     }
 
     /// `modify`, if the closure returns `true`, which is then the answer. Otherwise nothing is
@@ -98,11 +105,11 @@ impl<T: Drop> LatestCell<T> {
             × FnOnceReturnsAtMut F.FnOnce change old changed new) }
         ensures refused { FailsWithClosed result }
     {
-        let mut core = self.lock(rt);
-        match core.modify_if(change) {
-            Ok(None) => Ok(false),
-            Ok(Some(woken)) => unlock_and_wake(core, Ok((true, woken))),
-            Err(why) => Err(why),
+        let mut core = self.step(rt);
+        match core.state.modify_if(change) {
+            Ok(None) => end(core, Held::of(Ok(false))),
+            Ok(Some(woken)) => end_and_wake(core, Waking::of(Ok(true), woken)),
+            Err(why) => end(core, Held::of(Err(why))),
         }
     }
 
@@ -143,27 +150,24 @@ impl<T: Drop> LatestCell<T> {
 
     /// Ends one owner. The last one closes the state, which stays, and wakes all waiters.
     pub(crate) fn end_owner<R: Wait>(&self, rt: &R) {
-        let mut core = self.lock(rt);
-        let ended = core.end_writer();
-        drop(core); // What is woken may call this cell: never under the lock.
-        if let Ok(woken) = ended {
+        let mut core = self.step(rt);
+        let ended = core.state.end_writer();
+        if let Ok(woken) = end(core, Held::of(ended)) {
             woken.wake_all();
         }
     }
 }
 
-/// Releases the lock, wakes what a call of the state handed out, and returns its answer. What is
-/// woken, and what the caller drops then, may call the state: never under the lock.
+/// Ends the step, wakes what a call of the state handed out, and returns its answer.
 #[inline(always)]
-fn unlock_and_wake<T: Drop, A, E>(
+fn end_written<T: Drop, A, E>(
     core: Locked<'_, T>,
     written: Result<(A, Wakers<TaskWaker>), E>,
 ) -> Result<A, E>
     ensures answers { IfOk written (λ out. result ≡ Ok out.0) }
     ensures refused { IfErr written (λ back. result ≡ Err back) }
 {
-    drop(core);
-    let (answer, woken) = written?;
+    let (answer, woken) = end(core, Held::of(written))?;
     woken.wake_all();
     Ok(answer)
 }

@@ -95,14 +95,20 @@ impl<T: Clone, R: Wait + Drop, F: FnMut(&T) -> bool + Drop> Future for WaitFor<'
     {
         let follower = &mut *self.follower;
         let cell = follower.cell.as_ref();
-        let core = match cell.poll_unseen(self.looked_at, &mut self.place, cx, &follower.rt) {
-            Poll::Ready(Ok(core)) => core,
-            Poll::Ready(Err(why)) => return Poll::Ready(Err(why)),
-            Poll::Pending => return Poll::Pending,
-        };
-        let (version, value) = core.read();
+        let core = cell.lock(&follower.rt);
+        let state = &*core;
+        if !state.is_unseen(self.looked_at) {
+            drop(core);
+            return match cell.poll_unseen(self.looked_at, &mut self.place, cx, &follower.rt) {
+                Poll::Ready(Err(why)) => Poll::Ready(Err(why)),
+                Poll::Ready(Ok(_)) => cx.yield_now(), // It was written meanwhile.
+                Poll::Pending => Poll::Pending,
+            };
+        }
+        self.place.forget();
+        let (version, value) = state.read();
         if (self.predicate)(value) {
-            let copy = core.get();
+            let copy = state.get();
             drop(core);
             return match copy {
                 Ok((_, value)) => {
@@ -113,14 +119,12 @@ impl<T: Clone, R: Wait + Drop, F: FnMut(&T) -> bool + Drop> Future for WaitFor<'
                 Err(why) => Poll::Ready(Err(why)),
             };
         }
-        let polled = match cell.poll_locked(core, version, &mut self.place, cx, &follower.rt) {
+        drop(core);
+        let polled = match cell.poll_unseen(version, &mut self.place, cx, &follower.rt) {
             // Nothing is marked, so the next poll looks at this state again.
             Poll::Ready(Err(Refusal::Memory)) => return Poll::Ready(Err(Refusal::Memory)),
             Poll::Ready(Err(why)) => Poll::Ready(Err(why)),
-            Poll::Ready(Ok(core)) => {
-                drop(core);
-                cx.yield_now() // It was written while the waker was renewed.
-            }
+            Poll::Ready(Ok(_)) => cx.yield_now(), // It was written meanwhile.
             Poll::Pending => Poll::Pending,
         };
         self.looked_at = version;

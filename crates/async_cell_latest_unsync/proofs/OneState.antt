@@ -1,9 +1,9 @@
 -- What is found of one state.
-use Rattle.std.proofs.Common.{◌≡◌, ◌≢◌, ℕ, Result, Ok, Err, IfOk, sym}
+use Rattle.std.proofs.Common.{◌≡◌, ℕ, Result, Ok, Err, IfOk}
 use Rattle.async_cell_model.specs.declared.refusal.Refusal.{Refusal}
 use Rattle.async_cell_wakers.specs.declared.task_waker.TaskWaker.{TaskWaker}
 use Rattle.async_cell_latest.specs.State.{State}
-use Rattle.async_cell_latest_unsync.specs.Seen.{OfOneState}
+use Rattle.async_cell_latest.specs.OneState.{OfOneState}
 
 module _ {T : Type 0} (is_clone : T → T → Type 0) (s : State T TaskWaker) where
   -- a clone of its value beside its version
@@ -13,11 +13,3 @@ module _ {T : Type 0} (is_clone : T → T → Type 0) (s : State T TaskWaker) wh
       → IfOk copy (λ it. OfOneState it.0 (λ s. is_clone s.value it.1))
   shown (Ok it) version clones = (s, version, clones)
   shown (Err why) version clones = tt
-
-  -- the same, of a state that was not seen
-  pub shown_unseen : {seen : ℕ} (copy : Result (ℕ × T) Refusal) → seen ≢ s.version
-      → IfOk copy (λ it. it.0 ≡ s.version)
-      → IfOk copy (λ it. is_clone s.value it.1)
-      → IfOk copy (λ it. OfOneState it.0 (λ s. (s.version ≢ seen) × is_clone s.value it.1))
-  shown_unseen (Ok it) unseen version clones = (s, version, (λ same. unseen (sym same), clones))
-  shown_unseen (Err why) unseen version clones = tt

@@ -1,14 +1,10 @@
 -- What a follower has seen.
-use Rattle.std.specs.Prelude.{◌≡◌, ℕ}
 use Rattle.async_cell_wakers.specs.declared.task_waker.TaskWaker.{TaskWaker}
 use Rattle.async_cell_latest.specs.State.{State}
+use Rattle.async_cell_latest.specs.OneState.{OfOneState}
 use Rattle.async_cell_latest_unsync.specs.declared.follower.Follower.{Follower}
 
 module _ {T : Type 0} where
-  -- P holds of a state that has this version: of one and the same state
-  abbrev pub OfOneState : ℕ → (State T TaskWaker → Type 0) → Type 0
-  OfOneState version P = (s : State T TaskWaker) × (version ≡ s.version) × P s
-
   -- P holds of a state that the follower has marked as seen: of its version and its value
   abbrev pub HasSeen : Follower T → (State T TaskWaker → Type 0) → Type 0
   HasSeen follower P = OfOneState follower.seen P

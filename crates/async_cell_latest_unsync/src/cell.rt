@@ -3,18 +3,18 @@ ghost use Rattle.std.specs.Prelude.{◌≡◌, ◌⊎◌, IfErr};
 
 mod changes;
 mod late;
+mod lent;
 mod looks;
 mod places;
 mod polls;
 
 use async_cell_latest::{Latest, Refusal, TaskWaker};
+use async_cell_waiting::{Held, end};
 use futures::task::Source;
 use late::Late;
+use lent::Lent;
 use std::alloc::Global;
-use std::cell::{Cell, RefCell, RefMut};
-
-/// A state that is borrowed for one step.
-pub(crate) type Lent<'a, T> = RefMut<'a, Latest<T, TaskWaker>>;
+use std::cell::{Cell, RefCell};
 
 /// A state of one thread. Owners and followers point to it.
 #[derive(Drop)]
@@ -42,7 +42,14 @@ impl<T: Drop> LatestCell<T> {
     /// other steps call nothing that could call the cell.
     #[inline(always)]
     fn lend(&self) -> Option<Lent<'_, T>> {
-        self.core.try_borrow_mut().ok()
+        let state = self.core.try_borrow_mut().ok()?;
+        Some(Lent { state })
+    }
+
+    /// Returns whether a look or a change in place is running.
+    #[inline(always)]
+    fn is_lent(&self) -> bool {
+        self.core.try_borrow_mut().is_err()
     }
 
     /// Sets the value, wakes all waiters and returns the old value. During a look or a change, and
@@ -53,9 +60,8 @@ impl<T: Drop> LatestCell<T> {
         let Some(mut core) = self.lend() else {
             return Err(value);
         };
-        let written = core.write(value);
-        drop(core); // What is woken or dropped may call this cell: never while the core is lent.
-        let (old, woken) = written?;
+        let written = core.state.write(value);
+        let (old, woken) = end(core, Held::of(written))?;
         woken.wake_all();
         Ok(old)
     }
@@ -66,7 +72,7 @@ impl<T: Drop> LatestCell<T> {
         let Err(value) = self.replace(value) else {
             return;
         };
-        if self.lend().is_none() {
+        if self.is_lent() {
             self.late.write(value);
         }
     }
@@ -77,7 +83,8 @@ impl<T: Drop> LatestCell<T> {
             (why ≡ Refusal.Closed) ⊎ (why ≡ Refusal.OwnersFull)) }
     {
         let mut core = self.lend().ok_or(Refusal::Closed)?;
-        core.add_writer()
+        let added = core.state.add_writer();
+        end(core, Held::of(added))
     }
 
     /// Ends one owner. The last one closes the state, which stays, and wakes all waiters. During a
@@ -87,9 +94,8 @@ impl<T: Drop> LatestCell<T> {
             self.late.end_owner();
             return;
         };
-        let ended = core.end_writer();
-        drop(core); // What is woken may call this cell: never while the core is lent.
-        if let Ok(woken) = ended {
+        let ended = core.state.end_writer();
+        if let Ok(woken) = end(core, Held::of(ended)) {
             woken.wake_all();
         }
     }

@@ -30,11 +30,8 @@ impl<T: Drop, R: Wait> Follower<T, R> {
         ensures of_this { cell_followed self.new ≡ cell_followed self.old }
         ensures refused { IfReady result FailsWithMemoryOrClosed }
     {
-        let cell = self.cell.as_ref();
-        match cell.poll_unseen(self.seen, place, cx, &self.rt) {
-            Poll::Ready(Ok(core)) => {
-                let version = core.version();
-                drop(core);
+        match self.cell.poll_unseen(self.seen, place, cx, &self.rt) {
+            Poll::Ready(Ok(version)) => {
                 self.seen = version;
                 Poll::Ready(Ok(()))
             }
@@ -62,20 +59,13 @@ impl<T: Drop, R: Wait> Follower<T, R> {
         ensures of_this { cell_followed self.new ≡ cell_followed self.old }
         ensures refused { IfReady result FailsWithMemoryOrClosed }
     {
-        let cell = self.cell.as_ref();
-        let core = match cell.poll_unseen(self.seen, place, cx, &self.rt) {
-            Poll::Ready(Ok(core)) => core,
-            Poll::Ready(Err(why)) => return Poll::Ready(Err(why)),
-            Poll::Pending => return Poll::Pending,
-        };
-        let copy = core.get();
-        drop(core);
-        match copy {
-            Ok((version, value)) => {
+        match self.cell.poll_get(self.seen, place, cx, &self.rt) {
+            Poll::Ready(Ok((version, value))) => {
                 self.seen = version;
                 Poll::Ready(Ok(value))
             }
-            Err(why) => Poll::Ready(Err(why)),
+            Poll::Ready(Err(why)) => Poll::Ready(Err(why)),
+            Poll::Pending => Poll::Pending,
         }
     }
 

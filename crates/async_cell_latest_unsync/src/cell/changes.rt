@@ -6,6 +6,7 @@ ghost use Rattle.async_cell_model.specs.Refusal.{FailsWithClosed};
 
 use super::LatestCell;
 use async_cell_latest::Refusal;
+use async_cell_waiting::{Held, end};
 
 impl<T: Drop> LatestCell<T> {
     /// Calls the closure on the value, which it may change, and wakes all waiters. Fails with
@@ -20,10 +21,9 @@ impl<T: Drop> LatestCell<T> {
         ensures refused { FailsWithClosed result }
     {
         let mut core = self.lend().ok_or(Refusal::Closed)?;
-        self.changing.set(core.version());
-        let changed = core.modify(change);
-        drop(core); // What is woken may call this cell: never while the core is lent.
-        let (answer, woken) = changed?;
+        self.changing.set(core.state.version());
+        let changed = core.state.modify(change);
+        let (answer, woken) = end(core, Held::of(changed))?;
         woken.wake_all();
         self.settle();
         Ok(answer)
@@ -39,10 +39,9 @@ impl<T: Drop> LatestCell<T> {
         ensures refused { FailsWithClosed result }
     {
         let mut core = self.lend().ok_or(Refusal::Closed)?;
-        self.changing.set(core.version());
-        let changed = core.modify_if(change);
-        drop(core); // What is woken may call this cell: never while the core is lent.
-        let woken = changed?;
+        self.changing.set(core.state.version());
+        let changed = core.state.modify_if(change);
+        let woken = end(core, Held::of(changed))?;
         let is_changed = woken.is_some();
         if let Some(woken) = woken {
             woken.wake_all();

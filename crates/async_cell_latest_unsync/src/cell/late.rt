@@ -1,6 +1,7 @@
 //! What is asked for from inside a look or a change, and put off until that ends. It needs no
 //! memory.
 use super::LatestCell;
+use async_cell_waiting::{Waking, end_and_wake};
 use std::cell::Cell;
 
 /// What has been put off.
@@ -63,7 +64,7 @@ impl<T: Drop> LatestCell<T> {
     /// Does what was put off during the look or the change that has ended, unless another look
     /// still runs.
     pub(crate) fn settle(&self) {
-        if !self.late.is_due.get() || self.lend().is_none() {
+        if !self.late.is_due.get() || self.is_lent() {
             return;
         }
         self.late.is_due.set(false);
@@ -86,8 +87,7 @@ impl<T: Drop> LatestCell<T> {
         let Some(mut core) = self.lend() else {
             return;
         };
-        let woken = core.hand_out();
-        drop(core); // What is woken may call this cell: never while the core is lent.
-        woken.wake_all();
+        let woken = core.state.hand_out();
+        end_and_wake(core, Waking::of((), woken));
     }
 }

@@ -3,10 +3,11 @@
 ghost use Rattle.std.specs.Prelude.{◌≢◌, IfSome, IfOk};
 ghost use Rattle.std.specs.Fn.{FnOnceReturnsAt};
 ghost use Rattle.async_cell_model.specs.Refusal.{FailsWithMemory, FailsWithMemoryOrClosed};
-ghost use Rattle.async_cell_latest_unsync.specs.Seen.{OfOneState};
+ghost use Rattle.async_cell_latest.specs.OneState.{OfOneState};
 
 use super::LatestCell;
-use async_cell_latest::{Latest, Refusal, TaskWaker};
+use async_cell_latest::{Latest, Refusal, TaskWaker, UnseenState};
+use async_cell_waiting::Query;
 use std::cell::Ref;
 
 impl<T: Drop> LatestCell<T> {
@@ -82,17 +83,10 @@ impl<T: Drop> LatestCell<T> {
         ensures refused { IfSome result FailsWithMemoryOrClosed }
     {
         let core = self.glance()?;
-        let state = &*core;
-        if state.is_unseen(seen) {
-            let copy = state.get();
-            drop(core);
-            self.settle();
-            Some(copy)
-        } else if state.is_closed() {
-            Some(Err(Refusal::Closed))
-        } else {
-            None
-        }
+        let found = UnseenState(seen).look(&core);
+        drop(core);
+        self.settle();
+        found
     }
 
     /// Returns the version: during a change, that of the state that is being changed.

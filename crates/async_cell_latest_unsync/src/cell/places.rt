@@ -2,21 +2,15 @@
 //! none is dropped while the core is lent.
 use super::LatestCell;
 use async_cell_latest::Place;
+use async_cell_waiting::OneThread;
 
 impl<T: Drop> LatestCell<T> {
     /// Lets go of all wakers that dropped futures left, after a look if one runs. The task of each
     /// is polled once more. Futures that still wait keep their wakers.
     pub(crate) fn purge(&self) {
-        if self.lend().is_none() {
-            self.late.purge();
-            return;
-        }
-        for index in 0..self.waiting() {
-            let left = match self.lend() {
-                Some(mut core) => core.take_left(index),
-                None => None,
-            };
-            drop(left);
+        match self.is_lent() {
+            true => self.late.purge(),
+            false => async_cell_waiting::purge(self, &OneThread),
         }
     }
 
@@ -47,19 +41,11 @@ impl<T: Drop> LatestCell<T> {
     /// Leaves the place of a future that is cancelled, and lets go of its waker: after a look, if
     /// one runs, by a purge.
     pub(crate) fn cancel(&self, place: Place) {
-        if !place.was_held() {
-            return;
-        }
-        let Some(mut core) = self.lend() else {
+        if !self.is_lent() {
+            async_cell_waiting::cancel(self, place, &OneThread);
+        } else if place.was_held() {
             self.leave_held(place);
             self.late.purge();
-            return;
-        };
-        let left = match core.leave(place) {
-            Some(index) => core.take_left(index),
-            None => None,
-        };
-        drop(core);
-        drop(left);
+        }
     }
 }

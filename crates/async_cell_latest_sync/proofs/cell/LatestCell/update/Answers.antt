@@ -15,7 +15,7 @@ module _ {T O : Type 0} (Called : T → T → Type 0) (old : T) where
   of_err (Err back) result answers refused called = subst (λ r. IfErr r (λ back. (x : T) × Called x back)) (sym refused) (old, called)
 
 pub returns-clause-called : goal.returns-clause-called
-returns-clause-called g c = of_ok (FnOnceReturnsAt g.F.FnOnce c.args.change) c.deref_mut.result.now.value c.update-written.result c.unlock_and_wake.result _ c.unlock_and_wake.ensures.answers c.unlock_and_wake.ensures.refused c.update-written.ensures.gives_old c.update-written.ensures.called
+returns-clause-called g c = of_ok (FnOnceReturnsAt g.F.FnOnce c.args.change) c.deref_mut.result.now.value c.update-written.result c.end_written.result _ c.end_written.ensures.answers c.end_written.ensures.refused c.update-written.ensures.gives_old c.update-written.ensures.called
 
 pub returns-clause-comes_back : goal.returns-clause-comes_back
-returns-clause-comes_back g c = of_err (FnOnceReturnsAt g.F.FnOnce c.args.change) c.deref_mut.result.now.value c.update-written.result c.unlock_and_wake.result c.unlock_and_wake.ensures.answers c.unlock_and_wake.ensures.refused c.update-written.ensures.comes_back
+returns-clause-comes_back g c = of_err (FnOnceReturnsAt g.F.FnOnce c.args.change) c.deref_mut.result.now.value c.update-written.result c.end_written.result c.end_written.ensures.answers c.end_written.ensures.refused c.update-written.ensures.comes_back

@@ -17,12 +17,10 @@ denied calls is_clone p q value (Err why) step found = found
 -- the value that was cloned is the one that the predicate was called on
 pub returns-in-Ok-clause-value : goal.returns-in-Ok-clause-value
 returns-in-Ok-clause-value g c =
-    let value = c.deref-then-predicate.result.now.value in
-    let same : c.read-version.result.1.now ≡ value = cc in
     let called = rw c.if-predicate.true at c.predicate.ensures in (
       tt,
       (
-        value,
+        c.deref-state.result.now.value,
         c.in-Ok.ensures.clones,
         (
           [],
@@ -31,28 +29,48 @@ returns-in-Ok-clause-value g c =
           refl,
           record {
             shown = c.read-version.result.1;
-            shows = same;
+            shows = c.read-version.ensures.gives;
             called = called;
           },
         ),
       ),
     )
 
--- and its version is the one that is marked
 pub returns-in-Ok-clause-of_one_state : goal.returns-in-Ok-clause-of_one_state
 returns-in-Ok-clause-of_one_state g c =
-    let state = c.deref-then-predicate.result.now in
-    let version : c.read-version.result.0 ≡ state.version = cc in
-    let same : c.read-version.result.1.now ≡ state.value = cc in
-    let called = rw c.if-predicate.true at c.predicate.ensures in
-    (state, version, (c.in-Ok.ensures.clones, record { shown = c.read-version.result.1; shows = same; called = called }))
+    let called = rw c.if-predicate.true at c.predicate.ensures in (
+      c.deref-state.result.now,
+      c.read-version.ensures.version,
+      (
+        c.in-Ok.ensures.clones,
+        record {
+          shown = c.read-version.result.1;
+          shows = c.read-version.ensures.gives;
+          called = called;
+        },
+      ),
+    )
 
+-- where it was false, what is found later is found after it
 pub returns-clause-same : goal.returns-clause-same
 returns-clause-same g c =
     let called = rw c.if-predicate.false at c.predicate.ensures in
-    on_pending c.match-poll_locked.polled (λ answer found. denied g.F.FnMut g.T.Clone.is_clone _ c.predicate.new.self c.deref.result.now.value answer (record { shown = c.read-version.result.1; shows = c.read-version.ensures.gives; called = called }) found)
+    on_pending c.match-poll_unseen-3.polled
+    (λ answer. denied g.F.FnMut g.T.Clone.is_clone _ c.predicate.new.self c.deref-state.result.now.value answer record {
+      shown = c.read-version.result.1;
+      shows = c.read-version.ensures.gives;
+      called = called;
+    })
 
 pub returns-clause-looked : goal.returns-clause-looked
 returns-clause-looked g c =
     let called = rw c.if-predicate.false at c.predicate.ensures in
-    on_pending c.match-poll_locked.polled (inr (c.deref.result.now, c.read-version.ensures.version, record { shown = c.read-version.result.1; shows = c.read-version.ensures.gives; called = called }))
+    on_pending c.match-poll_unseen-3.polled (inr (
+      c.deref-state.result.now,
+      c.read-version.ensures.version,
+      record {
+        shown = c.read-version.result.1;
+        shows = c.read-version.ensures.gives;
+        called = called;
+      },
+    ))
