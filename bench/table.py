@@ -38,8 +38,9 @@ The rows:
   one future is polled twice. In the others the futures are made before the first round.
 - weak: the same as Shared for the weak futures of `take_weak` and `get_weak`.
 - Owner: the same as Shared, and each future holds a place, as those of an Owner do.
-- latest: a state that many follow, behind a lock. Its followers are streams, which hold a place; in
-  a fan-out each is polled twice, since it then sees the state.
+- latest_unsync, latest_sync: a state that many follow, of one thread and behind a lock. Its
+  followers are streams, which hold a place; in a fan-out each is polled twice, since it then sees
+  the state.
 - block_on, within: what a set and a take by an Owner cost with that wait around the take, which is
   ready. Of a wait that is not, the time is that of its sleep.
 - bare: what the wakers of `futures` cost without a cell; take it off the rows between.
@@ -58,11 +59,13 @@ KINDS = {
     "unsync": "cells",
     "unsync Shared": "shared",
     "unsync weak": "weak",
+    "unsync Owner": "unsync_owner",
     "sync": "cells",
     "sync Shared": "shared",
     "sync weak": "weak",
     "sync Owner": "owner",
-    "latest": "latest",
+    "latest_unsync": "latest_unsync",
+    "latest_sync": "latest_sync",
     "block_on": "within",
     "within": "within",
     "bare": "cells",
@@ -92,7 +95,7 @@ def applies(kind, workload, waiters):
         return kind in IN_THREADS
     if kind in ("block_on", "within"):
         return workload == "watch"
-    if kind == "latest":
+    if kind.startswith("latest"):
         return workload in ("watch", "fan")
     return waiters <= 1024 or kind not in NAMED_WAKERS
 
@@ -109,8 +112,8 @@ def command(programs, kind, workload, rounds, waiters):
         program = "threads"
     elif workload == "stream" and program == "cells":
         program = "servers"
-    return [os.path.join(programs, program), kind.replace(" ", "-"), workload, str(rounds),
-            str(waiters)]
+    words = [program, kind.replace(" ", "-"), workload, str(rounds), str(waiters)]
+    return [os.path.join(programs, program), *words]
 
 
 def instructions(programs, kind, workload, waiters):
@@ -140,7 +143,8 @@ def nanoseconds(programs, kind, workload, waiters, rounds, repeats):
 
 def timed(programs, kind):
     """Runs the slots that are handed over, of one kind, and returns the nanoseconds of a run."""
-    run = output_of(os.path.join(programs, "handed"), kind, "handed", str(HANDED_ROUNDS), "1")
+    words = ["handed", kind, "handed", str(HANDED_ROUNDS), "1"]
+    run = output_of(os.path.join(programs, "handed"), *words)
     counted, taken = map(int, run.stdout.split())
     if counted != HANDED_ROUNDS * (HANDED_ROUNDS - 1) // 2:
         raise SystemExit(f"bench: {kind} handed: counted {counted}")

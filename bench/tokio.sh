@@ -12,7 +12,7 @@ bash "$top/scripts/examples.sh" --lay-out "$work/project"
 crate="$work/project/crates/tokio_bench"
 mkdir -p "$crate/src"
 for text in "$top"/bench/tokio/*.txt; do
-    cp "$text" "$crate/src/$(basename "$text" .txt).rt"
+    cp "$text" "$crate/src/$(basename "$text" .txt)"
 done
 echo 'tokio_bench: anyhow async_cell_sync futures tokio' >>"$work/project/crates.txt"
 if ! (cd "$crate" && rt run -- nothing 1 1 1) >"$work/log" 2>&1 </dev/null; then
