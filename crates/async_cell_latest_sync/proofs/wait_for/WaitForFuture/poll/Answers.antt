@@ -1,4 +1,4 @@
-use Rattle.std.proofs.Common.{◌≡◌, inr, [], ◌∷◌, Ok, Err, Bool, false, refl}
+use Rattle.std.proofs.Common.{inr, [], ◌∷◌, Ok, Err, Bool, false, refl}
 use Rattle.std.specs.Prelude.{Result}
 use Rattle.std.specs.Borrow.{Bor}
 use Rattle.std.specs.Fn.{Mut, CalledAt}
