@@ -39,10 +39,11 @@ where
     let start = Instant::now(rt)?;
     let napper = Napper::new(rt)?;
     for _ in 0..u64::MAX {
+        let is_last = start.elapsed(rt)? >= limit;
         if let Poll::Ready(output) = napper.poll(future) {
             return Ok(Some(output));
         }
-        if start.elapsed(rt)? >= limit {
+        if is_last {
             return Ok(None);
         }
         napper.nap_until_woken(rt, start, limit)?;
