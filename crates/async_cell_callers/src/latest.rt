@@ -34,8 +34,14 @@ fn changes(rt: HostRuntime) -> Result<()> {
         "latest: modify {:?}",
         latest.modify(|value| mem::replace(value, 7))
     )?;
-    println!(rt; "latest: modify_if {:?}", latest.modify_if(|value| *value != 7))?;
-    println!(rt; "latest: modify_if {:?}", latest.modify_if(|value| *value == 7))?;
+    println!(rt;
+        "latest: modify_if {:?}",
+        latest.modify_if(|value| *value != 7)
+    )?;
+    println!(rt;
+        "latest: modify_if {:?}",
+        latest.modify_if(|value| *value == 7)
+    )?;
     println!(rt;
         "latest: is_unseen {} {}",
         latest.is_unseen(3),
