@@ -252,7 +252,7 @@ def settle(project, needed):
         if (project / name).exists():
             print(f"# {name} {'has to be' if name == 'HANDLES' else 'has to get'}\n{text}")
         else:
-            head = "# What each crate stands on, lowest first.\n" if name == "crates.txt" else ""
+            head = "# What each crate stands on, in any order.\n" if name == "crates.txt" else ""
             (project / name).write_text(f"{head}{text}\n")
             print(f"# {name} was not there, and was written\n{text}")
 
