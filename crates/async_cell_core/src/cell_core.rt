@@ -6,6 +6,7 @@ ghost use Rattle.async_cell_model.specs.History.{IsSound};
 ghost use Rattle.async_cell_core.specs.IsStep.{IsStep, replies, set_answer, replace_answer, update_answer, done_answer};
 
 mod debug;
+mod fast;
 mod internal;
 mod owners;
 mod places;

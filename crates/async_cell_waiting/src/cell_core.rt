@@ -7,7 +7,7 @@ ghost use Rattle.async_cell_model.specs.Refusal.{FailsWithClosed, FailsWithMemor
 mod looks;
 mod waits;
 
-use crate::ended::{Held, Waking};
+use crate::ended::{Held, Waking, WakingOne};
 use async_cell_core::{Core, Poll, Refusal, Wakes, end_guard};
 pub use waits::{Cloning, Taking};
 
@@ -67,6 +67,15 @@ impl<T: Drop, W: Wakes> CellCore<T, W> {
         ensures comes_back { IfErr result.answer (λ back. back ≡ value) }
     {
         Waking::of_result(self.core.replace(value))
+    }
+
+    /// Holds nothing in the answer: the value filled the cell.
+    #[inline(always)]
+    pub(crate) fn fill_first(&mut self, value: T) -> Result<WakingOne<(), W>, T>
+        ensures comes_back { IfErr result (λ back. back ≡ value) }
+    {
+        let first = self.core.fill_first(value)?;
+        Ok(WakingOne::of((), first))
     }
 
     #[inline(always)]
@@ -178,6 +187,17 @@ impl<T: Drop, W: Wakes> CellCore<T, W> {
             (why ≡ Refusal.Closed) ⊎ (why ≡ Refusal.OwnersFull)) }
     {
         Held::of(self.core.add_owner())
+    }
+
+    #[inline(always)]
+    pub(crate) fn end_other(&mut self) -> bool {
+        self.core.end_other()
+    }
+
+    #[inline(always)]
+    pub(crate) fn close_first(&mut self) -> Option<WakingOne<Option<T>, W>> {
+        let (value, first) = self.core.close_first()?;
+        Some(WakingOne::of(value, first))
     }
 
     #[inline(always)]

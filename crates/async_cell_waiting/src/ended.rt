@@ -14,12 +14,18 @@ pub struct Held<X> {
     answer: X,
 }
 
-/// What came out of a core during a step: an answer, and wakers to be woken. It is not `Drop` and
-/// must be consumed: by `end_and_wake`, which wakes the wakers and returns the answer.
+/// What came out of a core during a step: an answer, and the wakers to be woken. It is not `Drop`
+/// and must be consumed: by `end_and_wake`, which wakes the wakers and returns the answer.
 pub struct Waking<X, W> {
     answer: X,
     /// `None` if nobody is to be woken.
     woken: Option<Wakers<W>>,
+}
+
+/// `Waking`, of at most one waker. It must be consumed by `end_and_wake_one`.
+pub struct WakingOne<X, W> {
+    answer: X,
+    woken: Option<W>,
 }
 
 /// Ends the step: gives the core back, and returns what was held.
@@ -41,6 +47,19 @@ pub fn end_and_wake<G: Step, X, W: Wakes>(core: G, out: Waking<X, W>) -> X
     let Waking { answer, woken } = out;
     if let Some(woken) = woken {
         woken.wake_all();
+    }
+    answer
+}
+
+/// `end_and_wake`, of at most one waker.
+#[inline(always)]
+pub fn end_and_wake_one<G: Step, X, W: Wakes>(core: G, out: WakingOne<X, W>) -> X
+    ensures answers { result ≡ out.answer }
+{
+    core.release();
+    let WakingOne { answer, woken } = out;
+    if let Some(waker) = woken {
+        waker.wake();
     }
     answer
 }
@@ -111,6 +130,16 @@ impl Held<TaskWaker> {
     {
         let Held { answer: waker } = self;
         room.store(place, waker)
+    }
+}
+
+impl<X, W> WakingOne<X, W> {
+    /// Holds an answer of a call of the core, with the waker that it handed out, if any.
+    #[inline(always)]
+    pub fn of(answer: X, woken: Option<W>) -> Self
+        ensures { result.answer ≡ answer }
+    {
+        WakingOne { answer, woken }
     }
 }
 

@@ -15,7 +15,7 @@ mod store;
 mod with;
 
 pub use cell_core::{CellCore, Cloning, Taking};
-pub use ended::{Held, Waking, end, end_and_wake, open_holding};
+pub use ended::{Held, Waking, WakingOne, end, end_and_wake, end_and_wake_one, open_holding};
 pub use lent::{Lender, Lent};
 pub use locked::{Lock, Locked};
 pub use places::{cancel, leave, purge, waiting};

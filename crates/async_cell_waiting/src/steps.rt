@@ -4,7 +4,7 @@ ghost use Rattle.async_cell_model.specs.History.{IsSound};
 ghost use Rattle.async_cell_model.specs.Refusal.{FailsWithClosed, FailsWithMemory};
 
 use crate::cell_core::CellCore;
-use crate::ended::{end, end_and_wake};
+use crate::ended::{Held, end, end_and_wake, end_and_wake_one};
 use crate::store::{Step, Store};
 use async_cell_core::{Poll, Refusal, Wakes};
 
@@ -66,8 +66,16 @@ where
             let old = core.core().overwrite(value); // Nobody waits on a cell with a value.
             return Ok(Some(end(core, old)?));
         }
-        let replaced = core.core().replace(value);
-        end_and_wake(core, replaced)
+        match core.core().fill_first(value) {
+            Ok(filled) => {
+                end_and_wake_one(core, filled);
+                Ok(None)
+            }
+            Err(value) => {
+                let replaced = core.core().replace(value);
+                end_and_wake(core, replaced)
+            }
+        }
     }
 
     /// Sets the value and wakes all waiters, if the cell holds no value. Drops `value` otherwise.
@@ -168,9 +176,8 @@ where
         ensures refused { FailsWithClosed result }
     {
         let mut core = self.store.open(self.rt).ok_or(Refusal::Closed)?;
-        if core.peek().owners() > 1 {
-            let ended = core.core().end_owner(); // Nobody is woken, and nothing comes out.
-            end_and_wake(core, ended)?;
+        if core.core().end_other() {
+            end(core, Held::of(()));
             return Ok(());
         }
         end_last(core)
@@ -230,8 +237,13 @@ where
     W: Wakes,
     ensures refused { FailsWithClosed result }
 {
-    let ended = core.core().end_owner();
-    let value = end_and_wake(core, ended)?;
+    let value = match core.core().close_first() {
+        Some(closed) => end_and_wake_one(core, closed),
+        None => {
+            let ended = core.core().end_owner();
+            end_and_wake(core, ended)?
+        }
+    };
     drop(value);
     Ok(())
 }

@@ -1,3 +1,4 @@
 pub mod Lacking
 pub mod Named
+pub mod Place
 pub mod WaitList

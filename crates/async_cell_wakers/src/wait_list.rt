@@ -1,5 +1,6 @@
-ghost use Rattle.std.specs.Prelude.{◌≡◌, ◌<◌, ◌≤◌, ◌-◌, [], ◌∷◌, ◌++◌, length, IsTrue, IsOk, IfErr, OnOk, OnErr, ◌↔◌};
+ghost use Rattle.std.specs.Prelude.{◌≡◌, ◌≢◌, ◌<◌, ◌≤◌, ◌-◌, [], ◌∷◌, ◌++◌, length, IsTrue, IsOk, IfErr, IfSome, IfNone, OnSome, OnOk, OnErr, ◌↔◌};
 ghost use Rattle.async_cell_model.specs.WaitList.{skips};
+ghost use Rattle.async_cell_wakers.specs.WaitList.{first_then};
 
 mod places;
 
@@ -22,7 +23,7 @@ pub struct WaitList<W> {
     free: Cell<usize>,
 }
 
-/// Contracts see the wakers in order of registration, and the room for more.
+/// Contracts see the wakers in order of registration, the room for more, and the round of places.
 impl<W> Model for WaitList<W> {
     ghost use Rattle.std.specs.Prelude.{◌≡◌, ◌-◌, [], None};
     ghost use Rattle.std.specs.Vec.{vec_capacity, vec_len};
@@ -30,8 +31,11 @@ impl<W> Model for WaitList<W> {
 
     ghost Value = { ListState W };
 
-    ghost view = { λ s. record
-        { wakers = first_then s.first s.rest.items; room = vec_capacity s.rest - vec_len s.rest } };
+    ghost view = { λ s. record {
+      wakers = first_then s.first s.rest.items;
+      room = vec_capacity s.rest - vec_len s.rest;
+      round = s.round;
+    } };
 
     ghost invariant = { λ s. s.first ≡ None → s.rest.items ≡ [] };
 }
@@ -39,7 +43,7 @@ impl<W> Model for WaitList<W> {
 impl<W: Drop> WaitList<W> {
     /// Creates an empty list. Allocates nothing; later growth takes its memory from `alloc`.
     pub fn new(alloc: Global) -> Self
-        ensures { result ≡ record { wakers = []; room = 0 } }
+        ensures { result ≡ record { wakers = []; room = 0; round = 1 } }
     {
         WaitList {
             first: None,
@@ -71,6 +75,7 @@ impl<W: Drop> WaitList<W> {
     /// unchanged.
     pub fn reserve(&mut self, additional: usize) -> Result<(), AllocError>
         ensures wakers_stay { self.new.wakers ≡ self.old.wakers }
+        ensures places_stay { self.new.round ≡ self.old.round }
         ensures makes_room { OnOk result (additional ≤ self.new.room) }
         ensures keeps_room { self.old.room ≤ self.new.room }
         ensures room_suffices { additional ≤ self.old.room → IsOk result }
@@ -84,6 +89,7 @@ impl<W: Drop> WaitList<W> {
     pub fn add(&mut self, waker: W) -> Result<(), W>
         ensures added { OnOk result (self.new.wakers ≡ self.old.wakers ++ waker ∷ []) }
         ensures takes_room { OnOk result (self.old.room - 1 ≤ self.new.room) }
+        ensures places_stay { self.new.round ≡ self.old.round }
         ensures unchanged { OnErr result (self.new ≡ self.old) }
         ensures comes_back { IfErr result (λ back. back ≡ waker) }
         ensures first_is_added { self.old.wakers ≡ [] → IsOk result }
@@ -101,32 +107,59 @@ impl<W: Drop> WaitList<W> {
     }
 
     /// Removes all wakers and returns them, in order of registration. Leaves neither wakers nor
-    /// room. Takes constant time and allocates nothing.
+    /// room, and gives up all places. Takes constant time and allocates nothing.
     #[inline(always)]
     pub fn hand_out(&mut self) -> Wakers<W>
         ensures hands_out_all { result ≡ self.old.wakers }
-        ensures leaves_none { self.new ≡ record { wakers = []; room = 0 } }
+        ensures leaves_none { (self.new.wakers ≡ []) × (self.new.room ≡ 0) }
+        ensures gives_up_places { self.new.round ≢ self.old.round }
     {
         if self.rest.capacity() == 0 {
-            self.round = self.round.wrapping_add(1);
-            self.free.set(0);
+            self.give_up_places();
             return Wakers::of(self.first.take());
         }
         self.hand_out_all()
+    }
+
+    /// `hand_out` of a list that has no memory for more than its first waker: returns that one, if
+    /// there is one. Returns `None` if the list has more memory, and changes nothing.
+    #[inline(always)]
+    pub fn hand_out_first(&mut self) -> Option<Option<W>>
+        ensures hands_out_all { IfSome result (λ first. self.old.wakers ≡ first_then first []) }
+        ensures leaves_none { OnSome result ((self.new.wakers ≡ []) × (self.new.room ≡ 0)) }
+        ensures gives_up_places { OnSome result (self.new.round ≢ self.old.round) }
+        ensures unchanged { IfNone result (self.new ≡ self.old) }
+    {
+        if self.rest.capacity() > 0 {
+            return None;
+        }
+        self.give_up_places();
+        Some(self.first.take())
     }
 
     /// `hand_out`. Apart from it, which is then small where no more than one waker waits.
     #[inline(never)]
     fn hand_out_all(&mut self) -> Wakers<W>
         ensures hands_out_all { result ≡ self.old.wakers }
-        ensures leaves_none { self.new ≡ record { wakers = []; room = 0 } }
+        ensures leaves_none { (self.new.wakers ≡ []) × (self.new.room ≡ 0) }
+        ensures gives_up_places { self.new.round ≢ self.old.round }
     {
-        self.round = self.round.wrapping_add(1);
-        self.free.set(0);
+        self.give_up_places();
         let first = self.first.take();
         let none = Vec::new(*self.rest.allocator());
         let rest = mem::replace(&mut self.rest, none);
         Wakers::of_all(first, rest)
+    }
+
+    /// Begins another round, in which no place is free.
+    #[inline(always)]
+    fn give_up_places(&mut self)
+        ensures wakers_stay { self.new.wakers ≡ self.old.wakers }
+        ensures room_stays { self.new.room ≡ self.old.room }
+        ensures another { self.new.round ≢ self.old.round }
+    {
+        self.round = self.round.wrapping_add(1);
+        self.free.set(0);
     }
 }
 
@@ -151,6 +184,7 @@ impl<W: Wakes> WaitList<W> {
     pub fn push(&mut self, waker: &W) -> Result<(), AllocError>
         ensures added { OnOk result (self.new.wakers ≡ self.old.wakers ++ waker.now ∷ []) }
         ensures takes_room { OnOk result (self.old.room - 1 ≤ self.new.room) }
+        ensures places_stay { self.new.round ≡ self.old.round }
         ensures unchanged { OnErr result (self.new.wakers ≡ self.old.wakers) }
         ensures keeps_room { OnErr result (self.old.room ≤ self.new.room) }
         ensures first_is_added { self.old.wakers ≡ [] → IsTrue W.SURE_CLONE → IsOk result }

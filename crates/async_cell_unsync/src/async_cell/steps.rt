@@ -77,7 +77,7 @@ impl<T: Drop> AsyncCell<T> {
         ensures kept { Keeps cx.old cx.new }
         ensures refused { IfReady result FailsWithMemoryOrClosed }
     {
-        match self.poll_take(place, cx) {
+        match poll(&self.core, &self.source, Taking, place, cx, &OneThread) {
             Poll::Ready(Ok(value)) => Poll::Ready(self.copy_back(value)),
             other => other,
         }

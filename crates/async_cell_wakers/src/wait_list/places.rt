@@ -1,7 +1,8 @@
 //! The places of futures in a wait list. A future takes its waker back from its place, and stores
 //! it again; one that is dropped leaves its place free, with the waker in it. The free places form
 //! a list: each has the number of the next one, counted from 1, beside its waker.
-ghost use Rattle.std.specs.Prelude.{◌≡◌, [], ◌∷◌, ◌++◌, IsErr, IfOk, IfErr, OnErr, MatchOption};
+ghost use Rattle.std.specs.Prelude.{◌≡◌, ◌<◌, ◌↔◌, [], ◌∷◌, ◌++◌, length, false, IsSome, IsOk, IfSome, IfOk, OnSome, OnOk, OnErr, MatchOption};
+ghost use Rattle.async_cell_wakers.specs.Place.{Holds};
 
 use super::WaitList;
 use crate::place::Place;
@@ -14,6 +15,8 @@ impl WaitList<TaskWaker> {
     /// if there is neither. The waker may be another task's.
     #[inline(always)]
     pub fn take_back(&mut self, place: &mut Place) -> Option<Waker>
+        ensures held { OnSome result (Holds self.new place.new) }
+        ensures kept { Holds self.old place.old → place.new ≡ place.old }
         ensures unchanged { self.new ≡ self.old }
     {
         if self.is_new(place) {
@@ -35,6 +38,9 @@ impl WaitList<TaskWaker> {
         ensures stored { IfOk result (λ before. MatchOption before
             (self.new.wakers ≡ self.old.wakers ++ waker ∷ [])
             (λ _. (self.new ≡ self.old) × (self.old.wakers ≡ [] → ⊥))) }
+        ensures held { OnOk result (Holds self.new place.new) }
+        ensures kept { Holds self.old place.old → IsOk result × (place.new ≡ place.old) }
+        ensures places_stay { self.new.round ≡ self.old.round }
         ensures unchanged { OnErr result (self.new ≡ self.old) }
     {
         if self.is_new(place) {
@@ -48,7 +54,10 @@ impl WaitList<TaskWaker> {
 
     /// Leaves the place free, also while the list is only looked at. Its waker stays there: to drop
     /// it would wake the task. Returns the index of the place, unless it was given up.
-    pub fn leave(&self, place: Place) -> Option<usize> {
+    pub fn leave(&self, place: Place) -> Option<usize>
+        ensures held { IsSome result ↔ Holds self.now place }
+        ensures there { IfSome result (λ index. index ≡ place.index) }
+    {
         if !place.is_of(self.round) {
             return None;
         }
@@ -60,6 +69,7 @@ impl WaitList<TaskWaker> {
 
     /// Takes the waker out of the place at `index`, if that place is free.
     pub fn take_left(&mut self, index: usize) -> Option<Waker>
+        ensures in_the_list { OnSome result (index < length self.old.wakers) }
         ensures unchanged { self.new ≡ self.old }
     {
         let stored = self.exchange(index, TaskWaker::taken_out()).ok()?;
@@ -70,7 +80,9 @@ impl WaitList<TaskWaker> {
 
     /// Returns whether a future with this place has to be added: it has none, and none is free.
     #[inline(always)]
-    fn is_new(&self, place: &Place) -> bool {
+    fn is_new(&self, place: &Place) -> bool
+        ensures { Holds self.now place.now → result ≡ false }
+    {
         !place.is_of(self.round) && self.free.get() == 0
     }
 
@@ -83,6 +95,8 @@ impl WaitList<TaskWaker> {
     ) -> Result<Option<TaskWaker>, TaskWaker>
         ensures stored { IfOk result (λ before. MatchOption before
             (self.new.wakers ≡ self.old.wakers ++ waker ∷ []) (λ _. ⊥)) }
+        ensures held { OnOk result (Holds self.new place.new) }
+        ensures places_stay { self.new.round ≡ self.old.round }
         ensures unchanged { OnErr result (self.new ≡ self.old) }
     {
         let index = self.len();
@@ -95,8 +109,9 @@ impl WaitList<TaskWaker> {
     /// there. If there is neither, the waker is returned in the error.
     #[inline(never)]
     fn exchange_at(&mut self, place: &mut Place, waker: TaskWaker) -> Result<TaskWaker, TaskWaker>
+        ensures held { OnOk result (Holds self.new place.new) }
+        ensures kept { Holds self.old place.old → IsOk result × (place.new ≡ place.old) }
         ensures unchanged { self.new ≡ self.old }
-        ensures not_in_an_empty_list { self.old.wakers ≡ [] → IsErr result }
     {
         if place.is_of(self.round) {
             return self.exchange(place.index(), waker);
@@ -113,7 +128,9 @@ impl WaitList<TaskWaker> {
 
 impl<W: Drop> WaitList<W> {
     /// Returns the waker at `index`, if there is one.
-    fn at(&self, index: usize) -> Option<&W> {
+    fn at(&self, index: usize) -> Option<&W>
+        ensures in_the_list { IsSome result ↔ (index < length self.now.wakers) }
+    {
         match index.checked_sub(1) {
             None => self.first.as_ref(),
             Some(index) => self.rest.get(index),
@@ -124,8 +141,8 @@ impl<W: Drop> WaitList<W> {
     /// waker is returned in the error. For types of wakers that contracts do not tell apart.
     fn exchange(&mut self, index: usize, waker: W) -> Result<W, W>
         requires { (a b : W) → a ≡ b }
+        ensures in_the_list { IsOk result ↔ (index < length self.old.wakers) }
         ensures unchanged { self.new ≡ self.old }
-        ensures not_in_an_empty_list { self.old.wakers ≡ [] → IsErr result }
     {
         match (index.checked_sub(1), &mut self.first) {
             (None, Some(first)) => Ok(mem::replace(first, waker)),
