@@ -14,8 +14,9 @@ or that it is a copy of lines of a file, in their order, which the gate compiles
 
     <!-- snippet of crates/NAME/src/FILE.rt -->
 
-Imports that a snippet does not have are added by name (`IMPORTS`). What it prints has to be what
-the page says: by the comments `// prints TEXT` in it and around it, or by the text block after it
+A snippet with `use` lines has all that it needs, so that whoever copies it can build it; to one
+without any, and to what stands around it, imports are added by name (`IMPORTS`). What it prints has
+to be what the page says: by the comments `// prints TEXT` in it and around it, or by the text block after it
 that the words `It prints` introduce. The last line is 'N passed, M failed'.
 """
 import os
@@ -29,7 +30,7 @@ import time
 
 TOP = os.path.dirname(os.path.dirname(os.path.abspath(__file__)))
 
-# What a fragment that names one of these may leave out.
+# What a fragment without `use` lines that names one of these may leave out.
 IMPORTS = {
     "anyhow": "Result",
     "async_cell_core": "Edit Named Refusal Wakes",
@@ -94,7 +95,8 @@ class Snippet:
         hoisted = re.findall(r"\buse [\w:]+;", around)
         for use in hoisted:
             before = before.replace(use, "")
-        text = "\n".join([self.text, around, RIGHTS])
+        is_whole = re.search(r"^use ", self.text, re.M) is not None
+        text = "\n".join([around, RIGHTS] if is_whole else [self.text, around, RIGHTS])
         head = [line for line in uses if line] + hoisted
         head += ["use std::thread;"] if re.search(r"\bthread::", text) else []
         taken = re.findall(r"^\s*use .*?;", "\n".join(head + [self.text]), re.M | re.S)

@@ -38,7 +38,8 @@ macro_rules! follower {
         let owner = Owner::new($rt.alloc(), 1u32 $(, $right)?)?;
         let mut follower = owner.follow()?;
         owner.set(2);
-        println!($rt; "follower: has_changed {}, read {}", follower.has_changed(), follower.read()?)?;
+        let changed = follower.has_changed();
+        println!($rt; "follower: has_changed {changed}, read {}", follower.read()?)?;
         println!($rt; "follower: peek {:?}", follower.peek(|value| value.wrapping_mul(2)))?;
         println!($rt; "follower: read_and_update {}", follower.read_and_update()?)?;
         println!($rt; "follower: has_changed {}", follower.has_changed())?;

@@ -99,6 +99,8 @@ macro_rules! guards {
         };
         drop(guard);
         println!($rt; "guard: shared {:?}", owner.try_take())?;
+        drop(owner.guard_shared_or_drop(19)?);
+        println!($rt; "guard: shared_or_drop {:?}", owner.try_take())?;
         Ok(())
     }};
 }

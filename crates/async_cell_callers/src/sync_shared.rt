@@ -23,6 +23,9 @@ fn first_owners<R: Host>(rt: R) -> Result<()> {
         return Err(Refusal::Memory.into());
     };
     println!(rt; "shared: with {:?}", owner.with(rt).try_take())?;
+    let owner = AsyncCell::new_with(rt.alloc(), 4u32).into_shared_or_drop()?;
+    let content = content_of(owner, rt);
+    println!(rt; "shared: into_shared_or_drop {content:?}")?;
     Ok(())
 }
 
@@ -142,6 +145,7 @@ fn told<R: Host>(owner: &Shared<()>, rt: R) -> Result<Polled<()>> {
         Ok(guard) => guard.cancel(&rt),
         Err((why, ())) => return Err(why.into()),
     }
+    owner.guard_shared_or_drop((), &rt)?.release(&rt);
     let waits = owner.wait_shared(&rt)?;
     let polled = task.enter(|cx| waits.poll_shared(cx, &rt));
     waits.0.end(&rt);

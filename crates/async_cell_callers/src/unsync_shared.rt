@@ -18,6 +18,8 @@ fn owners<R: Host>(rt: R) -> Result<()> {
         return Err(Refusal::Memory.into());
     };
     println!(rt; "shared: into_shared {:?}", owner.with().try_take())?;
+    let owner = AsyncCell::new_with(rt.alloc(), 8u32).into_shared_or_drop()?;
+    println!(rt; "shared: into_shared_or_drop {:?}", owner.with().try_take())?;
     Ok(())
 }
 
@@ -33,6 +35,11 @@ fn futures_of<R: Host>(rt: R) -> Result<()> {
     drop(owner.guard_shared(4).ok());
     let take_weak = run(rt, owner.take_weak())?;
     println!(rt; "shared: take_shared {take:?}, take_weak {take_weak:?}")?;
+    drop(owner.guard_shared_or_drop(9)?);
+    println!(rt;
+        "shared: guard_shared_or_drop {:?}",
+        owner.cell().try_take()
+    )?;
     Ok(())
 }
 

@@ -102,6 +102,12 @@ where
         return Err(Refusal::Memory.into());
     };
     println!(rt; "carried: {:?}", carried.entries().last())?;
+    let again = History::carry_or_drop(carried.plain()?)?;
+    println!(rt;
+        "carry_or_drop: begin {}, len {}",
+        again.begin(),
+        again.len()
+    )?;
     Ok(())
 }
 

@@ -127,4 +127,14 @@ impl<T: Copy> History<T> {
         }
         Ok(History { begin, entries })
     }
+
+    /// As `carry`, but drops the plain history if there is no memory, so that `?` serves.
+    pub fn carry_or_drop(old: PlainHistory<T>) -> Result<History<T>, Refusal>
+        ensures entries { IfOk result (λ history. history ≡ with_one_share old) }
+        ensures recorded { IfOk result (λ history. IsRecorded history) }
+        ensures plain { IfOk result (λ history. without_shares history ≡ old) }
+        ensures refused { FailsWithMemory result }
+    {
+        History::carry(old).map_err(|(why, _)| why)
+    }
 }

@@ -18,9 +18,9 @@ use std::sync::Wait;
 /// A cell that threads share. It holds an optional value, and futures wait on it for a value.
 ///
 /// Wakers are woken and values are dropped after the lock is released, so whatever runs then may
-/// call the cell. The closure of an update, the clone of the value and the value's own printing run
-/// while the lock is held: one that calls its own cell waits forever. Dropping a cell does not take
-/// the lock, and wakes all waiters.
+/// call the cell. The closure of an update or a `peek`, the clone of the value and its own printing
+/// run while the lock is held: one that calls its own cell waits forever. Dropping a cell does not
+/// take the lock, and wakes all waiters.
 ///
 /// A future made by `with` holds one place in the wait list while it waits (see `With`), so the
 /// list is no longer than the number of such futures that were alive at once. Each `poll_shared`
@@ -58,6 +58,14 @@ impl<T: Drop> AsyncCell<T> {
         ensures comes_back { IfErr result (λ back. back ≡ (Refusal.Memory, self)) }
     {
         Shared::into_shared(self)
+    }
+
+    /// As `into_shared`, but drops the cell if there is no memory, so that `?` serves.
+    pub fn into_shared_or_drop(self) -> Result<Shared<T>, Refusal>
+        ensures owns { IfOk result (λ owner. cell_of owner ≡ self) }
+        ensures refused { FailsWithMemory result }
+    {
+        self.into_shared().map_err(|(why, _)| why)
     }
 
     /// Sets the value and drops the old one. Wakes all waiters.

@@ -62,6 +62,14 @@ impl<T: Drop> AsyncCell<T> {
         Shared::into_shared(self)
     }
 
+    /// As `into_shared`, but drops the cell if there is no memory, so that `?` serves.
+    pub fn into_shared_or_drop(self) -> Result<Shared<T>, Refusal>
+        ensures owns { IfOk result (λ owner. cell_of owner ≡ self) }
+        ensures refused { FailsWithMemory result }
+    {
+        self.into_shared().map_err(|(why, _)| why)
+    }
+
     /// Sets the value and drops the old one. Wakes all waiters.
     pub fn set(&self, value: T) {
         let _ = Steps::on(&self.core, &OneThread).replace(value);

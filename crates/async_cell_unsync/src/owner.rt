@@ -37,7 +37,8 @@ impl<T: Drop> Shared<T> {
 
 impl<T: Drop> AsyncCell<T> {
     /// Makes the first owner of this cell, as `into_shared` does, with the cell's calls. Fails with
-    /// `Memory`, and then the cell is returned in the error.
+    /// `Memory`, and then the cell is returned in the error. For `?` write `Owner::new_with`, or
+    /// `into_shared_or_drop()?.with()`.
     pub fn into_owner(self) -> Result<Owner<T>, (Refusal, AsyncCell<T>)>
         ensures owns { IfOk result (λ owner. cell_owned owner ≡ self) }
         ensures comes_back { IfErr result (λ back. back ≡ (Refusal.Memory, self)) }

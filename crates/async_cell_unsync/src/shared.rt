@@ -27,7 +27,7 @@ impl<T: Drop> Shared<T> {
     }
 
     /// Makes the first owner of this cell. Fails with `Memory`; the cell is then returned in the
-    /// error.
+    /// error. `AsyncCell::into_shared_or_drop` is the form for `?`.
     pub fn into_shared(cell: AsyncCell<T>) -> Result<Self, (Refusal, AsyncCell<T>)>
         ensures owns { IfOk result (λ owner. cell_of owner ≡ cell) }
         ensures comes_back { IfErr result (λ back. back ≡ (Refusal.Memory, cell)) }
@@ -83,6 +83,15 @@ impl<T: Drop> Shared<T> {
             Ok(owner) => Ok(GuardedCell::new(owner, cancel)),
             Err(why) => Err((why, cancel)),
         }
+    }
+
+    /// As `guard_shared`, but drops the value if it fails, so that `?` serves.
+    pub fn guard_shared_or_drop(&self, cancel: T) -> Result<GuardedCell<T, Self>, Refusal>
+        ensures of_this { IfOk result (λ guard. cell_of guard.pointer ≡ cell_of self.now) }
+        ensures keeps { IfOk result (λ guard. guard.cancel ≡ Some cancel) }
+        ensures refused { IfErr result IsOwnerRefusal }
+    {
+        self.guard_shared(cancel).map_err(|(why, _)| why)
     }
 
     /// Returns a weak pointer to the cell. Nothing is refused here: if the pointer cannot be

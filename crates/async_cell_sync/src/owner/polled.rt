@@ -85,6 +85,16 @@ impl<T: Drop, R: Wait + Copy> Owner<T, R> {
             Err(why) => Err((why, cancel)),
         }
     }
+
+    /// As `guard_shared`, but drops the value if it fails, so that `?` serves.
+    pub fn guard_shared_or_drop(&self, cancel: T) -> Result<Guard<T, Self, R>, Refusal>
+        ensures of_this { IfOk result (λ guard.
+            cell_owned guard.guarded.pointer ≡ cell_owned self.now) }
+        ensures keeps { IfOk result (λ guard. guard.guarded.cancel ≡ cancel) }
+        ensures refused { IfErr result IsOwnerRefusal }
+    {
+        self.guard_shared(cancel).map_err(|(why, _)| why)
+    }
 }
 
 impl<R: Wait + Copy> Owner<(), R> {

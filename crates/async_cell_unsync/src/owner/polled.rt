@@ -83,6 +83,15 @@ impl<T: Drop> Owner<T> {
             Err(why) => Err((why, cancel)),
         }
     }
+
+    /// As `guard_shared`, but drops the value if it fails, so that `?` serves.
+    pub fn guard_shared_or_drop(&self, cancel: T) -> Result<Guard<T, Self>, Refusal>
+        ensures of_this { IfOk result (λ guard. cell_owned guard.pointer ≡ cell_owned self.now) }
+        ensures keeps { IfOk result (λ guard. guard.cancel ≡ Some cancel) }
+        ensures refused { IfErr result IsOwnerRefusal }
+    {
+        self.guard_shared(cancel).map_err(|(why, _)| why)
+    }
 }
 
 impl Owner<()> {
