@@ -70,7 +70,7 @@ impl<T: Drop> AsyncCell<T> {
 
     /// Sets the value and drops the old one. Wakes all waiters.
     pub fn set<R: Wait>(&self, value: T, rt: &R) {
-        let _ = Steps::on(&self.core, rt).set(value);
+        let _ = Steps::on(&self.core, rt).replace(value);
     }
 
     /// Sets the value and wakes all waiters, if the cell holds no value. Drops `value` otherwise.

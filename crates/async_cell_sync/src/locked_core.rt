@@ -27,7 +27,9 @@ impl<T: Drop, W: Wakes> LockedCore<T, W> {
     pub fn set<R: Wait>(&self, value: T, rt: &R) -> Result<(), T>
         ensures comes_back { IfErr result (λ back. back ≡ value) }
     {
-        Steps::on(&self.core, rt).set(value)
+        let old = Steps::on(&self.core, rt).replace(value)?;
+        drop(old);
+        Ok(())
     }
 
     /// Sets the value, wakes all waiters and returns the old value. Fails on a closed cell; the

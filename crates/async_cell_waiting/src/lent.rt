@@ -6,7 +6,7 @@ use crate::room::{Room, Waits};
 use crate::store::{OneThread, Step, Store};
 use async_cell_wakers::Place;
 use futures::task::Waker;
-use std::cell::{RefCell, RefMut};
+use std::cell::{Ref, RefCell, RefMut};
 
 /// A core of one thread.
 #[derive(Drop)]
@@ -25,6 +25,19 @@ impl<C> Lender<C> {
         Lender {
             core: RefCell::new(core),
         }
+    }
+
+    /// Lends the core beside other looks, for one that changes nothing. Returns `None` during a
+    /// step.
+    #[inline(always)]
+    pub fn glance(&self) -> Option<Ref<'_, C>> {
+        self.core.try_borrow().ok()
+    }
+
+    /// Returns whether the core is lent, for a step or a look.
+    #[inline(always)]
+    pub fn is_lent(&self) -> bool {
+        self.core.try_borrow_mut().is_err()
     }
 
     /// Returns the core.
@@ -68,7 +81,7 @@ impl<C> Step for Lent<'_, C> {
 
 impl<C: Room> Waits for Lent<'_, C> {
     #[inline(always)]
-    fn take_back(&mut self, place: &mut Place) -> Option<Held<Waker>> {
+    fn take_back(&mut self, place: &mut Place) -> Held<Option<Waker>> {
         (*self.core).take_back(place)
     }
 }

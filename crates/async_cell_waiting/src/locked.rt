@@ -27,6 +27,16 @@ impl<C> Lock<C> {
         }
     }
 
+    /// Waits for the lock, as `open` does: it is always had.
+    #[inline(always)]
+    pub fn lock<R: Wait>(&self, rt: &R) -> Locked<'_, C> {
+        let core = match self.core.try_lock() {
+            Some(core) => core,
+            None => self.core.lock(rt),
+        };
+        Locked { core }
+    }
+
     /// Returns the core. Does not take the lock.
     pub fn into_inner(self) -> C {
         let Lock { core } = self;
@@ -73,7 +83,7 @@ impl<C> Step for Locked<'_, C> {
 
 impl<C: Room> Waits for Locked<'_, C> {
     #[inline(always)]
-    fn take_back(&mut self, place: &mut Place) -> Option<Held<Waker>> {
+    fn take_back(&mut self, place: &mut Place) -> Held<Option<Waker>> {
         (*self.core).take_back(place)
     }
 }

@@ -49,10 +49,11 @@ where
     let Some(place) = place else {
         return waits(add(core, source, cx));
     };
-    match core.take_back(place) {
-        None => waits(wait_at(core, source, place, cx)),
-        Some(waker) => renew(store, core, waker, source, query, place, cx, rt),
+    if core.peek().is_new(place) {
+        return waits(add_at(core, source, place, cx));
     }
+    let waker = core.take_back(place);
+    renew(store, core, waker, source, query, place, cx, rt)
 }
 
 /// Registers the task, and adds its waker as the last. It is a new waker: so nothing is dropped,
@@ -78,9 +79,9 @@ where
     }
 }
 
-/// `add`, in a place that has no waker: the place is then that of the waker.
-fn wait_at<G, C>(
-    core: G,
+/// `add`, at a new place: that of the waker from then on.
+fn add_at<G, C>(
+    mut core: G,
     source: &Source,
     place: &mut Place,
     cx: &mut Context<'_>,
@@ -94,9 +95,13 @@ where
     ensures kept { Keeps cx.old cx.new }
     ensures refused { FailsWithMemory result }
 {
-    match TaskWaker::register(cx, source) {
-        Some(waker) => put(core, place, Held::of(waker)),
-        None => end(core, Held::of(Err(Refusal::Memory))),
+    let Some(waker) = TaskWaker::register(cx, source) else {
+        return end(core, Held::of(Err(Refusal::Memory)));
+    };
+    let stored = core.core().store_new(place, waker);
+    match end(core, stored) {
+        Ok(()) => Ok(()),
+        Err(_unused) => Err(Refusal::Memory),
     }
 }
 
@@ -116,13 +121,14 @@ where
     }
 }
 
-/// Registers the task with the waker of its place, which was taken out, and stores it again. If it
-/// was another task's, it is dropped, which wakes that task: so no step runs meanwhile.
+/// Registers the task with the waker of its place, which was taken out, if there was one, and stores
+/// it again. If it was another task's, it is dropped, which wakes that task: so no step runs
+/// meanwhile.
 #[inline(never)]
 fn renew<S, G, C, Q, R>(
     store: S,
     core: G,
-    waker: Held<Waker>,
+    waker: Held<Option<Waker>>,
     source: &Source,
     query: Q,
     place: &mut Place,
@@ -140,7 +146,7 @@ where
     ensures kept { Keeps cx.old cx.new }
     ensures refused { IfReady result FailsWithMemoryOrClosed }
 {
-    let mut slot = Some(end(core, waker));
+    let mut slot = end(core, waker);
     let _ = cx.register::<()>(source, &mut slot);
     let Some((mut core, slot)) = open_holding(store, slot, rt) else {
         return cx.yield_now();

@@ -16,9 +16,16 @@ pub trait Room {
     fn add(&mut self, waker: TaskWaker) -> Held<Result<(), TaskWaker>>
         requires { vacant self.old };
 
-    /// Takes the waker out of the place, or out of a free place that is taken over. Returns `None`
-    /// if there is neither. The waker may be another task's.
-    fn take_back(&mut self, place: &mut Place) -> Option<Held<Waker>>
+    /// Returns whether a future with this place has to be added: it has none, and none is free.
+    fn is_new(&self, place: &Place) -> bool;
+
+    /// `add`, at a place: that of the waker from then on.
+    fn store_new(&mut self, place: &mut Place, waker: TaskWaker) -> Held<Result<(), TaskWaker>>
+        requires { vacant self.old };
+
+    /// Takes the waker out of the place, or out of a free place that is taken over. Holds `None` if
+    /// there is neither. The waker may be another task's.
+    fn take_back(&mut self, place: &mut Place) -> Held<Option<Waker>>
         ensures unchanged { self.new ≡ self.old };
 
     /// Stores a waker in the place, in a free place that is taken over, or as the last. Returns the
@@ -45,6 +52,6 @@ pub trait Room {
 /// A room that is lent: the one call after which the text of a poll needs to know the room.
 pub trait Waits: Step {
     /// `Room::take_back`.
-    fn take_back(&mut self, place: &mut Place) -> Option<Held<Waker>>
+    fn take_back(&mut self, place: &mut Place) -> Held<Option<Waker>>
         ensures unchanged { Self.shows self.new ≡ Self.shows self.old };
 }

@@ -42,17 +42,6 @@ where
         Some(core)
     }
 
-    /// Sets the value, drops the old one and wakes all waiters. Fails on a closed cell; the value
-    /// is returned in the error.
-    #[inline]
-    pub fn set(self, value: T) -> Result<(), T>
-        ensures comes_back { IfErr result (λ back. back ≡ value) }
-    {
-        let old = self.replace(value)?;
-        drop(old);
-        Ok(())
-    }
-
     /// Sets the value, wakes all waiters and returns the old value. Fails on a closed cell; the
     /// value is returned in the error.
     #[inline]

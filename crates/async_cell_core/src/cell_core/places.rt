@@ -1,6 +1,6 @@
 //! Internal: may change without notice. The places of waiting futures, and wakers that are never
 //! skipped.
-ghost use Rattle.std.specs.Prelude.{◌≡◌, ◌<◌, [], ◌∷◌, ◌++◌, true, false, IsOk, IfOk, IfErr, OnErr, MatchOption};
+ghost use Rattle.std.specs.Prelude.{◌≡◌, ◌<◌, [], ◌∷◌, ◌++◌, true, false, IsOk, IfOk, IfErr, OnOk, OnErr, MatchOption};
 ghost use Rattle.async_cell_model.specs.Cell.{is_vacant};
 ghost use Rattle.async_cell_core.specs.IsStep.{IsStep, wait_answer};
 
@@ -34,6 +34,30 @@ impl<T: Drop, W: Wakes> Core<T, W> {
 }
 
 impl<T: Drop> Core<T, TaskWaker> {
+    /// Internal: may change without notice.
+    ///
+    /// Returns whether a future with this place has to be added: it has none, and none is free.
+    #[doc(hidden)]
+    #[inline(always)]
+    pub fn is_new(&self, place: &Place) -> bool {
+        self.waiting.is_new(place)
+    }
+
+    /// Internal: may change without notice.
+    ///
+    /// `add`, at a place: that of the waker from then on.
+    #[doc(hidden)]
+    #[inline(always)]
+    #[tactic(auto, using(async_cell_model::proofs::OneMoreWaker::keep_added, async_cell_model::proofs::OneMoreWaker::never_skipped))]
+    pub fn store_new(&mut self, place: &mut Place, waker: TaskWaker) -> Result<(), TaskWaker>
+        requires vacant { is_vacant self.old.cell ≡ true }
+        ensures cell_stays { self.new.cell ≡ self.old.cell }
+        ensures stored { OnOk result (self.new.waiting ≡ self.old.waiting ++ waker ∷ []) }
+        ensures unchanged { OnErr result (self.new ≡ self.old) }
+    {
+        self.waiting.store_new(place, waker)
+    }
+
     /// Internal: may change without notice.
     ///
     /// Takes the waker out of the place, or out of a free place that is taken over. Returns `None`

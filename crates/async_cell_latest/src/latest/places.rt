@@ -37,6 +37,30 @@ impl<T: Drop, W: Wakes> Latest<T, W> {
 impl<T: Drop> Latest<T, TaskWaker> {
     /// Internal: may change without notice.
     ///
+    /// Returns whether a future with this place has to be added: it has none, and none is free.
+    #[doc(hidden)]
+    #[inline(always)]
+    pub fn is_new(&self, place: &Place) -> bool {
+        self.waiting.is_new(place)
+    }
+
+    /// Internal: may change without notice.
+    ///
+    /// `add`, at a place: that of the waker from then on.
+    #[doc(hidden)]
+    #[inline(always)]
+    #[tactic(auto, using(async_cell_model::proofs::OneMoreWaker::keep_added, async_cell_model::proofs::OneMoreWaker::never_skipped))]
+    pub fn store_new(&mut self, place: &mut Place, waker: TaskWaker) -> Result<(), TaskWaker>
+        requires open { is_closed self.old ≡ false }
+        ensures state_stays { Stays self.old self.new }
+        ensures stored { OnOk result (self.new.waiting ≡ self.old.waiting ++ waker ∷ []) }
+        ensures unchanged { OnErr result (self.new ≡ self.old) }
+    {
+        self.waiting.store_new(place, waker)
+    }
+
+    /// Internal: may change without notice.
+    ///
     /// Takes the waker out of the place, or out of a free place that is taken over. Returns `None`
     /// if there is neither. The waker may be another task's.
     #[doc(hidden)]

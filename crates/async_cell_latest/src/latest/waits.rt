@@ -17,8 +17,18 @@ impl<T: Drop> Room for Latest<T, TaskWaker> {
     }
 
     #[inline(always)]
-    fn take_back(&mut self, place: &mut Place) -> Option<Held<Waker>> {
-        Held::of(Latest::take_back(self, place)).each()
+    fn is_new(&self, place: &Place) -> bool {
+        Latest::is_new(self, place)
+    }
+
+    #[inline(always)]
+    fn store_new(&mut self, place: &mut Place, waker: TaskWaker) -> Held<Result<(), TaskWaker>> {
+        Held::of(Latest::store_new(self, place, waker))
+    }
+
+    #[inline(always)]
+    fn take_back(&mut self, place: &mut Place) -> Held<Option<Waker>> {
+        Held::of(Latest::take_back(self, place))
     }
 
     #[inline(always)]

@@ -46,7 +46,7 @@ impl<T: Drop> Step for Locked<'_, T> {
 
 impl<T: Drop> Waits for Locked<'_, T> {
     #[inline(always)]
-    fn take_back(&mut self, place: &mut Place) -> Option<Held<Waker>> {
+    fn take_back(&mut self, place: &mut Place) -> Held<Option<Waker>> {
         Room::take_back(&mut *self.state, place)
     }
 }

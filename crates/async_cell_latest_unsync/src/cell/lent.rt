@@ -45,7 +45,7 @@ impl<T: Drop> Step for Lent<'_, T> {
 
 impl<T: Drop> Waits for Lent<'_, T> {
     #[inline(always)]
-    fn take_back(&mut self, place: &mut Place) -> Option<Held<Waker>> {
+    fn take_back(&mut self, place: &mut Place) -> Held<Option<Waker>> {
         Room::take_back(&mut *self.state, place)
     }
 }

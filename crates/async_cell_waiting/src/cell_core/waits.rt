@@ -18,8 +18,18 @@ impl<T: Drop> Room for CellCore<T, TaskWaker> {
     }
 
     #[inline(always)]
-    fn take_back(&mut self, place: &mut Place) -> Option<Held<Waker>> {
-        Held::of(self.core.take_back(place)).each()
+    fn is_new(&self, place: &Place) -> bool {
+        self.core.is_new(place)
+    }
+
+    #[inline(always)]
+    fn store_new(&mut self, place: &mut Place, waker: TaskWaker) -> Held<Result<(), TaskWaker>> {
+        Held::of(self.core.store_new(place, waker))
+    }
+
+    #[inline(always)]
+    fn take_back(&mut self, place: &mut Place) -> Held<Option<Waker>> {
+        Held::of(self.core.take_back(place))
     }
 
     #[inline(always)]

@@ -11,6 +11,29 @@ use futures::task::Waker;
 use std::mem;
 
 impl WaitList<TaskWaker> {
+    /// Returns whether a future with this place has to be added: it has none, and none is free.
+    #[inline(always)]
+    pub fn is_new(&self, place: &Place) -> bool
+        ensures { Holds self.now place.now → result ≡ false }
+    {
+        !place.is_of(self.round) && self.free.get() == 0
+    }
+
+    /// Stores a waker as the last of the list, which is the place from then on. If there is no
+    /// memory to grow the list, the waker is returned in the error.
+    #[inline(always)]
+    pub fn store_new(&mut self, place: &mut Place, waker: TaskWaker) -> Result<(), TaskWaker>
+        ensures stored { OnOk result (self.new.wakers ≡ self.old.wakers ++ waker ∷ []) }
+        ensures held { OnOk result (Holds self.new place.new) }
+        ensures places_stay { self.new.round ≡ self.old.round }
+        ensures unchanged { OnErr result (self.new ≡ self.old) }
+    {
+        let index = self.len();
+        self.add(waker)?;
+        *place = Place::at(self.round, index);
+        Ok(())
+    }
+
     /// Takes the waker out of the place, or out of a free place that is taken over. Returns `None`
     /// if there is neither. The waker may be another task's.
     #[inline(always)]
@@ -19,9 +42,6 @@ impl WaitList<TaskWaker> {
         ensures kept { Holds self.old place.old → place.new ≡ place.old }
         ensures unchanged { self.new ≡ self.old }
     {
-        if self.is_new(place) {
-            return None;
-        }
         let stored = self.exchange_at(place, TaskWaker::taken_out()).ok()?;
         stored.into_waker()
     }
@@ -43,12 +63,12 @@ impl WaitList<TaskWaker> {
         ensures places_stay { self.new.round ≡ self.old.round }
         ensures unchanged { OnErr result (self.new ≡ self.old) }
     {
-        if self.is_new(place) {
-            return self.store_last(place, waker);
-        }
         match self.exchange_at(place, waker) {
             Ok(before) => Ok(Some(before)),
-            Err(waker) => self.store_last(place, waker),
+            Err(waker) => {
+                self.store_new(place, waker)?;
+                Ok(None)
+            }
         }
     }
 
@@ -76,33 +96,6 @@ impl WaitList<TaskWaker> {
         let (waker, stays) = stored.let_go();
         let _ = self.exchange(index, stays);
         waker
-    }
-
-    /// Returns whether a future with this place has to be added: it has none, and none is free.
-    #[inline(always)]
-    fn is_new(&self, place: &Place) -> bool
-        ensures { Holds self.now place.now → result ≡ false }
-    {
-        !place.is_of(self.round) && self.free.get() == 0
-    }
-
-    /// Stores a waker as the last of the list, which is the place from then on.
-    #[inline(always)]
-    fn store_last(
-        &mut self,
-        place: &mut Place,
-        waker: TaskWaker,
-    ) -> Result<Option<TaskWaker>, TaskWaker>
-        ensures stored { IfOk result (λ before. MatchOption before
-            (self.new.wakers ≡ self.old.wakers ++ waker ∷ []) (λ _. ⊥)) }
-        ensures held { OnOk result (Holds self.new place.new) }
-        ensures places_stay { self.new.round ≡ self.old.round }
-        ensures unchanged { OnErr result (self.new ≡ self.old) }
-    {
-        let index = self.len();
-        self.add(waker)?;
-        *place = Place::at(self.round, index);
-        Ok(None)
     }
 
     /// Stores a waker in the place, or in a free place that is taken over, and returns what was
