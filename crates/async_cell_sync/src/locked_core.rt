@@ -27,7 +27,7 @@ impl<T: Drop, W: Wakes> LockedCore<T, W> {
     pub fn set<R: Wait>(&self, value: T, rt: &R) -> Result<(), T>
         ensures comes_back { IfErr result (λ back. back ≡ value) }
     {
-        let old = Steps::on(&self.core, rt).replace(value)?;
+        let old = self.replace(value, rt)?;
         drop(old);
         Ok(())
     }

@@ -27,9 +27,10 @@ impl<C> Lock<C> {
         }
     }
 
-    /// Waits for the lock, as `open` does: it is always had.
+    /// Waits for the lock.
     #[inline(always)]
     pub fn lock<R: Wait>(&self, rt: &R) -> Locked<'_, C> {
+        // To try first costs less while nobody holds the lock.
         let core = match self.core.try_lock() {
             Some(core) => core,
             None => self.core.lock(rt),
@@ -47,10 +48,9 @@ impl<C> Lock<C> {
 impl<'a, C, R: Wait> Store<R> for &'a Lock<C> {
     type Open = Locked<'a, C>;
 
-    /// Waits for the lock.
     #[inline(always)]
     fn open(self, rt: &R) -> Option<Locked<'a, C>> {
-        // To try first costs less while nobody holds the lock.
+        // As `lock` does: a level of calls less.
         let core = match self.core.try_lock() {
             Some(core) => core,
             None => self.core.lock(rt),

@@ -1,8 +1,12 @@
 -- The places of futures in a wait list.
-use Rattle.std.specs.Prelude.{◌≡◌, ◌<◌, length}
+use Rattle.std.specs.Prelude.{◌≡◌, ◌≢◌, ◌<◌, length}
 use Rattle.async_cell_wakers.specs.WaitList.{ListState}
 use Rattle.async_cell_wakers.specs.declared.place.Place.{Place}
 
 -- the place is one of this list: it was taken in this round, and the list has a waker there
 abbrev pub Holds : {W : Type 0} → ListState W → Place → Type 0
 Holds list place = (place.round ≡ list.round) × (place.index < length list.wakers)
+
+-- each place of the first list is one of an earlier round than the second: it is given up
+abbrev pub GivesUpPlaces : {W : Type 0} → ListState W → ListState W → Type 0
+GivesUpPlaces old new = (place : Place) → Holds old place → place.round ≢ new.round

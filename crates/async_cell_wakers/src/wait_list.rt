@@ -1,5 +1,6 @@
 ghost use Rattle.std.specs.Prelude.{◌≡◌, ◌≢◌, ◌<◌, ◌≤◌, ◌-◌, [], ◌∷◌, ◌++◌, length, IsTrue, IsOk, IfErr, IfSome, IfNone, OnSome, OnOk, OnErr, ◌↔◌};
 ghost use Rattle.async_cell_model.specs.WaitList.{skips};
+ghost use Rattle.async_cell_wakers.specs.Place.{GivesUpPlaces};
 ghost use Rattle.async_cell_wakers.specs.WaitList.{first_then};
 
 mod places;
@@ -112,7 +113,7 @@ impl<W: Drop> WaitList<W> {
     pub fn hand_out(&mut self) -> Wakers<W>
         ensures hands_out_all { result ≡ self.old.wakers }
         ensures leaves_none { (self.new.wakers ≡ []) × (self.new.room ≡ 0) }
-        ensures gives_up_places { self.new.round ≢ self.old.round }
+        ensures gives_up_places { GivesUpPlaces self.old self.new }
     {
         if self.rest.capacity() == 0 {
             self.give_up_places();
@@ -127,14 +128,17 @@ impl<W: Drop> WaitList<W> {
     pub fn hand_out_first(&mut self) -> Option<Option<W>>
         ensures hands_out_all { IfSome result (λ first. self.old.wakers ≡ first_then first []) }
         ensures leaves_none { OnSome result ((self.new.wakers ≡ []) × (self.new.room ≡ 0)) }
-        ensures gives_up_places { OnSome result (self.new.round ≢ self.old.round) }
+        ensures gives_up_places { OnSome result (GivesUpPlaces self.old self.new) }
         ensures unchanged { IfNone result (self.new ≡ self.old) }
     {
         if self.rest.capacity() > 0 {
             return None;
         }
-        self.give_up_places();
-        Some(self.first.take())
+        let first = self.first.take();
+        if first.is_some() {
+            self.give_up_places(); // If nobody waits, no place is held.
+        }
+        Some(first)
     }
 
     /// `hand_out`. Apart from it, which is then small where no more than one waker waits.
@@ -142,7 +146,7 @@ impl<W: Drop> WaitList<W> {
     fn hand_out_all(&mut self) -> Wakers<W>
         ensures hands_out_all { result ≡ self.old.wakers }
         ensures leaves_none { (self.new.wakers ≡ []) × (self.new.room ≡ 0) }
-        ensures gives_up_places { self.new.round ≢ self.old.round }
+        ensures gives_up_places { GivesUpPlaces self.old self.new }
     {
         self.give_up_places();
         let first = self.first.take();
