@@ -2,12 +2,12 @@
 # The whole gate, which CI runs too: a look at the deliberate bugs and at the pages, all tests without
 # a proof, `rt ci`, the check of the script that tries deliberate bugs, the deliberate bugs of bugs/,
 # the built program, also with each request for memory refused, the cases of misuse that must not
-# compile, the first program in a repository of its own, and the snippets of the pages. Prints a line
-# at least every minute, at the end a line for each step with what it has shown and how long it took,
-# and last 'N passed, M failed', with the totals of the tests, of `rt ci` and of the deliberate bugs.
-# A step fails if its status is not 0, or if its last line is not as it has to be. The first one that
-# fails ends the gate, whose status is then not 0. A failure of a step that is not among the totals
-# counts as one.
+# compile, the first program in a repository of its own, the snippets of the pages, and, where there
+# is valgrind, what the calls cost. Prints a line at least every minute, at the end a line for each
+# step with what it has shown and how long it took, and last 'N passed, M failed', with the totals of
+# the tests, of `rt ci` and of the deliberate bugs. A step fails if its status is not 0, or if its
+# last line is not as it has to be. The first one that fails ends the gate, whose status is then not
+# 0. A failure of a step that is not among the totals counts as one.
 set -u
 cd "$(dirname "$0")/.." || exit 1
 work=$(mktemp -d)
@@ -80,11 +80,12 @@ count() {
     finish 1
 }
 
-# The last line of a step that counts, and those of three that do not.
+# The last line of a step that counts, and those of four that do not.
 counts='^([a-z]+: )?[1-9][0-9]* passed, 0 failed$'
 applied='^[1-9][0-9]* deliberate bugs, 0 of which cannot be applied$'
 read='^pages: [1-9][0-9]* read, 0 faults$'
 vendored='^vendor_check: .* runs in a repository of its own: .'
+counted='^count: [1-9][0-9]* counted, 0 rose '
 
 show 'the deliberate bugs can be applied' "$applied" python3 scripts/check_edits.py
 show 'the pages (scripts/pages.py)' "$read" python3 scripts/pages.py
@@ -97,4 +98,10 @@ show 'no memory (scripts/memory.sh)' "$counts" bash scripts/memory.sh
 show 'misuse that must not compile (misuse/check.sh)' "$counts" bash misuse/check.sh
 show 'a project of its own (scripts/vendor_check.sh)' "$vendored" bash scripts/vendor_check.sh
 show 'the snippets of the pages (scripts/snippets.py)' "$counts" python3 scripts/snippets.py
+if command -v valgrind >/dev/null; then
+    show 'what tells a rise in cost (bench/count_check.py)' "$counts" python3 bench/count_check.py
+    show 'what the calls cost (bench/count.py)' "$counted" python3 bench/count.py
+else
+    echo 'gate: what the calls cost is not counted, as there is no valgrind' >>"$work/shown"
+fi
 finish 0

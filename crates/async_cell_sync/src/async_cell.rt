@@ -10,7 +10,7 @@ use crate::guarded_cell::GuardedCell;
 use crate::shared::Shared;
 use crate::take::Take;
 use async_cell_core::{Core, Refusal, TaskWaker};
-use async_cell_waiting::{CellCore, Lock, Steps, purge};
+use async_cell_waiting::{CellCore, Lock, purge};
 use futures::task::Source;
 use std::alloc::Global;
 use std::sync::Wait;
@@ -70,12 +70,12 @@ impl<T: Drop> AsyncCell<T> {
 
     /// Sets the value and drops the old one. Wakes all waiters.
     pub fn set<R: Wait>(&self, value: T, rt: &R) {
-        let _ = Steps::on(&self.core, rt).replace(value);
+        let _ = self.steps(rt).replace(value);
     }
 
     /// Sets the value and wakes all waiters, if the cell holds no value. Drops `value` otherwise.
     pub fn or_set<R: Wait>(&self, value: T, rt: &R) {
-        let _ = Steps::on(&self.core, rt).or_set(value);
+        let _ = self.steps(rt).or_set(value);
     }
 
     /// Sets the value and wakes all waiters, if the cell is open and holds no value. Otherwise
@@ -83,12 +83,12 @@ impl<T: Drop> AsyncCell<T> {
     pub fn try_set<R: Wait>(&self, value: T, rt: &R) -> Result<(), T>
         ensures comes_back { IfErr result (λ back. back ≡ value) }
     {
-        Steps::on(&self.core, rt).try_set(value)
+        self.steps(rt).try_set(value)
     }
 
     /// Sets the value and returns the old one. Wakes all waiters.
     pub fn replace<R: Wait>(&self, value: T, rt: &R) -> Option<T> {
-        let replaced = Steps::on(&self.core, rt).replace(value);
+        let replaced = self.steps(rt).replace(value);
         replaced.unwrap_or(None)
     }
 
@@ -100,7 +100,7 @@ impl<T: Drop> AsyncCell<T> {
         R: Wait,
         requires { F.IsAlwaysCallable change }
     {
-        let _ = Steps::on(&self.core, rt).update(change);
+        let _ = self.steps(rt).update(change);
     }
 
     /// Calls the closure on the value, if there is one, and stores what it returns. No other call
@@ -111,12 +111,12 @@ impl<T: Drop> AsyncCell<T> {
         R: Wait,
         requires { F.IsAlwaysCallable change }
     {
-        let _ = Steps::on(&self.core, rt).update_some(change);
+        let _ = self.steps(rt).update_some(change);
     }
 
     /// Takes the value, if there is one. The waiters stay registered.
     pub fn try_take<R: Wait>(&self, rt: &R) -> Option<T> {
-        Steps::on(&self.core, rt).try_take()
+        self.steps(rt).try_take()
     }
 
     /// Lets go of all wakers that dropped futures left in the cell. The task of each is polled once

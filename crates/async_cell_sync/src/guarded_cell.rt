@@ -33,7 +33,7 @@ impl<T: Drop, C: CellRef<Value = T>> GuardedCell<T, C> {
     /// value. Drops the cancel value otherwise.
     pub fn cancel<R: Wait>(self, rt: &R) {
         let GuardedCell { pointer, cancel } = self;
-        pointer.cell().end_guard(Some(cancel), rt);
+        pointer.cell().steps(rt).end_guard(Some(cancel));
         pointer.leave(rt);
     }
 

@@ -124,7 +124,7 @@ impl<T: Drop> Shared<T> {
     pub fn try_into_inner<R: Wait>(self, rt: &R) -> Result<Option<T>, Self>
         ensures comes_back { IfErr result (λ back. back ≡ self) }
     {
-        match self.cell.take_inner(rt) {
+        match self.cell.steps(rt).take_inner() {
             Err(Refusal::StillShared) => Err(self),
             taken => {
                 let Shared { cell: _ } = self;
@@ -136,7 +136,7 @@ impl<T: Drop> Shared<T> {
     /// Ends the owner.
     pub fn end<R: Wait>(self, rt: &R) {
         let Shared { cell } = self;
-        cell.end_owner(rt);
+        let _ = cell.steps(rt).end_owner();
     }
 
     /// Makes a new owner of the cell. Fails with `Memory` if the pointer cannot be counted,
@@ -146,7 +146,7 @@ impl<T: Drop> Shared<T> {
         ensures refused { IfErr result IsOwnerRefusal }
     {
         let cell = Arc::try_clone(cell)?;
-        cell.add_owner(rt)?;
+        cell.steps(rt).add_owner()?;
         Ok(Shared { cell })
     }
 }

@@ -11,7 +11,7 @@ use crate::guarded_cell::GuardedCell;
 use crate::shared::Shared;
 use crate::take::Take;
 use async_cell_core::{Core, Refusal, TaskWaker, Wakes};
-use async_cell_waiting::{CellCore, Lender, OneThread, Steps, purge};
+use async_cell_waiting::{CellCore, Lender, OneThread, purge};
 use futures::task::Source;
 use std::alloc::Global;
 
@@ -72,12 +72,12 @@ impl<T: Drop> AsyncCell<T> {
 
     /// Sets the value and drops the old one. Wakes all waiters.
     pub fn set(&self, value: T) {
-        let _ = Steps::on(&self.core, &OneThread).replace(value);
+        let _ = self.steps().replace(value);
     }
 
     /// Sets the value and wakes all waiters, if the cell holds no value. Drops `value` otherwise.
     pub fn or_set(&self, value: T) {
-        let _ = Steps::on(&self.core, &OneThread).or_set(value);
+        let _ = self.steps().or_set(value);
     }
 
     /// Sets the value and wakes all waiters, if the cell is open and holds no value. Otherwise
@@ -85,13 +85,13 @@ impl<T: Drop> AsyncCell<T> {
     pub fn try_set(&self, value: T) -> Result<(), T>
         ensures comes_back { IfErr result (λ back. back ≡ value) }
     {
-        Steps::on(&self.core, &OneThread).try_set(value)
+        self.steps().try_set(value)
     }
 
     /// Sets the value and returns the old one. Wakes all waiters.
     #[inline]
     pub fn replace(&self, value: T) -> Option<T> {
-        let replaced = Steps::on(&self.core, &OneThread).replace(value);
+        let replaced = self.steps().replace(value);
         replaced.unwrap_or(None)
     }
 
@@ -100,7 +100,7 @@ impl<T: Drop> AsyncCell<T> {
     pub fn update<F: FnOnce(Option<T>) -> Option<T> + Drop>(&self, change: F)
         requires { F.IsAlwaysCallable change }
     {
-        if let Some(content) = Steps::on(&self.core, &OneThread).take_out() {
+        if let Some(content) = self.steps().take_out() {
             let answer = change(content);
             self.put_back(answer);
         }
@@ -130,7 +130,7 @@ impl<T: Drop> AsyncCell<T> {
 
     /// Takes the value, if there is one. The waiters stay registered.
     pub fn try_take(&self) -> Option<T> {
-        Steps::on(&self.core, &OneThread).try_take()
+        self.steps().try_take()
     }
 
     /// Returns the content. Wakes all waiters.

@@ -67,6 +67,6 @@ impl<T: Drop, C: CellRef<Value = T>> GuardedCell<T, C> {
 impl<T: Drop, C: CellRef<Value = T>> Drop for GuardedCell<T, C> {
     fn drop(self) {
         let GuardedCell { pointer, cancel } = self;
-        pointer.cell().end_guard(cancel);
+        pointer.cell().steps().end_guard(cancel);
     }
 }

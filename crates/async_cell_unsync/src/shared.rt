@@ -121,7 +121,7 @@ impl<T: Drop> Shared<T> {
     pub fn try_into_inner(self) -> Result<Option<T>, Self>
         ensures comes_back { IfErr result (λ back. back ≡ self) }
     {
-        match self.cell.take_inner() {
+        match self.cell.steps().take_inner() {
             Err(Refusal::StillShared) => Err(self),
             taken => {
                 let Shared { cell: _ } = self;
@@ -138,7 +138,7 @@ impl<T: Drop> Shared<T> {
     {
         let pointer: Result<Rc<AsyncCell<T>>, AllocError> = cell.clone();
         let cell = pointer?;
-        cell.add_owner()?;
+        cell.steps().add_owner()?;
         Ok(Shared { cell })
     }
 }
@@ -157,6 +157,6 @@ impl Shared<()> {
 impl<T: Drop> Drop for Shared<T> {
     fn drop(self) {
         let Shared { cell } = self;
-        cell.end_owner();
+        let _ = cell.steps().end_owner();
     }
 }

@@ -6,7 +6,6 @@ ghost use Rattle.async_cell_model.specs.Refusal.{FailsWithMemory};
 use super::AsyncCell;
 use crate::owner::Owner;
 use async_cell_core::Refusal;
-use async_cell_waiting::Steps;
 use std::fmt;
 use std::sync::Wait;
 
@@ -19,7 +18,7 @@ impl<T: Drop> AsyncCell<T> {
         ensures sure { ((value : T) → T.is_infallible value) → IsOk result }
         ensures refused { FailsWithMemory result }
     {
-        Steps::on(&self.core, rt).try_get()
+        self.steps(rt).try_get()
     }
 
     /// Calls the closure on the value, if there is one, and returns what it returns. No other call
@@ -33,17 +32,17 @@ impl<T: Drop> AsyncCell<T> {
         ensures called { IfSome result (λ answer. (seen : T)
             × FnOnceReturnsAt F.FnOnce look seen answer) }
     {
-        Steps::on(&self.core, rt).peek(look)
+        self.steps(rt).peek(look)
     }
 
     /// Returns whether the cell holds a value.
     pub fn is_set<R: Wait>(&self, rt: &R) -> bool {
-        Steps::on(&self.core, rt).is_set()
+        self.steps(rt).is_set()
     }
 
     /// Returns whether the cell is closed.
     pub fn is_closed<R: Wait>(&self, rt: &R) -> bool {
-        Steps::on(&self.core, rt).is_closed()
+        self.steps(rt).is_closed()
     }
 
     /// Returns `AsyncCell::Empty`, `AsyncCell::Pending` if a task waits, `AsyncCell::Full(..)` with
@@ -54,7 +53,7 @@ impl<T: Drop> AsyncCell<T> {
         T: fmt::Debug,
         ensures refused { FailsWithMemory result }
     {
-        Steps::on(&self.core, rt).debug_text(self.alloc)
+        self.steps(rt).debug_text(self.alloc)
     }
 }
 

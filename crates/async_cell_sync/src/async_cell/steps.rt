@@ -1,5 +1,5 @@
 //! The calls of the cell for its owners, guards and futures.
-ghost use Rattle.std.specs.Prelude.{◌≡◌, ◌⊎◌, IfErr};
+ghost use Rattle.std.specs.Prelude.{◌≡◌};
 ghost use Rattle.futures.specs.Poll.{IfReady, OnPending};
 ghost use Rattle.futures.specs.Task.{Hears, IsArmed, Keeps};
 ghost use Rattle.async_cell_model.specs.Refusal.{FailsWithMemoryOrClosed};
@@ -20,6 +20,15 @@ impl<T: Drop> AsyncCell<T> {
             source: Source::new(),
             alloc,
         }
+    }
+
+    /// Returns the calls of the cell, each of which is one step.
+    #[inline(always)]
+    pub(crate) fn steps<'a, R: Wait>(
+        &'a self,
+        rt: &'a R,
+    ) -> Steps<'a, &'a Lock<CellCore<T, TaskWaker>>, R> {
+        Steps::on(&self.core, rt)
     }
 
     /// Takes the value, or waits for one, in the place if any. Fails with `Memory` if there is no
@@ -57,33 +66,9 @@ impl<T: Drop> AsyncCell<T> {
         poll(&self.core, &self.source, Cloning, place, cx, rt)
     }
 
-    /// Ends a guard: `cancel` is its cancel value, or `None` if it was released.
-    pub(crate) fn end_guard<R: Wait>(&self, cancel: Option<T>, rt: &R) {
-        Steps::on(&self.core, rt).end_guard(cancel);
-    }
-
-    /// Adds an owner. Fails with `Closed` or `OwnersFull`.
-    pub(crate) fn add_owner<R: Wait>(&self, rt: &R) -> Result<(), Refusal>
-        ensures refused { IfErr result (λ why.
-            (why ≡ Refusal.Closed) ⊎ (why ≡ Refusal.OwnersFull)) }
-    {
-        Steps::on(&self.core, rt).add_owner()
-    }
-
-    /// Ends one owner. The last one closes the cell, drops the value and wakes all waiters.
-    pub(crate) fn end_owner<R: Wait>(&self, rt: &R) {
-        let _ = Steps::on(&self.core, rt).end_owner();
-    }
-
-    /// Closes the cell and returns its content, if there is one owner. Wakes all waiters. Fails
-    /// with `Closed`, or with `StillShared` if there are other owners.
-    pub(crate) fn take_inner<R: Wait>(&self, rt: &R) -> Result<Option<T>, Refusal> {
-        Steps::on(&self.core, rt).take_inner()
-    }
-
     /// Internal: may change without notice. Returns the number of places in the wait list.
     pub fn waiting<R: Wait>(&self, rt: &R) -> usize {
-        Steps::on(&self.core, rt).waiting()
+        self.steps(rt).waiting()
     }
 
     /// Returns the allocator that the cell was made with.

@@ -6,7 +6,6 @@ ghost use Rattle.async_cell_model.specs.Refusal.{FailsWithMemory};
 use super::AsyncCell;
 use crate::owner::Owner;
 use async_cell_core::Refusal;
-use async_cell_waiting::{OneThread, Steps};
 use std::fmt;
 
 impl<T: Drop> AsyncCell<T> {
@@ -41,12 +40,12 @@ impl<T: Drop> AsyncCell<T> {
 
     /// Returns whether the cell holds a value.
     pub fn is_set(&self) -> bool {
-        Steps::on(&self.core, &OneThread).is_set()
+        self.steps().is_set()
     }
 
     /// Returns whether the cell is closed.
     pub fn is_closed(&self) -> bool {
-        Steps::on(&self.core, &OneThread).is_closed()
+        self.steps().is_closed()
     }
 
     /// Returns the text that this cell prints. Fails with `Memory`.
@@ -109,7 +108,7 @@ impl<T: Drop> Owner<T> {
 impl<T: fmt::Debug + Drop> fmt::Debug for AsyncCell<T> {
     fn fmt<F: fmt::Write>(&self, f: &mut fmt::Formatter<F>) -> fmt::Result {
         let Some(value) = self.try_take() else {
-            let text = Steps::on(&self.core, &OneThread).text_without_value();
+            let text = self.steps().text_without_value();
             return f.write_str(text);
         };
         let printed = write!(f, "AsyncCell::Full({value:?})");

@@ -1,5 +1,5 @@
 //! The calls of the cell for its owners, guards and futures.
-ghost use Rattle.std.specs.Prelude.{◌≡◌, ◌⊎◌, IsOk, IfErr};
+ghost use Rattle.std.specs.Prelude.{◌≡◌, IsOk};
 ghost use Rattle.futures.specs.Poll.{IfReady, OnPending};
 ghost use Rattle.futures.specs.Task.{Hears, IsArmed, Keeps};
 ghost use Rattle.async_cell_model.specs.Refusal.{FailsWithMemory, FailsWithMemoryOrClosed};
@@ -19,6 +19,12 @@ impl<T: Drop> AsyncCell<T> {
             source: Source::new(),
             alloc,
         }
+    }
+
+    /// Returns the calls of the cell, each of which is one step.
+    #[inline(always)]
+    pub(crate) fn steps(&self) -> Steps<'_, &Lender<CellCore<T, TaskWaker>>, OneThread> {
+        Steps::on(&self.core, &OneThread)
     }
 
     /// Stores a content that was taken out, over whatever was stored in the meantime. A cell that
@@ -83,33 +89,9 @@ impl<T: Drop> AsyncCell<T> {
         }
     }
 
-    /// Ends a guard: `cancel` is its cancel value, or `None` if it was released.
-    pub(crate) fn end_guard(&self, cancel: Option<T>) {
-        Steps::on(&self.core, &OneThread).end_guard(cancel);
-    }
-
-    /// Adds an owner. Fails with `Closed` or `OwnersFull`.
-    pub(crate) fn add_owner(&self) -> Result<(), Refusal>
-        ensures refused { IfErr result (λ why.
-            (why ≡ Refusal.Closed) ⊎ (why ≡ Refusal.OwnersFull)) }
-    {
-        Steps::on(&self.core, &OneThread).add_owner()
-    }
-
-    /// Ends one owner. The last one closes the cell, drops the value and wakes all waiters.
-    pub(crate) fn end_owner(&self) {
-        let _ = Steps::on(&self.core, &OneThread).end_owner();
-    }
-
-    /// Closes the cell and returns its content, if there is one owner. Wakes all waiters. Fails
-    /// with `Closed`, or with `StillShared` if there are other owners.
-    pub(crate) fn take_inner(&self) -> Result<Option<T>, Refusal> {
-        Steps::on(&self.core, &OneThread).take_inner()
-    }
-
     /// Internal: may change without notice. Returns the number of places in the wait list.
     pub fn waiting(&self) -> usize {
-        Steps::on(&self.core, &OneThread).waiting()
+        self.steps().waiting()
     }
 
     /// Returns the allocator that the cell was made with.
