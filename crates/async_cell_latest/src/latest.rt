@@ -1,4 +1,5 @@
-ghost use Rattle.std.specs.Prelude.{◌≡◌, ◌≤◌, ◌+◌, [], length, true, IsOk, IfOk, IfErr, OnOk, OnErr, ◌↔◌};
+ghost use Rattle.std.specs.Prelude.{◌≡◌, ◌≤◌, ◌+◌, [], length, true, Ok, IsOk, IfOk, IfErr, OnOk, OnErr, ◌↔◌};
+ghost use Rattle.async_cell_wakers.specs.WaitList.{first_then};
 ghost use Rattle.async_cell_latest.specs.State.{IsSound, is_closed, is_writable};
 ghost use Rattle.async_cell_latest.specs.Step.{Write, Read, Shown};
 ghost use Rattle.async_cell_latest.specs.IsStep.{IsStep, replies, write_answer};
@@ -7,14 +8,12 @@ mod changes;
 mod get;
 mod places;
 mod polls;
-mod waits;
 mod writers;
 
 use async_cell_wakers::{WaitList, Wakers, Wakes};
 use std::alloc::Global;
 use std::marker::Model;
 use std::mem;
-pub use waits::{Unseen, UnseenState};
 
 /// A value that is always there, with its version, counted writers, and the wait list of the wakers
 /// of followers that have seen this version.
@@ -87,6 +86,35 @@ impl<T: Drop, W: Wakes> Latest<T, W> {
         self.version = version;
         let old = mem::replace(&mut self.value, value);
         Ok((old, self.waiting.hand_out()))
+    }
+
+    /// Internal: may change without notice.
+    ///
+    /// `write`, to a state whose list has no memory for more than one waker. Returns the old value,
+    /// and that waker, if one waits, to be woken by the caller. Otherwise it changes nothing, and
+    /// returns `value` in the error.
+    #[doc(hidden)]
+    #[inline(always)]
+    pub fn write_first(&mut self, value: T) -> Result<(T, Option<W>), T>
+        ensures model { IfOk result (λ answer. IsStep W.Wakes self.old (Write value)
+            (write_answer (Ok (answer.0, first_then answer.1 []))) self.new) }
+
+        ensures if_open { OnOk result (is_writable self.old ≡ true) }
+        ensures hands_out_all { IfOk result (λ answer.
+            self.old.waiting ≡ first_then answer.1 []) }
+        ensures unchanged { OnErr result (self.new ≡ self.old) }
+        ensures comes_back { IfErr result (λ back. back ≡ value) }
+    {
+        let Some(next) = self.next_version() else {
+            return Err(value);
+        };
+        match self.waiting.hand_out_first() {
+            Some(first) => {
+                self.version = next;
+                Ok((mem::replace(&mut self.value, value), first))
+            }
+            None => Err(value),
+        }
     }
 
     /// Returns the version and the value.

@@ -1,4 +1,3 @@
-pub mod Found
 pub mod Names
 pub mod Seen
 pub mod Source

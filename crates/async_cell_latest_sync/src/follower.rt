@@ -9,12 +9,18 @@ ghost use Rattle.async_cell_latest_sync.specs.Seen.{HasSeen};
 mod polled;
 
 use crate::cell::LatestCell;
-use crate::changed::Changed;
-use crate::states::States;
-use crate::wait_for::WaitFor;
 use async_cell_latest::{Refusal, TaskWaker};
 use std::alloc::AllocError;
 use std::sync::{Arc, Wait};
+
+/// The future of `Follower::changed`. **Dropping it may wait for the lock.**
+pub type Changed<'a, T, R> = async_cell_latest::Changed<'a, Follower<T, R>>;
+
+/// The future of `Follower::wait_for`. **Dropping it may wait for the lock.**
+pub type WaitFor<'a, T, R, F> = async_cell_latest::WaitFor<'a, Follower<T, R>, F>;
+
+/// The stream of `Follower::states`. **Dropping it may wait for the lock.**
+pub type States<T, R> = async_cell_latest::States<Follower<T, R>>;
 
 /// One follower of a state, with the right to wait for its lock. It knows which state it has seen,
 /// and waits for a later one. It does not count as an owner. `Owner::follow` makes one, and a clone
@@ -37,7 +43,7 @@ impl<T: Drop, R: Wait> Follower<T, R> {
     pub(crate) fn new(cell: Arc<LatestCell<T>>, rt: R) -> Self
         ensures of_this { cell_followed result ≡ arc_value cell }
     {
-        let seen = cell.lock(&rt).version();
+        let seen = cell.version(&rt);
         Follower { cell, seen, rt }
     }
 }
@@ -138,12 +144,12 @@ impl<T: Drop, R: Wait + Drop> Follower<T, R> {
         ensures of_one_state { (s : State T TaskWaker)
             × ((result ≡ true) ↔ (self.now.seen ≢ s.version)) }
     {
-        self.cell.lock(&self.rt).is_unseen(self.seen)
+        self.cell.is_unseen(self.seen, &self.rt)
     }
 
     /// Returns whether the last owner has ended: the state is then the last one.
     pub fn is_closed(&self) -> bool {
-        self.cell.lock(&self.rt).is_closed()
+        self.cell.is_closed(&self.rt)
     }
 
     /// Marks the current state as one that was not seen: the next `changed` is ready at once, and
@@ -159,7 +165,7 @@ impl<T: Drop, R: Wait + Drop> Follower<T, R> {
     pub fn mark_unchanged(&mut self)
         ensures of_this { cell_followed self.new ≡ cell_followed self.old }
     {
-        self.seen = self.cell.lock(&self.rt).version();
+        self.seen = self.cell.version(&self.rt);
     }
 }
 

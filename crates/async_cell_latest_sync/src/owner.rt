@@ -5,7 +5,7 @@ ghost use Rattle.async_cell_latest_sync.specs.Names.{cell_followed, cell_owned};
 
 use crate::cell::LatestCell;
 use crate::follower::Follower;
-use async_cell_latest::Refusal;
+use async_cell_latest::{Refusal, steps};
 use std::alloc::{AllocFailed, Global};
 use std::sync::{Arc, Wait};
 
@@ -46,7 +46,7 @@ impl<T: Drop, R: Wait + Copy> Owner<T, R> {
         ensures refused { IfErr result IsOwnerRefusal }
     {
         let cell = Arc::try_clone(&self.cell)?;
-        cell.add_owner(&self.rt)?;
+        steps::add_owner(&cell.core, &self.rt)?;
         Ok(Owner { cell, rt: self.rt })
     }
 
@@ -65,7 +65,7 @@ impl<T: Drop, R: Wait + Copy> Owner<T, R> {
 impl<T: Drop, R: Wait + Drop> Owner<T, R> {
     /// Sets the value and drops the old one. Wakes all followers that wait.
     pub fn set(&self, value: T) {
-        let _ = self.replace(value);
+        let _ = steps::replace(&self.cell.core, value, &self.rt);
     }
 
     /// Sets the value and returns the old one. Wakes all followers that wait. If the state takes no
@@ -73,7 +73,7 @@ impl<T: Drop, R: Wait + Drop> Owner<T, R> {
     pub fn replace(&self, value: T) -> Result<T, T>
         ensures comes_back { IfErr result (λ back. back ≡ value) }
     {
-        self.cell.replace(value, &self.rt)
+        steps::replace(&self.cell.core, value, &self.rt)
     }
 
     /// Calls the closure on the value, sets the one that it returns, and drops the old one. Wakes
@@ -85,7 +85,7 @@ impl<T: Drop, R: Wait + Drop> Owner<T, R> {
         requires { F.IsAlwaysCallable change }
         ensures called { (old new : T) × FnOnceReturnsAt F.FnOnce change old new }
     {
-        let _ = self.cell.update(change, &self.rt);
+        let _ = steps::update(self.cell.core.lock(&self.rt), change);
     }
 
     /// Calls the closure on the value, which it may change in place, and returns what it returns.
@@ -101,7 +101,7 @@ impl<T: Drop, R: Wait + Drop> Owner<T, R> {
             × FnOnceReturnsAtMut F.FnOnce change old answer new) }
         ensures refused { FailsWithClosed result }
     {
-        self.cell.modify(change, &self.rt)
+        steps::modify(&self.cell.core, change, &self.rt)
     }
 
     /// `modify`, if the closure returns `true`. If it returns `false`, nothing is written: nobody
@@ -117,7 +117,7 @@ impl<T: Drop, R: Wait + Drop> Owner<T, R> {
             × FnOnceReturnsAtMut F.FnOnce change old changed new) }
         ensures refused { FailsWithClosed result }
     {
-        self.cell.modify_if(change, &self.rt)
+        steps::modify_if(&self.cell.core, change, &self.rt)
     }
 
     /// Returns a clone of the value. Fails with `Memory` if the clone fails.
@@ -150,13 +150,13 @@ impl<T: Drop, R: Wait + Drop> Owner<T, R> {
     /// and a waker keeps what its executor needs to wake the task. Call this where many waits end
     /// early between two writes. It takes the lock once for each place, and needs no memory.
     pub fn purge(&self) {
-        self.cell.purge(&self.rt);
+        async_cell_waiting::purge(&self.cell.core, &self.rt);
     }
 
     /// Internal: may change without notice. Returns the number of places in the wait list.
     #[doc(hidden)]
     pub fn waiting(&self) -> usize {
-        self.cell.waiting(&self.rt)
+        async_cell_waiting::waiting(&self.cell.core, &self.rt)
     }
 }
 
@@ -164,6 +164,6 @@ impl<T: Drop, R: Wait + Drop> Owner<T, R> {
 impl<T: Drop, R: Wait + Drop> Drop for Owner<T, R> {
     fn drop(self) {
         let Owner { cell, rt } = self;
-        cell.end_owner(&rt);
+        steps::end_owner(&cell.core, &rt);
     }
 }

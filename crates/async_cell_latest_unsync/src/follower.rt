@@ -8,12 +8,18 @@ ghost use Rattle.async_cell_latest_unsync.specs.Seen.{HasSeen};
 mod polled;
 
 use crate::cell::LatestCell;
-use crate::changed::Changed;
-use crate::states::States;
-use crate::wait_for::WaitFor;
 use async_cell_latest::Refusal;
 use std::alloc::AllocError;
 use std::rc::Rc;
+
+/// The future of `Follower::changed`.
+pub type Changed<'a, T> = async_cell_latest::Changed<'a, Follower<T>>;
+
+/// The future of `Follower::wait_for`.
+pub type WaitFor<'a, T, F> = async_cell_latest::WaitFor<'a, Follower<T>, F>;
+
+/// The stream of `Follower::states`.
+pub type States<T> = async_cell_latest::States<Follower<T>>;
 
 /// One follower of a state. It knows which state it has seen, and waits for a later one. It does
 /// not count as an owner. `Owner::follow` makes one, and a clone another.

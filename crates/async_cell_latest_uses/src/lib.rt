@@ -1,5 +1,5 @@
-//! Callers of `Latest`, as another project would write them. What they promise of a follower follows
-//! from the laws of a latest state, whatever calls others make in between.
+//! Callers of `Latest`, as another project would write them. What they promise of a follower
+//! follows from the laws of a latest state, whatever calls others make in between.
 #![tactic(auto)]
 
 ghost use Rattle.std.specs.Prelude.{◌≡◌, ◌≢◌, ◌≤◌, ◌<◌, ℕ, None, Some, Ok, true, IfSome, IsSome};
@@ -38,9 +38,9 @@ where
     Some((first, second))
 }
 
-/// The last writer writes this value and ends, and others make any calls. A follower that polls then
-/// is shown the value, and told the end when it polls again. Returns both, unless the state takes no
-/// further write.
+/// The last writer writes this value and ends, and others make any calls. A follower that polls
+/// then is shown the value, and told the end when it polls again. Returns both, unless the state
+/// takes no further write.
 pub fn last_state_and_end<F>(
     latest: &mut Latest<u64, Named>,
     seen: u64,

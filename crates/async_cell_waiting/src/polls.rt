@@ -39,11 +39,11 @@ where
     let Some(mut core) = store.open(rt) else {
         return cx.yield_now();
     };
-    if let Some(found) = query.look(core.peek()) {
+    if !query.must_wait(core.peek()) {
         if let Some(place) = place {
             place.forget();
         }
-        let answer = query.answer(core.core(), found);
+        let answer = query.answer(core.core());
         return Poll::Ready(end(core, answer));
     }
     let Some(place) = place else {
@@ -152,9 +152,9 @@ where
         return cx.yield_now();
     };
     // Between the two steps the core may have been written to, or closed.
-    if let Some(found) = query.look(core.peek()) {
+    if !query.must_wait(core.peek()) {
         place.forget();
-        let answer = query.answer(core.core(), found);
+        let answer = query.answer(core.core());
         let (answer, _left) = end(core, answer.and(slot));
         return Poll::Ready(answer);
     }

@@ -96,8 +96,8 @@ impl<T: Drop> Latest<T, TaskWaker> {
 
     /// Internal: may change without notice.
     ///
-    /// Leaves the place free, also while the state is only looked at. Its waker stays there: to drop
-    /// it would wake the task. Returns the index of the place, unless it was given up.
+    /// Leaves the place free, also while the state is only looked at. Its waker stays there: to
+    /// drop it would wake the task. Returns the index of the place, unless it was given up.
     #[doc(hidden)]
     pub fn leave(&self, place: Place) -> Option<usize> {
         self.waiting.leave(place)

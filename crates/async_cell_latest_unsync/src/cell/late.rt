@@ -1,7 +1,8 @@
 //! What is asked for from inside a look or a change, and put off until that ends. It needs no
 //! memory.
 use super::LatestCell;
-use async_cell_waiting::{Waking, end_and_wake};
+use async_cell_latest::steps;
+use async_cell_waiting::OneThread;
 use std::cell::Cell;
 
 /// What has been put off.
@@ -64,7 +65,7 @@ impl<T: Drop> LatestCell<T> {
     /// Does what was put off during the look or the change that has ended, unless another look
     /// still runs.
     pub(crate) fn settle(&self) {
-        if !self.late.is_due.get() || self.is_lent() {
+        if !self.late.is_due.get() || self.core.is_lent() {
             return;
         }
         self.late.is_due.set(false);
@@ -75,19 +76,10 @@ impl<T: Drop> LatestCell<T> {
             self.end_owner();
         }
         if self.late.has_lost.take() {
-            self.wake_all();
+            steps::wake_all(&self.core, &OneThread);
         }
         if self.late.purges.take() {
             self.purge();
         }
-    }
-
-    /// Wakes all waiters, which then take places anew.
-    fn wake_all(&self) {
-        let Some(mut core) = self.lend() else {
-            return;
-        };
-        let woken = core.state.hand_out();
-        end_and_wake(core, Waking::of((), woken));
     }
 }

@@ -1,22 +1,15 @@
 //! Looks at the value: while one runs the state is borrowed beside other looks, and what is written
 //! or ended meanwhile takes effect when the last of them ends.
-ghost use Rattle.std.specs.Prelude.{◌≢◌, IfSome, IfOk};
+ghost use Rattle.std.specs.Prelude.{◌≡◌, ◌≢◌, IfSome, IfOk};
 ghost use Rattle.std.specs.Fn.{FnOnceReturnsAt};
 ghost use Rattle.async_cell_model.specs.Refusal.{FailsWithMemory, FailsWithMemoryOrClosed};
 ghost use Rattle.async_cell_latest.specs.OneState.{OfOneState};
 
 use super::LatestCell;
-use async_cell_latest::{Latest, Refusal, TaskWaker, UnseenState};
-use async_cell_waiting::Query;
-use std::cell::Ref;
+use async_cell_latest::{LatestCore, Refusal};
+use std::alloc::AllocError;
 
 impl<T: Drop> LatestCell<T> {
-    /// Borrows the state for a look. Whoever does so calls `settle` when the look has ended.
-    /// Returns `None` during a change in place: other steps call nothing that could call the cell.
-    pub(crate) fn glance(&self) -> Option<Ref<'_, Latest<T, TaskWaker>>> {
-        self.core.try_borrow().ok()
-    }
-
     /// Calls the closure on the value, and returns the version and what it returns. Returns `None`
     /// during a change.
     pub(crate) fn peek<A, F>(&self, look: F) -> Option<(u64, A)>
@@ -26,7 +19,7 @@ impl<T: Drop> LatestCell<T> {
         ensures of_one_state { IfSome result (λ seen. OfOneState seen.0 (λ s.
             FnOnceReturnsAt F.FnOnce look s.value seen.1)) }
     {
-        let core = self.glance()?;
+        let core = self.core.glance()?;
         let (version, value) = core.read();
         let answer = look(value);
         drop(core);
@@ -41,7 +34,7 @@ impl<T: Drop> LatestCell<T> {
         F: FnOnce(&T) -> T,
         requires { F.IsAlwaysCallable change }
     {
-        let Some(core) = self.glance() else {
+        let Some(core) = self.core.glance() else {
             return;
         };
         let (_, value) = core.read();
@@ -62,10 +55,10 @@ impl<T: Drop> LatestCell<T> {
             T.is_clone s.value shown.1)) }
         ensures refused { FailsWithMemory result }
     {
-        let Some(core) = self.glance() else {
+        let Some(core) = self.core.glance() else {
             return Err(Refusal::Memory);
         };
-        let copy = core.get();
+        let copy = clone_of(&core);
         drop(core);
         self.settle();
         copy
@@ -82,27 +75,49 @@ impl<T: Drop> LatestCell<T> {
             (λ s. (s.version ≢ seen) × T.is_clone s.value shown.1))) }
         ensures refused { IfSome result FailsWithMemoryOrClosed }
     {
-        let core = self.glance()?;
-        let found = UnseenState(seen).look(&core);
-        drop(core);
-        self.settle();
-        found
+        let core = self.core.glance()?;
+        let state = &*core;
+        if state.is_unseen(seen) {
+            let copy = clone_of(state);
+            drop(core);
+            self.settle();
+            return Some(copy);
+        }
+        match state.is_closed() {
+            true => Some(Err(Refusal::Closed)),
+            false => None,
+        }
     }
 
     /// Returns the version: during a change, that of the state that is being changed.
     pub(crate) fn version(&self) -> u64 {
-        self.glance()
+        self.core
+            .glance()
             .map_or(self.changing.get(), |core| core.version())
     }
 
     /// Returns whether the state has another version than the one that was seen.
     pub(crate) fn is_unseen(&self, seen: u64) -> bool {
-        self.glance()
+        self.core
+            .glance()
             .map_or(self.changing.get() != seen, |core| core.is_unseen(seen))
     }
 
     /// Returns whether the state is closed. One that is being changed is open.
     pub(crate) fn is_closed(&self) -> bool {
-        self.glance().is_some_and(|core| core.is_closed())
+        self.core.glance().is_some_and(|core| core.is_closed())
     }
+}
+
+/// Returns the version and a clone of the value, during a look. Fails with `Memory` if the clone
+/// fails.
+#[inline(always)]
+fn clone_of<T: Clone>(core: &LatestCore<T>) -> Result<(u64, T), Refusal>
+    ensures version { IfOk result (λ shown. shown.0 ≡ core.now.version) }
+    ensures clones { IfOk result (λ shown. T.is_clone core.now.value shown.1) }
+    ensures refused { FailsWithMemory result }
+{
+    let (version, value) = core.read();
+    let copy: Result<T, AllocError> = value.clone();
+    Ok((version, copy?))
 }

@@ -2,21 +2,21 @@
 //! none is dropped while the core is lent.
 use super::LatestCell;
 use async_cell_latest::Place;
-use async_cell_waiting::OneThread;
+use async_cell_waiting::{OneThread, Room};
 
 impl<T: Drop> LatestCell<T> {
     /// Lets go of all wakers that dropped futures left, after a look if one runs. The task of each
     /// is polled once more. Futures that still wait keep their wakers.
     pub(crate) fn purge(&self) {
-        match self.is_lent() {
+        match self.core.is_lent() {
             true => self.late.purge(),
-            false => async_cell_waiting::purge(self, &OneThread),
+            false => async_cell_waiting::purge(&self.core, &OneThread),
         }
     }
 
     /// Returns the number of places in the wait list.
     pub(crate) fn waiting(&self) -> usize {
-        self.glance().map_or(0, |core| core.waiting())
+        self.core.glance().map_or(0, |core| core.places())
     }
 
     /// Leaves the place of a future that is dropped.
@@ -30,7 +30,7 @@ impl<T: Drop> LatestCell<T> {
     /// `leave`, of a place that may still be held.
     #[inline(never)]
     fn leave_held(&self, place: Place) {
-        match self.glance() {
+        match self.core.glance() {
             Some(core) => {
                 let _ = core.leave(place);
             }
@@ -41,8 +41,8 @@ impl<T: Drop> LatestCell<T> {
     /// Leaves the place of a future that is cancelled, and lets go of its waker: after a look, if
     /// one runs, by a purge.
     pub(crate) fn cancel(&self, place: Place) {
-        if !self.is_lent() {
-            async_cell_waiting::cancel(self, place, &OneThread);
+        if !self.core.is_lent() {
+            async_cell_waiting::cancel(&self.core, place, &OneThread);
         } else if place.was_held() {
             self.leave_held(place);
             self.late.purge();

@@ -9,7 +9,7 @@ ghost use Rattle.async_cell_latest_unsync.specs.Source.{source_of};
 
 use super::LatestCell;
 use async_cell_latest::{Place, Refusal, Unseen};
-use async_cell_waiting::{OneThread, Query, poll};
+use async_cell_waiting::{OneThread, poll};
 use futures::task::{Context, Poll};
 
 impl<T: Drop> LatestCell<T> {
@@ -30,11 +30,11 @@ impl<T: Drop> LatestCell<T> {
         ensures kept { Keeps cx.old cx.new }
         ensures refused { IfReady result FailsWithMemoryOrClosed }
     {
-        if self.is_lent() {
+        if self.core.is_lent() {
             return self.poll_inside(seen, place, cx);
         }
         let asked = Unseen(seen);
-        poll(self, &self.source, asked, Some(place), cx, &OneThread)
+        poll(&self.core, &self.source, asked, Some(place), cx, &OneThread)
     }
 
     /// `poll_unseen`, with a clone of the value of the state that is found. Fails with `Memory`
@@ -80,15 +80,18 @@ impl<T: Drop> LatestCell<T> {
         ensures kept { Keeps cx.old cx.new }
         ensures refused { IfReady result FailsWithClosed }
     {
-        let Some(core) = self.glance() else {
+        let Some(core) = self.core.glance() else {
             return cx.yield_now();
         };
-        match Unseen(seen).look(&core) {
-            Some(found) => {
-                place.forget();
-                Poll::Ready(found)
-            }
-            None => cx.yield_now(),
+        let state = &*core;
+        if state.is_unseen(seen) {
+            place.forget();
+            return Poll::Ready(Ok(state.version()));
         }
+        if state.is_closed() {
+            place.forget();
+            return Poll::Ready(Err(Refusal::Closed));
+        }
+        cx.yield_now()
     }
 }

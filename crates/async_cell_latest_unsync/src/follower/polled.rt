@@ -1,80 +1,73 @@
-//! The polls of a follower, and the places of its futures.
-ghost use Rattle.std.specs.Prelude.{◌≡◌, ◌≢◌, IfOk, OnOk, OnErr};
-ghost use Rattle.futures.specs.Poll.{IfReady, OnPending};
-ghost use Rattle.futures.specs.Task.{Covers, Keeps};
-ghost use Rattle.async_cell_model.specs.Refusal.{FailsWithMemoryOrClosed};
-ghost use Rattle.async_cell_latest_unsync.specs.Names.{cell_followed};
-ghost use Rattle.async_cell_latest_unsync.specs.Seen.{HasSeen};
-ghost use Rattle.async_cell_latest_unsync.specs.Source.{source_of};
-
+//! What the futures of a follower ask of it.
 use super::Follower;
-use async_cell_latest::{Place, Refusal};
+use crate::cell::LatestCell;
+use async_cell_latest::{Follows, Place, Refusal, Shows};
 use futures::task::{Context, Poll};
 
-impl<T: Drop> Follower<T> {
-    /// Waits in the place for a state that was not seen, and marks it as seen. Fails with `Closed`
-    /// if there will be none, and with `Memory` if there is no memory to wait.
-    pub(crate) fn poll_changed(
-        &mut self,
-        place: &mut Place,
-        cx: &mut Context<'_>,
-    ) -> Poll<Result<(), Refusal>>
-        ensures registered { OnPending result
-            (Covers cx.new (λ s. s ≡ source_of (cell_followed self.new))) }
-        ensures kept { Keeps cx.old cx.new }
-        ensures marks { IfReady result (λ told. OnOk told (HasSeen self.new (λ s.
-            s.version ≢ self.old.seen))) }
-        ensures unchanged { OnPending result (self.new ≡ self.old) }
-        ensures unmarked { IfReady result (λ told. OnErr told (self.new ≡ self.old)) }
-        ensures of_this { cell_followed self.new ≡ cell_followed self.old }
-        ensures refused { IfReady result FailsWithMemoryOrClosed }
-    {
-        match self.cell.poll_unseen(self.seen, place, cx) {
-            Poll::Ready(Ok(version)) => {
-                self.seen = version;
-                Poll::Ready(Ok(()))
-            }
-            Poll::Ready(Err(why)) => Poll::Ready(Err(why)),
-            Poll::Pending => Poll::Pending,
-        }
+impl<T: Drop> Follows for Follower<T> {
+    ghost use Rattle.async_cell_latest_unsync.specs.Names.{cell_followed};
+    ghost use Rattle.async_cell_latest_unsync.specs.Source.{source_of};
+
+    type Value = T;
+
+    type Cell = LatestCell<T>;
+
+    ghost cell = { λ follower. cell_followed follower };
+
+    ghost source = { λ cell. source_of cell };
+
+    ghost marked = { λ follower. follower.seen };
+
+    #[inline(always)]
+    fn seen(&self) -> u64 {
+        self.seen
     }
 
-    /// Waits in the place for a state that was not seen, marks it as seen, and clones its value.
-    /// Fails as `poll_changed` does, and with `Memory` if the clone fails; nothing is then marked.
-    pub(crate) fn poll_state(
-        &mut self,
-        place: &mut Place,
-        cx: &mut Context<'_>,
-    ) -> Poll<Result<T, Refusal>>
-    where
-        T: Clone,
-        ensures registered { OnPending result
-            (Covers cx.new (λ s. s ≡ source_of (cell_followed self.new))) }
-        ensures kept { Keeps cx.old cx.new }
-        ensures of_one_state { IfReady result (λ told. IfOk told (λ copy. HasSeen self.new (λ s.
-            (s.version ≢ self.old.seen) × T.is_clone s.value copy))) }
-        ensures unchanged { OnPending result (self.new ≡ self.old) }
-        ensures unmarked { IfReady result (λ told. OnErr told (self.new ≡ self.old)) }
-        ensures of_this { cell_followed self.new ≡ cell_followed self.old }
-        ensures refused { IfReady result FailsWithMemoryOrClosed }
-    {
-        match self.cell.poll_get(self.seen, place, cx) {
-            Poll::Ready(Ok((version, value))) => {
-                self.seen = version;
-                Poll::Ready(Ok(value))
-            }
-            Poll::Ready(Err(why)) => Poll::Ready(Err(why)),
-            Poll::Pending => Poll::Pending,
-        }
+    #[inline(always)]
+    fn mark(&mut self, version: u64) {
+        self.seen = version;
     }
 
-    /// Leaves the place of a future that is dropped.
-    pub(crate) fn leave(&self, place: Place) {
+    fn poll_unseen(
+        &self,
+        seen: u64,
+        place: &mut Place,
+        cx: &mut Context<'_>,
+    ) -> Poll<Result<u64, Refusal>> {
+        self.cell.poll_unseen(seen, place, cx)
+    }
+
+    fn leave(&self, place: Place) {
         self.cell.leave(place);
     }
 
-    /// Leaves the place of a future that is cancelled, and lets go of its waker.
-    pub(crate) fn cancel(&self, place: Place) {
+    fn cancel(&self, place: Place) {
         self.cell.cancel(place);
+    }
+}
+
+/// The clone is made, and the predicate runs, during a look.
+impl<T: Clone> Shows for Follower<T> {
+    ghost copies = { λ value copy. T.is_clone value copy };
+
+    #[inline(always)]
+    fn poll_state(
+        &self,
+        place: &mut Place,
+        cx: &mut Context<'_>,
+    ) -> Poll<Result<(u64, T), Refusal>> {
+        self.cell.poll_get(self.seen, place, cx)
+    }
+
+    fn test<P: FnMut(&T) -> bool>(
+        &self,
+        seen: u64,
+        predicate: &mut P,
+    ) -> Option<(u64, Result<Option<T>, Refusal>)> {
+        let core = self.cell.core.glance()?;
+        let tested = core.test(seen, predicate);
+        drop(core);
+        self.cell.settle();
+        tested
     }
 }

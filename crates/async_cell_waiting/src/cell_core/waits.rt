@@ -68,24 +68,17 @@ pub struct Cloning;
 impl<T: Drop> Query<CellCore<T, TaskWaker>> for Taking {
     ghost use Rattle.std.specs.Prelude.{⊤};
 
-    type Found = ();
-
     type Answer = T;
-
-    ghost tells = { λ _ _. ⊤ };
 
     ghost gives = { λ _ _. ⊤ };
 
     #[inline(always)]
-    fn look(self, core: &CellCore<T, TaskWaker>) -> Option<()> {
-        match core.is_vacant() {
-            true => None,
-            false => Some(()),
-        }
+    fn must_wait(self, core: &CellCore<T, TaskWaker>) -> bool {
+        core.is_vacant()
     }
 
     #[inline(always)]
-    fn answer(self, core: &mut CellCore<T, TaskWaker>, _: ()) -> Held<Result<T, Refusal>> {
+    fn answer(self, core: &mut CellCore<T, TaskWaker>) -> Held<Result<T, Refusal>> {
         Held::of(core.core.try_take().ok_or(Refusal::Closed))
     }
 }
@@ -93,21 +86,17 @@ impl<T: Drop> Query<CellCore<T, TaskWaker>> for Taking {
 impl<T: Clone> Query<CellCore<T, TaskWaker>> for Cloning {
     ghost use Rattle.std.specs.Prelude.{⊤};
 
-    type Found = ();
-
     type Answer = T;
-
-    ghost tells = { λ _ _. ⊤ };
 
     ghost gives = { λ _ _. ⊤ };
 
     #[inline(always)]
-    fn look(self, core: &CellCore<T, TaskWaker>) -> Option<()> {
-        Taking.look(core)
+    fn must_wait(self, core: &CellCore<T, TaskWaker>) -> bool {
+        Taking.must_wait(core)
     }
 
     #[inline(always)]
-    fn answer(self, core: &mut CellCore<T, TaskWaker>, _: ()) -> Held<Result<T, Refusal>> {
+    fn answer(self, core: &mut CellCore<T, TaskWaker>) -> Held<Result<T, Refusal>> {
         match core.core.try_get() {
             Ok(copy) => Held::of(copy.ok_or(Refusal::Closed)),
             Err(why) => Held::of(Err(why)),
