@@ -15,22 +15,14 @@ import subprocess
 import sys
 
 TOP = os.path.dirname(os.path.dirname(os.path.abspath(__file__)))
+sys.path.insert(0, f"{TOP}/scripts")
+from lay_out import read, write  # noqa: E402
+
 CODE = f"{TOP}/bench/code"
 # The crates that the programs call.
 CALLED = ("core", "unsync", "sync", "latest_sync", "latest_unsync", "within")
 # A line of main.rt that names a module or a program.
 MODULE, PROGRAM = re.compile(r"^mod (\w+);$"), re.compile(r'^ +"(\w+)" => ')
-
-
-def read(path):
-    with open(path, encoding="utf-8") as file:
-        return file.read()
-
-
-def write(path, text):
-    os.makedirs(os.path.dirname(path), exist_ok=True)
-    with open(path, "w", encoding="utf-8") as file:
-        file.write(text)
 
 
 def text_of(module):
