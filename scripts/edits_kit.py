@@ -14,7 +14,7 @@ import tempfile
 
 ONE_JOB = ["--jobs", "1"]
 # Each name in rt or in its module rtlib.
-NEEDED = ("checked", "must_fail", "unread", "REFUSED")
+NEEDED = ("checked", "must_fail", "unread")
 NEEDED += ("rtlib.crates_below", "rtlib.guarded", "rtlib.STALE")
 # A complaint at a line of a function, one in a proof file that names the goal, and one of a loop that
 # need not end. What a proof file names and an edit took away shows nothing of a contract.
@@ -164,8 +164,9 @@ class Kit:
         with tempfile.TemporaryDirectory(prefix="edits-") as room:
             shutil.copytree(kept, f"{room}/kept")
             kind, text = self.rt.must_fail(self.crates[name], path, ONE_JOB, f"{room}/kept")
-        # (what it came to is one of five words, each of which is true)
-        return kind == self.rt.REFUSED and not ONLY.search(text), text
+        # (what it came to is a truth value, or in other kits one of five words, each of which is true)
+        is_refused = kind == getattr(self.rt, "REFUSED", True)
+        return is_refused and not ONLY.search(text), text
 
 
 def singly_tried(chosen, say):
