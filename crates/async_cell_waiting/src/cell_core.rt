@@ -1,6 +1,5 @@
 //! The core of a cell as a step sees it.
 ghost use Rattle.std.specs.Prelude.{◌≡◌, ◌⊎◌, IfErr, IfSome, IsSomeAnd, OnOk, Option};
-ghost use Rattle.async_cell_model.specs.Cell.{is_vacant};
 ghost use Rattle.async_cell_model.specs.History.{IsSound};
 ghost use Rattle.async_cell_model.specs.Refusal.{FailsWithClosed, FailsWithMemory};
 
@@ -46,13 +45,6 @@ impl<T: Drop, W: Wakes> CellCore<T, W> {
         ensures { IsSound W.will_wake self.now.core }
     {
         self.core.soundness();
-    }
-
-    #[inline(always)]
-    pub(crate) fn is_vacant(&self) -> bool
-        ensures { result ≡ is_vacant self.now.core.cell }
-    {
-        self.core.is_vacant()
     }
 
     #[inline(always)]

@@ -97,28 +97,7 @@ impl<X> Held<X> {
     }
 }
 
-impl<X> Held<Option<X>> {
-    /// Returns what there is, held.
-    #[inline(always)]
-    pub fn each(self) -> Option<Held<X>> {
-        let Held { answer } = self;
-        match answer {
-            Some(answer) => Some(Held { answer }),
-            None => None,
-        }
-    }
-}
-
 impl Held<Waker> {
-    /// Holds what is stored in the place of a future: this waker.
-    #[inline(always)]
-    pub fn renewed(self) -> Held<TaskWaker> {
-        let Held { answer: waker } = self;
-        Held::of(TaskWaker::of(waker))
-    }
-}
-
-impl Held<TaskWaker> {
     /// Stores the waker in the place, or as the last (see `Room::store`).
     #[inline(always)]
     pub fn store_in<C: Room>(
@@ -129,7 +108,7 @@ impl Held<TaskWaker> {
         requires { C.vacant room.old }
     {
         let Held { answer: waker } = self;
-        room.store(place, waker)
+        room.store(place, TaskWaker::of(waker))
     }
 }
 

@@ -1,11 +1,7 @@
 ghost use Rattle.std.specs.Prelude.{◌≡◌};
 ghost use Rattle.std.specs.RefCell.{ref_mut_value};
 
-use crate::ended::Held;
-use crate::room::{Room, Waits};
 use crate::store::{OneThread, Step, Store};
-use async_cell_wakers::Place;
-use futures::task::Waker;
 use std::cell::{Ref, RefCell, RefMut};
 
 /// A core of one thread.
@@ -76,12 +72,5 @@ impl<C> Step for Lent<'_, C> {
     fn release(self) {
         let Lent { core } = self;
         drop(core);
-    }
-}
-
-impl<C: Room> Waits for Lent<'_, C> {
-    #[inline(always)]
-    fn take_back(&mut self, place: &mut Place) -> Held<Option<Waker>> {
-        (*self.core).take_back(place)
     }
 }

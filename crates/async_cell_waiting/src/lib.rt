@@ -21,7 +21,7 @@ pub use locked::{Lock, Locked};
 pub use places::{cancel, leave, purge, waiting};
 pub use polls::poll;
 pub use query::Query;
-pub use room::{Room, Waits};
+pub use room::Room;
 pub use steps::Steps;
 pub use store::{OneThread, Step, Store};
 pub use with::{Places, Polled, Request, Takes, Upgrade, Values, With, weakly};

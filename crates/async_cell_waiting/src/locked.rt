@@ -1,11 +1,7 @@
 ghost use Rattle.std.specs.Prelude.{◌≡◌};
 ghost use Rattle.std.specs.Sync.Mutex.{mutex_guard_value};
 
-use crate::ended::Held;
-use crate::room::{Room, Waits};
 use crate::store::{Step, Store};
-use async_cell_wakers::Place;
-use futures::task::Waker;
 use std::sync::{Mutex, MutexGuard, Wait};
 
 /// A core behind a lock.
@@ -78,12 +74,5 @@ impl<C> Step for Locked<'_, C> {
     fn release(self) {
         let Locked { core } = self;
         drop(core);
-    }
-}
-
-impl<C: Room> Waits for Locked<'_, C> {
-    #[inline(always)]
-    fn take_back(&mut self, place: &mut Place) -> Held<Option<Waker>> {
-        (*self.core).take_back(place)
     }
 }

@@ -8,7 +8,7 @@ ghost use Rattle.async_cell_model.specs.Refusal.{FailsWithMemory, FailsWithMemor
 
 use crate::ended::{Held, end, open_holding};
 use crate::query::Query;
-use crate::room::{Room, Waits};
+use crate::room::Room;
 use crate::store::{Step, Store};
 use async_cell_model::Refusal;
 use async_cell_wakers::{Place, TaskWaker};
@@ -27,7 +27,7 @@ pub fn poll<S, G, C, Q, R>(
 ) -> Poll<Result<Q::Answer, Refusal>>
 where
     S: Store<R, Open = G>,
-    G: Step<Core = C> + Waits,
+    G: Step<Core = C>,
     C: Room,
     Q: Query<C>,
     ensures told { IfReady result (λ answer. IfOk answer (λ told. Q.gives query told)) }
@@ -52,7 +52,7 @@ where
     if core.peek().is_new(place) {
         return waits(add_at(core, source, place, cx));
     }
-    let waker = core.take_back(place);
+    let waker = core.core().take_back(place);
     renew(store, core, waker, source, query, place, cx, rt)
 }
 
@@ -69,10 +69,12 @@ where
     ensures kept { Keeps cx.old cx.new }
     ensures refused { FailsWithMemory result }
 {
-    let Some(new) = TaskWaker::register(cx, source) else {
+    let mut new = None;
+    let _ = cx.register::<()>(source, &mut new);
+    let Some(waker) = new else {
         return end(core, Held::of(Err(Refusal::Memory)));
     };
-    let added = core.core().add(new);
+    let added = core.core().add(TaskWaker::of(waker));
     match end(core, added) {
         Ok(()) => Ok(()),
         Err(_unused) => Err(Refusal::Memory),
@@ -95,28 +97,14 @@ where
     ensures kept { Keeps cx.old cx.new }
     ensures refused { FailsWithMemory result }
 {
-    let Some(waker) = TaskWaker::register(cx, source) else {
+    let mut made = None;
+    let _ = cx.register::<()>(source, &mut made);
+    let Some(waker) = made else {
         return end(core, Held::of(Err(Refusal::Memory)));
     };
-    let stored = core.core().store_new(place, waker);
+    let stored = core.core().store_new(place, TaskWaker::of(waker));
     match end(core, stored) {
         Ok(()) => Ok(()),
-        Err(_unused) => Err(Refusal::Memory),
-    }
-}
-
-/// Stores the waker in the place, or as the last.
-#[inline(always)]
-fn put<G, C>(mut core: G, place: &mut Place, waker: Held<TaskWaker>) -> Result<(), Refusal>
-where
-    G: Step<Core = C>,
-    C: Room,
-    requires { C.vacant (G.shows core) }
-    ensures refused { FailsWithMemory result }
-{
-    let stored = waker.store_in(core.core(), place);
-    match end(core, stored) {
-        Ok(_before) => Ok(()),
         Err(_unused) => Err(Refusal::Memory),
     }
 }
@@ -148,29 +136,33 @@ where
 {
     let mut slot = end(core, waker);
     let _ = cx.register::<()>(source, &mut slot);
-    let Some((mut core, slot)) = open_holding(store, slot, rt) else {
+    let Some(waker) = slot else {
+        return Poll::Ready(Err(Refusal::Memory));
+    };
+    let Some((mut core, waker)) = open_holding(store, waker, rt) else {
         return cx.yield_now();
     };
     // Between the two steps the core may have been written to, or closed.
     if !query.must_wait(core.peek()) {
         place.forget();
         let answer = query.answer(core.core());
-        let (answer, _left) = end(core, answer.and(slot));
+        let (answer, _unused) = end(core, answer.and(waker));
         return Poll::Ready(answer);
     }
-    match slot.each() {
-        Some(waker) => waits(put(core, place, waker.renewed())),
-        None => waits(end(core, Held::of(Err(Refusal::Memory)))),
+    let stored = waker.store_in(core.core(), place);
+    match end(core, stored) {
+        Ok(_before) => Poll::Pending,
+        Err(_unused) => Poll::Ready(Err(Refusal::Memory)),
     }
 }
 
 /// The answer of a poll that has to wait.
 #[inline(always)]
-fn waits<A>(waited: Result<(), Refusal>) -> Poll<Result<A, Refusal>>
-    ensures refused { IfReady result (λ answer. IfErr answer (λ why. waited ≡ Err why)) }
+fn waits<A>(added: Result<(), Refusal>) -> Poll<Result<A, Refusal>>
+    ensures refused { IfReady result (λ answer. IfErr answer (λ why. added ≡ Err why)) }
     ensures none { IfReady result (λ answer. IfOk answer (λ _. ⊥)) }
 {
-    match waited {
+    match added {
         Ok(()) => Poll::Pending,
         Err(why) => Poll::Ready(Err(why)),
     }

@@ -1,7 +1,6 @@
 ghost use Rattle.std.specs.Prelude.{◌≡◌};
 
 use crate::ended::Held;
-use crate::store::Step;
 use async_cell_wakers::{Place, TaskWaker};
 use futures::task::Waker;
 
@@ -47,11 +46,4 @@ pub trait Room {
 
     /// Returns the number of places in the wait list.
     fn places(&self) -> usize;
-}
-
-/// A room that is lent: the one call after which the text of a poll needs to know the room.
-pub trait Waits: Step {
-    /// `Room::take_back`.
-    fn take_back(&mut self, place: &mut Place) -> Held<Option<Waker>>
-        ensures unchanged { Self.shows self.new ≡ Self.shows self.old };
 }

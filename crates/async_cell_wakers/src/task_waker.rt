@@ -1,4 +1,4 @@
-ghost use Rattle.std.specs.Prelude.{IfNone};
+ghost use Rattle.std.specs.Prelude.{◌≡◌, IfNone};
 ghost use Rattle.futures.specs.Task.{Hears, IsArmed, Keeps};
 ghost use Rattle.async_cell_wakers.specs.Lacking.{LacksWaker};
 
@@ -55,32 +55,27 @@ impl TaskWaker {
         }
     }
 
-    /// Makes what is stored in the place of a future while its waker is taken out.
-    pub(crate) fn taken_out() -> TaskWaker {
-        TaskWaker {
-            waker: None,
-            link: Cell::new(HELD),
-        }
-    }
-
     /// Makes the place of this waker a free one, before the one of this number.
     pub(crate) fn leave_before(&self, next: usize) {
         self.link.set(FREE.saturating_add(next));
     }
 
-    /// Returns the number of the next free place: 0 if there is none.
-    pub(crate) fn next_free(&self) -> usize {
-        self.link.get().saturating_sub(FREE)
+    /// Makes the place of this waker one that is held. Returns the number of the next free place: 0
+    /// if there is none.
+    pub(crate) fn hold(&self) -> usize {
+        self.link.replace(HELD).saturating_sub(FREE)
     }
 
-    /// Returns the waker of a free place, and what stays in the place. Leaves that of a place that
-    /// is held where it is.
-    pub(crate) fn let_go(self) -> (Option<Waker>, TaskWaker) {
-        let TaskWaker { waker, link } = self;
-        match link.get() {
-            HELD => (None, TaskWaker { waker, link }),
-            _ => (waker, TaskWaker { waker: None, link }),
-        }
+    /// Returns whether the place of this waker is held.
+    pub(crate) fn is_held(&self) -> bool {
+        self.link.get() == HELD
+    }
+
+    /// Takes the waker out, and leaves `None` in the place.
+    pub(crate) fn take(&mut self) -> Option<Waker>
+        ensures unchanged { self.new ≡ self.old }
+    {
+        self.waker.take()
     }
 
     /// Returns the waker, unless it is taken out.
@@ -124,7 +119,8 @@ impl Wakes for TaskWaker {
     }
 
     fn wake(self) {
-        if let Some(waker) = self.into_waker() {
+        let TaskWaker { waker, link: _ } = self;
+        if let Some(waker) = waker {
             waker.wake();
         }
     }

@@ -74,7 +74,7 @@ impl<T: Drop> Query<CellCore<T, TaskWaker>> for Taking {
 
     #[inline(always)]
     fn must_wait(self, core: &CellCore<T, TaskWaker>) -> bool {
-        core.is_vacant()
+        core.core.is_vacant()
     }
 
     #[inline(always)]

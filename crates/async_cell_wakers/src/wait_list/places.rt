@@ -1,7 +1,7 @@
 //! The places of futures in a wait list. A future takes its waker back from its place, and stores
 //! it again; one that is dropped leaves its place free, with the waker in it. The free places form
 //! a list: each has the number of the next one, counted from 1, beside its waker.
-ghost use Rattle.std.specs.Prelude.{◌≡◌, ◌<◌, ◌↔◌, [], ◌∷◌, ◌++◌, length, false, IsSome, IsOk, IfSome, IfOk, OnSome, OnOk, OnErr, MatchOption};
+ghost use Rattle.std.specs.Prelude.{◌≡◌, ◌<◌, ◌↔◌, [], ◌∷◌, ◌++◌, length, false, IsSome, IsOk, IfSome, IfOk, OnSome, OnOk, OnErr, IfNone, MatchOption};
 ghost use Rattle.async_cell_wakers.specs.Place.{Holds};
 
 use super::WaitList;
@@ -16,7 +16,7 @@ impl WaitList<TaskWaker> {
     pub fn is_new(&self, place: &Place) -> bool
         ensures { Holds self.now place.now → result ≡ false }
     {
-        !place.is_of(self.round) && self.free.get() == 0
+        place.round != self.round && self.free.get() == 0
     }
 
     /// Stores a waker as the last of the list, which is the place from then on. If there is no
@@ -25,12 +25,15 @@ impl WaitList<TaskWaker> {
     pub fn store_new(&mut self, place: &mut Place, waker: TaskWaker) -> Result<(), TaskWaker>
         ensures stored { OnOk result (self.new.wakers ≡ self.old.wakers ++ waker ∷ []) }
         ensures held { OnOk result (Holds self.new place.new) }
+        ensures last { OnOk result (place.new.index ≡ length self.old.wakers) }
         ensures places_stay { self.new.round ≡ self.old.round }
+        ensures place_stays { OnErr result (place.new ≡ place.old) }
         ensures unchanged { OnErr result (self.new ≡ self.old) }
     {
         let index = self.len();
         self.add(waker)?;
-        *place = Place::at(self.round, index);
+        let round = self.round;
+        *place = Place { round, index };
         Ok(())
     }
 
@@ -42,8 +45,8 @@ impl WaitList<TaskWaker> {
         ensures kept { Holds self.old place.old → place.new ≡ place.old }
         ensures unchanged { self.new ≡ self.old }
     {
-        let stored = self.exchange_at(place, TaskWaker::taken_out()).ok()?;
-        stored.into_waker()
+        let index = self.claim(place)?;
+        self.take_out(index)
     }
 
     /// Stores a waker in the place, in a free place that is taken over, or as the last of the list.
@@ -63,9 +66,9 @@ impl WaitList<TaskWaker> {
         ensures places_stay { self.new.round ≡ self.old.round }
         ensures unchanged { OnErr result (self.new ≡ self.old) }
     {
-        match self.exchange_at(place, waker) {
-            Ok(before) => Ok(Some(before)),
-            Err(waker) => {
+        match self.claim(place) {
+            Some(index) => self.exchange(index, waker).map(Some),
+            None => {
                 self.store_new(place, waker)?;
                 Ok(None)
             }
@@ -78,10 +81,10 @@ impl WaitList<TaskWaker> {
         ensures held { IsSome result ↔ Holds self.now place }
         ensures there { IfSome result (λ index. index ≡ place.index) }
     {
-        if !place.is_of(self.round) {
+        if place.round != self.round {
             return None;
         }
-        let index = place.index();
+        let index = place.index;
         self.at(index)?.leave_before(self.free.get());
         self.free.set(index.saturating_add(1));
         Some(index)
@@ -92,30 +95,40 @@ impl WaitList<TaskWaker> {
         ensures in_the_list { OnSome result (index < length self.old.wakers) }
         ensures unchanged { self.new ≡ self.old }
     {
-        let stored = self.exchange(index, TaskWaker::taken_out()).ok()?;
-        let (waker, stays) = stored.let_go();
-        let _ = self.exchange(index, stays);
-        waker
+        if self.at(index)?.is_held() {
+            return None;
+        }
+        self.take_out(index)
     }
 
-    /// Stores a waker in the place, or in a free place that is taken over, and returns what was
-    /// there. If there is neither, the waker is returned in the error.
-    #[inline(never)]
-    fn exchange_at(&mut self, place: &mut Place, waker: TaskWaker) -> Result<TaskWaker, TaskWaker>
-        ensures held { OnOk result (Holds self.new place.new) }
-        ensures kept { Holds self.old place.old → IsOk result × (place.new ≡ place.old) }
+    /// Returns the index of the place, or of a free place that is taken over: the place from then
+    /// on. Returns `None` if there is neither.
+    #[inline(always)]
+    fn claim(&self, place: &mut Place) -> Option<usize>
+        ensures held { IfSome result (λ index. Holds self.now place.new × (index ≡ place.new.index)) }
+        ensures kept { Holds self.now place.old → IsSome result × (place.new ≡ place.old) }
+        ensures unchanged { IfNone result (place.new ≡ place.old) }
+    {
+        if place.round == self.round {
+            return self.at(place.index).map(|_| place.index);
+        }
+        let index = self.free.get().checked_sub(1)?;
+        self.free.set(self.at(index)?.hold());
+        let round = self.round;
+        *place = Place { round, index };
+        Some(index)
+    }
+
+    /// Takes the waker at `index` out, if it is not taken out already.
+    fn take_out(&mut self, index: usize) -> Option<Waker>
+        ensures in_the_list { OnSome result (index < length self.old.wakers) }
         ensures unchanged { self.new ≡ self.old }
     {
-        if place.is_of(self.round) {
-            return self.exchange(place.index(), waker);
+        match (index.checked_sub(1), &mut self.first) {
+            (None, Some(first)) => first.take(),
+            (Some(index), _) if index < self.rest.len() => self.rest[index].take(),
+            _ => None,
         }
-        let Some(index) = self.free.get().checked_sub(1) else {
-            return Err(waker);
-        };
-        let left = self.exchange(index, waker)?;
-        self.free.set(left.next_free());
-        *place = Place::at(self.round, index);
-        Ok(left)
     }
 }
 
