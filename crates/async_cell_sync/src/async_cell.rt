@@ -3,14 +3,13 @@ ghost use Rattle.async_cell_model.specs.Refusal.{FailsWithMemory};
 ghost use Rattle.async_cell_sync.specs.Names.{cell_of};
 
 mod looks;
-mod steps;
 
 use crate::get::Get;
 use crate::guarded_cell::GuardedCell;
 use crate::shared::Shared;
 use crate::take::Take;
-use async_cell_core::{Core, Refusal, TaskWaker};
-use async_cell_waiting::{CellCore, Lock, purge};
+use async_cell_core::{Core, Place, Refusal, TaskWaker};
+use async_cell_waiting::{CellCore, Lock, Places, Steps, cancel, leave, purge};
 use futures::task::Source;
 use std::alloc::Global;
 use std::sync::Wait;
@@ -27,13 +26,22 @@ use std::sync::Wait;
 /// that waits may add one waker, which stays until the next fill or close.
 #[derive(Drop)]
 pub struct AsyncCell<T> {
-    core: Lock<CellCore<T, TaskWaker>>,
+    pub(crate) core: Lock<CellCore<T, TaskWaker>>,
     /// The source that waiting tasks register with.
-    source: Source,
+    pub(crate) source: Source,
     alloc: Global,
 }
 
 impl<T: Drop> AsyncCell<T> {
+    /// Wraps a core in a cell.
+    fn of(alloc: Global, core: Core<T, TaskWaker>) -> Self {
+        AsyncCell {
+            core: Lock::new(CellCore::of(core)),
+            source: Source::new(),
+            alloc,
+        }
+    }
+
     /// Makes a cell without a value. Takes no memory. Stores the allocator for all later growth.
     pub fn new(alloc: Global) -> Self {
         AsyncCell::of(alloc, Core::new(alloc))
@@ -70,12 +78,12 @@ impl<T: Drop> AsyncCell<T> {
 
     /// Sets the value and drops the old one. Wakes all waiters.
     pub fn set<R: Wait>(&self, value: T, rt: &R) {
-        let _ = self.steps(rt).replace(value);
+        let _ = Steps::on(&self.core, rt).replace(value);
     }
 
     /// Sets the value and wakes all waiters, if the cell holds no value. Drops `value` otherwise.
     pub fn or_set<R: Wait>(&self, value: T, rt: &R) {
-        let _ = self.steps(rt).or_set(value);
+        let _ = Steps::on(&self.core, rt).or_set(value);
     }
 
     /// Sets the value and wakes all waiters, if the cell is open and holds no value. Otherwise
@@ -83,12 +91,12 @@ impl<T: Drop> AsyncCell<T> {
     pub fn try_set<R: Wait>(&self, value: T, rt: &R) -> Result<(), T>
         ensures comes_back { IfErr result (λ back. back ≡ value) }
     {
-        self.steps(rt).try_set(value)
+        Steps::on(&self.core, rt).try_set(value)
     }
 
     /// Sets the value and returns the old one. Wakes all waiters.
     pub fn replace<R: Wait>(&self, value: T, rt: &R) -> Option<T> {
-        let replaced = self.steps(rt).replace(value);
+        let replaced = Steps::on(&self.core, rt).replace(value);
         replaced.unwrap_or(None)
     }
 
@@ -100,7 +108,7 @@ impl<T: Drop> AsyncCell<T> {
         R: Wait,
         requires { F.IsAlwaysCallable change }
     {
-        let _ = self.steps(rt).update(change);
+        let _ = Steps::on(&self.core, rt).update(change);
     }
 
     /// Calls the closure on the value, if there is one, and stores what it returns. No other call
@@ -111,12 +119,12 @@ impl<T: Drop> AsyncCell<T> {
         R: Wait,
         requires { F.IsAlwaysCallable change }
     {
-        let _ = self.steps(rt).update_some(change);
+        let _ = Steps::on(&self.core, rt).update_some(change);
     }
 
     /// Takes the value, if there is one. The waiters stay registered.
     pub fn try_take<R: Wait>(&self, rt: &R) -> Option<T> {
-        self.steps(rt).try_take()
+        Steps::on(&self.core, rt).try_take()
     }
 
     /// Lets go of all wakers that dropped futures left in the cell. The task of each is polled once
@@ -127,6 +135,16 @@ impl<T: Drop> AsyncCell<T> {
     /// lives on. It takes the lock once for each place, and needs no memory.
     pub fn purge<R: Wait>(&self, rt: &R) {
         purge(&self.core, rt);
+    }
+
+    /// Internal: may change without notice. Returns the number of places in the wait list.
+    pub fn waiting<R: Wait>(&self, rt: &R) -> usize {
+        Steps::on(&self.core, rt).waiting()
+    }
+
+    /// Returns the allocator that the cell was made with.
+    pub(crate) fn allocator(&self) -> Global {
+        self.alloc
     }
 
     /// Returns the content. Wakes all waiters. Does not take the lock.
@@ -174,5 +192,16 @@ impl AsyncCell<()> {
         ensures of_this { result.0.now ≡ self.now }
     {
         self.take()
+    }
+}
+
+impl<T: Drop, R: Wait> Places<R> for AsyncCell<T> {
+    #[inline(always)]
+    fn leave(&self, place: Place, rt: &R) {
+        leave(&self.core, place, rt);
+    }
+
+    fn cancel(&self, place: Place, rt: &R) {
+        cancel(&self.core, place, rt);
     }
 }

@@ -5,7 +5,7 @@ ghost use Rattle.async_cell_model.specs.Refusal.{FailsWithMemoryOrClosed};
 
 use crate::cell_ref::CellRef;
 use async_cell_core::Refusal;
-use async_cell_waiting::With;
+use async_cell_waiting::{Cloning, With, poll};
 use futures::task::{Context, Poll};
 use std::sync::Wait;
 
@@ -33,7 +33,8 @@ where
         ensures kept { Keeps cx.old cx.new }
         ensures refused { IfReady result FailsWithMemoryOrClosed }
     {
-        self.0.cell().poll_get(None, cx, rt)
+        let cell = self.0.cell();
+        poll(&cell.core, &cell.source, Cloning, None, cx, rt)
     }
 }
 

@@ -3,6 +3,7 @@ ghost use Rattle.async_cell_sync.specs.Source.{source_of};
 
 use crate::async_cell::AsyncCell;
 use crate::cell_ref::CellRef;
+use async_cell_waiting::Steps;
 use std::sync::Wait;
 
 /// A guard of a cell. It is not `Drop` and must be consumed: by `cancel`, which sets its cancel
@@ -33,7 +34,7 @@ impl<T: Drop, C: CellRef<Value = T>> GuardedCell<T, C> {
     /// value. Drops the cancel value otherwise.
     pub fn cancel<R: Wait>(self, rt: &R) {
         let GuardedCell { pointer, cancel } = self;
-        pointer.cell().steps(rt).end_guard(Some(cancel));
+        Steps::on(&pointer.cell().core, rt).end_guard(Some(cancel));
         pointer.leave(rt);
     }
 

@@ -16,7 +16,7 @@ use crate::owner::Owner;
 use crate::take::Take;
 use crate::weak::{GetWeak, TakeWeak};
 use async_cell_core::{Place, Refusal};
-use async_cell_waiting::{Polled, Request, Takes, Upgrade, weakly};
+use async_cell_waiting::{Cloning, Polled, Request, Takes, Taking, Upgrade, poll, weakly};
 use futures::task::{Context, Poll};
 use std::sync::Wait;
 
@@ -71,7 +71,8 @@ impl<C: CellRef + Drop, R: Wait> Polled<R> for Take<C> {
         cx: &mut Context<'_>,
         rt: &R,
     ) -> Poll<Result<C::Value, Refusal>> {
-        self.0.cell().poll_take(place, cx, rt)
+        let cell = self.0.cell();
+        poll(&cell.core, &cell.source, Taking, place, cx, rt)
     }
 }
 
@@ -92,7 +93,8 @@ where
         cx: &mut Context<'_>,
         rt: &R,
     ) -> Poll<Result<C::Value, Refusal>> {
-        self.0.cell().poll_get(place, cx, rt)
+        let cell = self.0.cell();
+        poll(&cell.core, &cell.source, Cloning, place, cx, rt)
     }
 }
 
@@ -115,7 +117,7 @@ impl<T: Drop, R: Wait> Polled<R> for TakeWeak<T> {
         ensures gives { IfReady result (GivesWeakly self.now.0) }
     {
         match self.0.cell() {
-            Ok(cell) => weakly(cell.poll_take(place, cx, rt)),
+            Ok(cell) => weakly(poll(&cell.core, &cell.source, Taking, place, cx, rt)),
             Err(why) => Poll::Ready(Err(why)),
         }
     }
@@ -140,7 +142,7 @@ impl<T: Clone, R: Wait> Polled<R> for GetWeak<T> {
         ensures gives { IfReady result (GivesWeakly self.now.0) }
     {
         match self.0.cell() {
-            Ok(cell) => weakly(cell.poll_get(place, cx, rt)),
+            Ok(cell) => weakly(poll(&cell.core, &cell.source, Cloning, place, cx, rt)),
             Err(why) => Poll::Ready(Err(why)),
         }
     }

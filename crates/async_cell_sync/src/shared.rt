@@ -9,6 +9,7 @@ use crate::guarded_cell::GuardedCell;
 use crate::take::Take;
 use crate::weak::{GetWeak, TakeWeak, Weak};
 use async_cell_core::Refusal;
+use async_cell_waiting::Steps;
 use std::alloc::{AllocFailed, Global};
 use std::sync::{Arc, Wait};
 
@@ -124,7 +125,7 @@ impl<T: Drop> Shared<T> {
     pub fn try_into_inner<R: Wait>(self, rt: &R) -> Result<Option<T>, Self>
         ensures comes_back { IfErr result (λ back. back ≡ self) }
     {
-        match self.cell.steps(rt).take_inner() {
+        match Steps::on(&self.cell.core, rt).take_inner() {
             Err(Refusal::StillShared) => Err(self),
             taken => {
                 let Shared { cell: _ } = self;
@@ -136,7 +137,7 @@ impl<T: Drop> Shared<T> {
     /// Ends the owner.
     pub fn end<R: Wait>(self, rt: &R) {
         let Shared { cell } = self;
-        let _ = cell.steps(rt).end_owner();
+        let _ = Steps::on(&cell.core, rt).end_owner();
     }
 
     /// Makes a new owner of the cell. Fails with `Memory` if the pointer cannot be counted,
@@ -146,7 +147,7 @@ impl<T: Drop> Shared<T> {
         ensures refused { IfErr result IsOwnerRefusal }
     {
         let cell = Arc::try_clone(cell)?;
-        cell.steps(rt).add_owner()?;
+        Steps::on(&cell.core, rt).add_owner()?;
         Ok(Shared { cell })
     }
 }

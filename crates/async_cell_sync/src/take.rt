@@ -5,7 +5,7 @@ ghost use Rattle.async_cell_model.specs.Refusal.{FailsWithMemoryOrClosed};
 
 use crate::cell_ref::CellRef;
 use async_cell_core::Refusal;
-use async_cell_waiting::With;
+use async_cell_waiting::{Taking, With, poll};
 use futures::task::{Context, Poll};
 use std::sync::Wait;
 
@@ -29,7 +29,8 @@ impl<C: CellRef> Take<C> {
         ensures kept { Keeps cx.old cx.new }
         ensures refused { IfReady result FailsWithMemoryOrClosed }
     {
-        self.0.cell().poll_take(None, cx, rt)
+        let cell = self.0.cell();
+        poll(&cell.core, &cell.source, Taking, None, cx, rt)
     }
 }
 

@@ -4,14 +4,13 @@ ghost use Rattle.async_cell_model.specs.Refusal.{FailsWithMemory};
 ghost use Rattle.async_cell_unsync.specs.Names.{cell_of};
 
 mod looks;
-mod steps;
 
 use crate::get::Get;
 use crate::guarded_cell::GuardedCell;
 use crate::shared::Shared;
 use crate::take::Take;
-use async_cell_core::{Core, Refusal, TaskWaker, Wakes};
-use async_cell_waiting::{CellCore, Lender, OneThread, purge};
+use async_cell_core::{Core, Place, Refusal, TaskWaker, Wakes};
+use async_cell_waiting::{CellCore, Lender, OneThread, Places, Steps, cancel, leave, purge};
 use futures::task::Source;
 use std::alloc::Global;
 
@@ -29,13 +28,22 @@ use std::alloc::Global;
 /// the future is dropped.
 #[derive(Drop)]
 pub struct AsyncCell<T> {
-    core: Lender<CellCore<T, TaskWaker>>,
+    pub(crate) core: Lender<CellCore<T, TaskWaker>>,
     /// The source that waiting tasks register with.
-    source: Source,
+    pub(crate) source: Source,
     alloc: Global,
 }
 
 impl<T: Drop> AsyncCell<T> {
+    /// Wraps a core in a cell.
+    fn of(alloc: Global, core: Core<T, TaskWaker>) -> Self {
+        AsyncCell {
+            core: Lender::new(CellCore::of(core)),
+            source: Source::new(),
+            alloc,
+        }
+    }
+
     /// Makes a cell without a value. Takes no memory. Stores the allocator for all later growth.
     pub fn new(alloc: Global) -> Self {
         AsyncCell::of(alloc, Core::new(alloc))
@@ -72,12 +80,12 @@ impl<T: Drop> AsyncCell<T> {
 
     /// Sets the value and drops the old one. Wakes all waiters.
     pub fn set(&self, value: T) {
-        let _ = self.steps().replace(value);
+        let _ = Steps::on(&self.core, &OneThread).replace(value);
     }
 
     /// Sets the value and wakes all waiters, if the cell holds no value. Drops `value` otherwise.
     pub fn or_set(&self, value: T) {
-        let _ = self.steps().or_set(value);
+        let _ = Steps::on(&self.core, &OneThread).or_set(value);
     }
 
     /// Sets the value and wakes all waiters, if the cell is open and holds no value. Otherwise
@@ -85,13 +93,13 @@ impl<T: Drop> AsyncCell<T> {
     pub fn try_set(&self, value: T) -> Result<(), T>
         ensures comes_back { IfErr result (λ back. back ≡ value) }
     {
-        self.steps().try_set(value)
+        Steps::on(&self.core, &OneThread).try_set(value)
     }
 
     /// Sets the value and returns the old one. Wakes all waiters.
     #[inline]
     pub fn replace(&self, value: T) -> Option<T> {
-        let replaced = self.steps().replace(value);
+        let replaced = Steps::on(&self.core, &OneThread).replace(value);
         replaced.unwrap_or(None)
     }
 
@@ -100,7 +108,7 @@ impl<T: Drop> AsyncCell<T> {
     pub fn update<F: FnOnce(Option<T>) -> Option<T> + Drop>(&self, change: F)
         requires { F.IsAlwaysCallable change }
     {
-        if let Some(content) = self.steps().take_out() {
+        if let Some(content) = Steps::on(&self.core, &OneThread).take_out() {
             let answer = change(content);
             self.put_back(answer);
         }
@@ -130,7 +138,17 @@ impl<T: Drop> AsyncCell<T> {
 
     /// Takes the value, if there is one. The waiters stay registered.
     pub fn try_take(&self) -> Option<T> {
-        self.steps().try_take()
+        Steps::on(&self.core, &OneThread).try_take()
+    }
+
+    /// Internal: may change without notice. Returns the number of places in the wait list.
+    pub fn waiting(&self) -> usize {
+        Steps::on(&self.core, &OneThread).waiting()
+    }
+
+    /// Returns the allocator that the cell was made with.
+    pub(crate) fn allocator(&self) -> Global {
+        self.alloc
     }
 
     /// Returns the content. Wakes all waiters.
@@ -191,5 +209,16 @@ impl AsyncCell<()> {
         ensures of_this { result.0.now ≡ self.now }
     {
         self.take()
+    }
+}
+
+impl<T: Drop> Places<OneThread> for AsyncCell<T> {
+    #[inline(always)]
+    fn leave(&self, place: Place, rt: &OneThread) {
+        leave(&self.core, place, rt);
+    }
+
+    fn cancel(&self, place: Place, rt: &OneThread) {
+        cancel(&self.core, place, rt);
     }
 }

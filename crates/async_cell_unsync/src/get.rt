@@ -6,7 +6,7 @@ ghost use Rattle.async_cell_model.specs.Refusal.{FailsWithMemoryOrClosed};
 use crate::cell_ref::CellRef;
 use crate::requests::{InPlace, With};
 use async_cell_core::Refusal;
-use async_cell_waiting::OneThread;
+use async_cell_waiting::{OneThread, Taking, poll};
 use futures::future::Future;
 use futures::task::{Context, Poll};
 
@@ -29,7 +29,12 @@ where
         ensures kept { Keeps cx.old cx.new }
         ensures refused { IfReady result FailsWithMemoryOrClosed }
     {
-        self.0.cell().poll_get(None, cx)
+        let cell = self.0.cell();
+        match poll(&cell.core, &cell.source, Taking, None, cx, &OneThread) {
+            Poll::Ready(Ok(value)) => Poll::Ready(cell.copy_back(value)),
+            Poll::Ready(Err(why)) => Poll::Ready(Err(why)),
+            Poll::Pending => Poll::Pending,
+        }
     }
 }
 

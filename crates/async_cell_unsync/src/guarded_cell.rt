@@ -3,6 +3,7 @@ ghost use Rattle.async_cell_unsync.specs.Source.{source_of};
 
 use crate::async_cell::AsyncCell;
 use crate::cell_ref::CellRef;
+use async_cell_waiting::{OneThread, Steps};
 
 /// A guard of a cell. Its drop sets its cancel value if the cell holds no value, unless the guard
 /// was released, and then drops its pointer: a guard that is an owner ends its owner.
@@ -67,6 +68,6 @@ impl<T: Drop, C: CellRef<Value = T>> GuardedCell<T, C> {
 impl<T: Drop, C: CellRef<Value = T>> Drop for GuardedCell<T, C> {
     fn drop(self) {
         let GuardedCell { pointer, cancel } = self;
-        pointer.cell().steps().end_guard(cancel);
+        Steps::on(&pointer.cell().core, &OneThread).end_guard(cancel);
     }
 }

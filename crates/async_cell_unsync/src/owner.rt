@@ -23,7 +23,7 @@ use std::alloc::Global;
 /// until their `with` is called.
 #[derive(Drop)]
 pub struct Owner<T: Drop> {
-    shared: Shared<T>,
+    pub(crate) shared: Shared<T>,
 }
 
 impl<T: Drop> Shared<T> {

@@ -16,7 +16,7 @@ use crate::owner::Owner;
 use crate::take::Take;
 use crate::weak::{GetWeak, TakeWeak};
 use async_cell_core::{Place, Refusal};
-use async_cell_waiting::{OneThread, Polled, Request, Takes, Upgrade, weakly};
+use async_cell_waiting::{OneThread, Polled, Request, Takes, Taking, Upgrade, poll, weakly};
 use futures::task::{Context, Poll};
 
 /// The future of a `Take`, a `Get`, a `TakeWeak` or a `GetWeak` that holds a place in the cell's
@@ -73,9 +73,10 @@ impl<C: CellRef> Polled<OneThread> for Take<C> {
         &self,
         place: Option<&mut Place>,
         cx: &mut Context<'_>,
-        _: &OneThread,
+        rt: &OneThread,
     ) -> Poll<Result<C::Value, Refusal>> {
-        self.0.cell().poll_take(place, cx)
+        let cell = self.0.cell();
+        poll(&cell.core, &cell.source, Taking, place, cx, rt)
     }
 }
 
@@ -94,9 +95,14 @@ where
         &self,
         place: Option<&mut Place>,
         cx: &mut Context<'_>,
-        _: &OneThread,
+        rt: &OneThread,
     ) -> Poll<Result<C::Value, Refusal>> {
-        self.0.cell().poll_get(place, cx)
+        let cell = self.0.cell();
+        match poll(&cell.core, &cell.source, Taking, place, cx, rt) {
+            Poll::Ready(Ok(value)) => Poll::Ready(cell.copy_back(value)),
+            Poll::Ready(Err(why)) => Poll::Ready(Err(why)),
+            Poll::Pending => Poll::Pending,
+        }
     }
 }
 
@@ -111,7 +117,7 @@ impl<T: Drop> Polled<OneThread> for TakeWeak<T> {
         &self,
         place: Option<&mut Place>,
         cx: &mut Context<'_>,
-        _: &OneThread,
+        rt: &OneThread,
     ) -> Poll<Result<Option<T>, Refusal>>
         ensures lost { IsLost self.now.0 → result ≡ Poll.Ready (Err Refusal.Memory) }
         ensures registered { OnPending result (Covers cx.new (IsSourceOf self.now.0)) }
@@ -119,7 +125,7 @@ impl<T: Drop> Polled<OneThread> for TakeWeak<T> {
         ensures gives { IfReady result (GivesWeakly self.now.0) }
     {
         match self.0.cell() {
-            Ok(cell) => weakly(cell.poll_take(place, cx)),
+            Ok(cell) => weakly(poll(&cell.core, &cell.source, Taking, place, cx, rt)),
             Err(why) => Poll::Ready(Err(why)),
         }
     }
@@ -136,7 +142,7 @@ impl<T: Clone> Polled<OneThread> for GetWeak<T> {
         &self,
         place: Option<&mut Place>,
         cx: &mut Context<'_>,
-        _: &OneThread,
+        rt: &OneThread,
     ) -> Poll<Result<Option<T>, Refusal>>
         ensures lost { IsLost self.now.0 → result ≡ Poll.Ready (Err Refusal.Memory) }
         ensures registered { OnPending result (Covers cx.new (IsSourceOf self.now.0)) }
@@ -144,7 +150,7 @@ impl<T: Clone> Polled<OneThread> for GetWeak<T> {
         ensures gives { IfReady result (GivesWeakly self.now.0) }
     {
         match self.0.cell() {
-            Ok(cell) => weakly(cell.poll_get(place, cx)),
+            Ok(cell) => weakly(Get(cell).poll_at(place, cx, rt)),
             Err(why) => Poll::Ready(Err(why)),
         }
     }

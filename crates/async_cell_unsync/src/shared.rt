@@ -9,13 +9,14 @@ use crate::guarded_cell::GuardedCell;
 use crate::take::Take;
 use crate::weak::{GetWeak, TakeWeak, Weak};
 use async_cell_core::Refusal;
+use async_cell_waiting::{OneThread, Steps};
 use std::alloc::{AllocError, AllocFailed, Global};
 use std::rc::Rc;
 
 /// One counted owner of a cell. Dropping it ends the owner. The last one closes the cell: the value
 /// is dropped, all waiters are woken, and weak futures are ready with `None`.
 pub struct Shared<T> {
-    cell: Rc<AsyncCell<T>>,
+    pub(crate) cell: Rc<AsyncCell<T>>,
 }
 
 impl<T: Drop> Shared<T> {
@@ -121,7 +122,7 @@ impl<T: Drop> Shared<T> {
     pub fn try_into_inner(self) -> Result<Option<T>, Self>
         ensures comes_back { IfErr result (λ back. back ≡ self) }
     {
-        match self.cell.steps().take_inner() {
+        match Steps::on(&self.cell.core, &OneThread).take_inner() {
             Err(Refusal::StillShared) => Err(self),
             taken => {
                 let Shared { cell: _ } = self;
@@ -138,7 +139,7 @@ impl<T: Drop> Shared<T> {
     {
         let pointer: Result<Rc<AsyncCell<T>>, AllocError> = cell.clone();
         let cell = pointer?;
-        cell.steps().add_owner()?;
+        Steps::on(&cell.core, &OneThread).add_owner()?;
         Ok(Shared { cell })
     }
 }
@@ -157,6 +158,6 @@ impl Shared<()> {
 impl<T: Drop> Drop for Shared<T> {
     fn drop(self) {
         let Shared { cell } = self;
-        let _ = cell.steps().end_owner();
+        let _ = Steps::on(&cell.core, &OneThread).end_owner();
     }
 }

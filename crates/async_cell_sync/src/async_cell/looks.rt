@@ -6,6 +6,7 @@ ghost use Rattle.async_cell_model.specs.Refusal.{FailsWithMemory};
 use super::AsyncCell;
 use crate::owner::Owner;
 use async_cell_core::Refusal;
+use async_cell_waiting::Steps;
 use std::fmt;
 use std::sync::Wait;
 
@@ -18,7 +19,7 @@ impl<T: Drop> AsyncCell<T> {
         ensures sure { ((value : T) → T.is_infallible value) → IsOk result }
         ensures refused { FailsWithMemory result }
     {
-        self.steps(rt).try_get()
+        Steps::on(&self.core, rt).try_get()
     }
 
     /// Calls the closure on the value, if there is one, and returns what it returns. No other call
@@ -32,17 +33,17 @@ impl<T: Drop> AsyncCell<T> {
         ensures called { IfSome result (λ answer. (seen : T)
             × FnOnceReturnsAt F.FnOnce look seen answer) }
     {
-        self.steps(rt).peek(look)
+        Steps::on(&self.core, rt).peek(look)
     }
 
     /// Returns whether the cell holds a value.
     pub fn is_set<R: Wait>(&self, rt: &R) -> bool {
-        self.steps(rt).is_set()
+        Steps::on(&self.core, rt).is_set()
     }
 
     /// Returns whether the cell is closed.
     pub fn is_closed<R: Wait>(&self, rt: &R) -> bool {
-        self.steps(rt).is_closed()
+        Steps::on(&self.core, rt).is_closed()
     }
 
     /// Returns `AsyncCell::Empty`, `AsyncCell::Pending` if a task waits, `AsyncCell::Full(..)` with
@@ -53,7 +54,7 @@ impl<T: Drop> AsyncCell<T> {
         T: fmt::Debug,
         ensures refused { FailsWithMemory result }
     {
-        self.steps(rt).debug_text(self.alloc)
+        Steps::on(&self.core, rt).debug_text(self.alloc)
     }
 }
 

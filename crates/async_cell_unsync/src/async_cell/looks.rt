@@ -6,9 +6,35 @@ ghost use Rattle.async_cell_model.specs.Refusal.{FailsWithMemory};
 use super::AsyncCell;
 use crate::owner::Owner;
 use async_cell_core::Refusal;
+use async_cell_waiting::{OneThread, Steps};
+use std::alloc::AllocError;
 use std::fmt;
 
 impl<T: Drop> AsyncCell<T> {
+    /// Stores a content that was taken out, over whatever was stored in the meantime. A cell that
+    /// was closed in the meantime stays closed.
+    pub(super) fn put_back(&self, content: Option<T>) {
+        let over = match content {
+            Some(value) => self.replace(value),
+            None => self.try_take(),
+        };
+        drop(over);
+    }
+
+    /// Clones a value that was taken out, and stores it again. Fails with `Memory` if the clone
+    /// fails.
+    #[inline]
+    pub(crate) fn copy_back(&self, value: T) -> Result<T, Refusal>
+    where
+        T: Clone,
+        ensures sure { ((value : T) → T.is_infallible value) → IsOk result }
+        ensures refused { FailsWithMemory result }
+    {
+        let copy: Result<T, AllocError> = value.clone();
+        self.set(value);
+        Ok(copy?)
+    }
+
     /// Returns a clone of the value, if there is one. Fails with `Memory` if the clone fails; the
     /// value then stays in the cell.
     pub fn try_get(&self) -> Result<Option<T>, Refusal>
@@ -40,12 +66,12 @@ impl<T: Drop> AsyncCell<T> {
 
     /// Returns whether the cell holds a value.
     pub fn is_set(&self) -> bool {
-        self.steps().is_set()
+        Steps::on(&self.core, &OneThread).is_set()
     }
 
     /// Returns whether the cell is closed.
     pub fn is_closed(&self) -> bool {
-        self.steps().is_closed()
+        Steps::on(&self.core, &OneThread).is_closed()
     }
 
     /// Returns the text that this cell prints. Fails with `Memory`.
@@ -67,7 +93,7 @@ impl<T: Drop> Owner<T> {
         ensures sure { ((value : T) → T.is_infallible value) → IsOk result }
         ensures refused { FailsWithMemory result }
     {
-        self.cell().try_get()
+        self.shared.cell.try_get()
     }
 
     /// Calls the closure on the value, if there is one, and returns what it returns. The value is
@@ -79,17 +105,17 @@ impl<T: Drop> Owner<T> {
         ensures called { IfSome result (λ answer. (seen : T)
             × FnOnceReturnsAt F.FnOnce look seen answer) }
     {
-        self.cell().peek(look)
+        self.shared.cell.peek(look)
     }
 
     /// Returns whether the cell holds a value.
     pub fn is_set(&self) -> bool {
-        self.cell().is_set()
+        self.shared.cell.is_set()
     }
 
     /// Returns whether the cell is closed. It is open as long as an owner lives.
     pub fn is_closed(&self) -> bool {
-        self.cell().is_closed()
+        self.shared.cell.is_closed()
     }
 
     /// Returns the text of the cell as `AsyncCell::debug_text` does. Fails with `Memory`.
@@ -98,7 +124,7 @@ impl<T: Drop> Owner<T> {
         T: fmt::Debug,
         ensures refused { FailsWithMemory result }
     {
-        self.cell().debug_text()
+        self.shared.cell.debug_text()
     }
 }
 
@@ -108,7 +134,7 @@ impl<T: Drop> Owner<T> {
 impl<T: fmt::Debug + Drop> fmt::Debug for AsyncCell<T> {
     fn fmt<F: fmt::Write>(&self, f: &mut fmt::Formatter<F>) -> fmt::Result {
         let Some(value) = self.try_take() else {
-            let text = self.steps().text_without_value();
+            let text = Steps::on(&self.core, &OneThread).text_without_value();
             return f.write_str(text);
         };
         let printed = write!(f, "AsyncCell::Full({value:?})");
