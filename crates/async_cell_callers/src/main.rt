@@ -1,21 +1,16 @@
-//! One caller of each public function of the cells and of the latest states, at types of a program.
-//! The proof of it says that a program can meet what each call requires; what it prints, that no
-//! call gives up.
+//! One caller of each public function of the cells, at types of a program. The proof of it says that
+//! a program can meet what each call requires; what it prints, that no call gives up.
 #![tactic(auto)]
 
 mod bare;
 mod cell_core;
-mod followed;
 mod host;
-mod latest;
 mod locked_core;
 mod owned;
 mod sync_cell;
-mod sync_latest;
 mod sync_owner;
 mod sync_shared;
 mod unsync_cell;
-mod unsync_latest;
 mod unsync_owner;
 mod unsync_shared;
 mod wakers;
@@ -34,9 +29,5 @@ fn main(rt: HostRuntime) -> Result<()> {
     sync_cell::all(rt)?;
     sync_owner::all(rt)?;
     sync_shared::all(rt)?;
-    println!(rt; "-- latest")?;
-    latest::all(rt)?;
-    unsync_latest::all(rt)?;
-    sync_latest::all(rt)?;
     Ok(())
 }
