@@ -1,5 +1,5 @@
-//! One caller of each public function of the cells, at types of a program. The proof of it says that
-//! a program can meet what each call requires; what it prints, that no call gives up.
+//! One caller of each public function of the cells, at types of a program. The proof of it says
+//! that a program can meet what each call requires; what it prints, that no call gives up.
 #![tactic(auto)]
 
 mod bare;

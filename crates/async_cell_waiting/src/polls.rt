@@ -109,8 +109,8 @@ where
     }
 }
 
-/// Registers the task with the waker of its place, which was taken out, if there was one, and stores
-/// it again. If it was another task's, it is dropped, which wakes that task: so no step runs
+/// Registers the task with the waker of its place, which was taken out, if there was one, and
+/// stores it again. If it was another task's, it is dropped, which wakes that task: so no step runs
 /// meanwhile.
 #[inline(never)]
 fn renew<S, G, C, Q, R>(

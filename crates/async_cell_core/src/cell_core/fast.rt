@@ -66,8 +66,8 @@ impl<T: Drop, W: Wakes> Core<T, W> {
 
     /// Internal: may change without notice.
     ///
-    /// `end_owner` of an owner that is not the last: nobody is woken, and nothing comes out. Returns
-    /// whether it is so; if not, nothing changes.
+    /// `end_owner` of an owner that is not the last: nobody is woken, and nothing comes out.
+    /// Returns whether it is so; if not, nothing changes.
     #[doc(hidden)]
     #[inline(always)]
     pub fn end_other(&mut self) -> bool

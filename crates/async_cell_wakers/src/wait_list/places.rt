@@ -105,7 +105,8 @@ impl WaitList<TaskWaker> {
     /// on. Returns `None` if there is neither.
     #[inline(always)]
     fn claim(&self, place: &mut Place) -> Option<usize>
-        ensures held { IfSome result (λ index. Holds self.now place.new × (index ≡ place.new.index)) }
+        ensures held { IfSome result (λ index.
+            Holds self.now place.new × (index ≡ place.new.index)) }
         ensures kept { Holds self.now place.old → IsSome result × (place.new ≡ place.old) }
         ensures unchanged { IfNone result (place.new ≡ place.old) }
     {
