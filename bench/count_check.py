@@ -25,7 +25,7 @@ TOLD = [
 ]
 # A body that does its work twice.
 SLOWER = (
-    "async_cell_unsync/src/owner/calls.rt",
+    "async_cell_unsync/src/async_cell.rt",
     "    pub fn set(&self, value: T) {\n",
     "        let _ = self.try_take();\n",
 )

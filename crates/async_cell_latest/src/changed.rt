@@ -9,7 +9,6 @@ use async_cell_model::Refusal;
 use async_cell_wakers::Place;
 use futures::future::Future;
 use futures::task::{Context, Poll};
-use std::fmt;
 
 /// The future of `Follower::changed`.
 ///
@@ -17,8 +16,11 @@ use std::fmt;
 /// task that polled it last is woken. **Dropping it may wait for the lock**, if the state has one,
 /// and wakes nobody. The place is then free for the next such future, and the task that polled the
 /// dropped one may be woken once more.
+#[derive_where(Debug)]
 pub struct Changed<'a, L: Follows> {
+    #[derive_where(skip)]
     follower: &'a mut L,
+    #[derive_where(skip)]
     place: Place,
 }
 
@@ -84,11 +86,5 @@ impl<L: Follows> Future for Changed<'_, L> {
             Poll::Ready(Err(why)) => Poll::Ready(Err(why)),
             Poll::Pending => Poll::Pending,
         }
-    }
-}
-
-impl<L: Follows> fmt::Debug for Changed<'_, L> {
-    fn fmt<F: fmt::Write>(&self, f: &mut fmt::Formatter<F>) -> fmt::Result {
-        f.debug_struct("Changed").finish_non_exhaustive()
     }
 }

@@ -1,7 +1,7 @@
 //! Internal: may change without notice. The state as a step sees it.
-ghost use Rattle.std.specs.Prelude.{◌≡◌, ◌≢◌, ◌↔◌, ◌⊎◌, true, false, IsOk, IfOk, IfErr, IfSome, IfNone, MatchOption};
-ghost use Rattle.std.specs.Fn.{CalledAt, FnOnceReturnsAt, FnOnceReturnsAtMut};
-ghost use Rattle.async_cell_model.specs.Refusal.{FailsWithClosed, FailsWithMemory};
+ghost use Rattle.std.specs.Prelude.{◌≡◌, ◌≢◌, ◌↔◌, true, false, IsOk, IfOk, IfSome, IfNone, MatchOption};
+ghost use Rattle.std.specs.Fn.{CalledAt, FnOnceReturnsAt};
+ghost use Rattle.async_cell_model.specs.Refusal.{FailsWithMemory};
 ghost use Rattle.async_cell_latest.specs.OneState.{OfOneState};
 ghost use Rattle.async_cell_latest.specs.State.{is_closed};
 
@@ -9,7 +9,7 @@ mod waits;
 
 use crate::latest::Latest;
 use async_cell_model::Refusal;
-use async_cell_waiting::{Held, Waking, WakingOne};
+use async_cell_waiting::Held;
 use async_cell_wakers::{Place, TaskWaker};
 use std::alloc::{AllocError, Global};
 use std::marker::Model;
@@ -17,13 +17,12 @@ pub use waits::{Unseen, UnseenState};
 
 /// Internal: may change without notice.
 ///
-/// A state, whose own calls it hides: what they return would be woken or dropped during a step.
-/// Each call here makes the call of `Latest` of its name, and holds what came out. What only looks
-/// is as in `Latest`.
+/// A state, whose own calls it hides: what they return would be woken or dropped during a step. The
+/// calls of `steps` make them, and hold what comes out. What only looks is here, as in `Latest`.
 #[doc(hidden)]
 #[derive(Drop)]
 pub struct LatestCore<T> {
-    state: Latest<T, TaskWaker>,
+    pub(crate) state: Latest<T, TaskWaker>,
 }
 
 /// Contracts see the state.
@@ -137,91 +136,5 @@ impl<T: Drop> LatestCore<T> {
     /// Leaves the place free, also while the state is only looked at. Its waker stays there.
     pub fn leave(&self, place: Place) -> Option<usize> {
         self.state.leave(place)
-    }
-
-    #[inline(always)]
-    pub(crate) fn write(&mut self, value: T) -> Waking<Result<T, T>, TaskWaker>
-        ensures comes_back { IfErr result.answer (λ back. back ≡ value) }
-    {
-        Waking::of_result(self.state.write(value))
-    }
-
-    #[inline(always)]
-    pub(crate) fn write_first(&mut self, value: T) -> Result<WakingOne<T, TaskWaker>, T>
-        ensures comes_back { IfErr result (λ back. back ≡ value) }
-    {
-        let (old, first) = self.state.write_first(value)?;
-        Ok(WakingOne::of(old, first))
-    }
-
-    #[inline(always)]
-    pub(crate) fn update<F: FnOnce(&T) -> T>(
-        &mut self,
-        change: F,
-    ) -> Waking<Result<T, T>, TaskWaker>
-        requires { F.IsAlwaysCallable change }
-        ensures called { IfOk result.answer (λ old. (new : T)
-            × FnOnceReturnsAt F.FnOnce change old new) }
-        ensures comes_back { IfErr result.answer (λ back. (old : T)
-            × FnOnceReturnsAt F.FnOnce change old back) }
-    {
-        match self.state.update(change) {
-            Ok((old, woken)) => Waking::of(Ok(old), woken),
-            Err(back) => Waking::nobody(Err(back)),
-        }
-    }
-
-    #[inline(always)]
-    pub(crate) fn modify<A, F: FnOnce(&mut T) -> A + Drop>(
-        &mut self,
-        change: F,
-    ) -> Waking<Result<A, Refusal>, TaskWaker>
-        requires { F.IsAlwaysCallable change }
-        ensures called { IfOk result.answer (λ answer. (old new : T)
-            × FnOnceReturnsAtMut F.FnOnce change old answer new) }
-        ensures refused { FailsWithClosed result.answer }
-    {
-        match self.state.modify(change) {
-            Ok((answer, woken)) => Waking::of(Ok(answer), woken),
-            Err(why) => Waking::nobody(Err(why)),
-        }
-    }
-
-    #[inline(always)]
-    pub(crate) fn modify_if<F: FnOnce(&mut T) -> bool + Drop>(
-        &mut self,
-        change: F,
-    ) -> Waking<Result<bool, Refusal>, TaskWaker>
-        requires { F.IsAlwaysCallable change }
-        ensures called { IfOk result.answer (λ changed. (old new : T)
-            × FnOnceReturnsAtMut F.FnOnce change old changed new) }
-        ensures refused { FailsWithClosed result.answer }
-    {
-        match self.state.modify_if(change) {
-            Ok(None) => Waking::nobody(Ok(false)),
-            Ok(Some(woken)) => Waking::of(Ok(true), woken),
-            Err(why) => Waking::nobody(Err(why)),
-        }
-    }
-
-    pub(crate) fn add_writer(&mut self) -> Held<Result<(), Refusal>>
-        ensures refused { IfErr result.answer (λ why.
-            (why ≡ Refusal.Closed) ⊎ (why ≡ Refusal.OwnersFull)) }
-    {
-        Held::of(self.state.add_writer())
-    }
-
-    /// Hands nobody out if the state is closed.
-    #[inline(always)]
-    pub(crate) fn end_writer(&mut self) -> Waking<(), TaskWaker> {
-        match self.state.end_writer() {
-            Ok(woken) => Waking::of((), woken),
-            Err(_closed) => Waking::nobody(()),
-        }
-    }
-
-    /// Hands out all wakers, though nothing is written.
-    pub(crate) fn hand_out(&mut self) -> Waking<(), TaskWaker> {
-        Waking::of((), self.state.hand_out())
     }
 }

@@ -11,7 +11,6 @@ use async_cell_model::Refusal;
 use async_cell_wakers::Place;
 use futures::stream::Stream;
 use futures::task::{Context, Poll};
-use std::fmt;
 
 /// The states that a follower is in time for, as a stream of clones: each is one that it has not
 /// seen before. It ends after the last state, once the last owner has ended. `Follower::states`
@@ -22,8 +21,11 @@ use std::fmt;
 ///
 /// While it waits it holds one place in the wait list, as `Changed` does. **Dropping it may wait
 /// for the lock**, if the state has one, and wakes nobody.
+#[derive_where(Debug)]
 pub struct States<L: Follows> {
+    #[derive_where(skip)]
     follower: L,
+    #[derive_where(skip)]
     place: Place,
 }
 
@@ -88,11 +90,5 @@ impl<L: Shows> Stream for States<L> {
             Poll::Ready(Err(why)) => Poll::Ready(Some(Err(why))),
             Poll::Pending => Poll::Pending,
         }
-    }
-}
-
-impl<L: Follows> fmt::Debug for States<L> {
-    fn fmt<F: fmt::Write>(&self, f: &mut fmt::Formatter<F>) -> fmt::Result {
-        f.debug_struct("States").finish_non_exhaustive()
     }
 }

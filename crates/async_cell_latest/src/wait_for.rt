@@ -10,17 +10,22 @@ use async_cell_model::Refusal;
 use async_cell_wakers::Place;
 use futures::future::Future;
 use futures::task::{Context, Poll};
-use std::{fmt, mem};
+use std::mem;
 
 /// The future of `Follower::wait_for`.
 ///
 /// While it waits it holds one place in the wait list, as `Changed` does. **Dropping it may wait
 /// for the lock**, if the state has one, and wakes nobody.
+#[derive_where(Debug)]
 pub struct WaitFor<'a, L: Follows, F: Drop> {
+    #[derive_where(skip)]
     follower: &'a mut L,
+    #[derive_where(skip)]
     place: Place,
+    #[derive_where(skip)]
     predicate: F,
     /// The version that the predicate was called on last; 0 if on none.
+    #[derive_where(skip)]
     looked_at: u64,
 }
 
@@ -126,11 +131,5 @@ impl<L: Shows, F: FnMut(&L::Value) -> bool + Drop> Future for WaitFor<'_, L, F> 
         self.looked_at = version;
         follower.mark(version);
         polled
-    }
-}
-
-impl<L: Follows, P: Drop> fmt::Debug for WaitFor<'_, L, P> {
-    fn fmt<F: fmt::Write>(&self, f: &mut fmt::Formatter<F>) -> fmt::Result {
-        f.debug_struct("WaitFor").finish_non_exhaustive()
     }
 }

@@ -6,10 +6,10 @@ ghost use Rattle.async_cell_latest.specs.State.{State};
 ghost use Rattle.async_cell_latest_sync.specs.Names.{cell_followed};
 ghost use Rattle.async_cell_latest_sync.specs.Seen.{HasSeen};
 
-mod polled;
-
 use crate::cell::LatestCell;
-use async_cell_latest::{Refusal, TaskWaker};
+use async_cell_latest::{Follows, Place, Refusal, Shows, TaskWaker, Unseen, UnseenState};
+use async_cell_waiting::{Held, Step, end, poll};
+use futures::task::{Context, Poll};
 use std::alloc::AllocError;
 use std::sync::{Arc, Wait};
 
@@ -31,14 +31,18 @@ pub type States<T, R> = async_cell_latest::States<Follower<T, R>>;
 ///
 /// Its drop does not take the lock. Dropping a future that it made may wait for it.
 #[derive(Drop)]
+#[derive_where(Debug)]
 pub struct Follower<T: Drop, R> {
-    pub(crate) cell: Arc<LatestCell<T>>,
+    #[derive_where(skip)]
+    cell: Arc<LatestCell<T>>,
     /// The version that it has seen; 0 if none.
-    pub(crate) seen: u64,
-    pub(crate) rt: R,
+    #[derive_where(skip)]
+    seen: u64,
+    #[derive_where(skip)]
+    rt: R,
 }
 
-impl<T: Drop, R: Wait> Follower<T, R> {
+impl<T: Drop, R: Wait + Drop> Follower<T, R> {
     /// Makes a follower that has seen the current state.
     pub(crate) fn new(cell: Arc<LatestCell<T>>, rt: R) -> Self
         ensures of_this { cell_followed result ≡ arc_value cell }
@@ -46,9 +50,7 @@ impl<T: Drop, R: Wait> Follower<T, R> {
         let seen = cell.version(&rt);
         Follower { cell, seen, rt }
     }
-}
 
-impl<T: Drop, R: Wait + Drop> Follower<T, R> {
     /// Returns a future that is ready once there is a state that this follower has not seen, which
     /// is then marked as seen. It fails with `Closed` once the last owner has ended and the last
     /// state was seen, and with `Memory` if it has to wait and there is no memory for that.
@@ -66,9 +68,7 @@ impl<T: Drop, R: Wait + Drop> Follower<T, R> {
     /// The future fails with `Closed` once the last owner has ended and the last state was looked
     /// at, and with `Memory` if there is no memory for the clone or to wait: then that state is not
     /// marked, and the next poll looks at it again.
-    pub fn wait_for<F>(&mut self, predicate: F) -> WaitFor<'_, T, R, F>
-    where
-        F: FnMut(&T) -> bool + Drop,
+    pub fn wait_for<F: FnMut(&T) -> bool + Drop>(&mut self, predicate: F) -> WaitFor<'_, T, R, F>
         ensures of_this { result.follower.now ≡ self.old }
         ensures looks { result.predicate ≡ predicate }
     {
@@ -92,8 +92,7 @@ impl<T: Drop, R: Wait + Drop> Follower<T, R> {
         ensures sure { ((value : T) → T.is_infallible value) → IsOk result }
         ensures refused { FailsWithMemory result }
     {
-        let (_, value) = self.cell.get(&self.rt)?;
-        Ok(value)
+        Ok(self.cell.get(&self.rt)?.1)
     }
 
     /// Returns a clone of the last value, and marks it as seen. Fails with `Memory` if the clone
@@ -115,9 +114,7 @@ impl<T: Drop, R: Wait + Drop> Follower<T, R> {
 
     /// Calls the closure on the last value, and returns what it returns. The value is not marked as
     /// seen. The lock is held meanwhile: a closure that calls its own state waits forever.
-    pub fn peek<A, F>(&self, look: F) -> A
-    where
-        F: FnOnce(&T) -> A,
+    pub fn peek<A, F: FnOnce(&T) -> A>(&self, look: F) -> A
         requires { F.IsAlwaysCallable look }
         ensures called { (seen : T) × FnOnceReturnsAt F.FnOnce look seen result }
     {
@@ -125,9 +122,7 @@ impl<T: Drop, R: Wait + Drop> Follower<T, R> {
     }
 
     /// `peek`, of a value that is then marked as seen.
-    pub fn peek_and_update<A, F>(&mut self, look: F) -> A
-    where
-        F: FnOnce(&T) -> A,
+    pub fn peek_and_update<A, F: FnOnce(&T) -> A>(&mut self, look: F) -> A
         requires { F.IsAlwaysCallable look }
         ensures of_one_state { HasSeen self.new (λ s.
             FnOnceReturnsAt F.FnOnce look s.value result) }
@@ -144,12 +139,14 @@ impl<T: Drop, R: Wait + Drop> Follower<T, R> {
         ensures of_one_state { (s : State T TaskWaker)
             × ((result ≡ true) ↔ (self.now.seen ≢ s.version)) }
     {
-        self.cell.is_unseen(self.seen, &self.rt)
+        self.cell.version(&self.rt) != self.seen
     }
 
     /// Returns whether the last owner has ended: the state is then the last one.
     pub fn is_closed(&self) -> bool {
-        self.cell.is_closed(&self.rt)
+        let core = self.cell.core.lock(&self.rt);
+        let is_closed = core.peek().is_closed();
+        end(core, Held::of(is_closed))
     }
 
     /// Marks the current state as one that was not seen: the next `changed` is ready at once, and
@@ -180,5 +177,75 @@ impl<T: Drop, R: Copy> Clone for Follower<T, R> {
             seen: self.seen,
             rt: self.rt,
         })
+    }
+}
+
+impl<T: Drop, R: Wait + Drop> Follows for Follower<T, R> {
+    ghost use Rattle.async_cell_latest_sync.specs.Names.{cell_followed};
+    ghost use Rattle.async_cell_latest_sync.specs.Source.{source_of};
+
+    type Value = T;
+
+    type Cell = LatestCell<T>;
+
+    ghost cell = { λ follower. cell_followed follower };
+
+    ghost source = { λ cell. source_of cell };
+
+    ghost marked = { λ follower. follower.seen };
+
+    #[inline(always)]
+    fn seen(&self) -> u64 {
+        self.seen
+    }
+
+    #[inline(always)]
+    fn mark(&mut self, version: u64) {
+        self.seen = version;
+    }
+
+    fn poll_unseen(
+        &self,
+        seen: u64,
+        place: &mut Place,
+        cx: &mut Context<'_>,
+    ) -> Poll<Result<u64, Refusal>> {
+        let cell = self.cell.as_ref();
+        let version = Unseen(seen);
+        poll(&cell.core, &cell.source, version, Some(place), cx, &self.rt)
+    }
+
+    fn leave(&self, place: Place) {
+        async_cell_waiting::leave(&self.cell.core, place, &self.rt);
+    }
+
+    fn cancel(&self, place: Place) {
+        async_cell_waiting::cancel(&self.cell.core, place, &self.rt);
+    }
+}
+
+/// The clone is made, and the predicate runs, while the lock is held.
+impl<T: Clone, R: Wait + Drop> Shows for Follower<T, R> {
+    ghost copies = { λ value copy. T.is_clone value copy };
+
+    #[inline(always)]
+    fn poll_state(
+        &self,
+        place: &mut Place,
+        cx: &mut Context<'_>,
+    ) -> Poll<Result<(u64, T), Refusal>> {
+        let cell = self.cell.as_ref();
+        let state = UnseenState(self.seen);
+        poll(&cell.core, &cell.source, state, Some(place), cx, &self.rt)
+    }
+
+    fn test<P: FnMut(&T) -> bool>(
+        &self,
+        seen: u64,
+        predicate: &mut P,
+    ) -> Option<(u64, Result<Option<T>, Refusal>)> {
+        let core = self.cell.core.lock(&self.rt);
+        let tested = core.peek().test(seen, predicate);
+        end(core, Held::of(tested))
     }
 }

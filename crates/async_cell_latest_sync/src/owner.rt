@@ -21,8 +21,11 @@ use std::sync::{Arc, Wait};
 /// A state takes 18,446,744,073,709,551,614 writes, and no further one.
 ///
 /// **Letting one go may wait for the lock**, as its other calls may.
+#[derive_where(Debug)]
 pub struct Owner<T: Drop, R: Wait + Drop> {
+    #[derive_where(skip)]
     cell: Arc<LatestCell<T>>,
+    #[derive_where(skip)]
     rt: R,
 }
 
@@ -57,8 +60,7 @@ impl<T: Drop, R: Wait + Copy> Owner<T, R> {
         ensures of_this { IfOk result (λ follower. cell_followed follower ≡ cell_owned self.now) }
         ensures refused { FailsWithMemory result }
     {
-        let cell = Arc::try_clone(&self.cell)?;
-        Ok(Follower::new(cell, self.rt))
+        Ok(Follower::new(Arc::try_clone(&self.cell)?, self.rt))
     }
 }
 
@@ -79,9 +81,7 @@ impl<T: Drop, R: Wait + Drop> Owner<T, R> {
     /// Calls the closure on the value, sets the one that it returns, and drops the old one. Wakes
     /// all followers that wait. No other call comes in between: the lock is held meanwhile, so a
     /// closure that calls its own state waits forever.
-    pub fn update<F>(&self, change: F)
-    where
-        F: FnOnce(&T) -> T,
+    pub fn update<F: FnOnce(&T) -> T>(&self, change: F)
         requires { F.IsAlwaysCallable change }
         ensures called { (old new : T) × FnOnceReturnsAt F.FnOnce change old new }
     {
@@ -93,9 +93,7 @@ impl<T: Drop, R: Wait + Drop> Owner<T, R> {
     /// so a closure that calls its own state, or drops a value that does, waits forever.
     ///
     /// Fails with `Closed` if the state takes no further write; the closure is then not called.
-    pub fn modify<A, F>(&self, change: F) -> Result<A, Refusal>
-    where
-        F: FnOnce(&mut T) -> A + Drop,
+    pub fn modify<A, F: FnOnce(&mut T) -> A + Drop>(&self, change: F) -> Result<A, Refusal>
         requires { F.IsAlwaysCallable change }
         ensures called { IfOk result (λ answer. (old new : T)
             × FnOnceReturnsAtMut F.FnOnce change old answer new) }
@@ -109,9 +107,7 @@ impl<T: Drop, R: Wait + Drop> Owner<T, R> {
     ///
     /// A closure that returns `false` is to leave the value as it was: what it changed stays, and
     /// nobody is told.
-    pub fn modify_if<F>(&self, change: F) -> Result<bool, Refusal>
-    where
-        F: FnOnce(&mut T) -> bool + Drop,
+    pub fn modify_if<F: FnOnce(&mut T) -> bool + Drop>(&self, change: F) -> Result<bool, Refusal>
         requires { F.IsAlwaysCallable change }
         ensures called { IfOk result (λ changed. (old new : T)
             × FnOnceReturnsAtMut F.FnOnce change old changed new) }
@@ -128,15 +124,12 @@ impl<T: Drop, R: Wait + Drop> Owner<T, R> {
         ensures sure { ((value : T) → T.is_infallible value) → IsOk result }
         ensures refused { FailsWithMemory result }
     {
-        let (_, value) = self.cell.get(&self.rt)?;
-        Ok(value)
+        Ok(self.cell.get(&self.rt)?.1)
     }
 
     /// Calls the closure on the value, and returns what it returns. The lock is held meanwhile: a
     /// closure that calls its own state waits forever.
-    pub fn peek<A, F>(&self, look: F) -> A
-    where
-        F: FnOnce(&T) -> A,
+    pub fn peek<A, F: FnOnce(&T) -> A>(&self, look: F) -> A
         requires { F.IsAlwaysCallable look }
         ensures called { (seen : T) × FnOnceReturnsAt F.FnOnce look seen result }
     {

@@ -1,108 +1,163 @@
-//! The state of one thread. Wakers are woken and values are dropped while nothing is borrowed.
-ghost use Rattle.std.specs.Prelude.{◌≡◌, ◌⊎◌, IfOk, IfErr};
-ghost use Rattle.std.specs.Fn.{FnOnceReturnsAtMut};
-ghost use Rattle.async_cell_model.specs.Refusal.{FailsWithClosed};
+//! The state of one thread, and what is put off. Wakers are woken and values are dropped while
+//! nothing is borrowed.
+ghost use Rattle.std.specs.Prelude.{◌≡◌, IfSome, IfOk};
+ghost use Rattle.std.specs.Fn.{FnOnceReturnsAt};
+ghost use Rattle.async_cell_model.specs.Refusal.{FailsWithMemory};
+ghost use Rattle.async_cell_latest.specs.OneState.{OfOneState};
 
-mod late;
-mod looks;
-mod places;
-mod polls;
-
-use async_cell_latest::{LatestCore, Refusal, steps};
+use async_cell_latest::{LatestCore, Place, Refusal, steps};
 use async_cell_waiting::{Lender, OneThread};
 use futures::task::Source;
-use late::Late;
-use std::alloc::Global;
+use std::alloc::{AllocError, Global};
 use std::cell::Cell;
 
-/// A state of one thread. Owners and followers point to it. It is not lent to a step during a look,
-/// and during a change in place: other steps call nothing that could call the cell.
+/// A state of one thread. Owners and followers point to it. While a look runs it is lent to other
+/// looks alone, and during a change in place to nobody: what is asked for meanwhile is put off
+/// until that ends, which needs no memory. Other steps call nothing that could call the cell.
 #[derive(Drop)]
 pub struct LatestCell<T> {
     pub(crate) core: Lender<LatestCore<T>>,
     /// The source that waiting tasks register with.
-    source: Source,
-    late: Late<T>,
+    pub(crate) source: Source,
     /// The version of the state that is being changed in place, while that lasts.
-    changing: Cell<u64>,
+    pub(crate) changing: Cell<u64>,
+    /// Whether anything has been put off.
+    is_due: Cell<bool>,
+    /// The value that was written last, if that was put off.
+    pub(crate) unwritten: Cell<Option<T>>,
+    /// How many owners ended.
+    ends: Cell<u32>,
+    /// Whether a place was left that could not be reached.
+    has_lost: Cell<bool>,
+    /// Whether the wakers that futures left are to be let go of.
+    purges: Cell<bool>,
 }
 
 impl<T: Drop> LatestCell<T> {
     /// Makes a cell of one owner that holds this value.
     pub(crate) fn new(alloc: Global, value: T) -> Self {
         LatestCell {
-            core: Lender::new(LatestCore::new(alloc, value)),
+            core: Lender::of(LatestCore::new(alloc, value)),
             source: Source::new(),
-            late: Late::new(),
             changing: Cell::new(0),
+            is_due: Cell::new(false),
+            unwritten: Cell::new(None),
+            ends: Cell::new(0),
+            has_lost: Cell::new(false),
+            purges: Cell::new(false),
         }
     }
 
-    /// Sets the value, wakes all waiters and returns the old value. During a look or a change, and
-    /// if the state takes no further write, the value is returned in the error.
-    pub(crate) fn replace(&self, value: T) -> Result<T, T>
-        ensures comes_back { IfErr result (λ back. back ≡ value) }
-    {
-        steps::replace(&self.core, value, &OneThread)
-    }
-
-    /// Sets the value, wakes all waiters and drops the old value. During a look it keeps the value
-    /// for the end of the look.
+    /// Sets the value, wakes all waiters and drops the old value. During a look or a change it is
+    /// put off, in place of an earlier write, whose value is dropped.
     pub(crate) fn set(&self, value: T) {
-        let Err(value) = self.replace(value) else {
+        let Err(value) = steps::replace(&self.core, value, &OneThread) else {
             return;
         };
         if self.core.is_lent() {
-            self.late.write(value);
+            self.is_due.set(true);
+            drop(self.unwritten.replace(Some(value)));
         }
-    }
-
-    /// Calls the closure on the value, which it may change, and wakes all waiters. Fails with
-    /// `Closed` if the state takes no further write, and during a look or another change; the
-    /// closure is then not called. It holds the state, so what it asks of the cell is put off or
-    /// refused, as during a look, and it cannot look.
-    pub(crate) fn modify<A, F>(&self, change: F) -> Result<A, Refusal>
-    where
-        F: FnOnce(&mut T) -> A + Drop,
-        requires { F.IsAlwaysCallable change }
-        ensures called { IfOk result (λ answer. (before after : T)
-            × FnOnceReturnsAtMut F.FnOnce change before answer after) }
-        ensures refused { FailsWithClosed result }
-    {
-        self.changing.set(self.version());
-        let changed = steps::modify(&self.core, change, &OneThread);
-        self.settle();
-        changed
-    }
-
-    /// `modify`, if the closure returns `true`. Otherwise nobody is woken, and no version passes.
-    pub(crate) fn modify_if<F>(&self, change: F) -> Result<bool, Refusal>
-    where
-        F: FnOnce(&mut T) -> bool + Drop,
-        requires { F.IsAlwaysCallable change }
-        ensures called { IfOk result (λ answer. (before after : T)
-            × FnOnceReturnsAtMut F.FnOnce change before answer after) }
-        ensures refused { FailsWithClosed result }
-    {
-        self.changing.set(self.version());
-        let changed = steps::modify_if(&self.core, change, &OneThread);
-        self.settle();
-        changed
-    }
-
-    /// Adds an owner. Fails with `Closed`, also during a look, or with `OwnersFull`.
-    pub(crate) fn add_owner(&self) -> Result<(), Refusal>
-        ensures refused { IfErr result (λ why.
-            (why ≡ Refusal.Closed) ⊎ (why ≡ Refusal.OwnersFull)) }
-    {
-        steps::add_owner(&self.core, &OneThread)
     }
 
     /// Ends one owner. The last one closes the state, which stays, and wakes all waiters. During a
-    /// look it ends with the look.
+    /// look or a change it is put off.
     pub(crate) fn end_owner(&self) {
         if !steps::end_owner(&self.core, &OneThread) {
-            self.late.end_owner();
+            self.is_due.set(true);
+            self.ends.set(self.ends.get().saturating_add(1));
         }
     }
+
+    /// Lets go of all wakers that dropped futures left. During a look or a change it is put off.
+    pub(crate) fn purge(&self) {
+        if !self.core.is_lent() {
+            return async_cell_waiting::purge(&self.core, &OneThread);
+        }
+        self.is_due.set(true);
+        self.purges.set(true);
+    }
+
+    /// Leaves a place that may still be held: after a change, if one runs, by waking all.
+    #[inline(never)]
+    pub(crate) fn leave(&self, place: Place) {
+        if let Some(core) = self.core.glance() {
+            let _ = core.leave(place);
+            return;
+        }
+        self.is_due.set(true);
+        self.has_lost.set(true);
+    }
+
+    /// Does what was put off during the look or the change that has ended, unless another look
+    /// still runs.
+    pub(crate) fn settle(&self) {
+        if !self.is_due.get() || self.core.is_lent() {
+            return;
+        }
+        self.is_due.set(false);
+        if let Some(value) = self.unwritten.take() {
+            self.set(value);
+        }
+        for _ in 0..self.ends.take() {
+            self.end_owner();
+        }
+        if self.has_lost.take() {
+            steps::wake_all(&self.core, &OneThread);
+        }
+        if self.purges.take() {
+            self.purge();
+        }
+    }
+
+    /// Calls the closure on the value, and returns the version and what it returns. Returns `None`
+    /// during a change.
+    pub(crate) fn peek<A, F: FnOnce(&T) -> A>(&self, look: F) -> Option<(u64, A)>
+        requires { F.IsAlwaysCallable look }
+        ensures of_one_state { IfSome result (λ seen. OfOneState seen.0 (λ s.
+            FnOnceReturnsAt F.FnOnce look s.value seen.1)) }
+    {
+        let core = self.core.glance()?;
+        let (version, value) = core.read();
+        let answer = look(value);
+        drop(core);
+        self.settle();
+        Some((version, answer))
+    }
+
+    /// Returns the version and a clone of the value. Fails with `Memory` if there is no memory for
+    /// the clone, and during a change.
+    pub(crate) fn get(&self) -> Result<(u64, T), Refusal>
+    where
+        T: Clone,
+        ensures of_one_state { IfOk result (λ shown. OfOneState shown.0 (λ s.
+            T.is_clone s.value shown.1)) }
+        ensures refused { FailsWithMemory result }
+    {
+        let core = self.core.glance().ok_or(Refusal::Memory)?;
+        let copy = clone_of(&core);
+        drop(core);
+        self.settle();
+        copy
+    }
+
+    /// Returns the version: during a change, that of the state that is being changed.
+    pub(crate) fn version(&self) -> u64 {
+        self.core
+            .glance()
+            .map_or(self.changing.get(), |core| core.version())
+    }
+}
+
+/// Returns the version and a clone of the value, during a look. Fails with `Memory` if the clone
+/// fails.
+#[inline(always)]
+pub(crate) fn clone_of<T: Clone>(core: &LatestCore<T>) -> Result<(u64, T), Refusal>
+    ensures version { IfOk result (λ shown. shown.0 ≡ core.now.version) }
+    ensures clones { IfOk result (λ shown. T.is_clone core.now.value shown.1) }
+    ensures refused { FailsWithMemory result }
+{
+    let (version, value) = core.read();
+    let copy: Result<T, AllocError> = value.clone();
+    Ok((version, copy?))
 }

@@ -5,10 +5,10 @@ ghost use Rattle.async_cell_model.specs.Refusal.{FailsWithMemory};
 ghost use Rattle.async_cell_latest_unsync.specs.Names.{cell_followed};
 ghost use Rattle.async_cell_latest_unsync.specs.Seen.{HasSeen};
 
-mod polled;
-
-use crate::cell::LatestCell;
-use async_cell_latest::Refusal;
+use crate::cell::{LatestCell, clone_of};
+use async_cell_latest::{Follows, Place, Refusal, Shows, Unseen};
+use async_cell_waiting::{OneThread, poll};
+use futures::task::{Context, Poll};
 use std::alloc::AllocError;
 use std::rc::Rc;
 
@@ -27,10 +27,13 @@ pub type States<T> = async_cell_latest::States<Follower<T>>;
 /// A follower sees the last state, and not each one: of those that are written before it looks, it
 /// sees the last. The last state of all stays when the last owner ends, so no follower misses it.
 #[derive(Drop)]
+#[derive_where(Debug)]
 pub struct Follower<T: Drop> {
-    pub(crate) cell: Rc<LatestCell<T>>,
+    #[derive_where(skip)]
+    cell: Rc<LatestCell<T>>,
     /// The version that it has seen; 0 if none.
-    pub(crate) seen: u64,
+    #[derive_where(skip)]
+    seen: u64,
 }
 
 impl<T: Drop> Follower<T> {
@@ -58,9 +61,7 @@ impl<T: Drop> Follower<T> {
     /// The future fails with `Closed` once the last owner has ended and the last state was looked
     /// at, and with `Memory` if there is no memory for the clone or to wait: then that state is not
     /// marked, and the next poll looks at it again.
-    pub fn wait_for<F>(&mut self, predicate: F) -> WaitFor<'_, T, F>
-    where
-        F: FnMut(&T) -> bool + Drop,
+    pub fn wait_for<F: FnMut(&T) -> bool + Drop>(&mut self, predicate: F) -> WaitFor<'_, T, F>
         ensures of_this { result.follower.now ≡ self.old }
         ensures looks { result.predicate ≡ predicate }
     {
@@ -82,8 +83,7 @@ impl<T: Drop> Follower<T> {
         T: Clone,
         ensures refused { FailsWithMemory result }
     {
-        let (_, value) = self.cell.get()?;
-        Ok(value)
+        Ok(self.cell.get()?.1)
     }
 
     /// Returns a clone of the last value, and marks it as seen. Fails as `read` does; nothing is
@@ -104,23 +104,18 @@ impl<T: Drop> Follower<T> {
 
     /// Calls the closure on the last value, and returns what it returns. The value is not marked as
     /// seen. Returns `None` from inside a closure of `Owner::modify`, without the call.
-    pub fn peek<A, F>(&self, look: F) -> Option<A>
-    where
-        F: FnOnce(&T) -> A,
+    pub fn peek<A, F: FnOnce(&T) -> A>(&self, look: F) -> Option<A>
         requires { F.IsAlwaysCallable look }
         ensures called { IfSome result (λ answer.
             (seen : T) × FnOnceReturnsAt F.FnOnce look seen answer) }
     {
-        let (_, answer) = self.cell.peek(look)?;
-        Some(answer)
+        Some(self.cell.peek(look)?.1)
     }
 
     /// Calls the closure on the last value, marks it as seen, and returns what the closure returns.
     /// What the closure writes is not marked. Returns `None` as `peek` does, and marks nothing
     /// then.
-    pub fn peek_and_update<A, F>(&mut self, look: F) -> Option<A>
-    where
-        F: FnOnce(&T) -> A,
+    pub fn peek_and_update<A, F: FnOnce(&T) -> A>(&mut self, look: F) -> Option<A>
         requires { F.IsAlwaysCallable look }
         ensures of_one_state { IfSome result (λ answer. HasSeen self.new (λ s.
             FnOnceReturnsAt F.FnOnce look s.value answer)) }
@@ -134,12 +129,12 @@ impl<T: Drop> Follower<T> {
 
     /// Returns whether there is a state that this follower has not seen. Marks nothing.
     pub fn has_changed(&self) -> bool {
-        self.cell.is_unseen(self.seen)
+        self.cell.version() != self.seen
     }
 
     /// Returns whether the last owner has ended: the state is then the last one.
     pub fn is_closed(&self) -> bool {
-        self.cell.is_closed()
+        self.cell.core.glance().is_some_and(|core| core.is_closed())
     }
 
     /// Marks the current state as one that was not seen: the next `changed` is ready at once, and
@@ -165,11 +160,115 @@ impl<T: Drop> Clone for Follower<T> {
         (cell_followed copy ≡ cell_followed follower) × (copy.seen ≡ follower.seen) };
 
     fn clone(&self) -> Result<Follower<T>, AllocError> {
-        let pointer: Result<Rc<LatestCell<T>>, AllocError> = self.cell.clone();
-        let seen = self.seen;
         Ok(Follower {
-            cell: pointer?,
-            seen,
+            cell: Rc::clone(&self.cell)?,
+            seen: self.seen,
         })
+    }
+}
+
+impl<T: Drop> Follows for Follower<T> {
+    ghost use Rattle.async_cell_latest_unsync.specs.Names.{cell_followed};
+    ghost use Rattle.async_cell_latest_unsync.specs.Source.{source_of};
+
+    type Value = T;
+
+    type Cell = LatestCell<T>;
+
+    ghost cell = { λ follower. cell_followed follower };
+
+    ghost source = { λ cell. source_of cell };
+
+    ghost marked = { λ follower. follower.seen };
+
+    #[inline(always)]
+    fn seen(&self) -> u64 {
+        self.seen
+    }
+
+    #[inline(always)]
+    fn mark(&mut self, version: u64) {
+        self.seen = version;
+    }
+
+    fn poll_unseen(
+        &self,
+        seen: u64,
+        place: &mut Place,
+        cx: &mut Context<'_>,
+    ) -> Poll<Result<u64, Refusal>> {
+        let cell = self.cell.as_ref();
+        if let Some(core) = cell.core.glance() {
+            if core.is_unseen(seen) {
+                place.forget();
+                return Poll::Ready(Ok(core.version()));
+            }
+            if core.is_closed() {
+                place.forget();
+                return Poll::Ready(Err(Refusal::Closed));
+            }
+        }
+        let asked = Unseen(seen);
+        poll(&cell.core, &cell.source, asked, Some(place), cx, &OneThread)
+    }
+
+    fn leave(&self, place: Place) {
+        if place.was_held() {
+            self.cell.leave(place);
+        }
+    }
+
+    fn cancel(&self, place: Place) {
+        if !self.cell.core.is_lent() {
+            async_cell_waiting::cancel(&self.cell.core, place, &OneThread);
+        } else if place.was_held() {
+            self.cell.leave(place);
+            self.cell.purge();
+        }
+    }
+}
+
+/// The clone is made, and the predicate runs, during a look.
+impl<T: Clone> Shows for Follower<T> {
+    ghost copies = { λ value copy. T.is_clone value copy };
+
+    #[inline(always)]
+    fn poll_state(
+        &self,
+        place: &mut Place,
+        cx: &mut Context<'_>,
+    ) -> Poll<Result<(u64, T), Refusal>> {
+        let cell = self.cell.as_ref();
+        if let Some(core) = cell.core.glance() {
+            if core.is_unseen(self.seen) {
+                let copy = clone_of(&core);
+                drop(core);
+                cell.settle();
+                place.forget();
+                return Poll::Ready(copy);
+            }
+            if core.is_closed() {
+                place.forget();
+                return Poll::Ready(Err(Refusal::Closed));
+            }
+        }
+        let asked = Unseen(self.seen);
+        match poll(&cell.core, &cell.source, asked, Some(place), cx, &OneThread) {
+            Poll::Pending => Poll::Pending,
+            Poll::Ready(Err(why)) => Poll::Ready(Err(why)),
+            Poll::Ready(Ok(_)) => cx.yield_now(), // What a drop of the waker ran has written.
+        }
+    }
+
+    fn test<P: FnMut(&T) -> bool>(
+        &self,
+        seen: u64,
+        predicate: &mut P,
+    ) -> Option<(u64, Result<Option<T>, Refusal>)> {
+        let core = self.cell.core.glance()?;
+        let tested = core.test(seen, predicate);
+        drop(core);
+        self.cell.settle();
+        tested
     }
 }

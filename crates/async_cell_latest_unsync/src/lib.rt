@@ -2,7 +2,6 @@
 #![tactic(auto)]
 
 mod cell;
-mod debug;
 mod follower;
 mod owner;
 

@@ -5,8 +5,9 @@ ghost use Rattle.async_cell_latest_unsync.specs.Names.{cell_followed, cell_owned
 
 use crate::cell::LatestCell;
 use crate::follower::Follower;
-use async_cell_latest::Refusal;
-use std::alloc::{AllocError, AllocFailed, Global};
+use async_cell_latest::{Refusal, steps};
+use async_cell_waiting::{OneThread, Room};
+use std::alloc::{AllocFailed, Global};
 use std::rc::Rc;
 
 /// One counted owner of a state. Owners write the state; any number of followers see it. It ends by
@@ -23,7 +24,9 @@ use std::rc::Rc;
 /// waits.
 ///
 /// A state takes 18,446,744,073,709,551,614 writes, and no further one.
+#[derive_where(Debug)]
 pub struct Owner<T: Drop> {
+    #[derive_where(skip)]
     cell: Rc<LatestCell<T>>,
 }
 
@@ -45,9 +48,8 @@ impl<T: Drop> Owner<T> {
         ensures of_this { IfOk result (λ owner. cell_owned owner ≡ cell_owned self.now) }
         ensures refused { IfErr result IsOwnerRefusal }
     {
-        let pointer: Result<Rc<LatestCell<T>>, AllocError> = self.cell.clone();
-        let cell = pointer?;
-        cell.add_owner()?;
+        let cell = Rc::clone(&self.cell)?;
+        steps::add_owner(&cell.core, &OneThread)?;
         Ok(Owner { cell })
     }
 
@@ -58,8 +60,7 @@ impl<T: Drop> Owner<T> {
         ensures of_this { IfOk result (λ follower. cell_followed follower ≡ cell_owned self.now) }
         ensures refused { FailsWithMemory result }
     {
-        let pointer: Result<Rc<LatestCell<T>>, AllocError> = self.cell.clone();
-        Ok(Follower::new(pointer?))
+        Ok(Follower::new(Rc::clone(&self.cell)?))
     }
 
     /// Sets the value and drops the old one. Wakes all followers that wait. From inside a look it
@@ -73,18 +74,25 @@ impl<T: Drop> Owner<T> {
     pub fn replace(&self, value: T) -> Result<T, T>
         ensures comes_back { IfErr result (λ back. back ≡ value) }
     {
-        self.cell.replace(value)
+        steps::replace(&self.cell.core, value, &OneThread)
     }
 
     /// Calls the closure on the value, sets the one that it returns, and drops the old one: in one
     /// step, so that what the closure itself writes is overwritten. Wakes all followers that wait.
     /// From inside a look it is written when the look ends.
-    pub fn update<F>(&self, change: F)
-    where
-        F: FnOnce(&T) -> T,
+    pub fn update<F: FnOnce(&T) -> T>(&self, change: F)
         requires { F.IsAlwaysCallable change }
     {
-        self.cell.update(change);
+        let Some(core) = self.cell.core.glance() else {
+            return;
+        };
+        let (_, value) = core.read();
+        let value = change(value);
+        drop(core);
+        let unwritten = self.cell.unwritten.take(); // What was written meanwhile.
+        self.cell.set(value);
+        drop(unwritten);
+        self.cell.settle();
     }
 
     /// Calls the closure on the value, which it may change in place, wakes all followers that wait,
@@ -96,30 +104,32 @@ impl<T: Drop> Owner<T> {
     /// `Memory`, an `update` writes nothing, futures ask to be polled again, and `has_changed` and
     /// a new follower go by the state before. All else is as in a look: what is written, ended or
     /// purged takes effect when the closure has returned, after the change.
-    pub fn modify<A, F>(&self, change: F) -> Result<A, Refusal>
-    where
-        F: FnOnce(&mut T) -> A + Drop,
+    pub fn modify<A, F: FnOnce(&mut T) -> A + Drop>(&self, change: F) -> Result<A, Refusal>
         requires { F.IsAlwaysCallable change }
         ensures called { IfOk result (λ answer. (before after : T)
             × FnOnceReturnsAtMut F.FnOnce change before answer after) }
         ensures refused { FailsWithClosed result }
     {
-        self.cell.modify(change)
+        self.cell.changing.set(self.cell.version());
+        let changed = steps::modify(&self.cell.core, change, &OneThread);
+        self.cell.settle();
+        changed
     }
 
     /// `modify`, if the closure returns `true`, and returns what it returned. If it returns `false`
     /// nothing is written: nobody is woken, and no follower is told. The value stands as the
     /// closure left it, so a closure that says `false` is to leave it as it was. If it drops a
     /// future that waits, the tasks of all that wait are polled once more.
-    pub fn modify_if<F>(&self, change: F) -> Result<bool, Refusal>
-    where
-        F: FnOnce(&mut T) -> bool + Drop,
+    pub fn modify_if<F: FnOnce(&mut T) -> bool + Drop>(&self, change: F) -> Result<bool, Refusal>
         requires { F.IsAlwaysCallable change }
         ensures called { IfOk result (λ answer. (before after : T)
             × FnOnceReturnsAtMut F.FnOnce change before answer after) }
         ensures refused { FailsWithClosed result }
     {
-        self.cell.modify_if(change)
+        self.cell.changing.set(self.cell.version());
+        let changed = steps::modify_if(&self.cell.core, change, &OneThread);
+        self.cell.settle();
+        changed
     }
 
     /// Returns a clone of the value. Fails with `Memory` if the clone fails, and from inside a
@@ -129,21 +139,17 @@ impl<T: Drop> Owner<T> {
         T: Clone,
         ensures refused { FailsWithMemory result }
     {
-        let (_, value) = self.cell.get()?;
-        Ok(value)
+        Ok(self.cell.get()?.1)
     }
 
     /// Calls the closure on the value, and returns what it returns: `None` from inside a closure of
     /// `modify`, without the call.
-    pub fn peek<A, F>(&self, look: F) -> Option<A>
-    where
-        F: FnOnce(&T) -> A,
+    pub fn peek<A, F: FnOnce(&T) -> A>(&self, look: F) -> Option<A>
         requires { F.IsAlwaysCallable look }
         ensures called { IfSome result (λ answer.
             (seen : T) × FnOnceReturnsAt F.FnOnce look seen answer) }
     {
-        let (_, answer) = self.cell.peek(look)?;
-        Some(answer)
+        Some(self.cell.peek(look)?.1)
     }
 
     /// Lets go of all wakers that dropped futures left in the state. The task of each is polled
@@ -160,7 +166,7 @@ impl<T: Drop> Owner<T> {
     /// Internal: may change without notice. Returns the number of places in the wait list.
     #[doc(hidden)]
     pub fn waiting(&self) -> usize {
-        self.cell.waiting()
+        self.cell.core.glance().map_or(0, |core| core.places())
     }
 }
 

@@ -2,14 +2,13 @@ ghost use Rattle.std.specs.Prelude.{◌≡◌, IfOk, IfErr};
 ghost use Rattle.async_cell_model.specs.Refusal.{FailsWithMemory};
 ghost use Rattle.async_cell_sync.specs.Names.{cell_of};
 
-mod looks;
-
 use crate::get::Get;
 use crate::guarded_cell::GuardedCell;
+use crate::locked_core::LockedCore;
 use crate::shared::Shared;
 use crate::take::Take;
 use async_cell_core::{Core, Place, Refusal, TaskWaker};
-use async_cell_waiting::{CellCore, Lock, Places, Steps, cancel, leave, purge};
+use async_cell_waiting::{Places, cancel, leave};
 use futures::task::Source;
 use std::alloc::Global;
 use std::sync::Wait;
@@ -26,7 +25,7 @@ use std::sync::Wait;
 /// that waits may add one waker, which stays until the next fill or close.
 #[derive(Drop)]
 pub struct AsyncCell<T> {
-    pub(crate) core: Lock<CellCore<T, TaskWaker>>,
+    pub(crate) core: LockedCore<T, TaskWaker>,
     /// The source that waiting tasks register with.
     pub(crate) source: Source,
     alloc: Global,
@@ -36,7 +35,7 @@ impl<T: Drop> AsyncCell<T> {
     /// Wraps a core in a cell.
     fn of(alloc: Global, core: Core<T, TaskWaker>) -> Self {
         AsyncCell {
-            core: Lock::new(CellCore::of(core)),
+            core: LockedCore::new(core),
             source: Source::new(),
             alloc,
         }
@@ -76,70 +75,9 @@ impl<T: Drop> AsyncCell<T> {
         self.into_shared().map_err(|(why, _)| why)
     }
 
-    /// Sets the value and drops the old one. Wakes all waiters.
-    pub fn set<R: Wait>(&self, value: T, rt: &R) {
-        let _ = Steps::on(&self.core, rt).replace(value);
-    }
-
-    /// Sets the value and wakes all waiters, if the cell holds no value. Drops `value` otherwise.
-    pub fn or_set<R: Wait>(&self, value: T, rt: &R) {
-        let _ = Steps::on(&self.core, rt).or_set(value);
-    }
-
-    /// Sets the value and wakes all waiters, if the cell is open and holds no value. Otherwise
-    /// nothing changes, and `value` is returned in the error.
-    pub fn try_set<R: Wait>(&self, value: T, rt: &R) -> Result<(), T>
-        ensures comes_back { IfErr result (λ back. back ≡ value) }
-    {
-        Steps::on(&self.core, rt).try_set(value)
-    }
-
-    /// Sets the value and returns the old one. Wakes all waiters.
-    pub fn replace<R: Wait>(&self, value: T, rt: &R) -> Option<T> {
-        let replaced = Steps::on(&self.core, rt).replace(value);
-        replaced.unwrap_or(None)
-    }
-
-    /// Calls the closure on the content and stores what it returns. Wakes all waiters if that puts
-    /// a value into an empty cell. No other call comes in between.
-    pub fn update<F, R>(&self, change: F, rt: &R)
-    where
-        F: FnOnce(Option<T>) -> Option<T> + Drop,
-        R: Wait,
-        requires { F.IsAlwaysCallable change }
-    {
-        let _ = Steps::on(&self.core, rt).update(change);
-    }
-
-    /// Calls the closure on the value, if there is one, and stores what it returns. No other call
-    /// comes in between.
-    pub fn update_some<F, R>(&self, change: F, rt: &R)
-    where
-        F: FnOnce(T) -> T + Drop,
-        R: Wait,
-        requires { F.IsAlwaysCallable change }
-    {
-        let _ = Steps::on(&self.core, rt).update_some(change);
-    }
-
-    /// Takes the value, if there is one. The waiters stay registered.
-    pub fn try_take<R: Wait>(&self, rt: &R) -> Option<T> {
-        Steps::on(&self.core, rt).try_take()
-    }
-
-    /// Lets go of all wakers that dropped futures left in the cell. The task of each is polled once
-    /// more. Futures that still wait keep their wakers.
-    ///
-    /// A future that is dropped while it waits leaves its waker in the cell, and a waker keeps what
-    /// its executor needs to wake the task. Call this where many waits end early on a cell that
-    /// lives on. It takes the lock once for each place, and needs no memory.
-    pub fn purge<R: Wait>(&self, rt: &R) {
-        purge(&self.core, rt);
-    }
-
     /// Internal: may change without notice. Returns the number of places in the wait list.
     pub fn waiting<R: Wait>(&self, rt: &R) -> usize {
-        Steps::on(&self.core, rt).waiting()
+        self.core.waiting(rt)
     }
 
     /// Returns the allocator that the cell was made with.
@@ -149,12 +87,7 @@ impl<T: Drop> AsyncCell<T> {
 
     /// Returns the content. Wakes all waiters. Does not take the lock.
     pub fn into_inner(self) -> Option<T> {
-        let AsyncCell {
-            core,
-            source: _,
-            alloc: _,
-        } = self;
-        core.into_inner().into_inner()
+        self.core.into_inner()
     }
 
     /// Returns a future that takes the value.
@@ -182,11 +115,6 @@ impl<T: Drop> AsyncCell<T> {
 }
 
 impl AsyncCell<()> {
-    /// Wakes all waiters: the next `take` or `get` is ready.
-    pub fn notify<R: Wait>(&self, rt: &R) {
-        self.set((), rt);
-    }
-
     /// Returns a future that waits for `notify`.
     pub fn wait(&self) -> Take<&AsyncCell<()>>
         ensures of_this { result.0.now ≡ self.now }

@@ -61,13 +61,14 @@ impl<T: Drop> CellRef for Shared<T> {
     }
 }
 
-impl<T: Drop> CellRef for &Shared<T> {
-    type Value = T;
+/// A reference to a pointer is one too, and no owner.
+impl<C: CellRef> CellRef for &C {
+    type Value = C::Value;
 
-    ghost waits_for = { λ p s. s ≡ source_of p.now.cell.value };
+    ghost waits_for = { λ p s. C.waits_for p.now s };
 
-    fn cell(&self) -> &AsyncCell<T> {
-        Shared::cell(*self)
+    fn cell(&self) -> &AsyncCell<C::Value> {
+        (**self).cell()
     }
 
     fn leave<R: Wait>(self, _: &R) {}

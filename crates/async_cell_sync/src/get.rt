@@ -3,10 +3,12 @@ ghost use Rattle.futures.specs.Poll.{IfReady, OnPending};
 ghost use Rattle.futures.specs.Task.{Covers, Keeps};
 ghost use Rattle.async_cell_model.specs.Refusal.{FailsWithMemoryOrClosed};
 
+use crate::async_cell::AsyncCell;
 use crate::cell_ref::CellRef;
-use async_cell_core::Refusal;
-use async_cell_waiting::{Cloning, With, poll};
+use async_cell_core::{Place, Refusal};
+use async_cell_waiting::{Cloning, Polled, Request, With, poll};
 use futures::task::{Context, Poll};
+use std::fmt;
 use std::sync::Wait;
 
 /// Clones the value of a cell and leaves it. Make the future by `with`. It may be polled again
@@ -17,10 +19,7 @@ use std::sync::Wait;
 #[derive(Clone, Copy, Drop)]
 pub struct Get<C>(pub C);
 
-impl<C: CellRef> Get<C>
-where
-    C::Value: Clone,
-{
+impl<C: CellRef<Value: Clone>> Get<C> {
     /// Polls by a shared reference. Returns `Ready` with a clone of the value. Fails with `Memory`
     /// if the clone fails, or if the poll would have to wait and there is no memory for that. Fails
     /// with `Closed` on a closed cell.
@@ -46,5 +45,33 @@ impl<C: CellRef + Drop> Get<C> {
         ensures polls { result.polled ≡ self }
     {
         With::new(self, rt)
+    }
+}
+
+impl<C: CellRef + Drop, R: Wait> Request<R> for Get<C> {
+    type Cell = AsyncCell<C::Value>;
+
+    fn cell(&self) -> Option<&AsyncCell<C::Value>> {
+        Some(self.0.cell())
+    }
+}
+
+impl<C: CellRef<Value: Clone> + Drop, R: Wait> Polled<R> for Get<C> {
+    type Output = Result<C::Value, Refusal>;
+
+    ghost waits_for = { λ get. C.waits_for get.0 };
+
+    ghost may_give = { λ _. FailsWithMemoryOrClosed };
+
+    #[inline(always)]
+    fn poll_at(&self, at: Option<&mut Place>, cx: &mut Context<'_>, rt: &R) -> Poll<Self::Output> {
+        let cell = self.0.cell();
+        poll(&cell.core, &cell.source, Cloning, at, cx, rt)
+    }
+}
+
+impl<C> fmt::Debug for Get<C> {
+    fn fmt<F: fmt::Write>(&self, f: &mut fmt::Formatter<F>) -> fmt::Result {
+        f.debug_struct("Get").finish_non_exhaustive()
     }
 }

@@ -13,8 +13,11 @@ use std::sync::Wait;
 ///
 /// **Letting one go may wait for the lock**, as its other calls may. `GuardedCell` is the guard
 /// that must be consumed by a call, so that each end stands in the program.
+#[derive_where(Debug)]
 pub struct Guard<T: Drop, C: CellRef<Value = T>, R: Wait + Drop> {
+    #[derive_where(skip)]
     guarded: GuardedCell<T, C>,
+    #[derive_where(skip)]
     rt: R,
 }
 

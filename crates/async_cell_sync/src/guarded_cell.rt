@@ -3,15 +3,17 @@ ghost use Rattle.async_cell_sync.specs.Source.{source_of};
 
 use crate::async_cell::AsyncCell;
 use crate::cell_ref::CellRef;
-use async_cell_waiting::Steps;
 use std::sync::Wait;
 
 /// A guard of a cell. It is not `Drop` and must be consumed: by `cancel`, which sets its cancel
 /// value if the cell holds no value, or by `release`, `set` or `or_set`. Each of these then calls
 /// `leave` on the pointer: a guard that is an owner ends its owner. `with` makes it a `Guard`,
 /// which ends by its drop.
+#[derive_where(Debug)]
 pub struct GuardedCell<T, C: CellRef<Value = T>> {
+    #[derive_where(skip)]
     pointer: C,
+    #[derive_where(skip)]
     cancel: T,
 }
 
@@ -34,7 +36,7 @@ impl<T: Drop, C: CellRef<Value = T>> GuardedCell<T, C> {
     /// value. Drops the cancel value otherwise.
     pub fn cancel<R: Wait>(self, rt: &R) {
         let GuardedCell { pointer, cancel } = self;
-        Steps::on(&pointer.cell().core, rt).end_guard(Some(cancel));
+        pointer.cell().core.end_guard(Some(cancel), rt);
         pointer.leave(rt);
     }
 

@@ -2,14 +2,13 @@
 #![tactic(auto)]
 
 mod async_cell;
+mod calls;
 mod cell_ref;
-mod debug;
 mod get;
 mod guard;
 mod guarded_cell;
 mod locked_core;
 mod owner;
-mod requests;
 mod shared;
 mod take;
 mod weak;
@@ -26,8 +25,7 @@ pub use guard::Guard;
 pub use guarded_cell::GuardedCell;
 pub use locked_core::LockedCore;
 pub use owner::Owner;
-pub use requests::Values;
 pub use shared::Shared;
 pub use take::Take;
-pub use weak::{GetWeak, TakeWeak, Weak};
+pub use weak::{GetWeak, TakeWeak, Values, Weak};
 pub use weak_owner::WeakOwner;

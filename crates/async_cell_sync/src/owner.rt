@@ -4,14 +4,17 @@ ghost use Rattle.async_cell_sync.specs.Names.{NamesAtMost};
 ghost use Rattle.async_cell_sync.specs.Owned.{cell_owned};
 ghost use Rattle.async_cell_sync.specs.Source.{source_of};
 
-mod calls;
-mod polled;
-
 use crate::async_cell::AsyncCell;
 use crate::cell_ref::CellRef;
+use crate::get::Get;
+use crate::guard::Guard;
+use crate::guarded_cell::GuardedCell;
 use crate::shared::Shared;
+use crate::take::Take;
+use crate::weak::{GetWeak, TakeWeak};
 use crate::weak_owner::WeakOwner;
 use async_cell_core::Refusal;
+use async_cell_waiting::With;
 use std::alloc::Global;
 use std::sync::Wait;
 
@@ -22,8 +25,11 @@ use std::sync::Wait;
 ///
 /// **Letting one go may wait for the lock**, as its other calls may. `Shared` is the owner that
 /// must be consumed by a call, so that each end stands in the program.
+#[derive_where(Debug)]
 pub struct Owner<T: Drop, R: Wait + Drop> {
+    #[derive_where(skip)]
     pub(crate) shared: Shared<T>,
+    #[derive_where(skip)]
     pub(crate) rt: R,
 }
 
@@ -61,7 +67,7 @@ impl<T: Drop, R: Wait + Copy> Owner<T, R> {
     /// Makes a cell that holds a value, and its first owner. Fails with `Memory`, and then drops
     /// the value: `AsyncCell::new_with` and `AsyncCell::into_owner` return it instead.
     pub fn new_with(alloc: Global, value: T, rt: R) -> Result<Self, Refusal>
-        ensures refused { IfErr result (λ why. why ≡ Refusal.Memory) }
+        ensures refused { FailsWithMemory result }
     {
         let cell = AsyncCell::new_with(alloc, value);
         cell.into_owner(rt).map_err(|(why, _)| why)
@@ -91,10 +97,107 @@ impl<T: Drop, R: Wait + Copy> Owner<T, R> {
         ensures comes_back { IfErr result (λ back. back ≡ self) }
     {
         let Owner { shared, rt } = self;
-        match shared.try_into_inner(&rt) {
-            Ok(content) => Ok(content),
-            Err(shared) => Err(Owner { shared, rt }),
+        shared
+            .try_into_inner(&rt)
+            .map_err(|shared| Owner { shared, rt })
+    }
+
+    /// Returns a future that takes the value.
+    pub fn take(&self) -> With<Take<&AsyncCell<T>>, R>
+        ensures of_this { result.polled.0.now ≡ cell_owned self.now }
+    {
+        self.cell().take().with(self.rt)
+    }
+
+    /// Returns a future that clones the value and leaves it.
+    pub fn get(&self) -> With<Get<&AsyncCell<T>>, R>
+        ensures of_this { result.polled.0.now ≡ cell_owned self.now }
+    {
+        self.cell().get().with(self.rt)
+    }
+
+    /// Returns a future that takes the value and is a new owner. Fails as `another` does.
+    pub fn take_shared(&self) -> Result<With<Take<Self>, R>, Refusal>
+        ensures of_this { IfOk result (λ future.
+            cell_owned future.polled.0 ≡ cell_owned self.now) }
+        ensures refused { IfErr result IsOwnerRefusal }
+    {
+        Ok(Take(self.another()?).with(self.rt))
+    }
+
+    /// Returns a future that clones the value, leaves it, and is a new owner. Fails as `another`
+    /// does.
+    pub fn get_shared(&self) -> Result<With<Get<Self>, R>, Refusal>
+        ensures of_this { IfOk result (λ future.
+            cell_owned future.polled.0 ≡ cell_owned self.now) }
+        ensures refused { IfErr result IsOwnerRefusal }
+    {
+        Ok(Get(self.another()?).with(self.rt))
+    }
+
+    /// Returns a future that takes the value and is not an owner.
+    pub fn take_weak(&self) -> With<TakeWeak<T>, R>
+        ensures of_this { NamesAtMost result.polled.0 (cell_owned self.now) }
+    {
+        self.shared.take_weak().with(self.rt)
+    }
+
+    /// Returns a future that clones the value, leaves it, and is not an owner.
+    pub fn get_weak(&self) -> With<GetWeak<T>, R>
+        ensures of_this { NamesAtMost result.polled.0 (cell_owned self.now) }
+    {
+        self.shared.get_weak().with(self.rt)
+    }
+
+    /// Returns a guard that sets this value when it is dropped, unless the cell then holds one.
+    pub fn guard(&self, cancel: T) -> Guard<T, &AsyncCell<T>, R>
+        ensures of_this { result.guarded.pointer.now ≡ cell_owned self.now }
+        ensures keeps { result.guarded.cancel ≡ cancel }
+    {
+        self.cell().guard(cancel).with(self.rt)
+    }
+
+    /// Returns a guard that is a new owner. Fails as `another` does; the value is then returned in
+    /// the error.
+    pub fn guard_shared(&self, cancel: T) -> Result<Guard<T, Self, R>, (Refusal, T)>
+        ensures of_this { IfOk result (λ guard.
+            cell_owned guard.guarded.pointer ≡ cell_owned self.now) }
+        ensures keeps { IfOk result (λ guard. guard.guarded.cancel ≡ cancel) }
+        ensures refused { IfErr result (λ back. IsOwnerRefusal back.0) }
+        ensures comes_back { IfErr result (λ back. back.1 ≡ cancel) }
+    {
+        match self.another() {
+            Ok(owner) => Ok(GuardedCell::new(owner, cancel).with(self.rt)),
+            Err(why) => Err((why, cancel)),
         }
+    }
+
+    /// As `guard_shared`, but drops the value if it fails, so that `?` serves.
+    pub fn guard_shared_or_drop(&self, cancel: T) -> Result<Guard<T, Self, R>, Refusal>
+        ensures of_this { IfOk result (λ guard.
+            cell_owned guard.guarded.pointer ≡ cell_owned self.now) }
+        ensures keeps { IfOk result (λ guard. guard.guarded.cancel ≡ cancel) }
+        ensures refused { IfErr result IsOwnerRefusal }
+    {
+        self.guard_shared(cancel).map_err(|(why, _)| why)
+    }
+}
+
+impl<R: Wait + Copy> Owner<(), R> {
+    /// Returns a future that waits for `notify`.
+    pub fn wait(&self) -> With<Take<&AsyncCell<()>>, R>
+        ensures of_this { result.polled.0.now ≡ cell_owned self.now }
+    {
+        self.take()
+    }
+
+    /// Returns a future that waits for `notify` and is a new owner. Fails as `another` does.
+    pub fn wait_shared(&self) -> Result<With<Take<Self>, R>, Refusal>
+        ensures of_this { IfOk result (λ future.
+            cell_owned future.polled.0 ≡ cell_owned self.now) }
+        ensures refused { IfErr result IsOwnerRefusal }
+    {
+        self.take_shared()
     }
 }
 
@@ -122,18 +225,6 @@ impl<T: Drop, R: Wait + Drop> CellRef for Owner<T, R> {
 
     fn cell(&self) -> &AsyncCell<T> {
         Owner::cell(self)
-    }
-
-    fn leave<S: Wait>(self, _: &S) {}
-}
-
-impl<T: Drop, R: Wait + Drop> CellRef for &Owner<T, R> {
-    type Value = T;
-
-    ghost waits_for = { λ p s. s ≡ source_of (cell_owned p.now) };
-
-    fn cell(&self) -> &AsyncCell<T> {
-        Owner::cell(*self)
     }
 
     fn leave<S: Wait>(self, _: &S) {}

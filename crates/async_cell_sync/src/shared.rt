@@ -9,7 +9,6 @@ use crate::guarded_cell::GuardedCell;
 use crate::take::Take;
 use crate::weak::{GetWeak, TakeWeak, Weak};
 use async_cell_core::Refusal;
-use async_cell_waiting::Steps;
 use std::alloc::{AllocFailed, Global};
 use std::sync::{Arc, Wait};
 
@@ -18,7 +17,9 @@ use std::sync::{Arc, Wait};
 ///
 /// It is not `Drop` and must be consumed: by `end`, `leave` or `try_into_inner`, or by `with`,
 /// which makes it an `Owner`, and that ends by its drop.
+#[derive_where(Debug)]
 pub struct Shared<T> {
+    #[derive_where(skip)]
     pub(crate) cell: Arc<AsyncCell<T>>,
 }
 
@@ -125,7 +126,7 @@ impl<T: Drop> Shared<T> {
     pub fn try_into_inner<R: Wait>(self, rt: &R) -> Result<Option<T>, Self>
         ensures comes_back { IfErr result (λ back. back ≡ self) }
     {
-        match Steps::on(&self.cell.core, rt).take_inner() {
+        match self.cell.core.take_inner(rt) {
             Err(Refusal::StillShared) => Err(self),
             taken => {
                 let Shared { cell: _ } = self;
@@ -137,7 +138,7 @@ impl<T: Drop> Shared<T> {
     /// Ends the owner.
     pub fn end<R: Wait>(self, rt: &R) {
         let Shared { cell } = self;
-        let _ = Steps::on(&cell.core, rt).end_owner();
+        let _ = cell.core.end_owner(rt);
     }
 
     /// Makes a new owner of the cell. Fails with `Memory` if the pointer cannot be counted,
@@ -147,7 +148,7 @@ impl<T: Drop> Shared<T> {
         ensures refused { IfErr result IsOwnerRefusal }
     {
         let cell = Arc::try_clone(cell)?;
-        Steps::on(&cell.core, rt).add_owner()?;
+        cell.core.add_owner(rt)?;
         Ok(Shared { cell })
     }
 }

@@ -3,10 +3,12 @@ ghost use Rattle.futures.specs.Poll.{IfReady, OnPending};
 ghost use Rattle.futures.specs.Task.{Covers, Keeps};
 ghost use Rattle.async_cell_model.specs.Refusal.{FailsWithMemoryOrClosed};
 
+use crate::async_cell::AsyncCell;
 use crate::cell_ref::CellRef;
-use async_cell_core::Refusal;
-use async_cell_waiting::{Taking, With, poll};
+use async_cell_core::{Place, Refusal};
+use async_cell_waiting::{Polled, Request, Taking, With, poll};
 use futures::task::{Context, Poll};
+use std::fmt;
 use std::sync::Wait;
 
 /// Takes the value of a cell. Make the future by `with`. It may be polled again after it was ready,
@@ -42,5 +44,33 @@ impl<C: CellRef + Drop> Take<C> {
         ensures polls { result.polled ≡ self }
     {
         With::new(self, rt)
+    }
+}
+
+impl<C: CellRef + Drop, R: Wait> Request<R> for Take<C> {
+    type Cell = AsyncCell<C::Value>;
+
+    fn cell(&self) -> Option<&AsyncCell<C::Value>> {
+        Some(self.0.cell())
+    }
+}
+
+impl<C: CellRef + Drop, R: Wait> Polled<R> for Take<C> {
+    type Output = Result<C::Value, Refusal>;
+
+    ghost waits_for = { λ take. C.waits_for take.0 };
+
+    ghost may_give = { λ _. FailsWithMemoryOrClosed };
+
+    #[inline(always)]
+    fn poll_at(&self, at: Option<&mut Place>, cx: &mut Context<'_>, rt: &R) -> Poll<Self::Output> {
+        let cell = self.0.cell();
+        poll(&cell.core, &cell.source, Taking, at, cx, rt)
+    }
+}
+
+impl<C> fmt::Debug for Take<C> {
+    fn fmt<F: fmt::Write>(&self, f: &mut fmt::Formatter<F>) -> fmt::Result {
+        f.debug_struct("Take").finish_non_exhaustive()
     }
 }

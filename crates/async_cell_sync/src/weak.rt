@@ -1,33 +1,46 @@
-ghost use Rattle.std.specs.Prelude.{◌≡◌, ◌⊎◌, ℕ, Err, IfOk, IfErr, IfSome};
+ghost use Rattle.std.specs.Prelude.{◌≡◌, ℕ, Err, IfOk, IfSome};
 ghost use Rattle.std.specs.Arc.{arc_value};
 ghost use Rattle.futures.specs.Poll.{IfReady, OnPending};
 ghost use Rattle.futures.specs.Task.{Covers, Keeps};
 ghost use Rattle.async_cell_model.specs.Refusal.{FailsWithMemory};
+ghost use Rattle.async_cell_waiting.specs.Upgrade.{FailsToUpgrade};
 ghost use Rattle.async_cell_sync.specs.Names.{
   IsLost,
   NameAtMostTheSame,
+  Names,
   NamesAtMost,
   NameTheSame,
   OwnsNamed,
 };
+ghost use Rattle.async_cell_sync.specs.Owned.{cell_owned};
+ghost use Rattle.async_cell_sync.specs.Refused.{GivesWeakly};
 ghost use Rattle.async_cell_sync.specs.Source.{source_of, IsSourceOf};
 
 use crate::async_cell::AsyncCell;
 use crate::get::Get;
+use crate::owner::Owner;
 use crate::shared::Shared;
 use crate::take::Take;
-use async_cell_core::Refusal;
-use async_cell_waiting::{Polled, With};
+use async_cell_core::{Place, Refusal};
+use async_cell_waiting::{Cloning, Polled, Request, Takes, Taking, Upgrade, With, poll, weakly};
 use futures::task::{Context, Poll};
 use std::alloc::AllocError;
+use std::fmt;
 use std::sync::{Arc, Wait};
+
+/// The stream of the values of a cell, which `values` of a future of a `TakeWeak` makes.
+///
+/// **Dropping it may wait for the lock**, as dropping the future does that it polls (see `With`).
+pub type Values<T, R> = async_cell_waiting::Values<TakeWeak<T>, R>;
 
 /// A weak pointer to a cell. It does not count as an owner. `Shared::downgrade` makes one.
 /// `TakeWeak` and `GetWeak` make a future of it, and `with` a `WeakOwner`, whose calls take no
 /// `rt`.
 #[derive(Drop)]
+#[derive_where(Debug)]
 pub struct Weak<T> {
     /// `None` if the pointer could not be counted when it was made.
+    #[derive_where(skip)]
     cell: Option<Arc<AsyncCell<T>>>,
 }
 
@@ -67,8 +80,7 @@ impl<T: Drop> Weak<T> {
     pub fn upgrade<R: Wait>(&self, rt: &R) -> Result<Option<Shared<T>>, Refusal>
         ensures of_this { IfOk result (λ found. IfSome found (OwnsNamed self.now)) }
         ensures lost { IsLost self.now → result ≡ Err Refusal.Memory }
-        ensures refused { IfErr result (λ why.
-            (why ≡ Refusal.Memory) ⊎ (why ≡ Refusal.OwnersFull)) }
+        ensures refused { FailsToUpgrade result }
     {
         let cell = self.cell.as_ref().ok_or(Refusal::Memory)?;
         match Shared::owning(cell, rt) {
@@ -84,12 +96,8 @@ impl<T: Drop> Clone for Weak<T> {
     ghost is_clone = { λ weak copy. NameTheSame weak copy };
 
     fn clone(&self) -> Result<Weak<T>, AllocError> {
-        let Some(cell) = &self.cell else {
-            return Ok(Weak { cell: None });
-        };
-        Ok(Weak {
-            cell: Some(Arc::try_clone(cell)?),
-        })
+        let cell = self.cell.clone()?;
+        Ok(Weak { cell })
     }
 }
 
@@ -129,8 +137,7 @@ impl<T: Drop> TakeWeak<T> {
         ensures of_this { IfOk result (λ found. IfSome found (λ take.
             OwnsNamed self.now.0 take.0)) }
         ensures lost { IsLost self.now.0 → result ≡ Err Refusal.Memory }
-        ensures refused { IfErr result (λ why.
-            (why ≡ Refusal.Memory) ⊎ (why ≡ Refusal.OwnersFull)) }
+        ensures refused { FailsToUpgrade result }
     {
         Ok(self.0.upgrade(rt)?.map(Take))
     }
@@ -142,6 +149,66 @@ impl<T: Drop> Clone for TakeWeak<T> {
 
     fn clone(&self) -> Result<TakeWeak<T>, AllocError> {
         Ok(TakeWeak(self.0.clone()?))
+    }
+}
+
+impl<T: Drop, R: Wait> Request<R> for TakeWeak<T> {
+    type Cell = AsyncCell<T>;
+
+    fn cell(&self) -> Option<&AsyncCell<T>> {
+        self.0.cell().ok()
+    }
+}
+
+impl<T: Drop, R: Wait> Polled<R> for TakeWeak<T> {
+    type Output = Result<Option<T>, Refusal>;
+
+    ghost waits_for = { λ take. IsSourceOf take.0 };
+
+    ghost may_give = { λ take. GivesWeakly take.0 };
+
+    fn poll_at(&self, at: Option<&mut Place>, cx: &mut Context<'_>, rt: &R) -> Poll<Self::Output>
+        ensures lost { IsLost self.now.0 → result ≡ Poll.Ready (Err Refusal.Memory) }
+        ensures registered { OnPending result (Covers cx.new (IsSourceOf self.now.0)) }
+        ensures kept { Keeps cx.old cx.new }
+        ensures gives { IfReady result (GivesWeakly self.now.0) }
+    {
+        match self.0.cell() {
+            Ok(cell) => weakly(poll(&cell.core, &cell.source, Taking, at, cx, rt)),
+            Err(why) => Poll::Ready(Err(why)),
+        }
+    }
+}
+
+impl<T: Drop, R: Wait + Copy> Upgrade<R> for TakeWeak<T> {
+    type Owning = Take<Owner<T, R>>;
+
+    ghost owned_by = { λ weak owning. Names weak.0 (cell_owned owning.0) };
+
+    ghost is_lost = { λ weak. IsLost weak.0 };
+
+    fn owning(&self, rt: &R) -> Result<Option<Take<Owner<T, R>>>, Refusal> {
+        let owner = self.0.upgrade(rt)?;
+        Ok(owner.map(|owner| Take(owner.with(*rt))))
+    }
+}
+
+impl<T: Drop, R: Wait> Takes<R> for TakeWeak<T> {
+    type Value = T;
+
+    fn poll_value(
+        &self,
+        place: &mut Place,
+        cx: &mut Context<'_>,
+        rt: &R,
+    ) -> Poll<Result<Option<T>, Refusal>> {
+        self.poll_at(Some(place), cx, rt)
+    }
+}
+
+impl<T> fmt::Debug for TakeWeak<T> {
+    fn fmt<F: fmt::Write>(&self, f: &mut fmt::Formatter<F>) -> fmt::Result {
+        f.debug_struct("TakeWeak").finish_non_exhaustive()
     }
 }
 
@@ -183,8 +250,7 @@ impl<T: Drop> GetWeak<T> {
     pub fn upgrade<R: Wait>(&self, rt: &R) -> Result<Option<Get<Shared<T>>>, Refusal>
         ensures of_this { IfOk result (λ found. IfSome found (λ get. OwnsNamed self.now.0 get.0)) }
         ensures lost { IsLost self.now.0 → result ≡ Err Refusal.Memory }
-        ensures refused { IfErr result (λ why.
-            (why ≡ Refusal.Memory) ⊎ (why ≡ Refusal.OwnersFull)) }
+        ensures refused { FailsToUpgrade result }
     {
         Ok(self.0.upgrade(rt)?.map(Get))
     }
@@ -196,5 +262,52 @@ impl<T: Drop> Clone for GetWeak<T> {
 
     fn clone(&self) -> Result<GetWeak<T>, AllocError> {
         Ok(GetWeak(self.0.clone()?))
+    }
+}
+
+impl<T: Drop, R: Wait> Request<R> for GetWeak<T> {
+    type Cell = AsyncCell<T>;
+
+    fn cell(&self) -> Option<&AsyncCell<T>> {
+        self.0.cell().ok()
+    }
+}
+
+impl<T: Clone, R: Wait> Polled<R> for GetWeak<T> {
+    type Output = Result<Option<T>, Refusal>;
+
+    ghost waits_for = { λ get. IsSourceOf get.0 };
+
+    ghost may_give = { λ get. GivesWeakly get.0 };
+
+    fn poll_at(&self, at: Option<&mut Place>, cx: &mut Context<'_>, rt: &R) -> Poll<Self::Output>
+        ensures lost { IsLost self.now.0 → result ≡ Poll.Ready (Err Refusal.Memory) }
+        ensures registered { OnPending result (Covers cx.new (IsSourceOf self.now.0)) }
+        ensures kept { Keeps cx.old cx.new }
+        ensures gives { IfReady result (GivesWeakly self.now.0) }
+    {
+        match self.0.cell() {
+            Ok(cell) => weakly(poll(&cell.core, &cell.source, Cloning, at, cx, rt)),
+            Err(why) => Poll::Ready(Err(why)),
+        }
+    }
+}
+
+impl<T: Drop, R: Wait + Copy> Upgrade<R> for GetWeak<T> {
+    type Owning = Get<Owner<T, R>>;
+
+    ghost owned_by = { λ weak owning. Names weak.0 (cell_owned owning.0) };
+
+    ghost is_lost = { λ weak. IsLost weak.0 };
+
+    fn owning(&self, rt: &R) -> Result<Option<Get<Owner<T, R>>>, Refusal> {
+        let owner = self.0.upgrade(rt)?;
+        Ok(owner.map(|owner| Get(owner.with(*rt))))
+    }
+}
+
+impl<T> fmt::Debug for GetWeak<T> {
+    fn fmt<F: fmt::Write>(&self, f: &mut fmt::Formatter<F>) -> fmt::Result {
+        f.debug_struct("GetWeak").finish_non_exhaustive()
     }
 }

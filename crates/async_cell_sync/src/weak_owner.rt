@@ -1,4 +1,5 @@
-ghost use Rattle.std.specs.Prelude.{◌≡◌, ◌⊎◌, Err, IfOk, IfErr, IfSome};
+ghost use Rattle.std.specs.Prelude.{◌≡◌, Err, IfOk, IfSome};
+ghost use Rattle.async_cell_waiting.specs.Upgrade.{FailsToUpgrade};
 ghost use Rattle.async_cell_sync.specs.Names.{
   cell_of,
   IsLost,
@@ -22,8 +23,11 @@ use std::sync::Wait;
 ///
 /// Its drop does not take the lock. Dropping a future that it made may wait for it (see `With`).
 #[derive(Drop)]
+#[derive_where(Debug)]
 pub struct WeakOwner<T, R> {
+    #[derive_where(skip)]
     weak: Weak<T>,
+    #[derive_where(skip)]
     rt: R,
 }
 
@@ -53,14 +57,10 @@ impl<T: Drop, R: Wait + Copy> WeakOwner<T, R> {
         ensures of_this { IfOk result (λ found. IfSome found (λ owner.
             Names self.now.weak (cell_owned owner))) }
         ensures lost { IsLost self.now.weak → result ≡ Err Refusal.Memory }
-        ensures refused { IfErr result (λ why.
-            (why ≡ Refusal.Memory) ⊎ (why ≡ Refusal.OwnersFull)) }
+        ensures refused { FailsToUpgrade result }
     {
-        Ok(
-            self.weak
-                .upgrade(&self.rt)?
-                .map(|owner| owner.with(self.rt)),
-        )
+        let owner = self.weak.upgrade(&self.rt)?;
+        Ok(owner.map(|owner| owner.with(self.rt)))
     }
 
     /// Returns a future that takes the value and is not an owner; it is ready with `None` once the

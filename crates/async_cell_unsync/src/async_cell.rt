@@ -1,18 +1,18 @@
-ghost use Rattle.std.specs.Prelude.{◌≡◌, IfOk, IfErr, Some};
+ghost use Rattle.std.specs.Prelude.{◌≡◌, IsOk, IfOk, IfErr, IfSome, Some};
+ghost use Rattle.std.specs.Fn.{FnOnceReturnsAt};
 ghost use Rattle.async_cell_model.specs.History.{IsSound};
 ghost use Rattle.async_cell_model.specs.Refusal.{FailsWithMemory};
 ghost use Rattle.async_cell_unsync.specs.Names.{cell_of};
-
-mod looks;
 
 use crate::get::Get;
 use crate::guarded_cell::GuardedCell;
 use crate::shared::Shared;
 use crate::take::Take;
 use async_cell_core::{Core, Place, Refusal, TaskWaker, Wakes};
-use async_cell_waiting::{CellCore, Lender, OneThread, Places, Steps, cancel, leave, purge};
+use async_cell_waiting::{CellCore, Lender, OneThread, Places, cancel, leave, purge};
 use futures::task::Source;
 use std::alloc::Global;
+use std::fmt;
 
 /// A cell of one thread. It holds an optional value, and futures wait on it for a value.
 ///
@@ -31,14 +31,14 @@ pub struct AsyncCell<T> {
     pub(crate) core: Lender<CellCore<T, TaskWaker>>,
     /// The source that waiting tasks register with.
     pub(crate) source: Source,
-    alloc: Global,
+    pub(crate) alloc: Global,
 }
 
 impl<T: Drop> AsyncCell<T> {
     /// Wraps a core in a cell.
     fn of(alloc: Global, core: Core<T, TaskWaker>) -> Self {
         AsyncCell {
-            core: Lender::new(CellCore::of(core)),
+            core: Lender::new(core),
             source: Source::new(),
             alloc,
         }
@@ -80,12 +80,12 @@ impl<T: Drop> AsyncCell<T> {
 
     /// Sets the value and drops the old one. Wakes all waiters.
     pub fn set(&self, value: T) {
-        let _ = Steps::on(&self.core, &OneThread).replace(value);
+        let _ = self.core.replace(value, &OneThread);
     }
 
     /// Sets the value and wakes all waiters, if the cell holds no value. Drops `value` otherwise.
     pub fn or_set(&self, value: T) {
-        let _ = Steps::on(&self.core, &OneThread).or_set(value);
+        let _ = self.core.or_set(value, &OneThread);
     }
 
     /// Sets the value and wakes all waiters, if the cell is open and holds no value. Otherwise
@@ -93,14 +93,13 @@ impl<T: Drop> AsyncCell<T> {
     pub fn try_set(&self, value: T) -> Result<(), T>
         ensures comes_back { IfErr result (λ back. back ≡ value) }
     {
-        Steps::on(&self.core, &OneThread).try_set(value)
+        self.core.try_set(value, &OneThread)
     }
 
     /// Sets the value and returns the old one. Wakes all waiters.
     #[inline]
     pub fn replace(&self, value: T) -> Option<T> {
-        let replaced = Steps::on(&self.core, &OneThread).replace(value);
-        replaced.unwrap_or(None)
+        self.core.replace(value, &OneThread).unwrap_or(None)
     }
 
     /// Calls the closure on the content and stores what it returns, over whatever calls made from
@@ -108,7 +107,7 @@ impl<T: Drop> AsyncCell<T> {
     pub fn update<F: FnOnce(Option<T>) -> Option<T> + Drop>(&self, change: F)
         requires { F.IsAlwaysCallable change }
     {
-        if let Some(content) = Steps::on(&self.core, &OneThread).take_out() {
+        if let Some(content) = self.core.take_out(&OneThread) {
             let answer = change(content);
             self.put_back(answer);
         }
@@ -125,6 +124,57 @@ impl<T: Drop> AsyncCell<T> {
         }
     }
 
+    /// Takes the value, if there is one. The waiters stay registered.
+    pub fn try_take(&self) -> Option<T> {
+        self.core.try_take(&OneThread)
+    }
+
+    /// Returns a clone of the value, if there is one. Fails with `Memory` if the clone fails; the
+    /// value then stays in the cell.
+    pub fn try_get(&self) -> Result<Option<T>, Refusal>
+    where
+        T: Clone,
+        ensures sure { ((value : T) → T.is_infallible value) → IsOk result }
+        ensures refused { FailsWithMemory result }
+    {
+        match self.try_take() {
+            Some(value) => Ok(Some(self.copy_back(value)?)),
+            None => Ok(None),
+        }
+    }
+
+    /// Calls the closure on the value, if there is one, and returns what it returns. The value is
+    /// taken out meanwhile, and then stored over whatever calls made from inside have left.
+    pub fn peek<A, F: FnOnce(&T) -> A + Drop>(&self, look: F) -> Option<A>
+        requires { F.IsAlwaysCallable look }
+        ensures called { IfSome result (λ answer. (seen : T)
+            × FnOnceReturnsAt F.FnOnce look seen answer) }
+    {
+        let value = self.try_take()?;
+        let answer = look(&value);
+        self.put_back(Some(value));
+        Some(answer)
+    }
+
+    /// Returns whether the cell holds a value.
+    pub fn is_set(&self) -> bool {
+        self.core.is_set(&OneThread)
+    }
+
+    /// Returns whether the cell is closed: whether its last owner has ended.
+    pub fn is_closed(&self) -> bool {
+        self.core.is_closed(&OneThread)
+    }
+
+    /// Returns the text that this cell prints. Fails with `Memory`.
+    pub fn debug_text(&self) -> Result<String, Refusal>
+    where
+        T: fmt::Debug,
+        ensures refused { FailsWithMemory result }
+    {
+        Ok(format!(in self.alloc; "{self:?}")?)
+    }
+
     /// Lets go of all wakers that dropped futures left in the cell. The task of each is polled once
     /// more. Futures that still wait keep their wakers.
     ///
@@ -136,29 +186,14 @@ impl<T: Drop> AsyncCell<T> {
         purge(&self.core, &OneThread);
     }
 
-    /// Takes the value, if there is one. The waiters stay registered.
-    pub fn try_take(&self) -> Option<T> {
-        Steps::on(&self.core, &OneThread).try_take()
-    }
-
     /// Internal: may change without notice. Returns the number of places in the wait list.
     pub fn waiting(&self) -> usize {
-        Steps::on(&self.core, &OneThread).waiting()
-    }
-
-    /// Returns the allocator that the cell was made with.
-    pub(crate) fn allocator(&self) -> Global {
-        self.alloc
+        self.core.waiting(&OneThread)
     }
 
     /// Returns the content. Wakes all waiters.
     pub fn into_inner(self) -> Option<T> {
-        let AsyncCell {
-            core,
-            source: _,
-            alloc: _,
-        } = self;
-        core.into_inner().into_inner()
+        self.core.into_inner()
     }
 
     /// Internal: may change without notice. Returns the core of the cell. Ensures what holds of
@@ -166,12 +201,7 @@ impl<T: Drop> AsyncCell<T> {
     pub fn into_core(self) -> Core<T, TaskWaker>
         ensures { IsSound ⟦<TaskWaker as Wakes>⟧.will_wake result }
     {
-        let AsyncCell {
-            core,
-            source: _,
-            alloc: _,
-        } = self;
-        core.into_inner().into_core()
+        self.core.into_core()
     }
 
     /// Returns a future that takes the value.
@@ -195,6 +225,29 @@ impl<T: Drop> AsyncCell<T> {
         ensures keeps { result.cancel ≡ Some cancel }
     {
         GuardedCell::new(self, cancel)
+    }
+
+    /// Stores a content that was taken out, over whatever was stored in the meantime. A cell that
+    /// was closed in the meantime stays closed.
+    fn put_back(&self, content: Option<T>) {
+        drop(match content {
+            Some(value) => self.replace(value),
+            None => self.try_take(),
+        });
+    }
+
+    /// Clones a value that was taken out, and stores it again. Fails with `Memory` if the clone
+    /// fails.
+    #[inline]
+    pub(crate) fn copy_back(&self, value: T) -> Result<T, Refusal>
+    where
+        T: Clone,
+        ensures sure { ((value : T) → T.is_infallible value) → IsOk result }
+        ensures refused { FailsWithMemory result }
+    {
+        let copy: Result<_, _> = value.clone();
+        self.set(value);
+        Ok(copy?)
     }
 }
 
@@ -220,5 +273,23 @@ impl<T: Drop> Places<OneThread> for AsyncCell<T> {
 
     fn cancel(&self, place: Place, rt: &OneThread) {
         cancel(&self.core, place, rt);
+    }
+}
+
+/// Prints `AsyncCell::Empty`, `AsyncCell::Pending` if a task waits, `AsyncCell::Full(..)` with the
+/// value's own text, or `AsyncCell::Closed`. Makes no clone: the value is taken out while it
+/// prints.
+impl<T: fmt::Debug + Drop> fmt::Debug for AsyncCell<T> {
+    fn fmt<F: fmt::Write>(&self, f: &mut fmt::Formatter<F>) -> fmt::Result {
+        let Some(value) = self.try_take() else {
+            return f.write_str(match self.core.is_pending(&OneThread) {
+                Some(true) => "AsyncCell::Pending",
+                Some(false) => "AsyncCell::Empty",
+                None => "AsyncCell::Closed",
+            });
+        };
+        let printed = write!(f, "AsyncCell::Full({value:?})");
+        self.put_back(Some(value));
+        printed
     }
 }

@@ -3,12 +3,14 @@ ghost use Rattle.futures.specs.Poll.{IfReady, OnPending};
 ghost use Rattle.futures.specs.Task.{Covers, Keeps};
 ghost use Rattle.async_cell_model.specs.Refusal.{FailsWithMemoryOrClosed};
 
+use crate::async_cell::AsyncCell;
 use crate::cell_ref::CellRef;
-use crate::requests::{InPlace, With};
-use async_cell_core::Refusal;
-use async_cell_waiting::{OneThread, Taking, poll};
+use crate::with::{InPlace, With};
+use async_cell_core::{Place, Refusal};
+use async_cell_waiting::{OneThread, Polled, Request, Taking, poll};
 use futures::future::Future;
 use futures::task::{Context, Poll};
+use std::fmt;
 
 /// A future that clones the value of a cell and leaves it. It may be polled again after it was
 /// ready, and then returns further values. Each poll that waits may add a waker: `with` makes a
@@ -16,15 +18,20 @@ use futures::task::{Context, Poll};
 #[derive(Clone, Copy, Drop)]
 pub struct Get<C>(pub C);
 
-impl<C: CellRef> Get<C>
-where
-    C::Value: Clone,
-{
+impl<C> fmt::Debug for Get<C> {
+    fn fmt<F: fmt::Write>(&self, f: &mut fmt::Formatter<F>) -> fmt::Result {
+        f.debug_struct("Get").finish_non_exhaustive()
+    }
+}
+
+impl<C: CellRef> Get<C> {
     /// Polls by a shared reference. Returns `Ready` with a clone of the value. Fails with `Memory`
     /// if the clone fails, or if the poll would have to wait and there is no memory for that. Fails
     /// with `Closed` on a closed cell.
     #[inline]
     pub fn poll_shared(&self, cx: &mut Context<'_>) -> Poll<Result<C::Value, Refusal>>
+    where
+        C::Value: Clone,
         ensures registered { OnPending result (Covers cx.new (C.waits_for self.now.0)) }
         ensures kept { Keeps cx.old cx.new }
         ensures refused { IfReady result FailsWithMemoryOrClosed }
@@ -36,9 +43,7 @@ where
             Poll::Pending => Poll::Pending,
         }
     }
-}
 
-impl<C: CellRef> Get<C> {
     /// Returns the future that holds one place in the wait list while it waits.
     pub fn with(self) -> With<Self>
         ensures polls { result.polled ≡ self }
@@ -54,17 +59,45 @@ impl<C: CellRef> Get<C> {
     }
 }
 
-impl<C: CellRef> Future for Get<C>
-where
-    C::Value: Clone,
-{
+impl<C: CellRef> Request<OneThread> for Get<C> {
+    type Cell = AsyncCell<C::Value>;
+
+    fn cell(&self) -> Option<&Self::Cell> {
+        Some(self.0.cell())
+    }
+}
+
+impl<C: CellRef<Value: Clone>> Polled<OneThread> for Get<C> {
+    type Output = Result<C::Value, Refusal>;
+
+    ghost waits_for = { λ polled. C.waits_for polled.0 };
+
+    ghost may_give = { λ _. FailsWithMemoryOrClosed };
+
+    #[inline(always)]
+    fn poll_at(
+        &self,
+        at: Option<&mut Place>,
+        cx: &mut Context<'_>,
+        rt: &OneThread,
+    ) -> Poll<Self::Output> {
+        let cell = self.0.cell();
+        match poll(&cell.core, &cell.source, Taking, at, cx, rt) {
+            Poll::Ready(Ok(value)) => Poll::Ready(cell.copy_back(value)),
+            Poll::Ready(Err(why)) => Poll::Ready(Err(why)),
+            Poll::Pending => Poll::Pending,
+        }
+    }
+}
+
+impl<C: CellRef<Value: Clone>> Future for Get<C> {
     type Output = Result<C::Value, Refusal>;
 
     ghost needs = { λ future. C.waits_for future.0 };
 
     ghost gives = { λ _. FailsWithMemoryOrClosed };
 
-    fn poll(&mut self, cx: &mut Context<'_>) -> Poll<Result<C::Value, Refusal>> {
+    fn poll(&mut self, cx: &mut Context<'_>) -> Poll<Self::Output> {
         self.poll_shared(cx)
     }
 }

@@ -3,13 +3,16 @@ ghost use Rattle.async_cell_unsync.specs.Source.{source_of};
 
 use crate::async_cell::AsyncCell;
 use crate::cell_ref::CellRef;
-use async_cell_waiting::{OneThread, Steps};
+use async_cell_waiting::OneThread;
 
 /// A guard of a cell. Its drop sets its cancel value if the cell holds no value, unless the guard
 /// was released, and then drops its pointer: a guard that is an owner ends its owner.
+#[derive_where(Debug)]
 pub struct GuardedCell<T, C: CellRef<Value = T>> {
+    #[derive_where(skip)]
     pointer: C,
     /// `None` once it is released.
+    #[derive_where(skip)]
     cancel: Option<T>,
 }
 
@@ -68,6 +71,6 @@ impl<T: Drop, C: CellRef<Value = T>> GuardedCell<T, C> {
 impl<T: Drop, C: CellRef<Value = T>> Drop for GuardedCell<T, C> {
     fn drop(self) {
         let GuardedCell { pointer, cancel } = self;
-        Steps::on(&pointer.cell().core, &OneThread).end_guard(cancel);
+        pointer.cell().core.end_guard(cancel, &OneThread);
     }
 }

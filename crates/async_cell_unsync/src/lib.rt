@@ -3,15 +3,14 @@
 
 mod async_cell;
 mod cell_ref;
-mod debug;
 mod get;
 mod guarded_cell;
 mod owner;
-mod requests;
 mod shared;
 mod take;
 mod weak;
 mod weak_owner;
+mod with;
 
 pub use async_cell::AsyncCell;
 pub use async_cell_core::{Refusal, TaskWaker};
@@ -21,8 +20,8 @@ pub use cell_ref::CellRef;
 pub use get::Get;
 pub use guarded_cell::{Guard, GuardedCell};
 pub use owner::Owner;
-pub use requests::{InPlace, Values, With};
 pub use shared::Shared;
 pub use take::Take;
 pub use weak::{GetWeak, TakeWeak, Weak};
 pub use weak_owner::WeakOwner;
+pub use with::{InPlace, Values, With};

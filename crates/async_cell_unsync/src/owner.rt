@@ -1,29 +1,34 @@
-ghost use Rattle.std.specs.Prelude.{◌≡◌, IfOk, IfErr};
+ghost use Rattle.std.specs.Prelude.{◌≡◌, IfOk, IfErr, Some};
 ghost use Rattle.async_cell_model.specs.Refusal.{FailsWithMemory, IsOwnerRefusal};
 ghost use Rattle.async_cell_unsync.specs.Names.{NamesAtMost};
 ghost use Rattle.async_cell_unsync.specs.Owned.{cell_owned};
 ghost use Rattle.async_cell_unsync.specs.Source.{source_of};
 
-mod calls;
-mod polled;
-
 use crate::async_cell::AsyncCell;
 use crate::cell_ref::CellRef;
+use crate::get::Get;
+use crate::guarded_cell::{Guard, GuardedCell};
 use crate::shared::Shared;
+use crate::take::Take;
+use crate::weak::{GetWeak, TakeWeak};
 use crate::weak_owner::WeakOwner;
+use crate::with::With;
 use async_cell_core::Refusal;
 use std::alloc::Global;
+use std::ops::Deref;
 
-/// One counted owner of a cell, with the cell's calls. It ends by its drop, so `?` and an early
-/// `return` may stand beside it. Its futures hold a place in the wait list (see `With`). The end of
-/// the last owner closes the cell: the value is dropped, all waiters are woken, and weak futures
-/// are ready with `None`.
+/// One counted owner of a cell. It derefs to its cell, whose calls it has. It ends by its drop, so
+/// `?` and an early `return` may stand beside it. Its futures hold a place in the wait list (see
+/// `With`). The end of the last owner closes the cell: the value is dropped, all waiters are woken,
+/// and weak futures are ready with `None`.
 ///
 /// `Shared` is the owner whose calls are made on its `cell()`, and whose futures hold no place
 /// until their `with` is called.
 #[derive(Drop)]
+#[derive_where(Debug)]
 pub struct Owner<T: Drop> {
-    pub(crate) shared: Shared<T>,
+    #[derive_where(skip)]
+    shared: Shared<T>,
 }
 
 impl<T: Drop> Shared<T> {
@@ -89,17 +94,109 @@ impl<T: Drop> Owner<T> {
     pub fn try_into_inner(self) -> Result<Option<T>, Self>
         ensures comes_back { IfErr result (λ back. back ≡ self) }
     {
-        let Owner { shared } = self;
-        match shared.try_into_inner() {
-            Ok(content) => Ok(content),
-            Err(shared) => Err(Owner { shared }),
-        }
+        self.shared.try_into_inner().map_err(|shared| shared.with())
     }
 
     /// Returns the cell, to call it.
     pub fn cell(&self) -> &AsyncCell<T>
         ensures held { result.now ≡ cell_owned self.now }
     {
+        self.shared.cell()
+    }
+
+    /// Returns a future that takes the value.
+    pub fn take(&self) -> With<Take<&AsyncCell<T>>>
+        ensures of_this { result.polled.0.now ≡ cell_owned self.now }
+    {
+        self.cell().take().with()
+    }
+
+    /// Returns a future that clones the value and leaves it.
+    pub fn get(&self) -> With<Get<&AsyncCell<T>>>
+        ensures of_this { result.polled.0.now ≡ cell_owned self.now }
+    {
+        self.cell().get().with()
+    }
+
+    /// Returns a future that takes the value and is a new owner. Fails as `another` does.
+    pub fn take_shared(&self) -> Result<With<Take<Self>>, Refusal>
+        ensures of_this { IfOk result (λ made. cell_owned made.polled.0 ≡ cell_owned self.now) }
+        ensures refused { IfErr result IsOwnerRefusal }
+    {
+        Ok(Take(self.another()?).with())
+    }
+
+    /// Returns a future that clones the value, leaves it, and is a new owner. Fails as `another`
+    /// does.
+    pub fn get_shared(&self) -> Result<With<Get<Self>>, Refusal>
+        ensures of_this { IfOk result (λ made. cell_owned made.polled.0 ≡ cell_owned self.now) }
+        ensures refused { IfErr result IsOwnerRefusal }
+    {
+        Ok(Get(self.another()?).with())
+    }
+
+    /// Returns a future that takes the value and is not an owner.
+    pub fn take_weak(&self) -> With<TakeWeak<T>>
+        ensures of_this { NamesAtMost result.polled.0 (cell_owned self.now) }
+    {
+        self.shared.take_weak().with()
+    }
+
+    /// Returns a future that clones the value, leaves it, and is not an owner.
+    pub fn get_weak(&self) -> With<GetWeak<T>>
+        ensures of_this { NamesAtMost result.polled.0 (cell_owned self.now) }
+    {
+        self.shared.get_weak().with()
+    }
+
+    /// Returns a guard that is a new owner. Fails as `another` does; the value is then returned in
+    /// the error.
+    pub fn guard_shared(&self, cancel: T) -> Result<Guard<T, Self>, (Refusal, T)>
+        ensures of_this { IfOk result (λ guard. cell_owned guard.pointer ≡ cell_owned self.now) }
+        ensures keeps { IfOk result (λ guard. guard.cancel ≡ Some cancel) }
+        ensures refused { IfErr result (λ back. IsOwnerRefusal back.0) }
+        ensures comes_back { IfErr result (λ back. back.1 ≡ cancel) }
+    {
+        match self.another() {
+            Ok(owner) => Ok(GuardedCell::new(owner, cancel)),
+            Err(why) => Err((why, cancel)),
+        }
+    }
+
+    /// As `guard_shared`, but drops the value if it fails, so that `?` serves.
+    pub fn guard_shared_or_drop(&self, cancel: T) -> Result<Guard<T, Self>, Refusal>
+        ensures of_this { IfOk result (λ guard. cell_owned guard.pointer ≡ cell_owned self.now) }
+        ensures keeps { IfOk result (λ guard. guard.cancel ≡ Some cancel) }
+        ensures refused { IfErr result IsOwnerRefusal }
+    {
+        self.guard_shared(cancel).map_err(|(why, _)| why)
+    }
+}
+
+impl Owner<()> {
+    /// Returns a future that waits for `notify`.
+    pub fn wait(&self) -> With<Take<&AsyncCell<()>>>
+        ensures of_this { result.polled.0.now ≡ cell_owned self.now }
+    {
+        self.take()
+    }
+
+    /// Returns a future that waits for `notify` and is a new owner. Fails as `another` does.
+    pub fn wait_shared(&self) -> Result<With<Take<Self>>, Refusal>
+        ensures of_this { IfOk result (λ made. cell_owned made.polled.0 ≡ cell_owned self.now) }
+        ensures refused { IfErr result IsOwnerRefusal }
+    {
+        self.take_shared()
+    }
+}
+
+impl<T: Drop> Deref for Owner<T> {
+    type Target = AsyncCell<T>;
+
+    ghost deref_gives = { λ owner cell. cell ≡ cell_owned owner };
+
+    #[inline(always)]
+    fn deref(&self) -> &AsyncCell<T> {
         self.shared.cell()
     }
 }
@@ -111,15 +208,5 @@ impl<T: Drop> CellRef for Owner<T> {
 
     fn cell(&self) -> &AsyncCell<T> {
         Owner::cell(self)
-    }
-}
-
-impl<T: Drop> CellRef for &Owner<T> {
-    type Value = T;
-
-    ghost waits_for = { λ p s. s ≡ source_of (cell_owned p.now) };
-
-    fn cell(&self) -> &AsyncCell<T> {
-        Owner::cell(*self)
     }
 }

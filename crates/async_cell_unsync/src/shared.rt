@@ -9,13 +9,15 @@ use crate::guarded_cell::GuardedCell;
 use crate::take::Take;
 use crate::weak::{GetWeak, TakeWeak, Weak};
 use async_cell_core::Refusal;
-use async_cell_waiting::{OneThread, Steps};
-use std::alloc::{AllocError, AllocFailed, Global};
+use async_cell_waiting::OneThread;
+use std::alloc::{AllocFailed, Global};
 use std::rc::Rc;
 
 /// One counted owner of a cell. Dropping it ends the owner. The last one closes the cell: the value
 /// is dropped, all waiters are woken, and weak futures are ready with `None`.
+#[derive_where(Debug)]
 pub struct Shared<T> {
+    #[derive_where(skip)]
     pub(crate) cell: Rc<AsyncCell<T>>,
 }
 
@@ -33,7 +35,7 @@ impl<T: Drop> Shared<T> {
         ensures owns { IfOk result (λ owner. cell_of owner ≡ cell) }
         ensures comes_back { IfErr result (λ back. back ≡ (Refusal.Memory, cell)) }
     {
-        match Rc::new(cell.allocator(), cell) {
+        match Rc::new(cell.alloc, cell) {
             Ok(cell) => Ok(Shared { cell }),
             Err(AllocFailed { value: cell }) => Err((Refusal::Memory, cell)),
         }
@@ -122,7 +124,7 @@ impl<T: Drop> Shared<T> {
     pub fn try_into_inner(self) -> Result<Option<T>, Self>
         ensures comes_back { IfErr result (λ back. back ≡ self) }
     {
-        match Steps::on(&self.cell.core, &OneThread).take_inner() {
+        match self.cell.core.take_inner(&OneThread) {
             Err(Refusal::StillShared) => Err(self),
             taken => {
                 let Shared { cell: _ } = self;
@@ -137,9 +139,8 @@ impl<T: Drop> Shared<T> {
         ensures of_this { IfOk result (λ owner. cell_of owner ≡ rc_value cell.now) }
         ensures refused { IfErr result IsOwnerRefusal }
     {
-        let pointer: Result<Rc<AsyncCell<T>>, AllocError> = cell.clone();
-        let cell = pointer?;
-        Steps::on(&cell.core, &OneThread).add_owner()?;
+        let cell = cell.clone()?;
+        cell.core.add_owner(&OneThread)?;
         Ok(Shared { cell })
     }
 }
@@ -158,6 +159,6 @@ impl Shared<()> {
 impl<T: Drop> Drop for Shared<T> {
     fn drop(self) {
         let Shared { cell } = self;
-        let _ = Steps::on(&cell.core, &OneThread).end_owner();
+        let _ = cell.core.end_owner(&OneThread);
     }
 }

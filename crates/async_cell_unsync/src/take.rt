@@ -3,18 +3,26 @@ ghost use Rattle.futures.specs.Poll.{IfReady, OnPending};
 ghost use Rattle.futures.specs.Task.{Covers, Keeps};
 ghost use Rattle.async_cell_model.specs.Refusal.{FailsWithMemoryOrClosed};
 
+use crate::async_cell::AsyncCell;
 use crate::cell_ref::CellRef;
-use crate::requests::{InPlace, With};
-use async_cell_core::Refusal;
-use async_cell_waiting::{OneThread, Taking, poll};
+use crate::with::{InPlace, With};
+use async_cell_core::{Place, Refusal};
+use async_cell_waiting::{OneThread, Polled, Request, Taking, poll};
 use futures::future::Future;
 use futures::task::{Context, Poll};
+use std::fmt;
 
 /// A future that takes the value of a cell. It may be polled again after it was ready, and then
 /// returns further values. Each poll that waits may add a waker: `with` makes a future that does
 /// not.
 #[derive(Clone, Copy, Drop)]
 pub struct Take<C>(pub C);
+
+impl<C> fmt::Debug for Take<C> {
+    fn fmt<F: fmt::Write>(&self, f: &mut fmt::Formatter<F>) -> fmt::Result {
+        f.debug_struct("Take").finish_non_exhaustive()
+    }
+}
 
 impl<C: CellRef> Take<C> {
     /// Polls by a shared reference. Returns `Ready` with the value, which leaves the cell empty.
@@ -29,9 +37,7 @@ impl<C: CellRef> Take<C> {
         let cell = self.0.cell();
         poll(&cell.core, &cell.source, Taking, None, cx, &OneThread)
     }
-}
 
-impl<C: CellRef> Take<C> {
     /// Returns the future that holds one place in the wait list while it waits.
     pub fn with(self) -> With<Self>
         ensures polls { result.polled ≡ self }
@@ -47,6 +53,33 @@ impl<C: CellRef> Take<C> {
     }
 }
 
+impl<C: CellRef> Request<OneThread> for Take<C> {
+    type Cell = AsyncCell<C::Value>;
+
+    fn cell(&self) -> Option<&Self::Cell> {
+        Some(self.0.cell())
+    }
+}
+
+impl<C: CellRef> Polled<OneThread> for Take<C> {
+    type Output = Result<C::Value, Refusal>;
+
+    ghost waits_for = { λ polled. C.waits_for polled.0 };
+
+    ghost may_give = { λ _. FailsWithMemoryOrClosed };
+
+    #[inline(always)]
+    fn poll_at(
+        &self,
+        at: Option<&mut Place>,
+        cx: &mut Context<'_>,
+        rt: &OneThread,
+    ) -> Poll<Self::Output> {
+        let cell = self.0.cell();
+        poll(&cell.core, &cell.source, Taking, at, cx, rt)
+    }
+}
+
 impl<C: CellRef> Future for Take<C> {
     type Output = Result<C::Value, Refusal>;
 
@@ -54,7 +87,7 @@ impl<C: CellRef> Future for Take<C> {
 
     ghost gives = { λ _. FailsWithMemoryOrClosed };
 
-    fn poll(&mut self, cx: &mut Context<'_>) -> Poll<Result<C::Value, Refusal>> {
+    fn poll(&mut self, cx: &mut Context<'_>) -> Poll<Self::Output> {
         self.poll_shared(cx)
     }
 }

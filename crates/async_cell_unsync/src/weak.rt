@@ -1,4 +1,4 @@
-ghost use Rattle.std.specs.Prelude.{◌≡◌, ◌⊎◌, ℕ, Err, IfOk, IfErr, IfSome};
+ghost use Rattle.std.specs.Prelude.{◌≡◌, ℕ, Err, IfOk, IfSome};
 ghost use Rattle.std.specs.Rc.{rc_value};
 ghost use Rattle.futures.specs.Poll.{IfReady, OnPending};
 ghost use Rattle.futures.specs.Task.{Covers, Keeps};
@@ -6,30 +6,37 @@ ghost use Rattle.async_cell_model.specs.Refusal.{FailsWithMemory};
 ghost use Rattle.async_cell_unsync.specs.Names.{
   IsLost,
   NameAtMostTheSame,
+  Names,
   NamesAtMost,
   NameTheSame,
   OwnsNamed,
 };
+ghost use Rattle.async_cell_unsync.specs.Owned.{cell_owned};
 ghost use Rattle.async_cell_unsync.specs.Refused.{GivesWeakly};
 ghost use Rattle.async_cell_unsync.specs.Source.{source_of, IsSourceOf};
+ghost use Rattle.async_cell_waiting.specs.Upgrade.{FailsToUpgrade};
 
 use crate::async_cell::AsyncCell;
 use crate::get::Get;
-use crate::requests::{InPlace, With};
+use crate::owner::Owner;
 use crate::shared::Shared;
 use crate::take::Take;
-use async_cell_core::Refusal;
-use async_cell_waiting::{OneThread, Polled};
+use crate::with::{InPlace, With};
+use async_cell_core::{Place, Refusal};
+use async_cell_waiting::{OneThread, Polled, Request, Takes, Taking, Upgrade, poll, weakly};
 use futures::future::Future;
 use futures::task::{Context, Poll};
 use std::alloc::AllocError;
+use std::fmt;
 use std::rc::Rc;
 
 /// A weak pointer to a cell. It does not count as an owner. `Shared::downgrade` makes one.
 /// `TakeWeak` and `GetWeak` make a future of it, and `with` a `WeakOwner`.
 #[derive(Drop)]
+#[derive_where(Debug)]
 pub struct Weak<T> {
     /// `None` if the pointer could not be counted when it was made.
+    #[derive_where(skip)]
     cell: Option<Rc<AsyncCell<T>>>,
 }
 
@@ -37,7 +44,7 @@ impl<T: Drop> Weak<T> {
     pub(crate) fn of(cell: &Rc<AsyncCell<T>>) -> Self
         ensures of_this { NamesAtMost result (rc_value cell.now) }
     {
-        let pointer: Result<Rc<AsyncCell<T>>, AllocError> = cell.clone();
+        let pointer: Result<_, _> = cell.clone();
         Weak { cell: pointer.ok() }
     }
 
@@ -68,8 +75,7 @@ impl<T: Drop> Weak<T> {
     pub fn upgrade(&self) -> Result<Option<Shared<T>>, Refusal>
         ensures of_this { IfOk result (λ found. IfSome found (OwnsNamed self.now)) }
         ensures lost { IsLost self.now → result ≡ Err Refusal.Memory }
-        ensures refused { IfErr result (λ why.
-            (why ≡ Refusal.Memory) ⊎ (why ≡ Refusal.OwnersFull)) }
+        ensures refused { FailsToUpgrade result }
     {
         let cell = self.cell.as_ref().ok_or(Refusal::Memory)?;
         match Shared::owning(cell) {
@@ -85,13 +91,8 @@ impl<T: Drop> Clone for Weak<T> {
     ghost is_clone = { λ weak copy. NameTheSame weak copy };
 
     fn clone(&self) -> Result<Weak<T>, AllocError> {
-        let Some(cell) = &self.cell else {
-            return Ok(Weak { cell: None });
-        };
-        let pointer: Result<Rc<AsyncCell<T>>, AllocError> = cell.clone();
-        Ok(Weak {
-            cell: Some(pointer?),
-        })
+        let cell = self.cell.clone()?;
+        Ok(Weak { cell })
     }
 }
 
@@ -99,6 +100,12 @@ impl<T: Drop> Clone for Weak<T> {
 /// it was ready. Each poll that waits may add a waker: `with` makes a future that does not.
 #[derive(Drop)]
 pub struct TakeWeak<T>(pub Weak<T>);
+
+impl<T> fmt::Debug for TakeWeak<T> {
+    fn fmt<F: fmt::Write>(&self, f: &mut fmt::Formatter<F>) -> fmt::Result {
+        f.debug_struct("TakeWeak").finish_non_exhaustive()
+    }
+}
 
 impl<T: Drop> TakeWeak<T> {
     /// Polls by a shared reference. Returns `Ready` with the value, which leaves the cell empty, or
@@ -130,11 +137,9 @@ impl<T: Drop> TakeWeak<T> {
     /// Makes a `Take` that is a new owner; `Ok(None)` if the cell is closed. Fails with `Memory`
     /// (checked first) or `OwnersFull`.
     pub fn upgrade(&self) -> Result<Option<Take<Shared<T>>>, Refusal>
-        ensures of_this { IfOk result (λ found. IfSome found (λ take.
-            OwnsNamed self.now.0 take.0)) }
+        ensures of_this { IfOk result (λ found. IfSome found (λ own. OwnsNamed self.now.0 own.0)) }
         ensures lost { IsLost self.now.0 → result ≡ Err Refusal.Memory }
-        ensures refused { IfErr result (λ why.
-            (why ≡ Refusal.Memory) ⊎ (why ≡ Refusal.OwnersFull)) }
+        ensures refused { FailsToUpgrade result }
     {
         Ok(self.0.upgrade()?.map(Take))
     }
@@ -149,6 +154,64 @@ impl<T: Drop> Clone for TakeWeak<T> {
     }
 }
 
+impl<T: Drop> Request<OneThread> for TakeWeak<T> {
+    type Cell = AsyncCell<T>;
+
+    fn cell(&self) -> Option<&Self::Cell> {
+        self.0.cell().ok()
+    }
+}
+
+impl<T: Drop> Polled<OneThread> for TakeWeak<T> {
+    type Output = Result<Option<T>, Refusal>;
+
+    ghost waits_for = { λ polled. IsSourceOf polled.0 };
+
+    ghost may_give = { λ polled. GivesWeakly polled.0 };
+
+    fn poll_at(
+        &self,
+        at: Option<&mut Place>,
+        cx: &mut Context<'_>,
+        rt: &OneThread,
+    ) -> Poll<Self::Output>
+        ensures lost { IsLost self.now.0 → result ≡ Poll.Ready (Err Refusal.Memory) }
+        ensures registered { OnPending result (Covers cx.new (IsSourceOf self.now.0)) }
+        ensures kept { Keeps cx.old cx.new }
+        ensures gives { IfReady result (GivesWeakly self.now.0) }
+    {
+        match self.0.cell() {
+            Ok(cell) => weakly(poll(&cell.core, &cell.source, Taking, at, cx, rt)),
+            Err(why) => Poll::Ready(Err(why)),
+        }
+    }
+}
+
+impl<T: Drop> Upgrade<OneThread> for TakeWeak<T> {
+    type Owning = Take<Owner<T>>;
+
+    ghost owned_by = { λ weak owning. Names weak.0 (cell_owned owning.0) };
+
+    ghost is_lost = { λ weak. IsLost weak.0 };
+
+    fn owning(&self, _: &OneThread) -> Result<Option<Self::Owning>, Refusal> {
+        Ok(self.0.upgrade()?.map(|owner| Take(owner.with())))
+    }
+}
+
+impl<T: Drop> Takes<OneThread> for TakeWeak<T> {
+    type Value = T;
+
+    fn poll_value(
+        &self,
+        place: &mut Place,
+        cx: &mut Context<'_>,
+        rt: &OneThread,
+    ) -> Poll<Result<Option<T>, Refusal>> {
+        self.poll_at(Some(place), cx, rt)
+    }
+}
+
 impl<T: Drop> Future for TakeWeak<T> {
     type Output = Result<Option<T>, Refusal>;
 
@@ -156,7 +219,7 @@ impl<T: Drop> Future for TakeWeak<T> {
 
     ghost gives = { λ future. GivesWeakly future.0 };
 
-    fn poll(&mut self, cx: &mut Context<'_>) -> Poll<Result<Option<T>, Refusal>> {
+    fn poll(&mut self, cx: &mut Context<'_>) -> Poll<Self::Output> {
         self.poll_shared(cx)
     }
 }
@@ -167,11 +230,19 @@ impl<T: Drop> Future for TakeWeak<T> {
 #[derive(Drop)]
 pub struct GetWeak<T>(pub Weak<T>);
 
-impl<T: Clone> GetWeak<T> {
+impl<T> fmt::Debug for GetWeak<T> {
+    fn fmt<F: fmt::Write>(&self, f: &mut fmt::Formatter<F>) -> fmt::Result {
+        f.debug_struct("GetWeak").finish_non_exhaustive()
+    }
+}
+
+impl<T: Drop> GetWeak<T> {
     /// Polls by a shared reference. Returns `Ready` with a clone of the value, or with `None` on a
     /// closed cell. Fails with `Memory` if the clone fails, or if the poll would have to wait and
     /// there is no memory for that.
     pub fn poll_shared(&self, cx: &mut Context<'_>) -> Poll<Result<Option<T>, Refusal>>
+    where
+        T: Clone,
         ensures lost { IsLost self.now.0 → result ≡ Poll.Ready (Err Refusal.Memory) }
         ensures registered { OnPending result (Covers cx.new (IsSourceOf self.now.0)) }
         ensures kept { Keeps cx.old cx.new }
@@ -179,9 +250,7 @@ impl<T: Clone> GetWeak<T> {
     {
         self.poll_at(None, cx, &OneThread)
     }
-}
 
-impl<T: Drop> GetWeak<T> {
     /// Returns the future that holds one place in the wait list while it waits.
     pub fn with(self) -> With<Self>
         ensures polls { result.polled ≡ self }
@@ -199,10 +268,9 @@ impl<T: Drop> GetWeak<T> {
     /// Makes a `Get` that is a new owner; `Ok(None)` if the cell is closed. Fails with `Memory`
     /// (checked first) or `OwnersFull`.
     pub fn upgrade(&self) -> Result<Option<Get<Shared<T>>>, Refusal>
-        ensures of_this { IfOk result (λ found. IfSome found (λ get. OwnsNamed self.now.0 get.0)) }
+        ensures of_this { IfOk result (λ found. IfSome found (λ own. OwnsNamed self.now.0 own.0)) }
         ensures lost { IsLost self.now.0 → result ≡ Err Refusal.Memory }
-        ensures refused { IfErr result (λ why.
-            (why ≡ Refusal.Memory) ⊎ (why ≡ Refusal.OwnersFull)) }
+        ensures refused { FailsToUpgrade result }
     {
         Ok(self.0.upgrade()?.map(Get))
     }
@@ -217,6 +285,51 @@ impl<T: Drop> Clone for GetWeak<T> {
     }
 }
 
+impl<T: Drop> Request<OneThread> for GetWeak<T> {
+    type Cell = AsyncCell<T>;
+
+    fn cell(&self) -> Option<&Self::Cell> {
+        self.0.cell().ok()
+    }
+}
+
+impl<T: Clone> Polled<OneThread> for GetWeak<T> {
+    type Output = Result<Option<T>, Refusal>;
+
+    ghost waits_for = { λ polled. IsSourceOf polled.0 };
+
+    ghost may_give = { λ polled. GivesWeakly polled.0 };
+
+    fn poll_at(
+        &self,
+        at: Option<&mut Place>,
+        cx: &mut Context<'_>,
+        rt: &OneThread,
+    ) -> Poll<Self::Output>
+        ensures lost { IsLost self.now.0 → result ≡ Poll.Ready (Err Refusal.Memory) }
+        ensures registered { OnPending result (Covers cx.new (IsSourceOf self.now.0)) }
+        ensures kept { Keeps cx.old cx.new }
+        ensures gives { IfReady result (GivesWeakly self.now.0) }
+    {
+        match self.0.cell() {
+            Ok(cell) => weakly(Get(cell).poll_at(at, cx, rt)),
+            Err(why) => Poll::Ready(Err(why)),
+        }
+    }
+}
+
+impl<T: Drop> Upgrade<OneThread> for GetWeak<T> {
+    type Owning = Get<Owner<T>>;
+
+    ghost owned_by = { λ weak owning. Names weak.0 (cell_owned owning.0) };
+
+    ghost is_lost = { λ weak. IsLost weak.0 };
+
+    fn owning(&self, _: &OneThread) -> Result<Option<Self::Owning>, Refusal> {
+        Ok(self.0.upgrade()?.map(|owner| Get(owner.with())))
+    }
+}
+
 impl<T: Clone> Future for GetWeak<T> {
     type Output = Result<Option<T>, Refusal>;
 
@@ -224,7 +337,7 @@ impl<T: Clone> Future for GetWeak<T> {
 
     ghost gives = { λ future. GivesWeakly future.0 };
 
-    fn poll(&mut self, cx: &mut Context<'_>) -> Poll<Result<Option<T>, Refusal>> {
+    fn poll(&mut self, cx: &mut Context<'_>) -> Poll<Self::Output> {
         self.poll_shared(cx)
     }
 }

@@ -1,10 +1,11 @@
-ghost use Rattle.std.specs.Prelude.{◌≡◌, ◌⊎◌, Err, IfOk, IfErr, IfSome};
+ghost use Rattle.std.specs.Prelude.{◌≡◌, Err, IfOk, IfSome};
 ghost use Rattle.async_cell_unsync.specs.Names.{IsLost, NameAtMostTheSame, Names, NameTheSame};
 ghost use Rattle.async_cell_unsync.specs.Owned.{cell_owned};
+ghost use Rattle.async_cell_waiting.specs.Upgrade.{FailsToUpgrade};
 
 use crate::owner::Owner;
-use crate::requests::With;
 use crate::weak::{GetWeak, TakeWeak, Weak};
+use crate::with::With;
 use async_cell_core::Refusal;
 use std::alloc::AllocError;
 
@@ -12,7 +13,9 @@ use std::alloc::AllocError;
 /// count as an owner, and keeps the cell's memory alive, not its value. `Owner::downgrade` makes
 /// one.
 #[derive(Drop)]
+#[derive_where(Debug)]
 pub struct WeakOwner<T> {
+    #[derive_where(skip)]
     weak: Weak<T>,
 }
 
@@ -32,8 +35,7 @@ impl<T: Drop> WeakOwner<T> {
         ensures of_this { IfOk result (λ found. IfSome found (λ owner.
             Names self.now.weak (cell_owned owner))) }
         ensures lost { IsLost self.now.weak → result ≡ Err Refusal.Memory }
-        ensures refused { IfErr result (λ why.
-            (why ≡ Refusal.Memory) ⊎ (why ≡ Refusal.OwnersFull)) }
+        ensures refused { FailsToUpgrade result }
     {
         Ok(self.weak.upgrade()?.map(|owner| owner.with()))
     }
@@ -61,8 +63,6 @@ impl<T: Drop> Clone for WeakOwner<T> {
     ghost is_clone = { λ weak copy. NameTheSame weak.weak copy.weak };
 
     fn clone(&self) -> Result<WeakOwner<T>, AllocError> {
-        Ok(WeakOwner {
-            weak: self.weak.clone()?,
-        })
+        Ok(self.weak.clone()?.with())
     }
 }

@@ -4,24 +4,18 @@
 
 mod cell_core;
 mod ended;
-mod lent;
-mod locked;
 mod places;
 mod polls;
 mod query;
 mod room;
-mod steps;
 mod store;
 mod with;
 
 pub use cell_core::{CellCore, Cloning, Taking};
-pub use ended::{Held, Waking, WakingOne, end, end_and_wake, end_and_wake_one, open_holding};
-pub use lent::{Lender, Lent};
-pub use locked::{Lock, Locked};
+pub use ended::{Held, end, end_and_wake, end_and_wake_one, open_holding};
 pub use places::{cancel, leave, purge, waiting};
 pub use polls::poll;
 pub use query::Query;
 pub use room::Room;
-pub use steps::Steps;
-pub use store::{OneThread, Step, Store};
+pub use store::{Lender, Lent, Lock, Locked, OneThread, Step, Store, StoredCore};
 pub use with::{Places, Polled, Request, Takes, Upgrade, Values, With, weakly};

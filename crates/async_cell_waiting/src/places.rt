@@ -6,12 +6,7 @@ use crate::store::{Step, Store};
 use async_cell_wakers::Place;
 
 /// Lets go of all wakers that dropped futures left.
-pub fn purge<S, G, C, R>(store: S, rt: &R)
-where
-    S: Store<R, Open = G>,
-    G: Step<Core = C>,
-    C: Room,
-{
+pub fn purge<C: Room, S: Store<C, R>, R>(store: S, rt: &R) {
     for index in 0..waiting(store, rt) {
         if let Some(mut core) = store.open(rt) {
             let left = core.core().take_left(index);
@@ -21,12 +16,7 @@ where
 }
 
 /// Returns the number of places in the wait list.
-pub fn waiting<S, G, C, R>(store: S, rt: &R) -> usize
-where
-    S: Store<R, Open = G>,
-    G: Step<Core = C>,
-    C: Room,
-{
+pub fn waiting<C: Room, S: Store<C, R>, R>(store: S, rt: &R) -> usize {
     let Some(core) = store.open(rt) else {
         return 0;
     };
@@ -36,12 +26,7 @@ where
 
 /// Leaves the place of a future that is dropped.
 #[inline(always)]
-pub fn leave<S, G, C, R>(store: S, place: Place, rt: &R)
-where
-    S: Store<R, Open = G>,
-    G: Step<Core = C>,
-    C: Room,
-{
+pub fn leave<C: Room, S: Store<C, R>, R>(store: S, place: Place, rt: &R) {
     if place.was_held() {
         leave_held(store, place, rt);
     }
@@ -49,12 +34,7 @@ where
 
 /// `leave`, of a place that may still be held.
 #[inline(never)]
-fn leave_held<S, G, C, R>(store: S, place: Place, rt: &R)
-where
-    S: Store<R, Open = G>,
-    G: Step<Core = C>,
-    C: Room,
-{
+fn leave_held<C: Room, S: Store<C, R>, R>(store: S, place: Place, rt: &R) {
     if let Some(mut core) = store.open(rt) {
         let _ = core.core().leave(place);
         end(core, Held::of(()));
@@ -62,12 +42,7 @@ where
 }
 
 /// Leaves the place of a future that is cancelled, and lets go of its waker.
-pub fn cancel<S, G, C, R>(store: S, place: Place, rt: &R)
-where
-    S: Store<R, Open = G>,
-    G: Step<Core = C>,
-    C: Room,
-{
+pub fn cancel<C: Room, S: Store<C, R>, R>(store: S, place: Place, rt: &R) {
     if !place.was_held() {
         return;
     }

@@ -1,7 +1,7 @@
 //! Polls, over any store: each either finds what need not be waited for, or registers the task and
 //! adds its waker to the wait list. The waker of a future that keeps a place is stored in that
 //! place.
-ghost use Rattle.std.specs.Prelude.{◌≡◌, Err, IfOk, IfErr};
+ghost use Rattle.std.specs.Prelude.{◌≡◌, Err, IfOk};
 ghost use Rattle.futures.specs.Poll.{IfReady, OnPending};
 ghost use Rattle.futures.specs.Task.{Hears, IsArmed, Keeps};
 ghost use Rattle.async_cell_model.specs.Refusal.{FailsWithMemory, FailsWithMemoryOrClosed};
@@ -17,7 +17,7 @@ use futures::task::{Context, Poll, Source, Waker};
 /// Answers the query, or waits, in the place if any. Fails with `Memory` if there is no memory for
 /// the task's waker or for the growth of the list. Asks to be polled again if the core is not lent.
 #[inline(always)]
-pub fn poll<S, G, C, Q, R>(
+pub fn poll<C: Room, S: Store<C, R>, Q: Query<C>, R>(
     store: S,
     source: &Source,
     query: Q,
@@ -25,11 +25,6 @@ pub fn poll<S, G, C, Q, R>(
     cx: &mut Context<'_>,
     rt: &R,
 ) -> Poll<Result<Q::Answer, Refusal>>
-where
-    S: Store<R, Open = G>,
-    G: Step<Core = C>,
-    C: Room,
-    Q: Query<C>,
     ensures told { IfReady result (λ answer. IfOk answer (λ told. Q.gives query told)) }
     ensures armed { OnPending result (IsArmed cx.new) }
     ensures heard { OnPending result (Hears cx.new source.now.id) }
@@ -59,10 +54,10 @@ where
 /// Registers the task, and adds its waker as the last. It is a new waker: so nothing is dropped,
 /// and nobody woken, during the step. Fails with `Memory` if there is no memory for the waker or
 /// for the growth of the list.
-fn add<G, C>(mut core: G, source: &Source, cx: &mut Context<'_>) -> Result<(), Refusal>
+fn add<C, G>(mut core: G, source: &Source, cx: &mut Context<'_>) -> Result<(), Refusal>
 where
-    G: Step<Core = C>,
     C: Room,
+    G: Step<Core = C>,
     requires { C.vacant (G.shows core) }
     ensures armed { IsArmed cx.new }
     ensures heard { Hears cx.new source.now.id }
@@ -82,15 +77,12 @@ where
 }
 
 /// `add`, at a new place: that of the waker from then on.
-fn add_at<G, C>(
+fn add_at<C: Room, G: Step<Core = C>>(
     mut core: G,
     source: &Source,
     place: &mut Place,
     cx: &mut Context<'_>,
 ) -> Result<(), Refusal>
-where
-    G: Step<Core = C>,
-    C: Room,
     requires { C.vacant (G.shows core) }
     ensures armed { IsArmed cx.new }
     ensures heard { Hears cx.new source.now.id }
@@ -113,9 +105,9 @@ where
 /// stores it again. If it was another task's, it is dropped, which wakes that task: so no step runs
 /// meanwhile.
 #[inline(never)]
-fn renew<S, G, C, Q, R>(
+fn renew<C: Room, S: Store<C, R>, Q: Query<C>, R>(
     store: S,
-    core: G,
+    core: S::Open,
     waker: Held<Option<Waker>>,
     source: &Source,
     query: Q,
@@ -123,11 +115,6 @@ fn renew<S, G, C, Q, R>(
     cx: &mut Context<'_>,
     rt: &R,
 ) -> Poll<Result<Q::Answer, Refusal>>
-where
-    S: Store<R, Open = G>,
-    G: Step<Core = C>,
-    C: Room,
-    Q: Query<C>,
     ensures told { IfReady result (λ answer. IfOk answer (λ told. Q.gives query told)) }
     ensures armed { OnPending result (IsArmed cx.new) }
     ensures heard { OnPending result (Hears cx.new source.now.id) }
@@ -159,8 +146,8 @@ where
 /// The answer of a poll that has to wait.
 #[inline(always)]
 fn waits<A>(added: Result<(), Refusal>) -> Poll<Result<A, Refusal>>
-    ensures refused { IfReady result (λ answer. IfErr answer (λ why. added ≡ Err why)) }
-    ensures none { IfReady result (λ answer. IfOk answer (λ _. ⊥)) }
+    requires { FailsWithMemory added }
+    ensures refused { IfReady result (λ answer. answer ≡ Err Refusal.Memory) }
 {
     match added {
         Ok(()) => Poll::Pending,

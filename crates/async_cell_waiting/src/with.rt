@@ -1,7 +1,8 @@
-ghost use Rattle.std.specs.Prelude.{◌≡◌, ◌⊎◌, ℕ, Err, IfOk, IfErr, IfSome};
+ghost use Rattle.std.specs.Prelude.{◌≡◌, ℕ, Err, IfOk, IfSome};
 ghost use Rattle.futures.specs.Poll.{IfReady, OnPending};
 ghost use Rattle.futures.specs.Task.{Covers, Keeps};
 ghost use Rattle.async_cell_model.specs.Refusal.{FailsWithMemory, FailsWithMemoryOrClosed};
+ghost use Rattle.async_cell_waiting.specs.Upgrade.{FailsToUpgrade};
 
 mod values;
 
@@ -9,7 +10,6 @@ use async_cell_model::Refusal;
 use async_cell_wakers::Place;
 use futures::future::Future;
 use futures::task::{Context, Poll};
-use std::fmt;
 pub use values::{Takes, Values};
 
 /// A cell in which futures hold places. `R` is the right that a step on it needs.
@@ -42,7 +42,7 @@ pub trait Polled<R>: Request<R> {
     ghost may_give: { Self → Self.Output → Type 0 };
 
     /// Polls, and waits in the place, if any.
-    fn poll_at(&self, place: Option<&mut Place>, cx: &mut Context<'_>, rt: &R) -> Poll<Self::Output>
+    fn poll_at(&self, at: Option<&mut Place>, cx: &mut Context<'_>, rt: &R) -> Poll<Self::Output>
         ensures gives { IfReady result (may_give self.now) }
         ensures registered { OnPending result (Covers cx.new (waits_for self.now)) }
         ensures kept { Keeps cx.old cx.new };
@@ -64,8 +64,7 @@ pub trait Upgrade<R>: Request<R> {
     fn owning(&self, rt: &R) -> Result<Option<Self::Owning>, Refusal>
         ensures of_this { IfOk result (λ found. IfSome found (owned_by self.now)) }
         ensures lost { is_lost self.now → result ≡ Err Refusal.Memory }
-        ensures refused { IfErr result (λ why.
-            (why ≡ Refusal.Memory) ⊎ (why ≡ Refusal.OwnersFull)) };
+        ensures refused { FailsToUpgrade result };
 }
 
 /// The future of a `Take`, a `Get`, a `TakeWeak` or a `GetWeak`, with the right that a step needs.
@@ -76,9 +75,13 @@ pub trait Upgrade<R>: Request<R> {
 /// The place is then free for the next such future, and the task that polled the
 /// dropped one may be woken once more. So keep a future that you poll again: two tasks that each
 /// make, poll and drop one within every poll wake each other each time.
+#[derive_where(Debug)]
 pub struct With<P: Request<R>, R> {
+    #[derive_where(skip)]
     polled: P,
+    #[derive_where(skip)]
     rt: R,
+    #[derive_where(skip)]
     place: Place,
 }
 
@@ -115,8 +118,7 @@ impl<P: Upgrade<R>, R: Copy> With<P, R> {
         ensures of_this { IfOk result (λ found. IfSome found (λ future.
             P.owned_by self.now.polled future.polled)) }
         ensures lost { P.is_lost self.now.polled → result ≡ Err Refusal.Memory }
-        ensures refused { IfErr result (λ why.
-            (why ≡ Refusal.Memory) ⊎ (why ≡ Refusal.OwnersFull)) }
+        ensures refused { FailsToUpgrade result }
     {
         match self.polled.owning(&self.rt)? {
             Some(owning) => Ok(Some(With::new(owning, self.rt))),
@@ -144,12 +146,6 @@ impl<P: Polled<R>, R: Drop> Future for With<P, R> {
 
     fn poll(&mut self, cx: &mut Context<'_>) -> Poll<P::Output> {
         self.polled.poll_at(Some(&mut self.place), cx, &self.rt)
-    }
-}
-
-impl<P: Request<R>, R> fmt::Debug for With<P, R> {
-    fn fmt<F: fmt::Write>(&self, f: &mut fmt::Formatter<F>) -> fmt::Result {
-        f.debug_struct("With").finish_non_exhaustive()
     }
 }
 

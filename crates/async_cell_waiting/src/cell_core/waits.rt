@@ -53,7 +53,7 @@ impl<T: Drop> Room for CellCore<T, TaskWaker> {
 
     #[inline(always)]
     fn places(&self) -> usize {
-        self.waiting()
+        self.core.waiting()
     }
 }
 

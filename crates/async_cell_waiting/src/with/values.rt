@@ -10,7 +10,6 @@ use async_cell_model::Refusal;
 use async_cell_wakers::Place;
 use futures::stream::Stream;
 use futures::task::{Context, Poll};
-use std::fmt;
 
 /// A request that takes one value after another: a `TakeWeak`.
 pub trait Takes<R>: Polled<R> {
@@ -36,7 +35,9 @@ pub trait Takes<R>: Polled<R> {
 /// **The last value may be lost**: the end of the last owner drops a value that was not yet taken.
 /// An item is an error (`Memory`) if a poll was refused; the stream may be polled on.
 #[derive(Drop)]
+#[derive_where(Debug)]
 pub struct Values<P: Takes<R>, R: Drop> {
+    #[derive_where(skip)]
     taker: With<P, R>,
 }
 
@@ -73,11 +74,5 @@ impl<P: Takes<R>, R: Drop> Stream for Values<P, R> {
             Poll::Ready(Err(why)) => Poll::Ready(Some(Err(why))),
             Poll::Pending => Poll::Pending,
         }
-    }
-}
-
-impl<P: Takes<R>, R: Drop> fmt::Debug for Values<P, R> {
-    fn fmt<F: fmt::Write>(&self, f: &mut fmt::Formatter<F>) -> fmt::Result {
-        f.debug_struct("Values").finish_non_exhaustive()
     }
 }

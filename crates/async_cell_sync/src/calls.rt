@@ -1,0 +1,211 @@
+//! The calls of a cell, and those of an owner, which are its cell's with the right that it keeps.
+ghost use Rattle.std.specs.Prelude.{◌≡◌, IsOk, IfErr, IfSome};
+ghost use Rattle.std.specs.Fn.{FnOnceReturnsAt};
+ghost use Rattle.async_cell_model.specs.Refusal.{FailsWithMemory};
+
+use crate::async_cell::AsyncCell;
+use crate::owner::Owner;
+use async_cell_core::Refusal;
+use async_cell_waiting::purge;
+use std::fmt;
+use std::sync::Wait;
+
+impl<T: Drop> AsyncCell<T> {
+    /// Sets the value and drops the old one. Wakes all waiters.
+    pub fn set<R: Wait>(&self, value: T, rt: &R) {
+        let _ = self.core.replace(value, rt);
+    }
+
+    /// Sets the value and wakes all waiters, if the cell holds no value. Drops `value` otherwise.
+    pub fn or_set<R: Wait>(&self, value: T, rt: &R) {
+        let _ = self.core.or_set(value, rt);
+    }
+
+    /// `or_set`, which returns an unused `value` in the error, also on a closed cell.
+    pub fn try_set<R: Wait>(&self, value: T, rt: &R) -> Result<(), T>
+        ensures comes_back { IfErr result (λ back. back ≡ value) }
+    {
+        self.core.try_set(value, rt)
+    }
+
+    /// Sets the value and returns the old one. Wakes all waiters.
+    pub fn replace<R: Wait>(&self, value: T, rt: &R) -> Option<T> {
+        let replaced = self.core.replace(value, rt);
+        replaced.unwrap_or(None)
+    }
+
+    /// Calls the closure on the content and stores what it returns, while the lock is held: a
+    /// closure that calls its own cell waits forever. Wakes all waiters if an empty cell gets a
+    /// value.
+    pub fn update<F: FnOnce(Option<T>) -> Option<T> + Drop, R: Wait>(&self, change: F, rt: &R)
+        requires { F.IsAlwaysCallable change }
+    {
+        let _ = self.core.update(change, rt);
+    }
+
+    /// `update`, of a value: the closure is not called if there is none.
+    pub fn update_some<F: FnOnce(T) -> T + Drop, R: Wait>(&self, change: F, rt: &R)
+        requires { F.IsAlwaysCallable change }
+    {
+        let _ = self.core.update_some(change, rt);
+    }
+
+    /// Takes the value, if there is one. The waiters stay registered.
+    pub fn try_take<R: Wait>(&self, rt: &R) -> Option<T> {
+        self.core.try_take(rt)
+    }
+
+    /// Returns a clone of the value, if there is one. Fails with `Memory` if the clone fails.
+    pub fn try_get<R: Wait>(&self, rt: &R) -> Result<Option<T>, Refusal>
+    where
+        T: Clone,
+        ensures sure { ((value : T) → T.is_infallible value) → IsOk result }
+        ensures refused { FailsWithMemory result }
+    {
+        self.core.try_get(rt)
+    }
+
+    /// Calls the closure on the value, if there is one, and returns what it returns. The lock is
+    /// held meanwhile: a closure that calls its own cell waits forever.
+    pub fn peek<A, F: FnOnce(&T) -> A + Drop, R: Wait>(&self, look: F, rt: &R) -> Option<A>
+        requires { F.IsAlwaysCallable look }
+        ensures called { IfSome result (λ answer. (seen : T)
+            × FnOnceReturnsAt F.FnOnce look seen answer) }
+    {
+        self.core.peek(look, rt)
+    }
+
+    /// Returns whether the cell holds a value.
+    pub fn is_set<R: Wait>(&self, rt: &R) -> bool {
+        self.core.is_set(rt)
+    }
+
+    /// Returns whether the cell is closed.
+    pub fn is_closed<R: Wait>(&self, rt: &R) -> bool {
+        self.core.is_closed(rt)
+    }
+
+    /// Returns `AsyncCell::Empty`, `AsyncCell::Pending` if a task waits, `AsyncCell::Full(..)` with
+    /// the value's own text, or `AsyncCell::Closed`. Makes no clone: the value prints while the
+    /// lock is held. Fails with `Memory`.
+    pub fn debug_text<R: Wait>(&self, rt: &R) -> Result<String, Refusal>
+    where
+        T: fmt::Debug,
+        ensures refused { FailsWithMemory result }
+    {
+        self.core.debug_text(self.allocator(), rt)
+    }
+
+    /// Lets go of all wakers that dropped futures left in the cell. The task of each is polled once
+    /// more. Futures that still wait keep their wakers.
+    ///
+    /// A future that is dropped while it waits leaves its waker in the cell, and a waker keeps what
+    /// its executor needs to wake the task. Call this where many waits end early on a cell that
+    /// lives on. It takes the lock once for each place, and needs no memory.
+    pub fn purge<R: Wait>(&self, rt: &R) {
+        purge(&self.core, rt);
+    }
+}
+
+impl AsyncCell<()> {
+    /// Wakes all waiters: the next `take` or `get` is ready.
+    pub fn notify<R: Wait>(&self, rt: &R) {
+        self.set((), rt);
+    }
+}
+
+impl<T: Drop, R: Wait + Drop> Owner<T, R> {
+    /// Sets the value and drops the old one. Wakes all waiters.
+    pub fn set(&self, value: T) {
+        self.shared.cell.set(value, &self.rt);
+    }
+
+    /// Sets the value and wakes all waiters, if the cell holds no value. Drops `value` otherwise.
+    pub fn or_set(&self, value: T) {
+        self.shared.cell.or_set(value, &self.rt);
+    }
+
+    /// `or_set`, which returns an unused `value` in the error, also on a closed cell.
+    pub fn try_set(&self, value: T) -> Result<(), T>
+        ensures comes_back { IfErr result (λ back. back ≡ value) }
+    {
+        self.shared.cell.try_set(value, &self.rt)
+    }
+
+    /// Sets the value and returns the old one. Wakes all waiters.
+    pub fn replace(&self, value: T) -> Option<T> {
+        self.shared.cell.replace(value, &self.rt)
+    }
+
+    /// Calls the closure on the content and stores what it returns, while the lock is held: a
+    /// closure that calls its own cell waits forever. Wakes all waiters if an empty cell gets a
+    /// value.
+    pub fn update<F: FnOnce(Option<T>) -> Option<T> + Drop>(&self, change: F)
+        requires { F.IsAlwaysCallable change }
+    {
+        self.shared.cell.update(change, &self.rt);
+    }
+
+    /// `update`, of a value: the closure is not called if there is none.
+    pub fn update_some<F: FnOnce(T) -> T + Drop>(&self, change: F)
+        requires { F.IsAlwaysCallable change }
+    {
+        self.shared.cell.update_some(change, &self.rt);
+    }
+
+    /// Lets go of all wakers that dropped futures left in the cell (see `AsyncCell::purge`).
+    pub fn purge(&self) {
+        self.shared.cell.purge(&self.rt);
+    }
+
+    /// Takes the value, if there is one. The waiters stay registered.
+    pub fn try_take(&self) -> Option<T> {
+        self.shared.cell.try_take(&self.rt)
+    }
+
+    /// Returns a clone of the value, if there is one. Fails with `Memory` if the clone fails.
+    pub fn try_get(&self) -> Result<Option<T>, Refusal>
+    where
+        T: Clone,
+        ensures sure { ((value : T) → T.is_infallible value) → IsOk result }
+        ensures refused { FailsWithMemory result }
+    {
+        self.shared.cell.try_get(&self.rt)
+    }
+
+    /// Calls the closure on the value, if there is one, and returns what it returns. The lock is
+    /// held meanwhile: a closure that calls its own cell waits forever.
+    pub fn peek<A, F: FnOnce(&T) -> A + Drop>(&self, look: F) -> Option<A>
+        requires { F.IsAlwaysCallable look }
+        ensures called { IfSome result (λ answer. (seen : T)
+            × FnOnceReturnsAt F.FnOnce look seen answer) }
+    {
+        self.shared.cell.peek(look, &self.rt)
+    }
+
+    /// Returns whether the cell holds a value.
+    pub fn is_set(&self) -> bool {
+        self.shared.cell.is_set(&self.rt)
+    }
+
+    /// Returns whether the cell is closed. It is open as long as an owner lives.
+    pub fn is_closed(&self) -> bool {
+        self.shared.cell.is_closed(&self.rt)
+    }
+
+    /// Returns the text of the cell as `AsyncCell::debug_text` does. Fails with `Memory`.
+    pub fn debug_text(&self) -> Result<String, Refusal>
+    where
+        T: fmt::Debug,
+        ensures refused { FailsWithMemory result }
+    {
+        self.shared.cell.debug_text(&self.rt)
+    }
+}
+
+impl<R: Wait + Drop> Owner<(), R> {
+    /// Wakes all waiters: the next `take` or `get` is ready.
+    pub fn notify(&self) {
+        self.set(());
+    }
+}

@@ -1,0 +1,13 @@
+//! The futures that hold a place in the wait list of a cell of one thread.
+use crate::weak::TakeWeak;
+use async_cell_waiting::OneThread;
+
+/// The future of a `Take`, a `Get`, a `TakeWeak` or a `GetWeak` that holds a place in the cell's
+/// wait list. Their `with` makes it, as do the calls of an `Owner` and a `WeakOwner`.
+pub type With<P> = async_cell_waiting::With<P, OneThread>;
+
+/// The name of `With` that goes with `in_place`.
+pub type InPlace<P> = With<P>;
+
+/// The stream of the values of a cell, which `values` of a future of a `TakeWeak` makes.
+pub type Values<T> = async_cell_waiting::Values<TakeWeak<T>, OneThread>;

@@ -1,0 +1,72 @@
+ghost use Rattle.std.specs.Prelude.{◌≡◌};
+ghost use Rattle.std.specs.RefCell.{ref_mut_value};
+
+use super::{OneThread, Step, Store, StoredCore, Stores};
+use std::cell::{Ref, RefCell, RefMut};
+
+/// A core of one thread.
+pub type Lender<C> = StoredCore<RefCell<C>>;
+
+/// A core that is lent. It is not `Drop` and must be consumed.
+pub struct Lent<'a, C> {
+    core: RefMut<'a, C>,
+}
+
+impl<C> StoredCore<RefCell<C>> {
+    /// Lends the core beside other looks, for one that changes nothing. Returns `None` during a
+    /// step.
+    #[inline(always)]
+    pub fn glance(&self) -> Option<Ref<'_, C>> {
+        self.store.try_borrow().ok()
+    }
+
+    /// Returns whether the core is lent, for a step or a look.
+    #[inline(always)]
+    pub fn is_lent(&self) -> bool {
+        self.store.try_borrow_mut().is_err()
+    }
+}
+
+impl<C> Stores for RefCell<C> {
+    type Core = C;
+
+    fn storing(core: C) -> Self {
+        RefCell::new(core)
+    }
+
+    fn into_core(self) -> C {
+        self.into_inner()
+    }
+}
+
+impl<'a, C> Store<C, OneThread> for &'a StoredCore<RefCell<C>> {
+    type Open = Lent<'a, C>;
+
+    #[inline(always)]
+    fn open(self, _: &OneThread) -> Option<Lent<'a, C>> {
+        let core = self.store.try_borrow_mut().ok()?;
+        Some(Lent { core })
+    }
+}
+
+impl<C> Step for Lent<'_, C> {
+    type Core = C;
+
+    ghost shows = { λ lent. ref_mut_value lent.core };
+
+    #[inline(always)]
+    fn peek(&self) -> &C {
+        &*self.core
+    }
+
+    #[inline(always)]
+    fn core(&mut self) -> &mut C {
+        &mut *self.core
+    }
+
+    #[inline(always)]
+    fn release(self) {
+        let Lent { core } = self;
+        drop(core);
+    }
+}

@@ -1,0 +1,74 @@
+ghost use Rattle.std.specs.Prelude.{◌≡◌};
+ghost use Rattle.std.specs.Sync.Mutex.{mutex_guard_value};
+
+use super::{Step, Store, StoredCore, Stores};
+use std::sync::{Mutex, MutexGuard, Wait};
+
+/// A core behind a lock.
+pub type Lock<C> = StoredCore<Mutex<C>>;
+
+/// A core whose lock is held. It is not `Drop` and must be consumed.
+pub struct Locked<'a, C> {
+    core: MutexGuard<'a, C>,
+}
+
+impl<C> StoredCore<Mutex<C>> {
+    /// Waits for the lock.
+    #[inline(always)]
+    pub fn lock<R: Wait>(&self, rt: &R) -> Locked<'_, C> {
+        // To try first costs less while nobody holds the lock.
+        let core = match self.store.try_lock() {
+            Some(core) => core,
+            None => self.store.lock(rt),
+        };
+        Locked { core }
+    }
+}
+
+impl<C> Stores for Mutex<C> {
+    type Core = C;
+
+    fn storing(core: C) -> Self {
+        Mutex::new(core)
+    }
+
+    fn into_core(self) -> C {
+        self.into_inner()
+    }
+}
+
+impl<'a, C, R: Wait> Store<C, R> for &'a StoredCore<Mutex<C>> {
+    type Open = Locked<'a, C>;
+
+    #[inline(always)]
+    fn open(self, rt: &R) -> Option<Locked<'a, C>> {
+        // As `lock` does: a level of calls less.
+        let core = match self.store.try_lock() {
+            Some(core) => core,
+            None => self.store.lock(rt),
+        };
+        Some(Locked { core })
+    }
+}
+
+impl<C> Step for Locked<'_, C> {
+    type Core = C;
+
+    ghost shows = { λ locked. mutex_guard_value locked.core };
+
+    #[inline(always)]
+    fn peek(&self) -> &C {
+        &*self.core
+    }
+
+    #[inline(always)]
+    fn core(&mut self) -> &mut C {
+        &mut *self.core
+    }
+
+    #[inline(always)]
+    fn release(self) {
+        let Locked { core } = self;
+        drop(core);
+    }
+}
