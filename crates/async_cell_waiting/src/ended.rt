@@ -8,8 +8,8 @@ use async_cell_wakers::{Place, TaskWaker, Wakers, Wakes};
 use futures::task::Waker;
 
 /// What came out of a core during a step: an answer, and whom to wake: nobody (`()`), one waker, or
-/// all that a call handed out (`None` if it handed out none). It is not `Drop` and must be consumed:
-/// by the end of its kind, which wakes them and returns the answer.
+/// all that a call handed out (`None` if it handed out none). It is not `Drop` and must be
+/// consumed: by the end of its kind, which wakes them and returns the answer.
 pub struct Held<X, K = ()> {
     answer: X,
     woken: K,
