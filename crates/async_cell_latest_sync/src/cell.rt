@@ -1,5 +1,4 @@
-//! The state behind a lock, and the looks at it. The steps that change it are those of
-//! `async_cell_latest::steps`.
+//! The state behind a lock, and the looks at it. `async_cell_latest::steps` change it.
 ghost use Rattle.std.specs.Prelude.{◌≡◌, IsOk, IfOk};
 ghost use Rattle.std.specs.Fn.{FnOnceReturnsAt};
 ghost use Rattle.async_cell_model.specs.Refusal.{FailsWithMemory};
@@ -39,8 +38,7 @@ impl<T: Drop> LatestCell<T> {
         end(core, looked)
     }
 
-    /// Returns the version and a clone of the value, made while the lock is held. Fails with
-    /// `Memory` if there is no memory for the clone.
+    /// Returns the version and a clone of the value, made under the lock. Fails with `Memory`.
     pub(crate) fn get<R: Wait>(&self, rt: &R) -> Result<(u64, T), Refusal>
     where
         T: Clone,

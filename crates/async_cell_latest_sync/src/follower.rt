@@ -23,8 +23,7 @@ pub type WaitFor<'a, T, R, F> = async_cell_latest::WaitFor<'a, Follower<T, R>, F
 pub type States<T, R> = async_cell_latest::States<Follower<T, R>>;
 
 /// One follower of a state, with the right to wait for its lock. It knows which state it has seen,
-/// and waits for a later one. It does not count as an owner. `Owner::follow` makes one, and a clone
-/// another.
+/// and waits for a later one. It is no owner. `Owner::follow` makes one, and a clone another.
 ///
 /// A follower sees the last state, and not each one: of those that are written before it looks, it
 /// sees the last. The last state of all stays when the last owner ends, so no follower misses it.
@@ -75,16 +74,14 @@ impl<T: Drop, R: Wait + Drop> Follower<T, R> {
         WaitFor::new(self, predicate)
     }
 
-    /// Returns the stream of the states that this follower has not seen, as clones. It ends after
-    /// the last one, once the last owner has ended.
+    /// Returns the stream of unseen states, as clones. Once closed, it ends after the last state.
     pub fn states(self) -> States<T, R>
         ensures of_this { result.follower ≡ self }
     {
         States::new(self)
     }
 
-    /// Returns a clone of the last value. It is not marked as seen. Fails with `Memory` if the
-    /// clone fails.
+    /// Returns a clone of the last value, and marks nothing. Fails with `Memory`.
     pub fn read(&self) -> Result<T, Refusal>
     where
         T: Clone,
@@ -95,8 +92,7 @@ impl<T: Drop, R: Wait + Drop> Follower<T, R> {
         Ok(self.cell.get(&self.rt)?.1)
     }
 
-    /// Returns a clone of the last value, and marks it as seen. Fails with `Memory` if the clone
-    /// fails; nothing is then marked.
+    /// `read`, of a value that is then marked as seen. Nothing is marked if the clone fails.
     pub fn read_and_update(&mut self) -> Result<T, Refusal>
     where
         T: Clone,
@@ -133,8 +129,7 @@ impl<T: Drop, R: Wait + Drop> Follower<T, R> {
         answer
     }
 
-    /// Returns whether there is a state that this follower has not seen, also after the end of the
-    /// last owner. Marks nothing.
+    /// Returns whether there is an unseen state, also once the last owner has ended. Marks nothing.
     pub fn has_changed(&self) -> bool
         ensures of_one_state { (s : State T TaskWaker)
             × ((result ≡ true) ↔ (self.now.seen ≢ s.version)) }
@@ -149,8 +144,7 @@ impl<T: Drop, R: Wait + Drop> Follower<T, R> {
         end(core, Held::of(is_closed))
     }
 
-    /// Marks the current state as one that was not seen: the next `changed` is ready at once, and
-    /// `states` begins with it.
+    /// Marks the current state as unseen: `changed` is ready at once, and `states` begins with it.
     pub fn mark_changed(&mut self)
         ensures marks { self.new.seen ≡ 0 }
         ensures of_this { cell_followed self.new ≡ cell_followed self.old }
@@ -216,11 +210,11 @@ impl<T: Drop, R: Wait + Drop> Follows for Follower<T, R> {
     }
 
     fn leave(&self, place: Place) {
-        async_cell_waiting::leave(&self.cell.core, place, &self.rt);
+        self.cell.core.leave(place, &self.rt);
     }
 
     fn cancel(&self, place: Place) {
-        async_cell_waiting::cancel(&self.cell.core, place, &self.rt);
+        self.cell.core.cancel(place, &self.rt);
     }
 }
 

@@ -6,17 +6,17 @@ ghost use Rattle.async_cell_latest_sync.specs.Names.{cell_followed, cell_owned};
 use crate::cell::LatestCell;
 use crate::follower::Follower;
 use async_cell_latest::{Refusal, steps};
+use async_cell_waiting::Opens;
 use std::alloc::{AllocFailed, Global};
 use std::sync::{Arc, Wait};
 
 /// One counted owner of a state, with the right to wait for its lock. Owners write the state; any
 /// number of followers see it. It ends by its drop. The end of the last owner closes the state: the
-/// last value stays, and each follower is told of it before it is told of the end.
+/// last value stays, and each follower is told of it before the end.
 ///
 /// Wakers are woken and old values are dropped after the lock is released, so whatever runs then
-/// may call the state. The closures of `peek`, `update`, `modify` and `modify_if`, and the clone of
-/// the value, run while the lock is held: one that calls its own state, or drops an owner or a
-/// waiting future of it, waits forever.
+/// may call the state. Closures, and clones of the value, run while the lock is held: one that
+/// calls its own state, or drops an owner or a waiting future of it, waits forever.
 ///
 /// A state takes 18,446,744,073,709,551,614 writes, and no further one.
 ///
@@ -30,8 +30,7 @@ pub struct Owner<T: Drop, R: Wait + Drop> {
 }
 
 impl<T: Drop, R: Wait + Copy> Owner<T, R> {
-    /// Makes a state that holds this value, and its first owner. Fails with `Memory`; the value is
-    /// then dropped.
+    /// Makes a state of this value, and its first owner. Fails with `Memory`, and drops the value.
     pub fn new(alloc: Global, value: T, rt: R) -> Result<Self, Refusal>
         ensures refused { FailsWithMemory result }
     {
@@ -42,20 +41,18 @@ impl<T: Drop, R: Wait + Copy> Owner<T, R> {
     }
 
     /// Adds an owner, in place of a clone. Fails with `Memory` if the pointer cannot be counted, or
-    /// with `OwnersFull`. The contract also allows `Closed`, which does not happen while this owner
-    /// lives.
+    /// with `OwnersFull`; `Closed` is in the contract, but cannot happen while this owner lives.
     pub fn another(&self) -> Result<Self, Refusal>
         ensures of_this { IfOk result (λ owner. cell_owned owner ≡ cell_owned self.now) }
         ensures refused { IfErr result IsOwnerRefusal }
     {
         let cell = Arc::try_clone(&self.cell)?;
-        steps::add_owner(&cell.core, &self.rt)?;
+        steps::add_owner(self.rt.open(&cell.core))?;
         Ok(Owner { cell, rt: self.rt })
     }
 
-    /// Returns a follower that has seen the current state, and waits for the next one. Call its
-    /// `mark_changed` to begin with the current one. Fails with `Memory` if the pointer cannot be
-    /// counted.
+    /// Returns a follower that has seen the current state: call `mark_changed` for it to begin with
+    /// that one. Fails with `Memory` if the pointer cannot be counted.
     pub fn follow(&self) -> Result<Follower<T, R>, Refusal>
         ensures of_this { IfOk result (λ follower. cell_followed follower ≡ cell_owned self.now) }
         ensures refused { FailsWithMemory result }
@@ -67,7 +64,7 @@ impl<T: Drop, R: Wait + Copy> Owner<T, R> {
 impl<T: Drop, R: Wait + Drop> Owner<T, R> {
     /// Sets the value and drops the old one. Wakes all followers that wait.
     pub fn set(&self, value: T) {
-        let _ = steps::replace(&self.cell.core, value, &self.rt);
+        let _ = steps::replace(self.rt.open(&self.cell.core), value);
     }
 
     /// Sets the value and returns the old one. Wakes all followers that wait. If the state takes no
@@ -75,7 +72,7 @@ impl<T: Drop, R: Wait + Drop> Owner<T, R> {
     pub fn replace(&self, value: T) -> Result<T, T>
         ensures comes_back { IfErr result (λ back. back ≡ value) }
     {
-        steps::replace(&self.cell.core, value, &self.rt)
+        steps::replace(self.rt.open(&self.cell.core), value)
     }
 
     /// Calls the closure on the value, sets the one that it returns, and drops the old one. Wakes
@@ -99,21 +96,20 @@ impl<T: Drop, R: Wait + Drop> Owner<T, R> {
             × FnOnceReturnsAtMut F.FnOnce change old answer new) }
         ensures refused { FailsWithClosed result }
     {
-        steps::modify(&self.cell.core, change, &self.rt)
+        steps::modify(self.rt.open(&self.cell.core), change)
     }
 
     /// `modify`, if the closure returns `true`. If it returns `false`, nothing is written: nobody
     /// is woken, and no follower is told of a new state. Returns what the closure returned.
     ///
-    /// A closure that returns `false` is to leave the value as it was: what it changed stays, and
-    /// nobody is told.
+    /// A closure that returns `false` should change nothing: what it did stays, and nobody is told.
     pub fn modify_if<F: FnOnce(&mut T) -> bool + Drop>(&self, change: F) -> Result<bool, Refusal>
         requires { F.IsAlwaysCallable change }
         ensures called { IfOk result (λ changed. (old new : T)
             × FnOnceReturnsAtMut F.FnOnce change old changed new) }
         ensures refused { FailsWithClosed result }
     {
-        steps::modify_if(&self.cell.core, change, &self.rt)
+        steps::modify_if(self.rt.open(&self.cell.core), change)
     }
 
     /// Returns a clone of the value. Fails with `Memory` if the clone fails.
@@ -136,20 +132,18 @@ impl<T: Drop, R: Wait + Drop> Owner<T, R> {
         self.cell.peek(look, &self.rt).1
     }
 
-    /// Lets go of all wakers that dropped futures left in the state. The task of each is polled
-    /// once more. Futures that still wait keep their wakers.
+    /// Lets go of the wakers that dropped futures left; the task of each of these is polled again.
     ///
-    /// A future that is dropped while it waits leaves its waker in the state, up to the next write,
-    /// and a waker keeps what its executor needs to wake the task. Call this where many waits end
-    /// early between two writes. It takes the lock once for each place, and needs no memory.
+    /// A dropped future leaves its waker until the next write, and a waker keeps what its executor
+    /// needs. Call this where many waits end early. It locks once for each place.
     pub fn purge(&self) {
-        async_cell_waiting::purge(&self.cell.core, &self.rt);
+        self.cell.core.purge(&self.rt);
     }
 
     /// Internal: may change without notice. Returns the number of places in the wait list.
     #[doc(hidden)]
     pub fn waiting(&self) -> usize {
-        async_cell_waiting::waiting(&self.cell.core, &self.rt)
+        self.cell.core.places(&self.rt)
     }
 }
 
@@ -157,6 +151,6 @@ impl<T: Drop, R: Wait + Drop> Owner<T, R> {
 impl<T: Drop, R: Wait + Drop> Drop for Owner<T, R> {
     fn drop(self) {
         let Owner { cell, rt } = self;
-        steps::end_owner(&cell.core, &rt);
+        steps::end_owner(rt.open(&cell.core));
     }
 }

@@ -1,12 +1,11 @@
-//! The state of one thread, and what is put off. Wakers are woken and values are dropped while
-//! nothing is borrowed.
+//! The state of one thread, and what is put off: nothing is woken or dropped while it is lent.
 ghost use Rattle.std.specs.Prelude.{◌≡◌, IfSome, IfOk};
 ghost use Rattle.std.specs.Fn.{FnOnceReturnsAt};
 ghost use Rattle.async_cell_model.specs.Refusal.{FailsWithMemory};
 ghost use Rattle.async_cell_latest.specs.OneState.{OfOneState};
 
 use async_cell_latest::{LatestCore, Place, Refusal, steps};
-use async_cell_waiting::{Lender, OneThread};
+use async_cell_waiting::{Lender, OneThread, Opens};
 use futures::task::Source;
 use std::alloc::{AllocError, Global};
 use std::cell::Cell;
@@ -51,7 +50,7 @@ impl<T: Drop> LatestCell<T> {
     /// Sets the value, wakes all waiters and drops the old value. During a look or a change it is
     /// put off, in place of an earlier write, whose value is dropped.
     pub(crate) fn set(&self, value: T) {
-        let Err(value) = steps::replace(&self.core, value, &OneThread) else {
+        let Err(value) = steps::replace(OneThread.open(&self.core), value) else {
             return;
         };
         if self.core.is_lent() {
@@ -60,10 +59,9 @@ impl<T: Drop> LatestCell<T> {
         }
     }
 
-    /// Ends one owner. The last one closes the state, which stays, and wakes all waiters. During a
-    /// look or a change it is put off.
+    /// Ends one owner; the last closes the state, and wakes all. A look or a change puts it off.
     pub(crate) fn end_owner(&self) {
-        if !steps::end_owner(&self.core, &OneThread) {
+        if !steps::end_owner(OneThread.open(&self.core)) {
             self.is_due.set(true);
             self.ends.set(self.ends.get().saturating_add(1));
         }
@@ -72,7 +70,7 @@ impl<T: Drop> LatestCell<T> {
     /// Lets go of all wakers that dropped futures left. During a look or a change it is put off.
     pub(crate) fn purge(&self) {
         if !self.core.is_lent() {
-            return async_cell_waiting::purge(&self.core, &OneThread);
+            return self.core.purge(&OneThread);
         }
         self.is_due.set(true);
         self.purges.set(true);
@@ -89,8 +87,7 @@ impl<T: Drop> LatestCell<T> {
         self.has_lost.set(true);
     }
 
-    /// Does what was put off during the look or the change that has ended, unless another look
-    /// still runs.
+    /// Does what was put off during a look or a change, unless another look still runs.
     pub(crate) fn settle(&self) {
         if !self.is_due.get() || self.core.is_lent() {
             return;
@@ -103,15 +100,14 @@ impl<T: Drop> LatestCell<T> {
             self.end_owner();
         }
         if self.has_lost.take() {
-            steps::wake_all(&self.core, &OneThread);
+            steps::wake_all(OneThread.open(&self.core));
         }
         if self.purges.take() {
             self.purge();
         }
     }
 
-    /// Calls the closure on the value, and returns the version and what it returns. Returns `None`
-    /// during a change.
+    /// Calls the closure on the value. Returns the version and its answer; `None` during a change.
     pub(crate) fn peek<A, F: FnOnce(&T) -> A>(&self, look: F) -> Option<(u64, A)>
         requires { F.IsAlwaysCallable look }
         ensures of_one_state { IfSome result (λ seen. OfOneState seen.0 (λ s.
@@ -125,8 +121,7 @@ impl<T: Drop> LatestCell<T> {
         Some((version, answer))
     }
 
-    /// Returns the version and a clone of the value. Fails with `Memory` if there is no memory for
-    /// the clone, and during a change.
+    /// Returns the version and a clone of the value. Fails with `Memory`, also during a change.
     pub(crate) fn get(&self) -> Result<(u64, T), Refusal>
     where
         T: Clone,
@@ -143,14 +138,12 @@ impl<T: Drop> LatestCell<T> {
 
     /// Returns the version: during a change, that of the state that is being changed.
     pub(crate) fn version(&self) -> u64 {
-        self.core
-            .glance()
-            .map_or(self.changing.get(), |core| core.version())
+        let core = self.core.glance();
+        core.map_or(self.changing.get(), |core| core.version())
     }
 }
 
-/// Returns the version and a clone of the value, during a look. Fails with `Memory` if the clone
-/// fails.
+/// Returns the version and a clone of the value, during a look. Fails with `Memory`.
 #[inline(always)]
 pub(crate) fn clone_of<T: Clone>(core: &LatestCore<T>) -> Result<(u64, T), Refusal>
     ensures version { IfOk result (λ shown. shown.0 ≡ core.now.version) }

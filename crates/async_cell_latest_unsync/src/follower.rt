@@ -21,8 +21,8 @@ pub type WaitFor<'a, T, F> = async_cell_latest::WaitFor<'a, Follower<T>, F>;
 /// The stream of `Follower::states`.
 pub type States<T> = async_cell_latest::States<Follower<T>>;
 
-/// One follower of a state. It knows which state it has seen, and waits for a later one. It does
-/// not count as an owner. `Owner::follow` makes one, and a clone another.
+/// One follower of a state. It knows which state it has seen, and waits for a later one. It is no
+/// owner. `Owner::follow` makes one, and a clone another.
 ///
 /// A follower sees the last state, and not each one: of those that are written before it looks, it
 /// sees the last. The last state of all stays when the last owner ends, so no follower misses it.
@@ -68,8 +68,7 @@ impl<T: Drop> Follower<T> {
         WaitFor::new(self, predicate)
     }
 
-    /// Returns the stream of the states that this follower has not seen, as clones. It ends after
-    /// the last one, once the last owner has ended.
+    /// Returns the stream of unseen states, as clones. Once closed, it ends after the last state.
     pub fn states(self) -> States<T>
         ensures of_this { result.follower ≡ self }
     {
@@ -86,8 +85,7 @@ impl<T: Drop> Follower<T> {
         Ok(self.cell.get()?.1)
     }
 
-    /// Returns a clone of the last value, and marks it as seen. Fails as `read` does; nothing is
-    /// then marked.
+    /// `read`, of a value that is then marked as seen. Nothing is marked if it fails.
     pub fn read_and_update(&mut self) -> Result<T, Refusal>
     where
         T: Clone,
@@ -112,9 +110,8 @@ impl<T: Drop> Follower<T> {
         Some(self.cell.peek(look)?.1)
     }
 
-    /// Calls the closure on the last value, marks it as seen, and returns what the closure returns.
-    /// What the closure writes is not marked. Returns `None` as `peek` does, and marks nothing
-    /// then.
+    /// `peek`, of a value that is then marked as seen. What the closure writes is not marked, and
+    /// nothing is where `peek` returns `None`.
     pub fn peek_and_update<A, F: FnOnce(&T) -> A>(&mut self, look: F) -> Option<A>
         requires { F.IsAlwaysCallable look }
         ensures of_one_state { IfSome result (λ answer. HasSeen self.new (λ s.
@@ -137,8 +134,7 @@ impl<T: Drop> Follower<T> {
         self.cell.core.glance().is_some_and(|core| core.is_closed())
     }
 
-    /// Marks the current state as one that was not seen: the next `changed` is ready at once, and
-    /// `states` begins with it.
+    /// Marks the current state as unseen: `changed` is ready at once, and `states` begins with it.
     pub fn mark_changed(&mut self)
         ensures marks { self.new.seen ≡ 0 }
         ensures of_this { cell_followed self.new ≡ cell_followed self.old }
@@ -220,7 +216,7 @@ impl<T: Drop> Follows for Follower<T> {
 
     fn cancel(&self, place: Place) {
         if !self.cell.core.is_lent() {
-            async_cell_waiting::cancel(&self.cell.core, place, &OneThread);
+            self.cell.core.cancel(place, &OneThread);
         } else if place.was_held() {
             self.cell.leave(place);
             self.cell.purge();

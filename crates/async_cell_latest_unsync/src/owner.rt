@@ -6,22 +6,21 @@ ghost use Rattle.async_cell_latest_unsync.specs.Names.{cell_followed, cell_owned
 use crate::cell::LatestCell;
 use crate::follower::Follower;
 use async_cell_latest::{Refusal, steps};
-use async_cell_waiting::{OneThread, Room};
+use async_cell_waiting::{OneThread, Opens, Room};
 use std::alloc::{AllocFailed, Global};
 use std::rc::Rc;
 
 /// One counted owner of a state. Owners write the state; any number of followers see it. It ends by
 /// its drop. The end of the last owner closes the state: the last value stays, and each follower is
-/// told of it before it is told of the end.
+/// told of it before the end.
 ///
 /// Wakers are woken and old values are dropped when the state is consistent again, so whatever runs
 /// then may call it. A look is the run of a closure of `peek`, `peek_and_update`, `update` or
 /// `wait_for`, or of a clone of the value. From inside a look, other looks see the same value, and
 /// what is written, ended or purged takes effect when the last look ends: of several values, the
-/// one that was written last. `replace`, `another`, `modify` and `modify_if` are refused then, and
-/// futures that have to wait ask to be polled again. A future that is dropped inside a look leaves
-/// its place free at once; the task of one that is cancelled is woken when the look ends. No call
-/// waits.
+/// last one. `replace`, `another`, `modify` and `modify_if` are refused then, and futures that have
+/// to wait ask to be polled again. A future that is dropped inside a look leaves its place free at
+/// once; the task of one that is cancelled is woken when the look ends. No call waits.
 ///
 /// A state takes 18,446,744,073,709,551,614 writes, and no further one.
 #[derive_where(Debug)]
@@ -31,8 +30,7 @@ pub struct Owner<T: Drop> {
 }
 
 impl<T: Drop> Owner<T> {
-    /// Makes a state that holds this value, and its first owner. Fails with `Memory`; the value is
-    /// then dropped.
+    /// Makes a state of this value, and its first owner. Fails with `Memory`, and drops the value.
     pub fn new(alloc: Global, value: T) -> Result<Self, Refusal>
         ensures refused { FailsWithMemory result }
     {
@@ -49,13 +47,12 @@ impl<T: Drop> Owner<T> {
         ensures refused { IfErr result IsOwnerRefusal }
     {
         let cell = Rc::clone(&self.cell)?;
-        steps::add_owner(&cell.core, &OneThread)?;
+        steps::add_owner(OneThread.open(&cell.core))?;
         Ok(Owner { cell })
     }
 
-    /// Returns a follower that has seen the current state, and waits for the next one. Call its
-    /// `mark_changed` to begin with the current one. Fails with `Memory` if the pointer cannot be
-    /// counted.
+    /// Returns a follower that has seen the current state: call `mark_changed` for it to begin with
+    /// that one. Fails with `Memory` if the pointer cannot be counted.
     pub fn follow(&self) -> Result<Follower<T>, Refusal>
         ensures of_this { IfOk result (λ follower. cell_followed follower ≡ cell_owned self.now) }
         ensures refused { FailsWithMemory result }
@@ -63,8 +60,7 @@ impl<T: Drop> Owner<T> {
         Ok(Follower::new(Rc::clone(&self.cell)?))
     }
 
-    /// Sets the value and drops the old one. Wakes all followers that wait. From inside a look it
-    /// does so when the look ends.
+    /// Sets the value, drops the old one and wakes all that wait. From inside a look: when it ends.
     pub fn set(&self, value: T) {
         self.cell.set(value);
     }
@@ -74,12 +70,11 @@ impl<T: Drop> Owner<T> {
     pub fn replace(&self, value: T) -> Result<T, T>
         ensures comes_back { IfErr result (λ back. back ≡ value) }
     {
-        steps::replace(&self.cell.core, value, &OneThread)
+        steps::replace(OneThread.open(&self.cell.core), value)
     }
 
-    /// Calls the closure on the value, sets the one that it returns, and drops the old one: in one
-    /// step, so that what the closure itself writes is overwritten. Wakes all followers that wait.
-    /// From inside a look it is written when the look ends.
+    /// Calls the closure on the value, sets what it returns and drops the old value: in one step,
+    /// over what the closure itself writes. Wakes all that wait. From inside a look: when it ends.
     pub fn update<F: FnOnce(&T) -> T>(&self, change: F)
         requires { F.IsAlwaysCallable change }
     {
@@ -96,9 +91,8 @@ impl<T: Drop> Owner<T> {
     }
 
     /// Calls the closure on the value, which it may change in place, wakes all followers that wait,
-    /// and returns what the closure returned: a write, in one step. Fails with `Closed` if the
-    /// state takes no further write, and from inside a look or another change; the closure is then
-    /// not called.
+    /// and returns what the closure returned: a write, in one step. Fails with `Closed`, without
+    /// the call, if the state takes no further write, and from inside a look or another change.
     ///
     /// The closure holds the state. From inside it `peek` returns `None`, `read` fails with
     /// `Memory`, an `update` writes nothing, futures ask to be polled again, and `has_changed` and
@@ -111,7 +105,7 @@ impl<T: Drop> Owner<T> {
         ensures refused { FailsWithClosed result }
     {
         self.cell.changing.set(self.cell.version());
-        let changed = steps::modify(&self.cell.core, change, &OneThread);
+        let changed = steps::modify(OneThread.open(&self.cell.core), change);
         self.cell.settle();
         changed
     }
@@ -127,13 +121,12 @@ impl<T: Drop> Owner<T> {
         ensures refused { FailsWithClosed result }
     {
         self.cell.changing.set(self.cell.version());
-        let changed = steps::modify_if(&self.cell.core, change, &OneThread);
+        let changed = steps::modify_if(OneThread.open(&self.cell.core), change);
         self.cell.settle();
         changed
     }
 
-    /// Returns a clone of the value. Fails with `Memory` if the clone fails, and from inside a
-    /// closure of `modify`.
+    /// Returns a clone of the value. Fails with `Memory`, also from inside a closure of `modify`.
     pub fn read(&self) -> Result<T, Refusal>
     where
         T: Clone,
@@ -142,8 +135,7 @@ impl<T: Drop> Owner<T> {
         Ok(self.cell.get()?.1)
     }
 
-    /// Calls the closure on the value, and returns what it returns: `None` from inside a closure of
-    /// `modify`, without the call.
+    /// Calls the closure on the value, and returns its answer: `None`, uncalled, inside a `modify`.
     pub fn peek<A, F: FnOnce(&T) -> A>(&self, look: F) -> Option<A>
         requires { F.IsAlwaysCallable look }
         ensures called { IfSome result (λ answer.
@@ -152,13 +144,11 @@ impl<T: Drop> Owner<T> {
         Some(self.cell.peek(look)?.1)
     }
 
-    /// Lets go of all wakers that dropped futures left in the state. The task of each is polled
-    /// once more. Futures that still wait keep their wakers. From inside a look it does so when the
-    /// look ends.
+    /// Lets go of the wakers that dropped futures left, and of no other: in a look, when that ends.
+    /// The task of each is polled once more.
     ///
-    /// A future that is dropped while it waits leaves its waker in the state, up to the next write,
-    /// and a waker keeps what its executor needs to wake the task. Call this where many waits end
-    /// early between two writes. It needs no memory.
+    /// A dropped future leaves its waker until the next write, and a waker keeps what its executor
+    /// needs. Call this where many waits end early. It needs no memory.
     pub fn purge(&self) {
         self.cell.purge();
     }

@@ -8,7 +8,7 @@ use crate::locked_core::LockedCore;
 use crate::shared::Shared;
 use crate::take::Take;
 use async_cell_core::{Core, Place, Refusal, TaskWaker};
-use async_cell_waiting::{Places, cancel, leave};
+use async_cell_waiting::Places;
 use futures::task::Source;
 use std::alloc::Global;
 use std::sync::Wait;
@@ -16,9 +16,8 @@ use std::sync::Wait;
 /// A cell that threads share. It holds an optional value, and futures wait on it for a value.
 ///
 /// Wakers are woken and values are dropped after the lock is released, so whatever runs then may
-/// call the cell. The closure of an update or a `peek`, the clone of the value and its own printing
-/// run while the lock is held: one that calls its own cell waits forever. Dropping a cell does not
-/// take the lock, and wakes all waiters.
+/// call the cell. Closures, clones of the value and its printing run while the lock is held: one
+/// that calls its own cell waits forever. Dropping a cell takes no lock, and wakes all waiters.
 ///
 /// A future made by `with` holds one place in the wait list while it waits (see `With`), so the
 /// list is no longer than the number of such futures that were alive at once. Each `poll_shared`
@@ -28,7 +27,7 @@ pub struct AsyncCell<T> {
     pub(crate) core: LockedCore<T, TaskWaker>,
     /// The source that waiting tasks register with.
     pub(crate) source: Source,
-    alloc: Global,
+    pub(crate) alloc: Global,
 }
 
 impl<T: Drop> AsyncCell<T> {
@@ -58,8 +57,7 @@ impl<T: Drop> AsyncCell<T> {
         Shared::shared(alloc)
     }
 
-    /// Makes the first counted owner of this cell. Fails with `Memory`, and then the cell is
-    /// returned in the error.
+    /// Makes the first counted owner of this cell. Fails with `Memory`, and then returns the cell.
     pub fn into_shared(self) -> Result<Shared<T>, (Refusal, AsyncCell<T>)>
         ensures owns { IfOk result (λ owner. cell_of owner ≡ self) }
         ensures comes_back { IfErr result (λ back. back ≡ (Refusal.Memory, self)) }
@@ -78,11 +76,6 @@ impl<T: Drop> AsyncCell<T> {
     /// Internal: may change without notice. Returns the number of places in the wait list.
     pub fn waiting<R: Wait>(&self, rt: &R) -> usize {
         self.core.waiting(rt)
-    }
-
-    /// Returns the allocator that the cell was made with.
-    pub(crate) fn allocator(&self) -> Global {
-        self.alloc
     }
 
     /// Returns the content. Wakes all waiters. Does not take the lock.
@@ -104,8 +97,7 @@ impl<T: Drop> AsyncCell<T> {
         Get(self)
     }
 
-    /// Returns a guard that sets this value when it is cancelled, unless the cell then holds one.
-    /// The guard must be consumed (see `GuardedCell`).
+    /// Returns a guard, to be consumed: `cancel` sets this value, unless the cell then holds one.
     pub fn guard(&self, cancel: T) -> GuardedCell<T, &Self>
         ensures of_this { result.pointer.now ≡ self.now }
         ensures keeps { result.cancel ≡ cancel }
@@ -126,10 +118,10 @@ impl AsyncCell<()> {
 impl<T: Drop, R: Wait> Places<R> for AsyncCell<T> {
     #[inline(always)]
     fn leave(&self, place: Place, rt: &R) {
-        leave(&self.core, place, rt);
+        self.core.leave(place, rt);
     }
 
     fn cancel(&self, place: Place, rt: &R) {
-        cancel(&self.core, place, rt);
+        self.core.cancel(place, rt);
     }
 }

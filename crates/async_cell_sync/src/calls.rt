@@ -2,11 +2,11 @@
 ghost use Rattle.std.specs.Prelude.{◌≡◌, IsOk, IfErr, IfSome};
 ghost use Rattle.std.specs.Fn.{FnOnceReturnsAt};
 ghost use Rattle.async_cell_model.specs.Refusal.{FailsWithMemory};
+ghost use Rattle.async_cell_sync.specs.Owned.{cell_owned};
 
 use crate::async_cell::AsyncCell;
 use crate::owner::Owner;
 use async_cell_core::Refusal;
-use async_cell_waiting::purge;
 use std::fmt;
 use std::sync::Wait;
 
@@ -30,13 +30,11 @@ impl<T: Drop> AsyncCell<T> {
 
     /// Sets the value and returns the old one. Wakes all waiters.
     pub fn replace<R: Wait>(&self, value: T, rt: &R) -> Option<T> {
-        let replaced = self.core.replace(value, rt);
-        replaced.unwrap_or(None)
+        self.core.replace(value, rt).unwrap_or(None)
     }
 
-    /// Calls the closure on the content and stores what it returns, while the lock is held: a
-    /// closure that calls its own cell waits forever. Wakes all waiters if an empty cell gets a
-    /// value.
+    /// Stores what the closure makes of the content. Wakes all waiters if an empty cell gets a
+    /// value. The lock is held meanwhile: a closure that calls its own cell waits forever.
     pub fn update<F: FnOnce(Option<T>) -> Option<T> + Drop, R: Wait>(&self, change: F, rt: &R)
         requires { F.IsAlwaysCallable change }
     {
@@ -86,24 +84,21 @@ impl<T: Drop> AsyncCell<T> {
     }
 
     /// Returns `AsyncCell::Empty`, `AsyncCell::Pending` if a task waits, `AsyncCell::Full(..)` with
-    /// the value's own text, or `AsyncCell::Closed`. Makes no clone: the value prints while the
-    /// lock is held. Fails with `Memory`.
+    /// the value's text, made under the lock, or `AsyncCell::Closed`. Fails with `Memory`.
     pub fn debug_text<R: Wait>(&self, rt: &R) -> Result<String, Refusal>
     where
         T: fmt::Debug,
         ensures refused { FailsWithMemory result }
     {
-        self.core.debug_text(self.allocator(), rt)
+        self.core.debug_text(self.alloc, rt)
     }
 
-    /// Lets go of all wakers that dropped futures left in the cell. The task of each is polled once
-    /// more. Futures that still wait keep their wakers.
+    /// Lets go of the wakers that dropped futures left; the task of each of these is polled again.
     ///
-    /// A future that is dropped while it waits leaves its waker in the cell, and a waker keeps what
-    /// its executor needs to wake the task. Call this where many waits end early on a cell that
-    /// lives on. It takes the lock once for each place, and needs no memory.
+    /// A dropped future leaves its waker in the cell, and a waker keeps what its executor needs.
+    /// Call this where many waits end early and the cell lives on. It locks once for each place.
     pub fn purge<R: Wait>(&self, rt: &R) {
-        purge(&self.core, rt);
+        self.core.purge(rt);
     }
 }
 
@@ -137,9 +132,8 @@ impl<T: Drop, R: Wait + Drop> Owner<T, R> {
         self.shared.cell.replace(value, &self.rt)
     }
 
-    /// Calls the closure on the content and stores what it returns, while the lock is held: a
-    /// closure that calls its own cell waits forever. Wakes all waiters if an empty cell gets a
-    /// value.
+    /// Stores what the closure makes of the content. Wakes all waiters if an empty cell gets a
+    /// value. The lock is held meanwhile: a closure that calls its own cell waits forever.
     pub fn update<F: FnOnce(Option<T>) -> Option<T> + Drop>(&self, change: F)
         requires { F.IsAlwaysCallable change }
     {
@@ -191,6 +185,13 @@ impl<T: Drop, R: Wait + Drop> Owner<T, R> {
     /// Returns whether the cell is closed. It is open as long as an owner lives.
     pub fn is_closed(&self) -> bool {
         self.shared.cell.is_closed(&self.rt)
+    }
+
+    /// Returns the cell, to call it with another right to wait.
+    pub fn cell(&self) -> &AsyncCell<T>
+        ensures held { result.now ≡ cell_owned self.now }
+    {
+        self.shared.cell()
     }
 
     /// Returns the text of the cell as `AsyncCell::debug_text` does. Fails with `Memory`.

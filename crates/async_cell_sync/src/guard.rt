@@ -8,26 +8,16 @@ use std::sync::Wait;
 
 /// A guard of a cell, with the right to wait for the lock. Its drop sets its cancel value, if the
 /// cell holds no value, unless the guard was ended by `release`, `set` or `or_set`. So `?` and an
-/// early `return` leave the cancel value in the cell. Each of these ends calls `leave` on the
-/// pointer: a guard that is an owner ends its owner.
+/// early `return` leave that value in the cell. Each end ends the owner too, if the guard is one.
 ///
 /// **Letting one go may wait for the lock**, as its other calls may. `GuardedCell` is the guard
 /// that must be consumed by a call, so that each end stands in the program.
 #[derive_where(Debug)]
 pub struct Guard<T: Drop, C: CellRef<Value = T>, R: Wait + Drop> {
     #[derive_where(skip)]
-    guarded: GuardedCell<T, C>,
+    pub(crate) guarded: GuardedCell<T, C>,
     #[derive_where(skip)]
-    rt: R,
-}
-
-impl<T: Drop, C: CellRef<Value = T>> GuardedCell<T, C> {
-    /// Keeps the right to wait beside this guard, which then ends by its drop.
-    pub fn with<R: Wait + Drop>(self, rt: R) -> Guard<T, C, R>
-        ensures guards { result.guarded ≡ self }
-    {
-        Guard { guarded: self, rt }
-    }
+    pub(crate) rt: R,
 }
 
 impl<T: Drop, C: CellRef<Value = T>, R: Wait + Drop> Guard<T, C, R> {
@@ -62,8 +52,7 @@ impl<T: Drop, C: CellRef<Value = T>, R: Wait + Drop> Guard<T, C, R> {
     }
 }
 
-/// Ends the guard unreleased: sets its cancel value and wakes all waiters, if the cell holds no
-/// value. May wait for the lock.
+/// Ends the guard as `GuardedCell::cancel` does. May wait for the lock.
 impl<T: Drop, C: CellRef<Value = T>, R: Wait + Drop> Drop for Guard<T, C, R> {
     fn drop(self) {
         let Guard { guarded, rt } = self;

@@ -3,12 +3,12 @@ ghost use Rattle.async_cell_sync.specs.Source.{source_of};
 
 use crate::async_cell::AsyncCell;
 use crate::cell_ref::CellRef;
+use crate::guard::Guard;
 use std::sync::Wait;
 
-/// A guard of a cell. It is not `Drop` and must be consumed: by `cancel`, which sets its cancel
-/// value if the cell holds no value, or by `release`, `set` or `or_set`. Each of these then calls
-/// `leave` on the pointer: a guard that is an owner ends its owner. `with` makes it a `Guard`,
-/// which ends by its drop.
+/// A guard of a cell. It must be consumed: by `cancel`, which sets its cancel value if the cell
+/// holds no value, or by `release`, `set` or `or_set`. Each calls `leave` on the pointer: a guard
+/// that is an owner ends its owner. `with` makes it a `Guard`, which ends by its drop.
 #[derive_where(Debug)]
 pub struct GuardedCell<T, C: CellRef<Value = T>> {
     #[derive_where(skip)]
@@ -25,6 +25,13 @@ impl<T: Drop, C: CellRef<Value = T>> GuardedCell<T, C> {
         GuardedCell { pointer, cancel }
     }
 
+    /// Keeps the right to wait beside this guard, which then ends by its drop.
+    pub fn with<R: Wait + Drop>(self, rt: R) -> Guard<T, C, R>
+        ensures guards { result.guarded ≡ self }
+    {
+        Guard { guarded: self, rt }
+    }
+
     /// Returns the cell that it guards.
     pub fn cell(&self) -> &AsyncCell<T>
         ensures { (s : ℕ) → C.waits_for self.now.pointer s → s ≡ source_of result.now }
@@ -32,8 +39,7 @@ impl<T: Drop, C: CellRef<Value = T>> GuardedCell<T, C> {
         self.pointer.cell()
     }
 
-    /// Ends the guard unreleased. Sets its cancel value and wakes all waiters, if the cell holds no
-    /// value. Drops the cancel value otherwise.
+    /// Ends the guard: sets its cancel value and wakes all waiters, unless the cell holds a value.
     pub fn cancel<R: Wait>(self, rt: &R) {
         let GuardedCell { pointer, cancel } = self;
         pointer.cell().core.end_guard(Some(cancel), rt);

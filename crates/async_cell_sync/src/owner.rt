@@ -18,10 +18,9 @@ use async_cell_waiting::With;
 use std::alloc::Global;
 use std::sync::Wait;
 
-/// One counted owner of a cell, with the right to wait for the lock. It ends by its drop, so it can
-/// move into a thread, and `?` and an early `return` may stand beside it. Its calls and its futures
-/// take no `rt`. The end of the last owner closes the cell: the value is dropped, all waiters are
-/// woken, and weak futures are ready with `None`.
+/// One counted owner of a cell, with the right to wait for the lock. It ends by its drop, in any
+/// thread, also at `?` or an early `return`. Its calls and futures take no `rt`. The end of the
+/// last owner closes the cell: the value is dropped, waiters are woken, weak futures give `None`.
 ///
 /// **Letting one go may wait for the lock**, as its other calls may. `Shared` is the owner that
 /// must be consumed by a call, so that each end stands in the program.
@@ -33,19 +32,9 @@ pub struct Owner<T: Drop, R: Wait + Drop> {
     pub(crate) rt: R,
 }
 
-impl<T: Drop> Shared<T> {
-    /// Keeps the right to wait beside this owner, which then ends by its drop.
-    pub fn with<R: Wait + Drop>(self, rt: R) -> Owner<T, R>
-        ensures keeps { result.shared ≡ self }
-    {
-        Owner { shared: self, rt }
-    }
-}
-
 impl<T: Drop> AsyncCell<T> {
-    /// Makes the first owner of this cell, as `into_shared` does, with the right to wait. Fails
-    /// with `Memory`, and then the cell is returned in the error. For `?` write `Owner::new_with`,
-    /// or `into_shared_or_drop()?.with(rt)`.
+    /// Makes the first owner of this cell, with the right to wait. Fails with `Memory`, and then
+    /// gives the cell back. For `?` write `Owner::new_with`, or `into_shared_or_drop()?.with(rt)`.
     pub fn into_owner<R: Wait + Drop>(self, rt: R) -> Result<Owner<T, R>, (Refusal, AsyncCell<T>)>
         ensures owns { IfOk result (λ owner. cell_owned owner ≡ self) }
         ensures comes_back { IfErr result (λ back. back ≡ (Refusal.Memory, self)) }
@@ -74,8 +63,7 @@ impl<T: Drop, R: Wait + Copy> Owner<T, R> {
     }
 
     /// Adds an owner, in place of a clone. Fails with `Memory` if the pointer cannot be counted, or
-    /// with `OwnersFull`. The contract also allows `Closed`, which does not happen while this owner
-    /// lives.
+    /// with `OwnersFull`; `Closed` is in the contract, but cannot happen while this owner lives.
     pub fn another(&self) -> Result<Self, Refusal>
         ensures of_this { IfOk result (λ owner. cell_owned owner ≡ cell_owned self.now) }
         ensures refused { IfErr result IsOwnerRefusal }
@@ -83,8 +71,7 @@ impl<T: Drop, R: Wait + Copy> Owner<T, R> {
         Ok(self.shared.another(&self.rt)?.with(self.rt))
     }
 
-    /// Returns a weak owner: it points to the cell and does not count. Nothing is refused here: if
-    /// the pointer cannot be counted, the calls of the weak owner fail with `Memory`.
+    /// Returns a weak owner. If its pointer cannot be counted, its calls fail with `Memory`.
     pub fn downgrade(&self) -> WeakOwner<T, R>
         ensures of_this { NamesAtMost result.weak (cell_owned self.now) }
     {
@@ -97,9 +84,8 @@ impl<T: Drop, R: Wait + Copy> Owner<T, R> {
         ensures comes_back { IfErr result (λ back. back ≡ self) }
     {
         let Owner { shared, rt } = self;
-        shared
-            .try_into_inner(&rt)
-            .map_err(|shared| Owner { shared, rt })
+        let ended = shared.try_into_inner(&rt);
+        ended.map_err(|shared| Owner { shared, rt })
     }
 
     /// Returns a future that takes the value.
@@ -125,8 +111,7 @@ impl<T: Drop, R: Wait + Copy> Owner<T, R> {
         Ok(Take(self.another()?).with(self.rt))
     }
 
-    /// Returns a future that clones the value, leaves it, and is a new owner. Fails as `another`
-    /// does.
+    /// Returns a future that clones the value and is a new owner. Fails as `another` does.
     pub fn get_shared(&self) -> Result<With<Get<Self>, R>, Refusal>
         ensures of_this { IfOk result (λ future.
             cell_owned future.polled.0 ≡ cell_owned self.now) }
@@ -157,8 +142,7 @@ impl<T: Drop, R: Wait + Copy> Owner<T, R> {
         self.cell().guard(cancel).with(self.rt)
     }
 
-    /// Returns a guard that is a new owner. Fails as `another` does; the value is then returned in
-    /// the error.
+    /// Returns a guard that is a new owner. Fails as `another` does, and then gives the value back.
     pub fn guard_shared(&self, cancel: T) -> Result<Guard<T, Self, R>, (Refusal, T)>
         ensures of_this { IfOk result (λ guard.
             cell_owned guard.guarded.pointer ≡ cell_owned self.now) }
@@ -198,15 +182,6 @@ impl<R: Wait + Copy> Owner<(), R> {
         ensures refused { IfErr result IsOwnerRefusal }
     {
         self.take_shared()
-    }
-}
-
-impl<T: Drop, R: Wait + Drop> Owner<T, R> {
-    /// Returns the cell, to call it with another right to wait.
-    pub fn cell(&self) -> &AsyncCell<T>
-        ensures held { result.now ≡ cell_owned self.now }
-    {
-        self.shared.cell()
     }
 }
 

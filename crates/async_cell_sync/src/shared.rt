@@ -6,6 +6,7 @@ ghost use Rattle.async_cell_sync.specs.Names.{cell_of, NamesAtMost};
 use crate::async_cell::AsyncCell;
 use crate::get::Get;
 use crate::guarded_cell::GuardedCell;
+use crate::owner::Owner;
 use crate::take::Take;
 use crate::weak::{GetWeak, TakeWeak, Weak};
 use async_cell_core::Refusal;
@@ -37,7 +38,7 @@ impl<T: Drop> Shared<T> {
         ensures owns { IfOk result (λ owner. cell_of owner ≡ cell) }
         ensures comes_back { IfErr result (λ back. back ≡ (Refusal.Memory, cell)) }
     {
-        match Arc::new(cell.allocator(), cell) {
+        match Arc::new(cell.alloc, cell) {
             Ok(cell) => Ok(Shared { cell }),
             Err(AllocFailed { value: cell }) => Err((Refusal::Memory, cell)),
         }
@@ -50,9 +51,15 @@ impl<T: Drop> Shared<T> {
         self.cell.as_ref()
     }
 
+    /// Keeps the right to wait beside this owner, which then ends by its drop.
+    pub fn with<R: Wait + Drop>(self, rt: R) -> Owner<T, R>
+        ensures keeps { result.shared ≡ self }
+    {
+        Owner { shared: self, rt }
+    }
+
     /// Adds an owner, in place of a clone. Fails with `Memory` if the pointer cannot be counted, or
-    /// with `OwnersFull`. The contract also allows `Closed`, which does not happen while this owner
-    /// lives.
+    /// with `OwnersFull`; `Closed` is in the contract, but cannot happen while this owner lives.
     pub fn another<R: Wait>(&self, rt: &R) -> Result<Self, Refusal>
         ensures of_this { IfOk result (λ owner. cell_of owner ≡ cell_of self.now) }
         ensures refused { IfErr result IsOwnerRefusal }
@@ -76,8 +83,7 @@ impl<T: Drop> Shared<T> {
         Ok(Get(self.another(rt)?))
     }
 
-    /// Returns a guard that is a new owner. Fails as `another` does; the value is then returned in
-    /// the error.
+    /// Returns a guard that is a new owner. Fails as `another` does, and then gives the value back.
     pub fn guard_shared<R: Wait>(
         &self,
         cancel: T,
@@ -105,6 +111,13 @@ impl<T: Drop> Shared<T> {
         ensures refused { IfErr result IsOwnerRefusal }
     {
         self.guard_shared(cancel, rt).map_err(|(why, _)| why)
+    }
+
+    /// Returns a weak pointer to the cell. If it cannot be counted, its calls fail with `Memory`.
+    pub fn downgrade(&self) -> Weak<T>
+        ensures of_this { NamesAtMost result (cell_of self.now) }
+    {
+        Weak::of(&self.cell)
     }
 
     /// Returns a future that takes the value and is not an owner.
@@ -141,8 +154,7 @@ impl<T: Drop> Shared<T> {
         let _ = cell.core.end_owner(rt);
     }
 
-    /// Makes a new owner of the cell. Fails with `Memory` if the pointer cannot be counted,
-    /// otherwise with `Closed` or `OwnersFull`.
+    /// Makes a new owner. Fails with `Memory` (checked first), `Closed` or `OwnersFull`.
     pub(crate) fn owning<R: Wait>(cell: &Arc<AsyncCell<T>>, rt: &R) -> Result<Self, Refusal>
         ensures of_this { IfOk result (λ owner. cell_of owner ≡ arc_value cell.now) }
         ensures refused { IfErr result IsOwnerRefusal }

@@ -5,23 +5,22 @@ ghost use Rattle.async_cell_model.specs.Refusal.{FailsWithMemoryOrClosed};
 
 use crate::async_cell::AsyncCell;
 use crate::cell_ref::CellRef;
-use async_cell_core::{Place, Refusal};
-use async_cell_waiting::{Polled, Request, Taking, With, poll};
+use async_cell_core::Refusal;
+use async_cell_waiting::{At, Polled, Request, Taking, With, poll};
 use futures::task::{Context, Poll};
-use std::fmt;
 use std::sync::Wait;
 
-/// Takes the value of a cell. Make the future by `with`. It may be polled again after it was ready,
-/// and then returns further values. For the waker that `poll_shared` may add, see `AsyncCell`.
+/// Takes the value of a cell. Make the future by `with`. It may be polled again once ready, for
+/// further values. For the waker that `poll_shared` may add, see `AsyncCell`.
 ///
 /// A `Take` of a `Shared` must be consumed, as its owner must: by `.0.end(rt)`.
 #[derive(Clone, Copy, Drop)]
-pub struct Take<C>(pub C);
+#[derive_where(Debug)]
+pub struct Take<C>(#[derive_where(skip)] pub C);
 
 impl<C: CellRef> Take<C> {
-    /// Polls by a shared reference. Returns `Ready` with the value, which leaves the cell empty.
-    /// Fails with `Memory` if the poll would have to wait and there is no memory for that. Fails
-    /// with `Closed` on a closed cell.
+    /// Polls by a shared reference. Takes the value, which leaves the cell empty, or waits. Fails
+    /// with `Memory` if there is no memory to wait, and with `Closed` on a closed cell.
     pub fn poll_shared<R: Wait>(
         &self,
         cx: &mut Context<'_>,
@@ -37,9 +36,8 @@ impl<C: CellRef> Take<C> {
 }
 
 impl<C: CellRef + Drop> Take<C> {
-    /// Returns the future. It stores `rt`, the right to wait for the lock, because a poll of
-    /// `futures` is not passed one. A `Take` of a `Shared` must be consumed, so it has no such
-    /// future: poll it by `poll_shared`.
+    /// Returns the future, which keeps `rt`: a poll of `futures` is passed no right to wait. A
+    /// `Take` of a `Shared` must be consumed, so it has none: poll it by `poll_shared`.
     pub fn with<R: Wait>(self, rt: R) -> With<Self, R>
         ensures polls { result.polled ≡ self }
     {
@@ -63,14 +61,8 @@ impl<C: CellRef + Drop, R: Wait> Polled<R> for Take<C> {
     ghost may_give = { λ _. FailsWithMemoryOrClosed };
 
     #[inline(always)]
-    fn poll_at(&self, at: Option<&mut Place>, cx: &mut Context<'_>, rt: &R) -> Poll<Self::Output> {
+    fn poll_at(&self, at: At<'_>, cx: &mut Context<'_>, rt: &R) -> Poll<Self::Output> {
         let cell = self.0.cell();
         poll(&cell.core, &cell.source, Taking, at, cx, rt)
-    }
-}
-
-impl<C> fmt::Debug for Take<C> {
-    fn fmt<F: fmt::Write>(&self, f: &mut fmt::Formatter<F>) -> fmt::Result {
-        f.debug_struct("Take").finish_non_exhaustive()
     }
 }

@@ -4,14 +4,8 @@ ghost use Rattle.futures.specs.Poll.{IfReady, OnPending};
 ghost use Rattle.futures.specs.Task.{Covers, Keeps};
 ghost use Rattle.async_cell_model.specs.Refusal.{FailsWithMemory};
 ghost use Rattle.async_cell_waiting.specs.Upgrade.{FailsToUpgrade};
-ghost use Rattle.async_cell_sync.specs.Names.{
-  IsLost,
-  NameAtMostTheSame,
-  Names,
-  NamesAtMost,
-  NameTheSame,
-  OwnsNamed,
-};
+ghost use Rattle.async_cell_sync.specs.Names.{IsLost, NameAtMostTheSame, Names, NamesAtMost};
+ghost use Rattle.async_cell_sync.specs.Names.{NameTheSame, OwnsNamed};
 ghost use Rattle.async_cell_sync.specs.Owned.{cell_owned};
 ghost use Rattle.async_cell_sync.specs.Refused.{GivesWeakly};
 ghost use Rattle.async_cell_sync.specs.Source.{source_of, IsSourceOf};
@@ -21,11 +15,13 @@ use crate::get::Get;
 use crate::owner::Owner;
 use crate::shared::Shared;
 use crate::take::Take;
-use async_cell_core::{Place, Refusal};
-use async_cell_waiting::{Cloning, Polled, Request, Takes, Taking, Upgrade, With, poll, weakly};
+use crate::weak_owner::WeakOwner;
+use async_cell_core::Refusal;
+use async_cell_waiting::{
+    At, Cloning, Polled, Request, Takes, Taking, Upgrade, With, poll, weakly,
+};
 use futures::task::{Context, Poll};
 use std::alloc::AllocError;
-use std::fmt;
 use std::sync::{Arc, Wait};
 
 /// The stream of the values of a cell, which `values` of a future of a `TakeWeak` makes.
@@ -33,9 +29,8 @@ use std::sync::{Arc, Wait};
 /// **Dropping it may wait for the lock**, as dropping the future does that it polls (see `With`).
 pub type Values<T, R> = async_cell_waiting::Values<TakeWeak<T>, R>;
 
-/// A weak pointer to a cell. It does not count as an owner. `Shared::downgrade` makes one.
-/// `TakeWeak` and `GetWeak` make a future of it, and `with` a `WeakOwner`, whose calls take no
-/// `rt`.
+/// A weak pointer to a cell, which does not count as an owner. `Shared::downgrade` makes one.
+/// `TakeWeak` and `GetWeak` make a future of it, `with` a `WeakOwner`, whose calls take no `rt`.
 #[derive(Drop)]
 #[derive_where(Debug)]
 pub struct Weak<T> {
@@ -59,24 +54,26 @@ impl<T: Drop> Weak<T> {
         ensures lost { IsLost self.now → result ≡ Err Refusal.Memory }
         ensures refused { FailsWithMemory result }
     {
-        match &self.cell {
-            Some(cell) => Ok(cell.as_ref()),
-            None => Err(Refusal::Memory),
-        }
+        let found = self.cell.as_ref().ok_or(Refusal::Memory)?;
+        Ok(found.as_ref())
     }
 
     /// Returns a pointer to the same cell, or to none if it cannot be counted.
     pub(crate) fn again(&self) -> Self
         ensures of_this { NameAtMostTheSame self.now result }
     {
-        match &self.cell {
-            Some(cell) => Weak::of(cell),
-            None => Weak { cell: None },
-        }
+        let copy: Result<_, _> = self.clone();
+        copy.unwrap_or(Weak { cell: None })
     }
 
-    /// Makes a new owner; `Ok(None)` if the cell is closed. Fails with `Memory` (checked first) or
-    /// `OwnersFull`.
+    /// Keeps the right to wait beside this pointer, so that its calls take no `rt`.
+    pub fn with<R: Wait>(self, rt: R) -> WeakOwner<T, R>
+        ensures points { result.weak ≡ self }
+    {
+        WeakOwner { weak: self, rt }
+    }
+
+    /// Makes an owner; `None` if closed. Fails with `Memory` (checked first) or `OwnersFull`.
     pub fn upgrade<R: Wait>(&self, rt: &R) -> Result<Option<Shared<T>>, Refusal>
         ensures of_this { IfOk result (λ found. IfSome found (OwnsNamed self.now)) }
         ensures lost { IsLost self.now → result ≡ Err Refusal.Memory }
@@ -101,15 +98,16 @@ impl<T: Drop> Clone for Weak<T> {
     }
 }
 
-/// Takes the value of a cell and is not an owner of it. Make the future by `with`. It may be polled
-/// again after it was ready. For the waker that `poll_shared` may add, see `AsyncCell`.
+/// Takes the value of a cell and is no owner of it. Make the future by `with`. It may be polled
+/// again once ready. For the waker that `poll_shared` may add, see `AsyncCell`.
 #[derive(Drop)]
+#[derive_where(Clone; T: Drop)]
+#[derive_where(Debug)]
 pub struct TakeWeak<T>(pub Weak<T>);
 
 impl<T: Drop> TakeWeak<T> {
-    /// Polls by a shared reference. Returns `Ready` with the value, which leaves the cell empty, or
-    /// with `None` on a closed cell. Fails with `Memory` if the poll would have to wait and there
-    /// is no memory for that.
+    /// Polls by a shared reference. Takes the value, or waits; `None` on a closed cell. Fails with
+    /// `Memory` if there is no memory to wait.
     pub fn poll_shared<R: Wait>(
         &self,
         cx: &mut Context<'_>,
@@ -123,16 +121,14 @@ impl<T: Drop> TakeWeak<T> {
         self.poll_at(None, cx, rt)
     }
 
-    /// Returns the future. It stores `rt`, the right to wait for the lock, because a poll of
-    /// `futures` is not passed one.
+    /// Returns the future, which keeps `rt`: a poll of `futures` is passed no right to wait.
     pub fn with<R: Wait>(self, rt: R) -> With<Self, R>
         ensures polls { result.polled ≡ self }
     {
         With::new(self, rt)
     }
 
-    /// Makes a `Take` that is a new owner; `Ok(None)` if the cell is closed. Fails with `Memory`
-    /// (checked first) or `OwnersFull`.
+    /// Makes a `Take` that is a new owner. Fails, and returns `None`, as `Weak::upgrade` does.
     pub fn upgrade<R: Wait>(&self, rt: &R) -> Result<Option<Take<Shared<T>>>, Refusal>
         ensures of_this { IfOk result (λ found. IfSome found (λ take.
             OwnsNamed self.now.0 take.0)) }
@@ -143,17 +139,10 @@ impl<T: Drop> TakeWeak<T> {
     }
 }
 
-/// A clone points to the same cell.
-impl<T: Drop> Clone for TakeWeak<T> {
-    ghost is_clone = { λ weak copy. NameTheSame weak.0 copy.0 };
-
-    fn clone(&self) -> Result<TakeWeak<T>, AllocError> {
-        Ok(TakeWeak(self.0.clone()?))
-    }
-}
-
 impl<T: Drop, R: Wait> Request<R> for TakeWeak<T> {
     type Cell = AsyncCell<T>;
+
+    ghost is_lost = { λ weak. IsLost weak.0 };
 
     fn cell(&self) -> Option<&AsyncCell<T>> {
         self.0.cell().ok()
@@ -167,12 +156,7 @@ impl<T: Drop, R: Wait> Polled<R> for TakeWeak<T> {
 
     ghost may_give = { λ take. GivesWeakly take.0 };
 
-    fn poll_at(&self, at: Option<&mut Place>, cx: &mut Context<'_>, rt: &R) -> Poll<Self::Output>
-        ensures lost { IsLost self.now.0 → result ≡ Poll.Ready (Err Refusal.Memory) }
-        ensures registered { OnPending result (Covers cx.new (IsSourceOf self.now.0)) }
-        ensures kept { Keeps cx.old cx.new }
-        ensures gives { IfReady result (GivesWeakly self.now.0) }
-    {
+    fn poll_at(&self, at: At<'_>, cx: &mut Context<'_>, rt: &R) -> Poll<Self::Output> {
         match self.0.cell() {
             Ok(cell) => weakly(poll(&cell.core, &cell.source, Taking, at, cx, rt)),
             Err(why) => Poll::Ready(Err(why)),
@@ -185,8 +169,6 @@ impl<T: Drop, R: Wait + Copy> Upgrade<R> for TakeWeak<T> {
 
     ghost owned_by = { λ weak owning. Names weak.0 (cell_owned owning.0) };
 
-    ghost is_lost = { λ weak. IsLost weak.0 };
-
     fn owning(&self, rt: &R) -> Result<Option<Take<Owner<T, R>>>, Refusal> {
         let owner = self.0.upgrade(rt)?;
         Ok(owner.map(|owner| Take(owner.with(*rt))))
@@ -196,32 +178,19 @@ impl<T: Drop, R: Wait + Copy> Upgrade<R> for TakeWeak<T> {
 impl<T: Drop, R: Wait> Takes<R> for TakeWeak<T> {
     type Value = T;
 
-    fn poll_value(
-        &self,
-        place: &mut Place,
-        cx: &mut Context<'_>,
-        rt: &R,
-    ) -> Poll<Result<Option<T>, Refusal>> {
-        self.poll_at(Some(place), cx, rt)
-    }
+    ghost lacks_memory = { λ _ _ given. given.0 };
 }
 
-impl<T> fmt::Debug for TakeWeak<T> {
-    fn fmt<F: fmt::Write>(&self, f: &mut fmt::Formatter<F>) -> fmt::Result {
-        f.debug_struct("TakeWeak").finish_non_exhaustive()
-    }
-}
-
-/// Clones the value of a cell, leaves it, and is not an owner of the cell. Make the future by
-/// `with`. It may be polled again after it was ready. For the waker that `poll_shared` may add, see
-/// `AsyncCell`.
+/// Clones the value of a cell and is no owner of it. Make the future by `with`. It may be polled
+/// again once ready. For the waker that `poll_shared` may add, see `AsyncCell`.
 #[derive(Drop)]
+#[derive_where(Clone; T: Drop)]
+#[derive_where(Debug)]
 pub struct GetWeak<T>(pub Weak<T>);
 
 impl<T: Clone> GetWeak<T> {
-    /// Polls by a shared reference. Returns `Ready` with a clone of the value, or with `None` on a
-    /// closed cell. Fails with `Memory` if the clone fails, or if the poll would have to wait and
-    /// there is no memory for that.
+    /// Polls by a shared reference. Clones the value, or waits; `None` on a closed cell. Fails with
+    /// `Memory` if there is no memory for that.
     pub fn poll_shared<R: Wait>(
         &self,
         cx: &mut Context<'_>,
@@ -237,16 +206,14 @@ impl<T: Clone> GetWeak<T> {
 }
 
 impl<T: Drop> GetWeak<T> {
-    /// Returns the future. It stores `rt`, the right to wait for the lock, because a poll of
-    /// `futures` is not passed one.
+    /// Returns the future, which keeps `rt`: a poll of `futures` is passed no right to wait.
     pub fn with<R: Wait>(self, rt: R) -> With<Self, R>
         ensures polls { result.polled ≡ self }
     {
         With::new(self, rt)
     }
 
-    /// Makes a `Get` that is a new owner; `Ok(None)` if the cell is closed. Fails with `Memory`
-    /// (checked first) or `OwnersFull`.
+    /// Makes a `Get` that is a new owner. Fails, and returns `None`, as `Weak::upgrade` does.
     pub fn upgrade<R: Wait>(&self, rt: &R) -> Result<Option<Get<Shared<T>>>, Refusal>
         ensures of_this { IfOk result (λ found. IfSome found (λ get. OwnsNamed self.now.0 get.0)) }
         ensures lost { IsLost self.now.0 → result ≡ Err Refusal.Memory }
@@ -256,17 +223,10 @@ impl<T: Drop> GetWeak<T> {
     }
 }
 
-/// A clone points to the same cell.
-impl<T: Drop> Clone for GetWeak<T> {
-    ghost is_clone = { λ weak copy. NameTheSame weak.0 copy.0 };
-
-    fn clone(&self) -> Result<GetWeak<T>, AllocError> {
-        Ok(GetWeak(self.0.clone()?))
-    }
-}
-
 impl<T: Drop, R: Wait> Request<R> for GetWeak<T> {
     type Cell = AsyncCell<T>;
+
+    ghost is_lost = { λ weak. IsLost weak.0 };
 
     fn cell(&self) -> Option<&AsyncCell<T>> {
         self.0.cell().ok()
@@ -280,12 +240,7 @@ impl<T: Clone, R: Wait> Polled<R> for GetWeak<T> {
 
     ghost may_give = { λ get. GivesWeakly get.0 };
 
-    fn poll_at(&self, at: Option<&mut Place>, cx: &mut Context<'_>, rt: &R) -> Poll<Self::Output>
-        ensures lost { IsLost self.now.0 → result ≡ Poll.Ready (Err Refusal.Memory) }
-        ensures registered { OnPending result (Covers cx.new (IsSourceOf self.now.0)) }
-        ensures kept { Keeps cx.old cx.new }
-        ensures gives { IfReady result (GivesWeakly self.now.0) }
-    {
+    fn poll_at(&self, at: At<'_>, cx: &mut Context<'_>, rt: &R) -> Poll<Self::Output> {
         match self.0.cell() {
             Ok(cell) => weakly(poll(&cell.core, &cell.source, Cloning, at, cx, rt)),
             Err(why) => Poll::Ready(Err(why)),
@@ -298,16 +253,8 @@ impl<T: Drop, R: Wait + Copy> Upgrade<R> for GetWeak<T> {
 
     ghost owned_by = { λ weak owning. Names weak.0 (cell_owned owning.0) };
 
-    ghost is_lost = { λ weak. IsLost weak.0 };
-
     fn owning(&self, rt: &R) -> Result<Option<Get<Owner<T, R>>>, Refusal> {
         let owner = self.0.upgrade(rt)?;
         Ok(owner.map(|owner| Get(owner.with(*rt))))
-    }
-}
-
-impl<T> fmt::Debug for GetWeak<T> {
-    fn fmt<F: fmt::Write>(&self, f: &mut fmt::Formatter<F>) -> fmt::Result {
-        f.debug_struct("GetWeak").finish_non_exhaustive()
     }
 }

@@ -1,17 +1,9 @@
 ghost use Rattle.std.specs.Prelude.{◌≡◌, Err, IfOk, IfSome};
 ghost use Rattle.async_cell_waiting.specs.Upgrade.{FailsToUpgrade};
-ghost use Rattle.async_cell_sync.specs.Names.{
-  cell_of,
-  IsLost,
-  NameAtMostTheSame,
-  Names,
-  NamesAtMost,
-  NameTheSame,
-};
+ghost use Rattle.async_cell_sync.specs.Names.{IsLost, NameAtMostTheSame, Names, NameTheSame};
 ghost use Rattle.async_cell_sync.specs.Owned.{cell_owned};
 
 use crate::owner::Owner;
-use crate::shared::Shared;
 use crate::weak::{GetWeak, TakeWeak, Weak};
 use async_cell_core::Refusal;
 use async_cell_waiting::With;
@@ -26,33 +18,13 @@ use std::sync::Wait;
 #[derive_where(Debug)]
 pub struct WeakOwner<T, R> {
     #[derive_where(skip)]
-    weak: Weak<T>,
+    pub(crate) weak: Weak<T>,
     #[derive_where(skip)]
-    rt: R,
-}
-
-impl<T: Drop> Shared<T> {
-    /// Returns a weak pointer to the cell. Nothing is refused here: if the pointer cannot be
-    /// counted, the calls of the weak pointer fail with `Memory`.
-    pub fn downgrade(&self) -> Weak<T>
-        ensures of_this { NamesAtMost result (cell_of self.now) }
-    {
-        self.take_weak().0
-    }
-}
-
-impl<T: Drop> Weak<T> {
-    /// Keeps the right to wait beside this pointer, so that its calls take no `rt`.
-    pub fn with<R: Wait>(self, rt: R) -> WeakOwner<T, R>
-        ensures points { result.weak ≡ self }
-    {
-        WeakOwner { weak: self, rt }
-    }
+    pub(crate) rt: R,
 }
 
 impl<T: Drop, R: Wait + Copy> WeakOwner<T, R> {
-    /// Makes a new owner; `Ok(None)` if the cell is closed. Fails with `Memory` (checked first) or
-    /// `OwnersFull`.
+    /// Makes an owner; `None` if closed. Fails with `Memory` (checked first) or `OwnersFull`.
     pub fn upgrade(&self) -> Result<Option<Owner<T, R>>, Refusal>
         ensures of_this { IfOk result (λ found. IfSome found (λ owner.
             Names self.now.weak (cell_owned owner))) }
@@ -63,17 +35,16 @@ impl<T: Drop, R: Wait + Copy> WeakOwner<T, R> {
         Ok(owner.map(|owner| owner.with(self.rt)))
     }
 
-    /// Returns a future that takes the value and is not an owner; it is ready with `None` once the
-    /// last owner has ended. If the pointer cannot be counted, the future fails with `Memory`.
+    /// Returns a future that takes the value and is no owner: `None` once the last owner has ended.
+    /// If the pointer cannot be counted, it fails with `Memory`.
     pub fn take(&self) -> With<TakeWeak<T>, R>
         ensures of_this { NameAtMostTheSame self.now.weak result.polled.0 }
     {
         TakeWeak(self.weak.again()).with(self.rt)
     }
 
-    /// Returns a future that clones the value, leaves it, and is not an owner; it is ready with
-    /// `None` once the last owner has ended. If the pointer cannot be counted, the future fails
-    /// with `Memory`.
+    /// Returns a future that clones the value and is no owner: `None` once the last owner has
+    /// ended. If the pointer cannot be counted, it fails with `Memory`.
     pub fn get(&self) -> With<GetWeak<T>, R>
         ensures of_this { NameAtMostTheSame self.now.weak result.polled.0 }
     {

@@ -9,7 +9,7 @@ use crate::guarded_cell::GuardedCell;
 use crate::shared::Shared;
 use crate::take::Take;
 use async_cell_core::{Core, Place, Refusal, TaskWaker, Wakes};
-use async_cell_waiting::{CellCore, Lender, OneThread, Places, cancel, leave, purge};
+use async_cell_waiting::{CellCore, Lender, OneThread, Places};
 use futures::task::Source;
 use std::alloc::Global;
 use std::fmt;
@@ -17,15 +17,13 @@ use std::fmt;
 /// A cell of one thread. It holds an optional value, and futures wait on it for a value.
 ///
 /// Wakers are woken and values are dropped when the cell is consistent again, so whatever runs then
-/// may call the cell. While a closure, a clone or a value's own printing runs, only the value is
-/// taken out: calls made from inside then see an empty cell, and owners that are made or ended
-/// inside are counted. Afterwards the value is stored over whatever was stored in the meantime. No
-/// call waits. Dropping a cell wakes all waiters.
+/// may call it. While a closure, a clone or a value's printing runs, only the value is taken out:
+/// calls from inside see an empty cell, and owners made or ended inside are counted. Then the value
+/// is stored over whatever came meanwhile. No call waits. Dropping a cell wakes all waiters.
 ///
 /// A future made by `with` holds one place in the wait list while it waits (see `With`), so the
 /// list is no longer than the number of such futures that were alive at once. Each poll of any
-/// other future that waits may add one waker, which stays until the next fill or close, also when
-/// the future is dropped.
+/// other future that waits may add a waker. It outlives that future, until the next fill or close.
 #[derive(Drop)]
 pub struct AsyncCell<T> {
     pub(crate) core: Lender<CellCore<T, TaskWaker>>,
@@ -61,8 +59,7 @@ impl<T: Drop> AsyncCell<T> {
         Shared::shared(alloc)
     }
 
-    /// Makes the first counted owner of this cell. Fails with `Memory`, and then the cell is
-    /// returned in the error.
+    /// Makes the first counted owner of this cell. Fails with `Memory`, and then returns the cell.
     pub fn into_shared(self) -> Result<Shared<T>, (Refusal, AsyncCell<T>)>
         ensures owns { IfOk result (λ owner. cell_of owner ≡ self) }
         ensures comes_back { IfErr result (λ back. back ≡ (Refusal.Memory, self)) }
@@ -88,8 +85,7 @@ impl<T: Drop> AsyncCell<T> {
         let _ = self.core.or_set(value, &OneThread);
     }
 
-    /// Sets the value and wakes all waiters, if the cell is open and holds no value. Otherwise
-    /// nothing changes, and `value` is returned in the error.
+    /// `or_set`, which returns an unused `value` in the error, also on a closed cell.
     pub fn try_set(&self, value: T) -> Result<(), T>
         ensures comes_back { IfErr result (λ back. back ≡ value) }
     {
@@ -108,19 +104,16 @@ impl<T: Drop> AsyncCell<T> {
         requires { F.IsAlwaysCallable change }
     {
         if let Some(content) = self.core.take_out(&OneThread) {
-            let answer = change(content);
-            self.put_back(answer);
+            self.put_back(change(content));
         }
     }
 
-    /// Calls the closure on the value, if there is one, and stores what it returns, over whatever
-    /// calls made from inside have left.
+    /// `update`, of a value: the closure is not called if there is none.
     pub fn update_some<F: FnOnce(T) -> T + Drop>(&self, change: F)
         requires { F.IsAlwaysCallable change }
     {
         if let Some(value) = self.try_take() {
-            let answer = change(value);
-            self.put_back(Some(answer));
+            self.put_back(Some(change(value)));
         }
     }
 
@@ -129,8 +122,7 @@ impl<T: Drop> AsyncCell<T> {
         self.core.try_take(&OneThread)
     }
 
-    /// Returns a clone of the value, if there is one. Fails with `Memory` if the clone fails; the
-    /// value then stays in the cell.
+    /// Returns a clone of the value, if there is one. If that fails with `Memory`, the value stays.
     pub fn try_get(&self) -> Result<Option<T>, Refusal>
     where
         T: Clone,
@@ -175,15 +167,12 @@ impl<T: Drop> AsyncCell<T> {
         Ok(format!(in self.alloc; "{self:?}")?)
     }
 
-    /// Lets go of all wakers that dropped futures left in the cell. The task of each is polled once
-    /// more. Futures that still wait keep their wakers.
+    /// Lets go of the wakers that dropped futures left; the task of each of these is polled again.
     ///
-    /// A future that is dropped while it waits leaves its waker in the cell, and a waker keeps what
-    /// its executor needs to wake the task. Call this where many waits end early on a cell that
-    /// lives on. It needs no memory. It lets go of what futures that hold a place left (see
-    /// `With`).
+    /// A waker keeps what its executor needs: call this where many waits end early and the cell
+    /// lives on. It needs no memory. The waker of a poll without a place stays (see `AsyncCell`).
     pub fn purge(&self) {
-        purge(&self.core, &OneThread);
+        self.core.purge(&OneThread);
     }
 
     /// Internal: may change without notice. Returns the number of places in the wait list.
@@ -196,8 +185,7 @@ impl<T: Drop> AsyncCell<T> {
         self.core.into_inner()
     }
 
-    /// Internal: may change without notice. Returns the core of the cell. Ensures what holds of
-    /// every core.
+    /// Internal: may change without notice. Returns the core. Ensures what holds of every core.
     pub fn into_core(self) -> Core<T, TaskWaker>
         ensures { IsSound ⟦<TaskWaker as Wakes>⟧.will_wake result }
     {
@@ -218,8 +206,7 @@ impl<T: Drop> AsyncCell<T> {
         Get(self)
     }
 
-    /// Returns a guard that sets this value when it is dropped, unless it is released or the cell
-    /// then holds a value.
+    /// Returns a guard that sets this value by its drop, if unreleased and the cell then is empty.
     pub fn guard(&self, cancel: T) -> GuardedCell<T, &Self>
         ensures of_this { result.pointer.now ≡ self.now }
         ensures keeps { result.cancel ≡ Some cancel }
@@ -227,8 +214,7 @@ impl<T: Drop> AsyncCell<T> {
         GuardedCell::new(self, cancel)
     }
 
-    /// Stores a content that was taken out, over whatever was stored in the meantime. A cell that
-    /// was closed in the meantime stays closed.
+    /// Stores a content again, over whatever came meanwhile. A cell that was closed stays closed.
     fn put_back(&self, content: Option<T>) {
         drop(match content {
             Some(value) => self.replace(value),
@@ -236,8 +222,7 @@ impl<T: Drop> AsyncCell<T> {
         });
     }
 
-    /// Clones a value that was taken out, and stores it again. Fails with `Memory` if the clone
-    /// fails.
+    /// Clones a value that was taken out, and stores it again. Fails with `Memory`.
     #[inline]
     pub(crate) fn copy_back(&self, value: T) -> Result<T, Refusal>
     where
@@ -268,17 +253,16 @@ impl AsyncCell<()> {
 impl<T: Drop> Places<OneThread> for AsyncCell<T> {
     #[inline(always)]
     fn leave(&self, place: Place, rt: &OneThread) {
-        leave(&self.core, place, rt);
+        self.core.leave(place, rt);
     }
 
     fn cancel(&self, place: Place, rt: &OneThread) {
-        cancel(&self.core, place, rt);
+        self.core.cancel(place, rt);
     }
 }
 
 /// Prints `AsyncCell::Empty`, `AsyncCell::Pending` if a task waits, `AsyncCell::Full(..)` with the
-/// value's own text, or `AsyncCell::Closed`. Makes no clone: the value is taken out while it
-/// prints.
+/// value's own text, or `AsyncCell::Closed`. The value is taken out while it prints.
 impl<T: fmt::Debug + Drop> fmt::Debug for AsyncCell<T> {
     fn fmt<F: fmt::Write>(&self, f: &mut fmt::Formatter<F>) -> fmt::Result {
         let Some(value) = self.try_take() else {

@@ -14,8 +14,7 @@ pub trait CellRef: Drop {
     /// own impl: nothing is then promised of the source.
     ghost waits_for: { Self → ℕ → Type 0 } = { λ _ _. ⊥ };
 
-    /// Returns the cell that it points to: the same one at each call, since a future keeps its
-    /// place in that cell's wait list.
+    /// Returns the cell that it points to: the same one at each call, as futures keep places in it.
     fn cell(&self) -> &AsyncCell<Self::Value>
         ensures { (s : ℕ) → waits_for self.now s → s ≡ source_of result.now };
 }

@@ -17,10 +17,9 @@ use async_cell_core::Refusal;
 use std::alloc::Global;
 use std::ops::Deref;
 
-/// One counted owner of a cell. It derefs to its cell, whose calls it has. It ends by its drop, so
-/// `?` and an early `return` may stand beside it. Its futures hold a place in the wait list (see
-/// `With`). The end of the last owner closes the cell: the value is dropped, all waiters are woken,
-/// and weak futures are ready with `None`.
+/// One counted owner of a cell. It derefs to its cell, whose calls it has. It ends by its drop,
+/// also at `?` or an early `return`. Its futures hold places (see `With`). The end of the last
+/// owner closes the cell: the value is dropped, waiters are woken, and weak futures give `None`.
 ///
 /// `Shared` is the owner whose calls are made on its `cell()`, and whose futures hold no place
 /// until their `with` is called.
@@ -28,22 +27,12 @@ use std::ops::Deref;
 #[derive_where(Debug)]
 pub struct Owner<T: Drop> {
     #[derive_where(skip)]
-    shared: Shared<T>,
-}
-
-impl<T: Drop> Shared<T> {
-    /// Makes this owner one with the cell's calls.
-    pub fn with(self) -> Owner<T>
-        ensures keeps { result.shared ≡ self }
-    {
-        Owner { shared: self }
-    }
+    pub(crate) shared: Shared<T>,
 }
 
 impl<T: Drop> AsyncCell<T> {
-    /// Makes the first owner of this cell, as `into_shared` does, with the cell's calls. Fails with
-    /// `Memory`, and then the cell is returned in the error. For `?` write `Owner::new_with`, or
-    /// `into_shared_or_drop()?.with()`.
+    /// Makes the first owner of this cell. Fails with `Memory`, and then gives the cell back. For
+    /// `?` write `Owner::new_with`, or `into_shared_or_drop()?.with()`.
     pub fn into_owner(self) -> Result<Owner<T>, (Refusal, AsyncCell<T>)>
         ensures owns { IfOk result (λ owner. cell_owned owner ≡ self) }
         ensures comes_back { IfErr result (λ back. back ≡ (Refusal.Memory, self)) }
@@ -72,8 +61,7 @@ impl<T: Drop> Owner<T> {
     }
 
     /// Adds an owner, in place of a clone. Fails with `Memory` if the pointer cannot be counted, or
-    /// with `OwnersFull`. The contract also allows `Closed`, which does not happen while this owner
-    /// lives.
+    /// with `OwnersFull`; `Closed` is in the contract, but cannot happen while this owner lives.
     pub fn another(&self) -> Result<Self, Refusal>
         ensures of_this { IfOk result (λ owner. cell_owned owner ≡ cell_owned self.now) }
         ensures refused { IfErr result IsOwnerRefusal }
@@ -81,8 +69,7 @@ impl<T: Drop> Owner<T> {
         Ok(self.shared.another()?.with())
     }
 
-    /// Returns a weak owner: it points to the cell and does not count. Nothing is refused here: if
-    /// the pointer cannot be counted, the calls of the weak owner fail with `Memory`.
+    /// Returns a weak owner. If its pointer cannot be counted, its calls fail with `Memory`.
     pub fn downgrade(&self) -> WeakOwner<T>
         ensures of_this { NamesAtMost result.weak (cell_owned self.now) }
     {
@@ -126,8 +113,7 @@ impl<T: Drop> Owner<T> {
         Ok(Take(self.another()?).with())
     }
 
-    /// Returns a future that clones the value, leaves it, and is a new owner. Fails as `another`
-    /// does.
+    /// Returns a future that clones the value and is a new owner. Fails as `another` does.
     pub fn get_shared(&self) -> Result<With<Get<Self>>, Refusal>
         ensures of_this { IfOk result (λ made. cell_owned made.polled.0 ≡ cell_owned self.now) }
         ensures refused { IfErr result IsOwnerRefusal }
@@ -149,8 +135,7 @@ impl<T: Drop> Owner<T> {
         self.shared.get_weak().with()
     }
 
-    /// Returns a guard that is a new owner. Fails as `another` does; the value is then returned in
-    /// the error.
+    /// Returns a guard that is a new owner. Fails as `another` does, and then gives the value back.
     pub fn guard_shared(&self, cancel: T) -> Result<Guard<T, Self>, (Refusal, T)>
         ensures of_this { IfOk result (λ guard. cell_owned guard.pointer ≡ cell_owned self.now) }
         ensures keeps { IfOk result (λ guard. guard.cancel ≡ Some cancel) }

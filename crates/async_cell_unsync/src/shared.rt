@@ -6,6 +6,7 @@ ghost use Rattle.async_cell_unsync.specs.Names.{cell_of, NamesAtMost};
 use crate::async_cell::AsyncCell;
 use crate::get::Get;
 use crate::guarded_cell::GuardedCell;
+use crate::owner::Owner;
 use crate::take::Take;
 use crate::weak::{GetWeak, TakeWeak, Weak};
 use async_cell_core::Refusal;
@@ -48,9 +49,15 @@ impl<T: Drop> Shared<T> {
         self.cell.as_ref()
     }
 
+    /// Makes this owner one with the cell's calls.
+    pub fn with(self) -> Owner<T>
+        ensures keeps { result.shared ≡ self }
+    {
+        Owner { shared: self }
+    }
+
     /// Adds an owner, in place of a clone. Fails with `Memory` if the pointer cannot be counted, or
-    /// with `OwnersFull`. The contract also allows `Closed`, which does not happen while this owner
-    /// lives.
+    /// with `OwnersFull`; `Closed` is in the contract, but cannot happen while this owner lives.
     pub fn another(&self) -> Result<Self, Refusal>
         ensures of_this { IfOk result (λ owner. cell_of owner ≡ cell_of self.now) }
         ensures refused { IfErr result IsOwnerRefusal }
@@ -74,8 +81,7 @@ impl<T: Drop> Shared<T> {
         Ok(Get(self.another()?))
     }
 
-    /// Returns a guard that is a new owner. Fails as `another` does; the value is then returned in
-    /// the error.
+    /// Returns a guard that is a new owner. Fails as `another` does, and then gives the value back.
     pub fn guard_shared(&self, cancel: T) -> Result<GuardedCell<T, Self>, (Refusal, T)>
         ensures of_this { IfOk result (λ guard. cell_of guard.pointer ≡ cell_of self.now) }
         ensures keeps { IfOk result (λ guard. guard.cancel ≡ Some cancel) }
@@ -97,8 +103,7 @@ impl<T: Drop> Shared<T> {
         self.guard_shared(cancel).map_err(|(why, _)| why)
     }
 
-    /// Returns a weak pointer to the cell. Nothing is refused here: if the pointer cannot be
-    /// counted, the calls of the weak pointer fail with `Memory`.
+    /// Returns a weak pointer to the cell. If it cannot be counted, its calls fail with `Memory`.
     pub fn downgrade(&self) -> Weak<T>
         ensures of_this { NamesAtMost result (cell_of self.now) }
     {
@@ -133,8 +138,7 @@ impl<T: Drop> Shared<T> {
         }
     }
 
-    /// Makes a new owner of the cell. Fails with `Memory` if the pointer cannot be counted,
-    /// otherwise with `Closed` or `OwnersFull`.
+    /// Makes a new owner. Fails with `Memory` (checked first), `Closed` or `OwnersFull`.
     pub(crate) fn owning(cell: &Rc<AsyncCell<T>>) -> Result<Self, Refusal>
         ensures of_this { IfOk result (λ owner. cell_of owner ≡ rc_value cell.now) }
         ensures refused { IfErr result IsOwnerRefusal }

@@ -6,36 +6,27 @@ ghost use Rattle.async_cell_model.specs.Refusal.{FailsWithMemoryOrClosed};
 use crate::async_cell::AsyncCell;
 use crate::cell_ref::CellRef;
 use crate::with::{InPlace, With};
-use async_cell_core::{Place, Refusal};
-use async_cell_waiting::{OneThread, Polled, Request, Taking, poll};
+use async_cell_core::Refusal;
+use async_cell_waiting::{At, OneThread, Polled, Request, Taking, poll};
 use futures::future::Future;
 use futures::task::{Context, Poll};
-use std::fmt;
 
-/// A future that takes the value of a cell. It may be polled again after it was ready, and then
-/// returns further values. Each poll that waits may add a waker: `with` makes a future that does
-/// not.
+/// A future that takes the value of a cell. It may be polled again once ready, for further values.
+/// Each poll that waits may add a waker: `with` makes a future that does not.
 #[derive(Clone, Copy, Drop)]
-pub struct Take<C>(pub C);
-
-impl<C> fmt::Debug for Take<C> {
-    fn fmt<F: fmt::Write>(&self, f: &mut fmt::Formatter<F>) -> fmt::Result {
-        f.debug_struct("Take").finish_non_exhaustive()
-    }
-}
+#[derive_where(Debug)]
+pub struct Take<C>(#[derive_where(skip)] pub C);
 
 impl<C: CellRef> Take<C> {
-    /// Polls by a shared reference. Returns `Ready` with the value, which leaves the cell empty.
-    /// Fails with `Memory` if the poll would have to wait and there is no memory for that. Fails
-    /// with `Closed` on a closed cell.
+    /// Polls by a shared reference. Takes the value, which leaves the cell empty, or waits. Fails
+    /// with `Memory` if there is no memory to wait, and with `Closed` on a closed cell.
     #[inline]
     pub fn poll_shared(&self, cx: &mut Context<'_>) -> Poll<Result<C::Value, Refusal>>
         ensures registered { OnPending result (Covers cx.new (C.waits_for self.now.0)) }
         ensures kept { Keeps cx.old cx.new }
         ensures refused { IfReady result FailsWithMemoryOrClosed }
     {
-        let cell = self.0.cell();
-        poll(&cell.core, &cell.source, Taking, None, cx, &OneThread)
+        self.poll_at(None, cx, &OneThread)
     }
 
     /// Returns the future that holds one place in the wait list while it waits.
@@ -69,12 +60,7 @@ impl<C: CellRef> Polled<OneThread> for Take<C> {
     ghost may_give = { λ _. FailsWithMemoryOrClosed };
 
     #[inline(always)]
-    fn poll_at(
-        &self,
-        at: Option<&mut Place>,
-        cx: &mut Context<'_>,
-        rt: &OneThread,
-    ) -> Poll<Self::Output> {
+    fn poll_at(&self, at: At<'_>, cx: &mut Context<'_>, rt: &OneThread) -> Poll<Self::Output> {
         let cell = self.0.cell();
         poll(&cell.core, &cell.source, Taking, at, cx, rt)
     }

@@ -3,14 +3,8 @@ ghost use Rattle.std.specs.Rc.{rc_value};
 ghost use Rattle.futures.specs.Poll.{IfReady, OnPending};
 ghost use Rattle.futures.specs.Task.{Covers, Keeps};
 ghost use Rattle.async_cell_model.specs.Refusal.{FailsWithMemory};
-ghost use Rattle.async_cell_unsync.specs.Names.{
-  IsLost,
-  NameAtMostTheSame,
-  Names,
-  NamesAtMost,
-  NameTheSame,
-  OwnsNamed,
-};
+ghost use Rattle.async_cell_unsync.specs.Names.{IsLost, NameAtMostTheSame, Names, NamesAtMost};
+ghost use Rattle.async_cell_unsync.specs.Names.{NameTheSame, OwnsNamed};
 ghost use Rattle.async_cell_unsync.specs.Owned.{cell_owned};
 ghost use Rattle.async_cell_unsync.specs.Refused.{GivesWeakly};
 ghost use Rattle.async_cell_unsync.specs.Source.{source_of, IsSourceOf};
@@ -21,13 +15,13 @@ use crate::get::Get;
 use crate::owner::Owner;
 use crate::shared::Shared;
 use crate::take::Take;
+use crate::weak_owner::WeakOwner;
 use crate::with::{InPlace, With};
-use async_cell_core::{Place, Refusal};
-use async_cell_waiting::{OneThread, Polled, Request, Takes, Taking, Upgrade, poll, weakly};
+use async_cell_core::Refusal;
+use async_cell_waiting::{At, OneThread, Polled, Request, Takes, Taking, Upgrade, poll, weakly};
 use futures::future::Future;
 use futures::task::{Context, Poll};
 use std::alloc::AllocError;
-use std::fmt;
 use std::rc::Rc;
 
 /// A weak pointer to a cell. It does not count as an owner. `Shared::downgrade` makes one.
@@ -54,24 +48,26 @@ impl<T: Drop> Weak<T> {
         ensures lost { IsLost self.now → result ≡ Err Refusal.Memory }
         ensures refused { FailsWithMemory result }
     {
-        match &self.cell {
-            Some(cell) => Ok(cell.as_ref()),
-            None => Err(Refusal::Memory),
-        }
+        let found = self.cell.as_ref().ok_or(Refusal::Memory)?;
+        Ok(found.as_ref())
     }
 
     /// Returns a pointer to the same cell, or to none if it cannot be counted.
     pub(crate) fn again(&self) -> Self
         ensures of_this { NameAtMostTheSame self.now result }
     {
-        match &self.cell {
-            Some(cell) => Weak::of(cell),
-            None => Weak { cell: None },
-        }
+        let copy: Result<_, _> = self.clone();
+        copy.unwrap_or(Weak { cell: None })
     }
 
-    /// Makes a new owner; `Ok(None)` if the cell is closed. Fails with `Memory` (checked first) or
-    /// `OwnersFull`.
+    /// Makes this pointer a weak owner: what it upgrades to is an `Owner`.
+    pub fn with(self) -> WeakOwner<T>
+        ensures points { result.weak ≡ self }
+    {
+        WeakOwner { weak: self }
+    }
+
+    /// Makes an owner; `None` if closed. Fails with `Memory` (checked first) or `OwnersFull`.
     pub fn upgrade(&self) -> Result<Option<Shared<T>>, Refusal>
         ensures of_this { IfOk result (λ found. IfSome found (OwnsNamed self.now)) }
         ensures lost { IsLost self.now → result ≡ Err Refusal.Memory }
@@ -96,21 +92,16 @@ impl<T: Drop> Clone for Weak<T> {
     }
 }
 
-/// A future that takes the value of a cell and is not an owner of it. It may be polled again after
-/// it was ready. Each poll that waits may add a waker: `with` makes a future that does not.
+/// A future that takes the value of a cell and is no owner of it. It may be polled again once
+/// ready. Each poll that waits may add a waker: `with` makes a future that does not.
 #[derive(Drop)]
+#[derive_where(Clone; T: Drop)]
+#[derive_where(Debug)]
 pub struct TakeWeak<T>(pub Weak<T>);
 
-impl<T> fmt::Debug for TakeWeak<T> {
-    fn fmt<F: fmt::Write>(&self, f: &mut fmt::Formatter<F>) -> fmt::Result {
-        f.debug_struct("TakeWeak").finish_non_exhaustive()
-    }
-}
-
 impl<T: Drop> TakeWeak<T> {
-    /// Polls by a shared reference. Returns `Ready` with the value, which leaves the cell empty, or
-    /// with `None` on a closed cell. Fails with `Memory` if the poll would have to wait and there
-    /// is no memory for that.
+    /// Polls by a shared reference. Takes the value, or waits; `None` on a closed cell. Fails with
+    /// `Memory` if there is no memory to wait.
     pub fn poll_shared(&self, cx: &mut Context<'_>) -> Poll<Result<Option<T>, Refusal>>
         ensures lost { IsLost self.now.0 → result ≡ Poll.Ready (Err Refusal.Memory) }
         ensures registered { OnPending result (Covers cx.new (IsSourceOf self.now.0)) }
@@ -134,8 +125,7 @@ impl<T: Drop> TakeWeak<T> {
         self.with()
     }
 
-    /// Makes a `Take` that is a new owner; `Ok(None)` if the cell is closed. Fails with `Memory`
-    /// (checked first) or `OwnersFull`.
+    /// Makes a `Take` that is a new owner. Fails, and returns `None`, as `Weak::upgrade` does.
     pub fn upgrade(&self) -> Result<Option<Take<Shared<T>>>, Refusal>
         ensures of_this { IfOk result (λ found. IfSome found (λ own. OwnsNamed self.now.0 own.0)) }
         ensures lost { IsLost self.now.0 → result ≡ Err Refusal.Memory }
@@ -145,17 +135,10 @@ impl<T: Drop> TakeWeak<T> {
     }
 }
 
-/// A clone points to the same cell.
-impl<T: Drop> Clone for TakeWeak<T> {
-    ghost is_clone = { λ weak copy. NameTheSame weak.0 copy.0 };
-
-    fn clone(&self) -> Result<TakeWeak<T>, AllocError> {
-        Ok(TakeWeak(self.0.clone()?))
-    }
-}
-
 impl<T: Drop> Request<OneThread> for TakeWeak<T> {
     type Cell = AsyncCell<T>;
+
+    ghost is_lost = { λ weak. IsLost weak.0 };
 
     fn cell(&self) -> Option<&Self::Cell> {
         self.0.cell().ok()
@@ -169,17 +152,7 @@ impl<T: Drop> Polled<OneThread> for TakeWeak<T> {
 
     ghost may_give = { λ polled. GivesWeakly polled.0 };
 
-    fn poll_at(
-        &self,
-        at: Option<&mut Place>,
-        cx: &mut Context<'_>,
-        rt: &OneThread,
-    ) -> Poll<Self::Output>
-        ensures lost { IsLost self.now.0 → result ≡ Poll.Ready (Err Refusal.Memory) }
-        ensures registered { OnPending result (Covers cx.new (IsSourceOf self.now.0)) }
-        ensures kept { Keeps cx.old cx.new }
-        ensures gives { IfReady result (GivesWeakly self.now.0) }
-    {
+    fn poll_at(&self, at: At<'_>, cx: &mut Context<'_>, rt: &OneThread) -> Poll<Self::Output> {
         match self.0.cell() {
             Ok(cell) => weakly(poll(&cell.core, &cell.source, Taking, at, cx, rt)),
             Err(why) => Poll::Ready(Err(why)),
@@ -192,8 +165,6 @@ impl<T: Drop> Upgrade<OneThread> for TakeWeak<T> {
 
     ghost owned_by = { λ weak owning. Names weak.0 (cell_owned owning.0) };
 
-    ghost is_lost = { λ weak. IsLost weak.0 };
-
     fn owning(&self, _: &OneThread) -> Result<Option<Self::Owning>, Refusal> {
         Ok(self.0.upgrade()?.map(|owner| Take(owner.with())))
     }
@@ -202,14 +173,7 @@ impl<T: Drop> Upgrade<OneThread> for TakeWeak<T> {
 impl<T: Drop> Takes<OneThread> for TakeWeak<T> {
     type Value = T;
 
-    fn poll_value(
-        &self,
-        place: &mut Place,
-        cx: &mut Context<'_>,
-        rt: &OneThread,
-    ) -> Poll<Result<Option<T>, Refusal>> {
-        self.poll_at(Some(place), cx, rt)
-    }
+    ghost lacks_memory = { λ _ _ given. given.0 };
 }
 
 impl<T: Drop> Future for TakeWeak<T> {
@@ -224,22 +188,16 @@ impl<T: Drop> Future for TakeWeak<T> {
     }
 }
 
-/// A future that clones the value of a cell, leaves it, and is not an owner of the cell. It may be
-/// polled again after it was ready. Each poll that waits may add a waker: `with` makes a future
-/// that does not.
+/// A future that clones the value of a cell and is no owner of it. It may be polled again once
+/// ready. Each poll that waits may add a waker: `with` makes a future that does not.
 #[derive(Drop)]
+#[derive_where(Clone; T: Drop)]
+#[derive_where(Debug)]
 pub struct GetWeak<T>(pub Weak<T>);
 
-impl<T> fmt::Debug for GetWeak<T> {
-    fn fmt<F: fmt::Write>(&self, f: &mut fmt::Formatter<F>) -> fmt::Result {
-        f.debug_struct("GetWeak").finish_non_exhaustive()
-    }
-}
-
 impl<T: Drop> GetWeak<T> {
-    /// Polls by a shared reference. Returns `Ready` with a clone of the value, or with `None` on a
-    /// closed cell. Fails with `Memory` if the clone fails, or if the poll would have to wait and
-    /// there is no memory for that.
+    /// Polls by a shared reference. Clones the value, or waits; `None` on a closed cell. Fails with
+    /// `Memory` if there is no memory for that.
     pub fn poll_shared(&self, cx: &mut Context<'_>) -> Poll<Result<Option<T>, Refusal>>
     where
         T: Clone,
@@ -265,8 +223,7 @@ impl<T: Drop> GetWeak<T> {
         self.with()
     }
 
-    /// Makes a `Get` that is a new owner; `Ok(None)` if the cell is closed. Fails with `Memory`
-    /// (checked first) or `OwnersFull`.
+    /// Makes a `Get` that is a new owner. Fails, and returns `None`, as `Weak::upgrade` does.
     pub fn upgrade(&self) -> Result<Option<Get<Shared<T>>>, Refusal>
         ensures of_this { IfOk result (λ found. IfSome found (λ own. OwnsNamed self.now.0 own.0)) }
         ensures lost { IsLost self.now.0 → result ≡ Err Refusal.Memory }
@@ -276,17 +233,10 @@ impl<T: Drop> GetWeak<T> {
     }
 }
 
-/// A clone points to the same cell.
-impl<T: Drop> Clone for GetWeak<T> {
-    ghost is_clone = { λ weak copy. NameTheSame weak.0 copy.0 };
-
-    fn clone(&self) -> Result<GetWeak<T>, AllocError> {
-        Ok(GetWeak(self.0.clone()?))
-    }
-}
-
 impl<T: Drop> Request<OneThread> for GetWeak<T> {
     type Cell = AsyncCell<T>;
+
+    ghost is_lost = { λ weak. IsLost weak.0 };
 
     fn cell(&self) -> Option<&Self::Cell> {
         self.0.cell().ok()
@@ -300,17 +250,7 @@ impl<T: Clone> Polled<OneThread> for GetWeak<T> {
 
     ghost may_give = { λ polled. GivesWeakly polled.0 };
 
-    fn poll_at(
-        &self,
-        at: Option<&mut Place>,
-        cx: &mut Context<'_>,
-        rt: &OneThread,
-    ) -> Poll<Self::Output>
-        ensures lost { IsLost self.now.0 → result ≡ Poll.Ready (Err Refusal.Memory) }
-        ensures registered { OnPending result (Covers cx.new (IsSourceOf self.now.0)) }
-        ensures kept { Keeps cx.old cx.new }
-        ensures gives { IfReady result (GivesWeakly self.now.0) }
-    {
+    fn poll_at(&self, at: At<'_>, cx: &mut Context<'_>, rt: &OneThread) -> Poll<Self::Output> {
         match self.0.cell() {
             Ok(cell) => weakly(Get(cell).poll_at(at, cx, rt)),
             Err(why) => Poll::Ready(Err(why)),
@@ -322,8 +262,6 @@ impl<T: Drop> Upgrade<OneThread> for GetWeak<T> {
     type Owning = Get<Owner<T>>;
 
     ghost owned_by = { λ weak owning. Names weak.0 (cell_owned owning.0) };
-
-    ghost is_lost = { λ weak. IsLost weak.0 };
 
     fn owning(&self, _: &OneThread) -> Result<Option<Self::Owning>, Refusal> {
         Ok(self.0.upgrade()?.map(|owner| Get(owner.with())))

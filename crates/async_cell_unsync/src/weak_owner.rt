@@ -9,28 +9,17 @@ use crate::with::With;
 use async_cell_core::Refusal;
 use std::alloc::AllocError;
 
-/// A weak pointer to a cell, which makes owners and futures with the cell's calls. It does not
-/// count as an owner, and keeps the cell's memory alive, not its value. `Owner::downgrade` makes
-/// one.
+/// A weak pointer to a cell, which makes owners and futures. It does not count as an owner, and
+/// keeps the cell's memory alive, not its value. `Owner::downgrade` makes one.
 #[derive(Drop)]
 #[derive_where(Debug)]
 pub struct WeakOwner<T> {
     #[derive_where(skip)]
-    weak: Weak<T>,
-}
-
-impl<T: Drop> Weak<T> {
-    /// Makes this pointer a weak owner: what it upgrades to is an `Owner`.
-    pub fn with(self) -> WeakOwner<T>
-        ensures points { result.weak ≡ self }
-    {
-        WeakOwner { weak: self }
-    }
+    pub(crate) weak: Weak<T>,
 }
 
 impl<T: Drop> WeakOwner<T> {
-    /// Makes a new owner; `Ok(None)` if the cell is closed. Fails with `Memory` (checked first) or
-    /// `OwnersFull`.
+    /// Makes an owner; `None` if closed. Fails with `Memory` (checked first) or `OwnersFull`.
     pub fn upgrade(&self) -> Result<Option<Owner<T>>, Refusal>
         ensures of_this { IfOk result (λ found. IfSome found (λ owner.
             Names self.now.weak (cell_owned owner))) }
@@ -40,17 +29,16 @@ impl<T: Drop> WeakOwner<T> {
         Ok(self.weak.upgrade()?.map(|owner| owner.with()))
     }
 
-    /// Returns a future that takes the value and is not an owner; it is ready with `None` once the
-    /// last owner has ended. If the pointer cannot be counted, the future fails with `Memory`.
+    /// Returns a future that takes the value and is no owner: `None` once the last owner has ended.
+    /// If the pointer cannot be counted, it fails with `Memory`.
     pub fn take(&self) -> With<TakeWeak<T>>
         ensures of_this { NameAtMostTheSame self.now.weak result.polled.0 }
     {
         TakeWeak(self.weak.again()).with()
     }
 
-    /// Returns a future that clones the value, leaves it, and is not an owner; it is ready with
-    /// `None` once the last owner has ended. If the pointer cannot be counted, the future fails
-    /// with `Memory`.
+    /// Returns a future that clones the value and is no owner: `None` once the last owner has
+    /// ended. If the pointer cannot be counted, it fails with `Memory`.
     pub fn get(&self) -> With<GetWeak<T>>
         ensures of_this { NameAtMostTheSame self.now.weak result.polled.0 }
     {

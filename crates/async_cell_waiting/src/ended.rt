@@ -3,7 +3,7 @@
 ghost use Rattle.std.specs.Prelude.{◌≡◌, Err, IfErr};
 
 use crate::room::Room;
-use crate::store::{Step, Store};
+use crate::store::{Opens, Step, StoredCore, Stores};
 use async_cell_wakers::{Place, TaskWaker, Wakers, Wakes};
 use futures::task::Waker;
 
@@ -51,15 +51,14 @@ pub fn end_and_wake_one<G: Step, X, W: Wakes>(core: G, held: Held<X, Option<W>>)
     answer
 }
 
-/// Lends the core for a step that begins with something held. Returns `None`, and drops it, if the
-/// core is not lent.
+/// Lends the core for a step that begins with something held, which is dropped if it is not lent.
 #[inline(always)]
-pub fn open_holding<C, S: Store<C, R>, X: Drop, R>(
-    store: S,
+pub fn open_holding<'a, M: Stores, X: Drop, R: Opens<'a, M>>(
+    store: &'a StoredCore<M>,
     held: X,
     rt: &R,
-) -> Option<(S::Open, Held<X>)> {
-    let core = store.open(rt)?;
+) -> Option<(R::Open, Held<X>)> {
+    let core = rt.open(store)?;
     Some((core, Held::of(held)))
 }
 
@@ -77,15 +76,10 @@ impl<X> Held<X> {
     pub fn and<Y>(self, other: Held<Y>) -> Held<(X, Y)>
         ensures { result.answer ≡ (self.answer, other.answer) }
     {
-        let Held { answer, woken } = self;
-        let Held {
-            answer: beside,
-            woken: _,
-        } = other;
-        Held {
-            answer: (answer, beside),
-            woken,
-        }
+        let Held { answer, woken: _ } = other;
+        let beside = answer;
+        let Held { answer, woken: _ } = self;
+        Held::of((answer, beside))
     }
 }
 
@@ -104,37 +98,13 @@ impl Held<Waker> {
     }
 }
 
-impl<X, W> Held<X, Option<W>> {
-    /// Holds an answer, with the waker that was handed out, if any.
+impl<X, K> Held<X, K> {
+    /// Holds an answer, and whom to wake.
     #[inline(always)]
-    pub fn one(answer: X, woken: Option<W>) -> Self
+    pub fn waking(answer: X, woken: K) -> Self
         ensures { result.answer ≡ answer }
     {
         Held { answer, woken }
-    }
-}
-
-impl<X, W> Held<X, Option<Wakers<W>>> {
-    /// Holds an answer, with the wakers that were handed out.
-    #[inline(always)]
-    pub fn all(answer: X, woken: Wakers<W>) -> Self
-        ensures { result.answer ≡ answer }
-    {
-        Held {
-            answer,
-            woken: Some(woken),
-        }
-    }
-
-    /// Holds an answer of a call that handed out no wakers.
-    #[inline(always)]
-    pub fn nobody(answer: X) -> Self
-        ensures { result.answer ≡ answer }
-    {
-        Held {
-            answer,
-            woken: None,
-        }
     }
 }
 
@@ -145,8 +115,8 @@ impl<A, E, W> Held<Result<A, E>, Option<Wakers<W>>> {
         ensures refused { IfErr result.answer (λ why. returned ≡ Err why) }
     {
         match returned {
-            Ok((answer, woken)) => Held::all(Ok(answer), woken),
-            Err(why) => Held::nobody(Err(why)),
+            Ok((answer, woken)) => Held::waking(Ok(answer), Some(woken)),
+            Err(why) => Held::waking(Err(why), None),
         }
     }
 }

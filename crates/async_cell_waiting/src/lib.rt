@@ -13,9 +13,8 @@ mod with;
 
 pub use cell_core::{CellCore, Cloning, Taking};
 pub use ended::{Held, end, end_and_wake, end_and_wake_one, open_holding};
-pub use places::{cancel, leave, purge, waiting};
 pub use polls::poll;
 pub use query::Query;
 pub use room::Room;
-pub use store::{Lender, Lent, Lock, Locked, OneThread, Step, Store, StoredCore};
-pub use with::{Places, Polled, Request, Takes, Upgrade, Values, With, weakly};
+pub use store::{Lender, Lent, Lock, Locked, OneThread, Opens, Step, StoredCore, Stores};
+pub use with::{At, Places, Polled, Request, Takes, Upgrade, Values, With, weakly};

@@ -1,6 +1,5 @@
-//! Polls, over any store: each either finds what need not be waited for, or registers the task and
-//! adds its waker to the wait list. The waker of a future that keeps a place is stored in that
-//! place.
+//! Polls, over any store: each finds what need not be waited for, or registers the task and adds
+//! its waker to the wait list, in the place of its future if it keeps one.
 ghost use Rattle.std.specs.Prelude.{◌≡◌, Err, IfOk};
 ghost use Rattle.futures.specs.Poll.{IfReady, OnPending};
 ghost use Rattle.futures.specs.Task.{Hears, IsArmed, Keeps};
@@ -9,7 +8,8 @@ ghost use Rattle.async_cell_model.specs.Refusal.{FailsWithMemory, FailsWithMemor
 use crate::ended::{Held, end, open_holding};
 use crate::query::Query;
 use crate::room::Room;
-use crate::store::{Step, Store};
+use crate::store::{Opens, Step, StoredCore, Stores};
+use crate::with::At;
 use async_cell_model::Refusal;
 use async_cell_wakers::{Place, TaskWaker};
 use futures::task::{Context, Poll, Source, Waker};
@@ -17,11 +17,11 @@ use futures::task::{Context, Poll, Source, Waker};
 /// Answers the query, or waits, in the place if any. Fails with `Memory` if there is no memory for
 /// the task's waker or for the growth of the list. Asks to be polled again if the core is not lent.
 #[inline(always)]
-pub fn poll<C: Room, S: Store<C, R>, Q: Query<C>, R>(
-    store: S,
+pub fn poll<'a, C: Room, M: Stores<Core = C>, Q: Query<C>, R: Opens<'a, M>>(
+    store: &'a StoredCore<M>,
     source: &Source,
     query: Q,
-    place: Option<&mut Place>,
+    place: At<'_>,
     cx: &mut Context<'_>,
     rt: &R,
 ) -> Poll<Result<Q::Answer, Refusal>>
@@ -31,7 +31,7 @@ pub fn poll<C: Room, S: Store<C, R>, Q: Query<C>, R>(
     ensures kept { Keeps cx.old cx.new }
     ensures refused { IfReady result FailsWithMemoryOrClosed }
 {
-    let Some(mut core) = store.open(rt) else {
+    let Some(mut core) = rt.open(store) else {
         return cx.yield_now();
     };
     if !query.must_wait(core.peek()) {
@@ -51,13 +51,13 @@ pub fn poll<C: Room, S: Store<C, R>, Q: Query<C>, R>(
     renew(store, core, waker, source, query, place, cx, rt)
 }
 
-/// Registers the task, and adds its waker as the last. It is a new waker: so nothing is dropped,
-/// and nobody woken, during the step. Fails with `Memory` if there is no memory for the waker or
-/// for the growth of the list.
-fn add<C, G>(mut core: G, source: &Source, cx: &mut Context<'_>) -> Result<(), Refusal>
-where
-    C: Room,
-    G: Step<Core = C>,
+/// Registers the task, and adds its waker as the last. It is a new one: nothing is dropped, and
+/// nobody woken, during the step. Fails with `Memory`.
+fn add<C: Room, G: Step<Core = C>>(
+    mut core: G,
+    source: &Source,
+    cx: &mut Context<'_>,
+) -> Result<(), Refusal>
     requires { C.vacant (G.shows core) }
     ensures armed { IsArmed cx.new }
     ensures heard { Hears cx.new source.now.id }
@@ -101,13 +101,12 @@ fn add_at<C: Room, G: Step<Core = C>>(
     }
 }
 
-/// Registers the task with the waker of its place, which was taken out, if there was one, and
-/// stores it again. If it was another task's, it is dropped, which wakes that task: so no step runs
-/// meanwhile.
+/// Registers the task with the waker that was taken out of its place, and stores it again. One of
+/// another task is dropped, which wakes that task: so no step runs meanwhile.
 #[inline(never)]
-fn renew<C: Room, S: Store<C, R>, Q: Query<C>, R>(
-    store: S,
-    core: S::Open,
+fn renew<'a, C: Room, M: Stores<Core = C>, Q: Query<C>, R: Opens<'a, M>>(
+    store: &'a StoredCore<M>,
+    core: R::Open,
     waker: Held<Option<Waker>>,
     source: &Source,
     query: Q,

@@ -1,4 +1,4 @@
-ghost use Rattle.std.specs.Prelude.{IsTrue, IfOk};
+ghost use Rattle.std.specs.Prelude.{⊤, IsTrue, IfOk};
 ghost use Rattle.async_cell_model.specs.Refusal.{FailsWithMemoryOrClosed};
 
 use crate::ended::Held;
@@ -11,7 +11,7 @@ pub trait Query<C: Room>: Copy {
     type Answer;
 
     /// What is known of the answer.
-    ghost gives: { Self → Self.Answer → Type 0 };
+    ghost gives: { Self → Self.Answer → Type 0 } = { λ _ _. ⊤ };
 
     /// Returns whether a poll has to wait.
     fn must_wait(self, core: &C) -> bool

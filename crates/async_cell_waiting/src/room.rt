@@ -10,8 +10,7 @@ pub trait Room {
     /// A waker can be stored: a poll has to wait.
     ghost vacant: { Self → Type 0 };
 
-    /// Adds a waker as the last. If there is no memory to grow the list, it is returned in the
-    /// error.
+    /// Adds a waker as the last. If there is no memory to grow the list, it comes back.
     fn add(&mut self, waker: TaskWaker) -> Held<Result<(), TaskWaker>>
         requires { vacant self.old };
 
@@ -28,8 +27,7 @@ pub trait Room {
         ensures unchanged { self.new ≡ self.old };
 
     /// Stores a waker in the place, in a free place that is taken over, or as the last. Returns the
-    /// waker that was there, if any. If there is no memory to grow the list, the waker is returned
-    /// in the error.
+    /// one that was there, if any. If there is no memory to grow the list, the waker comes back.
     fn store(
         &mut self,
         place: &mut Place,
@@ -37,8 +35,7 @@ pub trait Room {
     ) -> Held<Result<Option<TaskWaker>, TaskWaker>>
         requires { vacant self.old };
 
-    /// Leaves the place free. Its waker stays there. Returns the index of the place, unless it was
-    /// given up.
+    /// Leaves the place free, with its waker. Returns its index, unless the place was given up.
     fn leave(&mut self, place: Place) -> Option<usize>;
 
     /// Takes the waker out of the place at `index`, if that place is free.

@@ -7,23 +7,19 @@ mod locked;
 pub use lent::{Lender, Lent};
 pub use locked::{Lock, Locked};
 
-/// A core in a `Mutex` or a `RefCell`, which lends it for one step at a time. Of a cell it has the
-/// calls: each makes one call of the core in one step, for which `rt` is the right: behind a lock,
-/// to wait for it. Wakers are woken, and old values, unused values and the value of a closed cell
-/// are dropped, after the step. Only closures, and clones of values and wakers, run during it:
-/// behind a lock one that calls its own cell waits forever.
+/// A core in a `Mutex` or a `RefCell`, lent for one step at a time. A call of a cell makes one call
+/// of the core in one step; `rt` is the right to it: behind a lock, to wait. Wakers are woken, and
+/// old values, unused values and the value of a closed cell dropped, after it. Closures, clones and
+/// prints run in it: behind a lock one that calls its own cell waits forever.
 #[derive(Drop)]
 pub struct StoredCore<M> {
     store: M,
 }
 
 /// What holds a core: a `Mutex` or a `RefCell`.
-pub trait Stores {
+pub trait Stores: From<Self::Core> {
     /// The type of the core.
     type Core;
-
-    /// Stores the core, whatever its state.
-    fn storing(core: Self::Core) -> Self;
 
     /// Returns the core. Waits for no step.
     fn into_core(self) -> Self::Core;
@@ -32,9 +28,7 @@ pub trait Stores {
 impl<M: Stores> StoredCore<M> {
     /// Stores the core, whatever its state.
     pub fn of(core: M::Core) -> Self {
-        StoredCore {
-            store: M::storing(core),
-        }
+        StoredCore { store: core.into() }
     }
 
     /// Returns the core. Waits for no step.
@@ -43,19 +37,17 @@ impl<M: Stores> StoredCore<M> {
     }
 }
 
-/// What lends its core for one step at a time: `&Lock` or `&Lender`. `R` is the right that this
-/// needs: to wait for a lock, or to be of one thread.
-pub trait Store<C, R>: Copy {
+/// A right to lend the core of a store `M`: to wait for its lock, or to be of its one thread.
+pub trait Opens<'a, M: Stores> {
     /// The core while it is lent.
-    type Open: Step<Core = C>;
+    type Open: Step<Core = M::Core>;
 
     /// Lends the core. Returns `None` during another step of a store that cannot wait for its end,
     /// which no caller ever sees: a step calls nothing that could call the cell.
-    fn open(self, rt: &R) -> Option<Self::Open>;
+    fn open(&self, store: &'a StoredCore<M>) -> Option<Self::Open>;
 }
 
-/// A core that is lent for one step. It is not `Drop` and must be consumed: by `end`, or by
-/// an end that wakes.
+/// A core that is lent for one step. It must be consumed: by `end`, or by an end that wakes.
 pub trait Step {
     /// The type of the core.
     type Core;

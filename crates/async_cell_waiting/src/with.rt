@@ -12,6 +12,9 @@ use futures::future::Future;
 use futures::task::{Context, Poll};
 pub use values::{Takes, Values};
 
+/// The place that a poll may wait in.
+pub type At<'a> = Option<&'a mut Place>;
+
 /// A cell in which futures hold places. `R` is the right that a step on it needs.
 pub trait Places<R> {
     /// Leaves the place of a future that is dropped.
@@ -25,6 +28,9 @@ pub trait Places<R> {
 pub trait Request<R>: Drop {
     /// The type of the cell.
     type Cell: Places<R>;
+
+    /// The request points to no cell.
+    ghost is_lost: { Self → Type 0 } = { λ _. ⊥ };
 
     /// Returns the cell, unless there is no pointer to it.
     fn cell(&self) -> Option<&Self::Cell>;
@@ -42,7 +48,8 @@ pub trait Polled<R>: Request<R> {
     ghost may_give: { Self → Self.Output → Type 0 };
 
     /// Polls, and waits in the place, if any.
-    fn poll_at(&self, at: Option<&mut Place>, cx: &mut Context<'_>, rt: &R) -> Poll<Self::Output>
+    fn poll_at(&self, at: At<'_>, cx: &mut Context<'_>, rt: &R) -> Poll<Self::Output>
+        ensures lost { Self.is_lost self.now → OnPending result ⊥ }
         ensures gives { IfReady result (may_give self.now) }
         ensures registered { OnPending result (Covers cx.new (waits_for self.now)) }
         ensures kept { Keeps cx.old cx.new };
@@ -56,14 +63,10 @@ pub trait Upgrade<R>: Request<R> {
     /// The owner is of the cell that the request points to.
     ghost owned_by: { Self → Self.Owning → Type 0 };
 
-    /// The request points to no cell.
-    ghost is_lost: { Self → Type 0 };
-
-    /// Makes the request of a new owner; `Ok(None)` if the cell is closed. Fails with `Memory`
-    /// (checked first) or `OwnersFull`.
+    /// Makes the request of a new owner. Fails, and returns `None`, as `With::upgrade` does.
     fn owning(&self, rt: &R) -> Result<Option<Self::Owning>, Refusal>
         ensures of_this { IfOk result (λ found. IfSome found (owned_by self.now)) }
-        ensures lost { is_lost self.now → result ≡ Err Refusal.Memory }
+        ensures lost { Self.is_lost self.now → result ≡ Err Refusal.Memory }
         ensures refused { FailsToUpgrade result };
 }
 

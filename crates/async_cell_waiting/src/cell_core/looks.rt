@@ -1,12 +1,12 @@
 //! The calls that change nothing.
-ghost use Rattle.std.specs.Prelude.{IsOk, IfOk, IfSome};
+ghost use Rattle.std.specs.Prelude.{IsOk, IfSome};
 ghost use Rattle.std.specs.Fn.{FnOnceReturnsAt};
 ghost use Rattle.async_cell_model.specs.History.{IsSound};
 ghost use Rattle.async_cell_model.specs.Refusal.{FailsWithMemory};
 
 use super::CellCore;
 use crate::ended::{Held, end};
-use crate::store::{Step, Store, StoredCore, Stores};
+use crate::store::{Opens, Step, StoredCore, Stores};
 use async_cell_core::{Refusal, Wakes};
 use std::alloc::Global;
 use std::fmt;
@@ -14,22 +14,17 @@ use std::fmt;
 impl<M: Stores<Core = CellCore<T, W>>, T: Drop, W: Wakes> StoredCore<M> {
     /// Lends the core for a look. Ensures what holds of every core, whatever other steps did.
     #[inline(always)]
-    fn look<'a, G, R>(&'a self, rt: &R) -> Option<G>
-    where
-        &'a Self: Store<CellCore<T, W>, R, Open = G>,
-        G: Step<Core = CellCore<T, W>>,
-        ensures kept { IfSome result (λ core. IsSound W.will_wake (G.shows core).core) }
+    fn look<'a, R: Opens<'a, M>>(&'a self, rt: &R) -> Option<R::Open>
+        ensures kept { IfSome result (λ core. IsSound W.will_wake (R.Open.shows core).core) }
     {
-        let core = self.open(rt)?;
+        let core = rt.open(self)?;
         core.peek().core.soundness();
         Some(core)
     }
 
-    /// Returns a clone of the value, if there is one, made during the step. Fails with `Memory` if
-    /// there is no memory for the clone.
-    pub fn try_get<'a, R>(&'a self, rt: &R) -> Result<Option<T>, Refusal>
+    /// Returns a clone of the value, if there is one, made during the step. Fails with `Memory`.
+    pub fn try_get<'a, R: Opens<'a, M>>(&'a self, rt: &R) -> Result<Option<T>, Refusal>
     where
-        &'a Self: Store<CellCore<T, W>, R>,
         T: Clone,
         ensures sure { ((value : T) → T.is_infallible value) → IsOk result }
         ensures refused { FailsWithMemory result }
@@ -41,13 +36,11 @@ impl<M: Stores<Core = CellCore<T, W>>, T: Drop, W: Wakes> StoredCore<M> {
         end(core, copied)
     }
 
-    /// Internal: may change without notice. Calls the closure on the value, if there is one, all in
-    /// one step, and returns what it returns. A closure that was not called is dropped after the
-    /// step.
+    /// Internal: may change without notice. Calls the closure on the value, if there is one, during
+    /// the step, and returns its answer. A closure that was not called is dropped afterwards.
     #[doc(hidden)]
-    pub fn peek<'a, A, F, R>(&'a self, look: F, rt: &R) -> Option<A>
+    pub fn peek<'a, A, F, R: Opens<'a, M>>(&'a self, look: F, rt: &R) -> Option<A>
     where
-        &'a Self: Store<CellCore<T, W>, R>,
         F: FnOnce(&T) -> A + Drop,
         requires { F.IsAlwaysCallable look }
         ensures called { IfSome result (λ answer. (seen : T)
@@ -63,10 +56,7 @@ impl<M: Stores<Core = CellCore<T, W>>, T: Drop, W: Wakes> StoredCore<M> {
 
     /// Returns whether the cell holds a value.
     #[inline]
-    pub fn is_set<'a, R>(&'a self, rt: &R) -> bool
-    where
-        &'a Self: Store<CellCore<T, W>, R>,
-    {
+    pub fn is_set<'a, R: Opens<'a, M>>(&'a self, rt: &R) -> bool {
         let Some(core) = self.look(rt) else {
             return false;
         };
@@ -75,18 +65,12 @@ impl<M: Stores<Core = CellCore<T, W>>, T: Drop, W: Wakes> StoredCore<M> {
     }
 
     /// Returns whether the cell is closed.
-    pub fn is_closed<'a, R>(&'a self, rt: &R) -> bool
-    where
-        &'a Self: Store<CellCore<T, W>, R>,
-    {
+    pub fn is_closed<'a, R: Opens<'a, M>>(&'a self, rt: &R) -> bool {
         self.owners(rt) == 0
     }
 
     /// Returns the number of owners: 0 once the cell is closed.
-    pub fn owners<'a, R>(&'a self, rt: &R) -> u32
-    where
-        &'a Self: Store<CellCore<T, W>, R>,
-    {
+    pub fn owners<'a, R: Opens<'a, M>>(&'a self, rt: &R) -> u32 {
         let Some(core) = self.look(rt) else {
             return 0;
         };
@@ -95,10 +79,7 @@ impl<M: Stores<Core = CellCore<T, W>>, T: Drop, W: Wakes> StoredCore<M> {
     }
 
     /// Returns how many wakers wait.
-    pub fn waiting<'a, R>(&'a self, rt: &R) -> usize
-    where
-        &'a Self: Store<CellCore<T, W>, R>,
-    {
+    pub fn waiting<'a, R: Opens<'a, M>>(&'a self, rt: &R) -> usize {
         let Some(core) = self.look(rt) else {
             return 0;
         };
@@ -106,13 +87,9 @@ impl<M: Stores<Core = CellCore<T, W>>, T: Drop, W: Wakes> StoredCore<M> {
         end(core, Held::of(waiting))
     }
 
-    /// Internal: may change without notice. Returns whether a task waits. Returns `None` for a cell
-    /// that is closed or holds a value.
+    /// Internal: may change without notice. Whether a task waits; `None` if it is closed or full.
     #[doc(hidden)]
-    pub fn is_pending<'a, R>(&'a self, rt: &R) -> Option<bool>
-    where
-        &'a Self: Store<CellCore<T, W>, R>,
-    {
+    pub fn is_pending<'a, R: Opens<'a, M>>(&'a self, rt: &R) -> Option<bool> {
         let core = self.look(rt)?;
         let waits = match core.peek().core.is_vacant() {
             true => Some(!core.peek().core.wakes_nobody()),
@@ -121,12 +98,14 @@ impl<M: Stores<Core = CellCore<T, W>>, T: Drop, W: Wakes> StoredCore<M> {
         end(core, Held::of(waits))
     }
 
-    /// Internal: may change without notice. Returns the text of the cell: the value prints during
-    /// the step. Fails with `Memory`.
+    /// Internal: may change without notice. Prints the cell during the step. Fails with `Memory`.
     #[doc(hidden)]
-    pub fn debug_text<'a, R>(&'a self, alloc: Global, rt: &R) -> Result<String, Refusal>
+    pub fn debug_text<'a, R: Opens<'a, M>>(
+        &'a self,
+        alloc: Global,
+        rt: &R,
+    ) -> Result<String, Refusal>
     where
-        &'a Self: Store<CellCore<T, W>, R>,
         T: fmt::Debug,
         ensures refused { FailsWithMemory result }
     {

@@ -1,12 +1,11 @@
-//! The calls of a cell, over any store: each makes one call of the core in one step, and holds what
-//! comes out of it until the step ends.
+//! The calls of a cell, over any store: each makes one call of the core in one step.
 ghost use Rattle.std.specs.Prelude.{◌≡◌, ◌⊎◌, Option, IfErr, OnOk};
 ghost use Rattle.async_cell_model.specs.History.{IsSound};
 ghost use Rattle.async_cell_model.specs.Refusal.{FailsWithClosed, FailsWithMemory};
 
 use super::CellCore;
 use crate::ended::{Held, end, end_and_wake, end_and_wake_one};
-use crate::store::{Step, Store, StoredCore, Stores};
+use crate::store::{Opens, Step, StoredCore, Stores};
 use async_cell_core::{Core, Poll, Refusal, Wakes, end_guard};
 
 impl<M: Stores<Core = CellCore<T, W>>, T: Drop, W: Wakes> StoredCore<M> {
@@ -23,19 +22,15 @@ impl<M: Stores<Core = CellCore<T, W>>, T: Drop, W: Wakes> StoredCore<M> {
         self.into_stored().into_core()
     }
 
-    /// Returns the content, whatever the number of owners. Wakes all waiters. Does not take the
-    /// lock.
+    /// Returns the content, whatever the number of owners. Wakes all waiters. Takes no lock.
     pub fn into_inner(self) -> Option<T> {
         let (content, woken) = self.into_core().into_inner();
         woken.wake_all();
         content
     }
 
-    /// Sets the value, drops the old one and wakes all waiters. Fails on a closed cell; the value
-    /// is returned in the error.
-    pub fn set<'a, R>(&'a self, value: T, rt: &R) -> Result<(), T>
-    where
-        &'a Self: Store<CellCore<T, W>, R>,
+    /// Sets the value, drops the old one and wakes all waiters. A closed cell gives the value back.
+    pub fn set<'a, R: Opens<'a, M>>(&'a self, value: T, rt: &R) -> Result<(), T>
         ensures comes_back { IfErr result (λ back. back ≡ value) }
     {
         let old = self.replace(value, rt)?;
@@ -43,15 +38,12 @@ impl<M: Stores<Core = CellCore<T, W>>, T: Drop, W: Wakes> StoredCore<M> {
         Ok(())
     }
 
-    /// Sets the value, wakes all waiters and returns the old value. Fails on a closed cell; the
-    /// value is returned in the error.
+    /// Sets the value, wakes all waiters, returns the old one. A closed cell gives the value back.
     #[inline]
-    pub fn replace<'a, R>(&'a self, value: T, rt: &R) -> Result<Option<T>, T>
-    where
-        &'a Self: Store<CellCore<T, W>, R>,
+    pub fn replace<'a, R: Opens<'a, M>>(&'a self, value: T, rt: &R) -> Result<Option<T>, T>
         ensures comes_back { IfErr result (λ back. back ≡ value) }
     {
-        let Some(mut core) = self.open(rt) else {
+        let Some(mut core) = rt.open(self) else {
             return Err(value);
         };
         if core.peek().core.is_set() {
@@ -60,7 +52,7 @@ impl<M: Stores<Core = CellCore<T, W>>, T: Drop, W: Wakes> StoredCore<M> {
         }
         match core.core().core.fill_first(value) {
             Ok(first) => {
-                end_and_wake_one(core, Held::one((), first));
+                end_and_wake_one(core, Held::waking((), first));
                 Ok(None)
             }
             Err(value) => write(core, value),
@@ -69,12 +61,10 @@ impl<M: Stores<Core = CellCore<T, W>>, T: Drop, W: Wakes> StoredCore<M> {
 
     /// Sets the value and wakes all waiters, if the cell holds no value. Drops `value` otherwise.
     /// Fails on a closed cell; the value is returned in the error.
-    pub fn or_set<'a, R>(&'a self, value: T, rt: &R) -> Result<(), T>
-    where
-        &'a Self: Store<CellCore<T, W>, R>,
+    pub fn or_set<'a, R: Opens<'a, M>>(&'a self, value: T, rt: &R) -> Result<(), T>
         ensures comes_back { IfErr result (λ back. back ≡ value) }
     {
-        let Some(mut core) = self.open(rt) else {
+        let Some(mut core) = rt.open(self) else {
             return Err(value);
         };
         let written = Held::of_result(core.core().core.or_set(value));
@@ -83,19 +73,16 @@ impl<M: Stores<Core = CellCore<T, W>>, T: Drop, W: Wakes> StoredCore<M> {
         Ok(())
     }
 
-    /// Sets the value and wakes all waiters, if the cell is open and holds no value. Otherwise
-    /// nothing changes, and the value is returned in the error.
-    pub fn try_set<'a, R>(&'a self, value: T, rt: &R) -> Result<(), T>
-    where
-        &'a Self: Store<CellCore<T, W>, R>,
+    /// `or_set`, which returns an unused `value` in the error, also on a closed cell.
+    pub fn try_set<'a, R: Opens<'a, M>>(&'a self, value: T, rt: &R) -> Result<(), T>
         ensures comes_back { IfErr result (λ back. back ≡ value) }
     {
-        let Some(mut core) = self.open(rt) else {
+        let Some(mut core) = rt.open(self) else {
             return Err(value);
         };
         let written = match core.core().core.or_set(value) {
-            Ok((unused, woken)) => Held::all(unused.map_or(Ok(()), Err), woken),
-            Err(value) => Held::nobody(Err(value)),
+            Ok((unused, woken)) => Held::waking(unused.map_or(Ok(()), Err), Some(woken)),
+            Err(value) => Held::waking(Err(value), None),
         };
         end_and_wake(core, written)
     }
@@ -103,37 +90,34 @@ impl<M: Stores<Core = CellCore<T, W>>, T: Drop, W: Wakes> StoredCore<M> {
     /// Calls the closure on the content and stores what it returns, all in one step. Wakes all
     /// waiters if that puts a value into an empty cell. Fails with `Closed` on a closed cell,
     /// without calling the closure. A closure that was not called is dropped after the step.
-    pub fn update<'a, F, R>(&'a self, change: F, rt: &R) -> Result<(), Refusal>
+    pub fn update<'a, F, R: Opens<'a, M>>(&'a self, change: F, rt: &R) -> Result<(), Refusal>
     where
-        &'a Self: Store<CellCore<T, W>, R>,
         F: FnOnce(Option<T>) -> Option<T> + Drop,
         requires { F.IsAlwaysCallable change }
         ensures called { OnOk result ((saw put : Option T) × F.post change saw put) }
         ensures refused { FailsWithClosed result }
     {
-        let mut core = self.open(rt).ok_or(Refusal::Closed)?;
+        let mut core = rt.open(self).ok_or(Refusal::Closed)?;
         if core.peek().core.is_closed() {
             let _not_called = end(core, Held::of(change));
             return Err(Refusal::Closed);
         }
         let updated = match core.core().core.update(change) {
-            Ok(woken) => Held::all(Ok(()), woken),
-            Err(why) => Held::nobody(Err(why)),
+            Ok(woken) => Held::waking(Ok(()), Some(woken)),
+            Err(why) => Held::waking(Err(why), None),
         };
         end_and_wake(core, updated)
     }
 
-    /// Calls the closure on the value, if there is one, and stores what it returns, all in one
-    /// step. Fails with `Closed` on a closed cell, without calling the closure. A closure that was
-    /// not called is dropped after the step.
-    pub fn update_some<'a, F, R>(&'a self, change: F, rt: &R) -> Result<(), Refusal>
+    /// `update`, of a value: the closure is not called if there is none. Fails with `Closed` on a
+    /// closed cell. A closure that was not called is dropped after the step.
+    pub fn update_some<'a, F, R: Opens<'a, M>>(&'a self, change: F, rt: &R) -> Result<(), Refusal>
     where
-        &'a Self: Store<CellCore<T, W>, R>,
         F: FnOnce(T) -> T + Drop,
         requires { F.IsAlwaysCallable change }
         ensures refused { FailsWithClosed result }
     {
-        let mut core = self.open(rt).ok_or(Refusal::Closed)?;
+        let mut core = rt.open(self).ok_or(Refusal::Closed)?;
         if core.peek().core.is_set() {
             let updated = Held::of(core.core().core.update_some(change));
             return end(core, updated);
@@ -148,23 +132,16 @@ impl<M: Stores<Core = CellCore<T, W>>, T: Drop, W: Wakes> StoredCore<M> {
 
     /// Takes the value, if there is one. The waiters stay registered.
     #[inline]
-    pub fn try_take<'a, R>(&'a self, rt: &R) -> Option<T>
-    where
-        &'a Self: Store<CellCore<T, W>, R>,
-    {
-        let mut core = self.open(rt)?;
+    pub fn try_take<'a, R: Opens<'a, M>>(&'a self, rt: &R) -> Option<T> {
+        let mut core = rt.open(self)?;
         let taken = Held::of(core.core().core.try_take());
         end(core, taken)
     }
 
-    /// Internal: may change without notice. Takes the content out of an open cell. Returns `None`
-    /// if the cell is closed.
+    /// Internal: may change without notice. Takes the content out; `None` if the cell is closed.
     #[doc(hidden)]
-    pub fn take_out<'a, R>(&'a self, rt: &R) -> Option<Option<T>>
-    where
-        &'a Self: Store<CellCore<T, W>, R>,
-    {
-        let mut core = self.open(rt)?;
+    pub fn take_out<'a, R: Opens<'a, M>>(&'a self, rt: &R) -> Option<Option<T>> {
+        let mut core = rt.open(self)?;
         if core.peek().core.is_closed() {
             return end(core, Held::of(None));
         }
@@ -172,81 +149,70 @@ impl<M: Stores<Core = CellCore<T, W>>, T: Drop, W: Wakes> StoredCore<M> {
         end(core, content)
     }
 
-    /// Takes the value, or waits for one: registers the waker (see `WaitList::skips`). Returns
-    /// `Ready(None)` on a closed cell. Fails with `Memory` if there is no memory for the waker's
-    /// clone or for the growth of the list.
-    pub fn poll_take<'a, R>(&'a self, waker: &W, rt: &R) -> Result<Poll<Option<T>>, Refusal>
-    where
-        &'a Self: Store<CellCore<T, W>, R>,
+    /// Takes the value, or waits: registers the waker (see `WaitList::skips`). `Ready(None)` on a
+    /// closed cell. Fails with `Memory` for the waker's clone, or to grow the list.
+    pub fn poll_take<'a, R: Opens<'a, M>>(
+        &'a self,
+        waker: &W,
+        rt: &R,
+    ) -> Result<Poll<Option<T>>, Refusal>
         ensures refused { FailsWithMemory result }
     {
-        let mut core = self.open(rt).ok_or(Refusal::Memory)?;
+        let mut core = rt.open(self).ok_or(Refusal::Memory)?;
         let polled = Held::of(core.core().core.poll_take(waker));
         end(core, polled)
     }
 
-    /// Returns a clone of the value, made during the step, or waits for one as `poll_take` does.
-    /// Returns `Ready(None)` on a closed cell. Fails with `Memory` if there is no memory for the
-    /// value's clone, the waker's clone or the growth of the list.
-    pub fn poll_get<'a, R>(&'a self, waker: &W, rt: &R) -> Result<Poll<Option<T>>, Refusal>
+    /// `poll_take`, of a clone made during the step. Fails with `Memory` for the clone too.
+    pub fn poll_get<'a, R: Opens<'a, M>>(
+        &'a self,
+        waker: &W,
+        rt: &R,
+    ) -> Result<Poll<Option<T>>, Refusal>
     where
-        &'a Self: Store<CellCore<T, W>, R>,
         T: Clone,
         ensures refused { FailsWithMemory result }
     {
-        let mut core = self.open(rt).ok_or(Refusal::Memory)?;
+        let mut core = rt.open(self).ok_or(Refusal::Memory)?;
         let polled = Held::of(core.core().core.poll_get(waker));
         end(core, polled)
     }
 
-    /// Makes room: the next `additional` wakers that are added need no memory beyond their clones,
-    /// until a fill or a close gives the room up. Fails with `Memory` if there is no memory for so
-    /// many. Does nothing on a closed cell.
-    pub fn reserve<'a, R>(&'a self, additional: usize, rt: &R) -> Result<(), Refusal>
-    where
-        &'a Self: Store<CellCore<T, W>, R>,
+    /// Makes room: the next `additional` wakers need no memory beyond their clones, until a fill or
+    /// a close gives it up. Fails with `Memory`. Does nothing on a closed cell.
+    pub fn reserve<'a, R: Opens<'a, M>>(&'a self, additional: usize, rt: &R) -> Result<(), Refusal>
         ensures refused { FailsWithMemory result }
     {
-        let mut core = self.open(rt).ok_or(Refusal::Memory)?;
+        let mut core = rt.open(self).ok_or(Refusal::Memory)?;
         let reserved = Held::of(core.core().core.reserve(additional));
         end(core, reserved)
     }
 
-    /// Internal: may change without notice. Ends a guard: `cancel` is its cancel value, or `None`
-    /// if it was released.
+    /// Internal: may change without notice. Ends a guard: `cancel` is `None` if it was released.
     #[doc(hidden)]
-    pub fn end_guard<'a, R>(&'a self, cancel: Option<T>, rt: &R)
-    where
-        &'a Self: Store<CellCore<T, W>, R>,
-    {
-        let Some(mut core) = self.open(rt) else {
-            return;
-        };
-        let (unused, woken) = end_guard(&mut core.core().core, cancel);
-        drop(end_and_wake(core, Held::all(unused, woken)));
+    pub fn end_guard<'a, R: Opens<'a, M>>(&'a self, cancel: Option<T>, rt: &R) {
+        if let Some(mut core) = rt.open(self) {
+            let (unused, woken) = end_guard(&mut core.core().core, cancel);
+            drop(end_and_wake(core, Held::waking(unused, Some(woken))));
+        }
     }
 
-    /// Adds an owner. Fails with `Closed` on a closed cell, and with `OwnersFull` beyond
-    /// 4,294,967,295 owners.
-    pub fn add_owner<'a, R>(&'a self, rt: &R) -> Result<(), Refusal>
-    where
-        &'a Self: Store<CellCore<T, W>, R>,
+    /// Adds an owner. Fails with `Closed`, and with `OwnersFull` beyond 4,294,967,295 owners.
+    pub fn add_owner<'a, R: Opens<'a, M>>(&'a self, rt: &R) -> Result<(), Refusal>
         ensures refused { IfErr result (λ why.
             (why ≡ Refusal.Closed) ⊎ (why ≡ Refusal.OwnersFull)) }
     {
-        let mut core = self.open(rt).ok_or(Refusal::Closed)?;
+        let mut core = rt.open(self).ok_or(Refusal::Closed)?;
         let added = Held::of(core.core().core.add_owner());
         end(core, added)
     }
 
     /// Ends one owner. The last one closes the cell, drops its value and wakes all waiters. Fails
     /// with `Closed` on a closed cell.
-    pub fn end_owner<'a, R>(&'a self, rt: &R) -> Result<(), Refusal>
-    where
-        &'a Self: Store<CellCore<T, W>, R>,
+    pub fn end_owner<'a, R: Opens<'a, M>>(&'a self, rt: &R) -> Result<(), Refusal>
         ensures refused { FailsWithClosed result }
     {
-        let mut core = self.open(rt).ok_or(Refusal::Closed)?;
+        let mut core = rt.open(self).ok_or(Refusal::Closed)?;
         if core.core().core.end_other() {
             end(core, Held::of(()));
             return Ok(());
@@ -256,20 +222,17 @@ impl<M: Stores<Core = CellCore<T, W>>, T: Drop, W: Wakes> StoredCore<M> {
 
     /// Closes the cell, wakes all waiters and returns the value, if there is one owner. Fails with
     /// `Closed` on a closed cell, and with `StillShared` if there are other owners.
-    pub fn take_inner<'a, R>(&'a self, rt: &R) -> Result<Option<T>, Refusal>
-    where
-        &'a Self: Store<CellCore<T, W>, R>,
+    pub fn take_inner<'a, R: Opens<'a, M>>(&'a self, rt: &R) -> Result<Option<T>, Refusal>
         ensures refused { IfErr result (λ why.
             (why ≡ Refusal.Closed) ⊎ (why ≡ Refusal.StillShared)) }
     {
-        let mut core = self.open(rt).ok_or(Refusal::Closed)?;
+        let mut core = rt.open(self).ok_or(Refusal::Closed)?;
         let closed = Held::of_result(core.core().core.take_inner());
         end_and_wake(core, closed)
     }
 }
 
-/// `StoredCore::replace`, of a core that is lent. Apart from it, which would pay for what this one
-/// holds also where no more than one waker waits.
+/// `replace`, of a core that is lent: apart, so that `replace` pays for it only where it is called.
 #[inline(always)]
 fn write<G: Step<Core = CellCore<T, W>>, T: Drop, W: Wakes>(
     mut core: G,
@@ -286,7 +249,7 @@ fn end_last<G: Step<Core = CellCore<T, W>>, T: Drop, W: Wakes>(mut core: G) -> R
     ensures refused { FailsWithClosed result }
 {
     let value = match core.core().core.close_first() {
-        Some((value, first)) => end_and_wake_one(core, Held::one(value, first)),
+        Some((value, first)) => end_and_wake_one(core, Held::waking(value, first)),
         None => {
             let ended = Held::of_result(core.core().core.end_owner());
             end_and_wake(core, ended)?

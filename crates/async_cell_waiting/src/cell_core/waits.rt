@@ -66,11 +66,7 @@ pub struct Taking;
 pub struct Cloning;
 
 impl<T: Drop> Query<CellCore<T, TaskWaker>> for Taking {
-    ghost use Rattle.std.specs.Prelude.{⊤};
-
     type Answer = T;
-
-    ghost gives = { λ _ _. ⊤ };
 
     #[inline(always)]
     fn must_wait(self, core: &CellCore<T, TaskWaker>) -> bool {
@@ -84,11 +80,7 @@ impl<T: Drop> Query<CellCore<T, TaskWaker>> for Taking {
 }
 
 impl<T: Clone> Query<CellCore<T, TaskWaker>> for Cloning {
-    ghost use Rattle.std.specs.Prelude.{⊤};
-
     type Answer = T;
-
-    ghost gives = { λ _ _. ⊤ };
 
     #[inline(always)]
     fn must_wait(self, core: &CellCore<T, TaskWaker>) -> bool {

@@ -1,7 +1,6 @@
-ghost use Rattle.std.specs.Prelude.{◌≡◌};
 ghost use Rattle.std.specs.RefCell.{ref_mut_value};
 
-use super::{OneThread, Step, Store, StoredCore, Stores};
+use super::{OneThread, Opens, Step, StoredCore, Stores};
 use std::cell::{Ref, RefCell, RefMut};
 
 /// A core of one thread.
@@ -13,8 +12,7 @@ pub struct Lent<'a, C> {
 }
 
 impl<C> StoredCore<RefCell<C>> {
-    /// Lends the core beside other looks, for one that changes nothing. Returns `None` during a
-    /// step.
+    /// Lends the core beside other looks, for a look. Returns `None` during a step.
     #[inline(always)]
     pub fn glance(&self) -> Option<Ref<'_, C>> {
         self.store.try_borrow().ok()
@@ -30,21 +28,17 @@ impl<C> StoredCore<RefCell<C>> {
 impl<C> Stores for RefCell<C> {
     type Core = C;
 
-    fn storing(core: C) -> Self {
-        RefCell::new(core)
-    }
-
     fn into_core(self) -> C {
         self.into_inner()
     }
 }
 
-impl<'a, C> Store<C, OneThread> for &'a StoredCore<RefCell<C>> {
+impl<'a, C: 'a> Opens<'a, RefCell<C>> for OneThread {
     type Open = Lent<'a, C>;
 
     #[inline(always)]
-    fn open(self, _: &OneThread) -> Option<Lent<'a, C>> {
-        let core = self.store.try_borrow_mut().ok()?;
+    fn open(&self, store: &'a Lender<C>) -> Option<Lent<'a, C>> {
+        let core = store.store.try_borrow_mut().ok()?;
         Some(Lent { core })
     }
 }

@@ -1,7 +1,6 @@
-ghost use Rattle.std.specs.Prelude.{◌≡◌};
 ghost use Rattle.std.specs.Sync.Mutex.{mutex_guard_value};
 
-use super::{Step, Store, StoredCore, Stores};
+use super::{Opens, Step, StoredCore, Stores};
 use std::sync::{Mutex, MutexGuard, Wait};
 
 /// A core behind a lock.
@@ -28,24 +27,20 @@ impl<C> StoredCore<Mutex<C>> {
 impl<C> Stores for Mutex<C> {
     type Core = C;
 
-    fn storing(core: C) -> Self {
-        Mutex::new(core)
-    }
-
     fn into_core(self) -> C {
         self.into_inner()
     }
 }
 
-impl<'a, C, R: Wait> Store<C, R> for &'a StoredCore<Mutex<C>> {
+impl<'a, C: 'a, R: Wait> Opens<'a, Mutex<C>> for R {
     type Open = Locked<'a, C>;
 
     #[inline(always)]
-    fn open(self, rt: &R) -> Option<Locked<'a, C>> {
+    fn open(&self, store: &'a Lock<C>) -> Option<Locked<'a, C>> {
         // As `lock` does: a level of calls less.
-        let core = match self.store.try_lock() {
+        let core = match store.store.try_lock() {
             Some(core) => core,
-            None => self.store.lock(rt),
+            None => store.store.lock(self),
         };
         Some(Locked { core })
     }

@@ -1,36 +1,25 @@
 //! The values of a cell, as a stream.
 ghost use Rattle.std.specs.Prelude.{◌≡◌, IfSome};
 ghost use Rattle.std.specs.List.{AllByRecursion};
-ghost use Rattle.futures.specs.Poll.{IfReady, OnPending};
-ghost use Rattle.futures.specs.Task.{Covers, Keeps};
 ghost use Rattle.async_cell_model.specs.Refusal.{FailsWithMemory};
 
 use super::{Polled, With};
 use async_cell_model::Refusal;
-use async_cell_wakers::Place;
 use futures::stream::Stream;
 use futures::task::{Context, Poll};
 
 /// A request that takes one value after another: a `TakeWeak`.
-pub trait Takes<R>: Polled<R> {
+pub trait Takes<R>: Polled<R, Output = Result<Option<Self::Value>, Refusal>> {
     /// The type of the values.
     type Value: Drop;
 
-    /// Polls for the next value, and waits in the place. Returns `Ok(None)` on a closed cell.
-    fn poll_value(
-        &self,
-        place: &mut Place,
-        cx: &mut Context<'_>,
-        rt: &R,
-    ) -> Poll<Result<Option<Self::Value>, Refusal>>
-        ensures gives { IfReady result FailsWithMemory }
-        ensures registered { OnPending result (Covers cx.new (Self.waits_for self.now)) }
-        ensures kept { Keeps cx.old cx.new };
+    /// A poll fails with `Memory`, and with nothing else.
+    ghost lacks_memory: { (take : Self) (given : _)
+        → ⟦<Self as Polled<R>>⟧.may_give take given → FailsWithMemory given };
 }
 
 /// The values of a cell, as a stream: it takes each value that it is in time for, and ends when the
-/// last owner has ended. It is not an owner. Two such streams of one cell share its values: each
-/// value goes to one of them.
+/// last owner has ended. It is no owner. Two such streams of a cell share its values.
 ///
 /// **The last value may be lost**: the end of the last owner drops a value that was not yet taken.
 /// An item is an error (`Memory`) if a poll was refused; the stream may be polled on.
@@ -68,7 +57,7 @@ impl<P: Takes<R>, R: Drop> Stream for Values<P, R> {
 
     fn poll_next(&mut self, cx: &mut Context<'_>) -> Poll<Option<Result<P::Value, Refusal>>> {
         let taker = &mut self.taker;
-        match taker.polled.poll_value(&mut taker.place, cx, &taker.rt) {
+        match taker.polled.poll_at(Some(&mut taker.place), cx, &taker.rt) {
             Poll::Ready(Ok(Some(value))) => Poll::Ready(Some(Ok(value))),
             Poll::Ready(Ok(None)) => Poll::Ready(None),
             Poll::Ready(Err(why)) => Poll::Ready(Some(Err(why))),

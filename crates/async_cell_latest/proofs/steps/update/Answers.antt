@@ -13,9 +13,9 @@ returns-clause-called g c =
       | in-Ok w ↦
           let call = w.in-Ok.ensures in
           subst (λ held. Given held.answer) (sym w.written-is)
-          (subst Given (sym w.all-written.ensures) (c.update.new.self.value, subst (λ old. Called old c.update.new.self.value) (sym call.gives_old) call.called))
+          (subst Given (sym w.waking-written.ensures) (c.update.new.self.value, subst (λ old. Called old c.update.new.self.value) (sym call.gives_old) call.called))
       | in-Err w ↦
-          subst (λ held. Given held.answer) (sym w.written-is) (subst Given (sym w.nobody-written.ensures) tt)
+          subst (λ held. Given held.answer) (sym w.written-is) (subst Given (sym w.waking-written-in-Err.ensures) tt)
     ])
 
 -- and what comes back is what it returned
@@ -26,8 +26,8 @@ returns-clause-comes_back g c =
     subst Back (sym c.end_and_wake.ensures.answers)
     (elim c.match-update.branch [
       | in-Ok w ↦
-          subst (λ held. Back held.answer) (sym w.written-is) (subst Back (sym w.all-written.ensures) tt)
+          subst (λ held. Back held.answer) (sym w.written-is) (subst Back (sym w.waking-written.ensures) tt)
       | in-Err w ↦
           subst (λ held. Back held.answer) (sym w.written-is)
-          (subst Back (sym w.nobody-written.ensures) (_, w.in-Err.ensures.comes_back))
+          (subst Back (sym w.waking-written-in-Err.ensures) (_, w.in-Err.ensures.comes_back))
     ])
