@@ -6,8 +6,9 @@
 Some of these edits must be told as FAILED: what the prover still proves, also beside a bug of another
 function in the same check, what does not compile, and what cannot be read or applied. The others must
 be refused, each in the way that is meant for it. What is made of a check that was killed or met a
-limit is looked at without the prover. PATH is the edits.py to check, if not the one beside this file.
-Prints a line for each case, and last 'N passed, M failed'; the status is 0 if none failed.
+limit, and which names of functions are asked for, is looked at without the prover. PATH is the
+edits.py to check, if not the one beside this file. Prints a line for each case, and last 'N passed,
+M failed'; the status is 0 if none failed.
 """
 import collections
 import os
@@ -68,6 +69,16 @@ ENDS = {
     "a check that met a limit": (f"{NOTE}antt ran out of stack\nonly=2 proved=1", 3, False),
     "a text that does not compile": (f"{NOTE}src/lib.rt:10:5: error[unknown-name]: ..", 1, False),
     "a text that cannot be read": (f"{NOTE}src/lib.rt:7:5: error: `≡` is not in scope\nonly=2 proved=1", 1, False),
+}
+
+# The first line of an impl, and the name that the prover gives to it.
+NAMES = {
+    "impl<T> Core<T, TaskWaker> {": "Core+T+TaskWaker",
+    "impl<T: Clone> Clone for Follower<T> {": "FollowerClone",
+    "impl<C: CellRef> Polled<OneThread> for Get<C> {": "GetPolledOneThread",
+    "impl<C: CellRef, R: Wait> Polled<R> for Get<C> {": "GetPolled",
+    "impl<T: Clone> Query<CellCore<T, TaskWaker>> for Cloning {": "CloningQueryCellCoreTaskWaker",
+    "impl<'a, C: 'a, R: Wait> Opens<'a, Mutex<C>> for R {": "AnyOpensMutex",
 }
 
 
@@ -144,10 +155,18 @@ def try_answers(kit, room, checks):
         checks.show(name, bool(found) == wanted, f"{len(found)} complaints")
 
 
+def try_names(text, checks):
+    """Checks the names that are asked for: one that is of no function costs one more reading."""
+    for line, wanted in NAMES.items():
+        found = text.Impl(line).name()
+        checks.show(line.removesuffix(" {"), found == wanted, found)
+
+
 def main(words):
     script = os.path.abspath(words[0] if words else f"{HERE}/edits.py")
     sys.path.insert(0, os.path.dirname(script))
     kit, checks = __import__("edits_kit"), Checks()
+    try_names(__import__("edits_text"), checks)
     with tempfile.TemporaryDirectory(prefix="edits-check-") as room:
         os.mkdir(f"{room}/kept")
         try_answers(kit, f"{room}/kept", checks)

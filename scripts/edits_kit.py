@@ -144,12 +144,16 @@ class Kit:
 
     def checked(self, name, texts, over, functions):
         """Checks a crate with these texts, or these functions of it. Where a name is of none, it
-        looks for the last part of it, and where it is of several, it takes all."""
+        looks for the last part of it, and where it is of several, it takes all. It says so, since
+        the crate is then read once more."""
         words = dict.fromkeys(functions or [])
         while True:
             flags = [flag for it in words for flag in ("--only", it)]
             ran = self.rt.checked(self.crates[name], texts, [*ONE_JOB, *flags], over)
             none, several = NO_FUNCTION.search(ran.stdout), SEVERAL.search(ran.stdout)
+            found = none or several
+            if found and found[1] in words:
+                print(f"{name}: {found[1]} is not the name of one function", flush=True)
             if none and none[1] in words and "::" in none[1]:
                 words.pop(none[1])
                 words[none[1].split("::")[-1]] = None

@@ -88,29 +88,37 @@ class Function:
 
 
 class Impl:
-    """What the first line of an impl says: its type, the arguments of that which are none of its own
-    parameters, and its trait, if it has one."""
+    """What the first line of an impl says: its type and its trait, if it has one, and the arguments
+    of both which are none of its own parameters."""
 
     def __init__(self, line):
         text = line.replace("->", "  ").removeprefix("impl")
         own, rest = bracketed(text) if text.startswith("<") else ("", text)
-        self.trait, _, of = rest.rpartition(" for ")
-        self.trait = last_part(self.trait.strip())
-        of = re.sub(r"^&('\w+ )?", "Ref", of.strip())
-        self.type, after = last_part(of), re.sub(r"^[\w:]+", "", of)
-        inner = bracketed(after)[0] if after.startswith("<") else ""
-        self.all = [it for it in parts(inner) if not it.startswith("'")]
         own = [it.partition(":")[0].removeprefix("const ").strip() for it in parts(own)]
+        trait, _, of = rest.rpartition(" for ")
+        self.trait, given = applied(trait.strip())
+        self.type, self.all = applied(re.sub(r"^&('\w+ )?", "Ref", of.strip()))
+        self.type = "Any" if self.type in own else self.type
         self.others = [it for it in self.all if it not in own]
+        # (of an argument that has arguments of its own each word counts)
+        words = [it for arg in given for it in re.findall(r"(?<!')\b\w+\b(?!::)", arg)]
+        self.given = [it for it in words if it not in own]
 
     def name(self):
-        """Returns the prover's name of it: of a trait's impl the type, the other arguments and the
-        trait; else the type, and with all its arguments if there are others."""
+        """Returns the prover's name of it: of a trait's impl the type and the trait, each with its
+        other arguments; else the type, and with all its arguments if there are others."""
         if self.trait:
-            return "".join([self.type, *map(last_part, self.others), self.trait])
+            return "".join([self.type, *map(last_part, self.others), self.trait, *self.given])
         words = [it for arg in self.all for it in re.findall(r"\w+|\(\)", arg)]
         words = [it.replace("()", "unit") for it in words if self.others]
         return "+".join([self.type, *words])
+
+
+def applied(text):
+    """Returns the last word of the path that a text begins with, and its arguments, but lifetimes."""
+    after = re.sub(r"^[\w:]+", "", text)
+    inner = bracketed(after)[0] if after.startswith("<") else ""
+    return last_part(text), [it for it in parts(inner) if not it.startswith("'")]
 
 
 def bracketed(text):

@@ -2,89 +2,56 @@
 ghost use Rattle.std.specs.Prelude.{◌≡◌, Some};
 
 use anyhow::Result;
-use async_cell_core::{Call, Core, Edit, Named, Refusal, end_guard, run, step};
+use async_cell_core::{Answer, Call, Core, Edit, Named, Refusal, end_guard, run, step};
+use async_cell_lines::{Lines, next};
 
 /// What is put in and taken out, while nobody waits.
-fn content(rt: HostRuntime) -> Result<()> {
-    let mut core: Core<u32, Named> = Core::new(rt.alloc());
-    println!(rt;
-        "core: is_vacant {}, set {:?}",
-        core.is_vacant(),
-        core.set(1)
-    )?;
-    println!(rt;
-        "core: replace {:?}, or_set {:?}",
-        core.replace(2),
-        core.or_set(3)
-    )?;
-    println!(rt;
-        "core: is_set {}, try_get {:?}",
-        core.is_set(),
-        core.try_get()
-    )?;
-    println!(rt;
-        "core: peek {:?}",
-        core.peek(|value: &u32| value.wrapping_add(1)).ok()
-    )?;
-    println!(rt; "core: try_take {:?}", core.try_take())?;
-    println!(rt; "core: end_guard {:?}", end_guard(&mut core, Some(4)))?;
-    println!(rt; "core: {core:?}")?;
-    Ok(())
+fn content(lines: &mut Lines<HostRuntime>) {
+    let mut core: Core<u32, Named> = Core::new(lines.rt.alloc());
+    lines.show("core: is_vacant", core.is_vacant());
+    lines.show("core: set", core.set(1));
+    lines.show("core: replace", core.replace(2));
+    lines.show("core: or_set", core.or_set(3));
+    lines.show("core: is_set", core.is_set());
+    lines.show("core: try_get", core.try_get());
+    lines.show("core: peek", core.peek(next).ok());
+    lines.show("core: try_take", core.try_take());
+    lines.show("core: end_guard", end_guard(&mut core, Some(4)));
+    lines.show("core:", core);
 }
 
 /// An update fills a cell and wakes, and one of the value changes it.
-fn updates(rt: HostRuntime) -> Result<()> {
-    let mut core: Core<u32, Named> = Core::new(rt.alloc());
-    println!(rt; "core: poll_take {:?}", core.poll_take(&Named(1)))?;
-    println!(rt; "core: update {:?}", core.update(|_| Some(5)))?;
-    println!(rt;
-        "core: update_some {:?}",
-        core.update_some(|value| value / 2)
-    )?;
-    println!(rt; "core: poll_take {:?}", core.poll_take(&Named(1)))?;
-    Ok(())
+fn updates(lines: &mut Lines<HostRuntime>) {
+    let mut core: Core<u32, Named> = Core::new(lines.rt.alloc());
+    lines.show("core: poll_take", core.poll_take(&Named(1)));
+    lines.show("core: update", core.update(|_| Some(5)));
+    lines.show("core: update_some", core.update_some(|value| value / 2));
+    lines.show("core: poll_take", core.poll_take(&Named(1)));
 }
 
 /// Two names wait for a value, which one of them copies.
-fn polls(rt: HostRuntime) -> Result<()> {
-    let mut core: Core<u32, Named> = Core::new(rt.alloc());
-    core.reserve(1)?;
-    println!(rt; "core: poll_take {:?}", core.poll_take(&Named(1)))?;
-    println!(rt;
-        "core: poll_get {:?}, waiting {}",
-        core.poll_get(&Named(2)),
-        core.waiting()
-    )?;
-    println!(rt;
-        "core: set {:?}, poll_get {:?}",
-        core.set(6),
-        core.poll_get(&Named(2))
-    )?;
-    Ok(())
+fn polls(lines: &mut Lines<HostRuntime>) {
+    let mut core: Core<u32, Named> = Core::new(lines.rt.alloc());
+    lines.show("core: reserve", core.reserve(1));
+    lines.show("core: poll_take", core.poll_take(&Named(1)));
+    lines.show("core: poll_get", core.poll_get(&Named(2)));
+    lines.show("core: waiting", core.waiting());
+    lines.show("core: set", core.set(6));
+    lines.show("core: poll_get", core.poll_get(&Named(2)));
 }
 
 /// Owners come and go, and the last one leaves with the value.
-fn owners(rt: HostRuntime) -> Result<()> {
-    let mut core: Core<u32, Named> = Core::new_with(rt.alloc(), 7);
-    println!(rt;
-        "core: add_owner {:?}, owners {}",
-        core.add_owner(),
-        core.owners()
-    )?;
-    println!(rt; "core: take_inner {:?}", core.take_inner())?;
-    println!(rt;
-        "core: end_owner {:?}, is_closed {}",
-        core.end_owner(),
-        core.is_closed()
-    )?;
-    println!(rt;
-        "core: take_inner {:?}, is_closed {}",
-        core.take_inner(),
-        core.is_closed()
-    )?;
-    let core: Core<u32, Named> = Core::owned_by(rt.alloc(), Some(8), 2);
-    println!(rt; "core: into_inner {:?}", core.into_inner())?;
-    Ok(())
+fn owners(lines: &mut Lines<HostRuntime>) {
+    let mut core: Core<u32, Named> = Core::new_with(lines.rt.alloc(), 7);
+    lines.show("core: add_owner", core.add_owner());
+    lines.show("core: owners", core.owners());
+    lines.show("core: take_inner", core.take_inner());
+    lines.show("core: end_owner", core.end_owner());
+    lines.show("core: is_closed", core.is_closed());
+    lines.show("core: take_inner", core.take_inner());
+    lines.show("core: is_closed", core.is_closed());
+    let core: Core<u32, Named> = Core::owned_by(lines.rt.alloc(), Some(8), 2);
+    lines.show("core: into_inner", core.into_inner());
 }
 
 /// Puts in a value, whatever is there.
@@ -110,29 +77,30 @@ impl Edit<u32> for Put {
 }
 
 /// A list of calls, and one call after it.
-fn lists(rt: HostRuntime) -> Result<()> {
-    let mut core: Core<u32, Named> = Core::new(rt.alloc());
-    let mut calls: Vec<Call<u32, Named, Put>> = Vec::new(rt.alloc());
-    calls.push(Call::PollTake(Named(1)))?;
-    calls.push(Call::Update(Put(9)))?;
-    calls.push(Call::UpdateSome(Put(10)))?;
-    calls.push(Call::TryGet)?;
+fn lists(lines: &mut Lines<HostRuntime>) -> Result<()> {
+    let mut core: Core<u32, Named> = Core::new(lines.rt.alloc());
+    let calls: Vec<Call<u32, Named, Put>> = vec![in lines.rt.alloc();
+        Call::PollTake(Named(1)),
+        Call::Update(Put(9)),
+        Call::UpdateSome(Put(10)),
+        Call::TryGet,
+    ]?;
     let Ok(answers) = run(&mut core, calls) else {
         return Err(Refusal::Memory.into());
     };
-    for answer in &answers {
-        println!(rt; "run: {:?}, woken {:?}", answer.reply, answer.woken)?;
+    for Answer { reply, woken } in answers {
+        lines.show("run:", (reply, woken));
     }
     let taken = step(&mut core, Call::<u32, Named, Put>::TryTake);
-    println!(rt; "step: {:?}", taken.reply)?;
+    lines.show("step:", taken.reply);
     Ok(())
 }
 
 /// Makes each of them.
-pub fn all(rt: HostRuntime) -> Result<()> {
-    content(rt)?;
-    updates(rt)?;
-    polls(rt)?;
-    owners(rt)?;
-    lists(rt)
+pub fn all(lines: &mut Lines<HostRuntime>) -> Result<()> {
+    content(lines);
+    updates(lines);
+    polls(lines);
+    owners(lines);
+    lists(lines)
 }

@@ -1,57 +1,44 @@
 //! Callers of `LockedCore`: a core behind a lock, for wakers of a program's own.
-use crate::host::Host;
-use anyhow::Result;
 use async_cell_core::{Core, Named};
+use async_cell_lines::{Host, Lines};
 use async_cell_sync::LockedCore;
 
 /// What is put in and taken out.
-fn content<R: Host>(rt: R) -> Result<()> {
+fn content<R: Host>(lines: &mut Lines<R>) {
+    let rt = lines.rt;
     let core: LockedCore<u32, Named> = LockedCore::new(Core::new(rt.alloc()));
-    println!(rt;
-        "locked: set {:?}, replace {:?}",
-        core.set(1, &rt),
-        core.replace(2, &rt)
-    )?;
-    println!(rt;
-        "locked: or_set {:?}, try_set {:?}",
-        core.or_set(3, &rt),
-        core.try_set(4, &rt)
-    )?;
-    println!(rt; "locked: update {:?}", core.update(|_| Some(6), &rt))?;
-    println!(rt;
-        "locked: update_some {:?}",
-        core.update_some(|value| value / 2, &rt)
-    )?;
-    println!(rt;
-        "locked: try_get {:?}, is_set {}",
-        core.try_get(&rt),
-        core.is_set(&rt)
-    )?;
-    println!(rt; "locked: try_take {:?}", core.try_take(&rt))?;
-    println!(rt; "locked: into_inner {:?}", core.into_inner())?;
-    Ok(())
+    lines.show("locked: set", core.set(1, &rt));
+    lines.show("locked: replace", core.replace(2, &rt));
+    lines.show("locked: or_set", core.or_set(3, &rt));
+    lines.show("locked: try_set", core.try_set(4, &rt));
+    lines.show("locked: update", core.update(|_| Some(6), &rt));
+    lines.show(
+        "locked: update_some",
+        core.update_some(|value| value / 2, &rt),
+    );
+    lines.show("locked: try_get", core.try_get(&rt));
+    lines.show("locked: is_set", core.is_set(&rt));
+    lines.show("locked: try_take", core.try_take(&rt));
+    lines.show("locked: into_inner", core.into_inner());
 }
 
 /// Two names wait, and owners end.
-fn owners<R: Host>(rt: R) -> Result<()> {
+fn owners<R: Host>(lines: &mut Lines<R>) {
+    let rt = lines.rt;
     let core: LockedCore<u32, Named> = LockedCore::new(Core::new(rt.alloc()));
-    core.reserve(1, &rt)?;
-    println!(rt; "locked: poll_take {:?}", core.poll_take(&Named(1), &rt))?;
-    println!(rt; "locked: poll_get {:?}", core.poll_get(&Named(2), &rt))?;
-    println!(rt;
-        "locked: waiting {}, owners {}",
-        core.waiting(&rt),
-        core.owners(&rt)
-    )?;
-    println!(rt; "locked: add_owner {:?}", core.add_owner(&rt))?;
-    println!(rt; "locked: end_owner {:?}", core.end_owner(&rt))?;
-    println!(rt; "locked: take_inner {:?}", core.take_inner(&rt))?;
-    println!(rt; "locked: is_closed {}", core.is_closed(&rt))?;
-    Ok(())
+    lines.show("locked: reserve", core.reserve(1, &rt));
+    lines.show("locked: poll_take", core.poll_take(&Named(1), &rt));
+    lines.show("locked: poll_get", core.poll_get(&Named(2), &rt));
+    lines.show("locked: waiting", core.waiting(&rt));
+    lines.show("locked: owners", core.owners(&rt));
+    lines.show("locked: add_owner", core.add_owner(&rt));
+    lines.show("locked: end_owner", core.end_owner(&rt));
+    lines.show("locked: take_inner", core.take_inner(&rt));
+    lines.show("locked: is_closed", core.is_closed(&rt));
 }
 
 /// Makes each of them.
-pub fn all<R: Host>(rt: R) -> Result<()> {
-    content(rt)?;
-    owners(rt)
+pub fn all<R: Host>(lines: &mut Lines<R>) {
+    content(lines);
+    owners(lines);
 }

@@ -4,7 +4,6 @@
 
 mod bare;
 mod cell_core;
-mod host;
 mod locked_core;
 mod owned;
 mod sync_cell;
@@ -16,18 +15,21 @@ mod unsync_shared;
 mod wakers;
 
 use anyhow::Result;
+use async_cell_lines::Lines;
 
 fn main(rt: HostRuntime) -> Result<()> {
-    wakers::all(rt)?;
-    cell_core::all(rt)?;
-    println!(rt; "-- unsync")?;
-    unsync_cell::all(rt)?;
-    unsync_owner::all(rt)?;
-    unsync_shared::all(rt)?;
-    println!(rt; "-- sync")?;
-    locked_core::all(rt)?;
-    sync_cell::all(rt)?;
-    sync_owner::all(rt)?;
-    sync_shared::all(rt)?;
+    let mut lines = Lines::new(rt);
+    wakers::all(&mut lines)?;
+    cell_core::all(&mut lines)?;
+    lines.show("front:", "unsync");
+    unsync_cell::all(&mut lines)?;
+    unsync_owner::all(&mut lines)?;
+    unsync_shared::all(&mut lines)?;
+    lines.show("front:", "sync");
+    locked_core::all(&mut lines);
+    sync_cell::all(&mut lines)?;
+    sync_owner::all(&mut lines)?;
+    sync_shared::all(&mut lines)?;
+    lines.end()?;
     Ok(())
 }

@@ -3,64 +3,67 @@
 
 /// Each call of an owner on its cell.
 macro_rules! calls {
-    ($rt:ident $(, $right:ident)?) => {{
-        let owner = Owner::new($rt.alloc() $(, $right)?)?;
+    ($lines:ident $(, $right:ident)?) => {{
+        let owner = Owner::new($lines.rt.alloc() $(, $right)?)?;
         owner.set(1);
-        println!($rt; "owner: try_set {:?}, replace {:?}", owner.try_set(2), owner.replace(3))?;
+        $lines.show("owner: try_set", owner.try_set(2));
+        $lines.show("owner: replace", owner.replace(3));
         owner.update(|content| content.map(|value: u32| value.wrapping_add(4)));
         owner.update_some(|value| value.wrapping_mul(2));
         owner.or_set(5);
         owner.purge();
-        println!($rt; "owner: debug_text {}, try_get {:?}", owner.debug_text()?, owner.try_get()?)?;
-        println!($rt; "owner: is_set {}, is_closed {}", owner.is_set(), owner.is_closed())?;
-        println!($rt; "owner: peek {:?}", owner.peek(|value: &u32| value.wrapping_add(1)))?;
-        println!($rt; "owner: try_take {:?}", owner.try_take())?;
-        println!($rt; "owner: cell {}", owner.cell().is_set($(&$right)?))?;
+        $lines.show("owner: debug_text", owner.debug_text());
+        $lines.show("owner: try_get", owner.try_get());
+        $lines.show("owner: is_set", owner.is_set());
+        $lines.show("owner: is_closed", owner.is_closed());
+        $lines.show("owner: peek", owner.peek(next));
+        $lines.show("owner: try_take", owner.try_take());
+        $lines.show("owner: cell", owner.cell().is_set($(&$right)?));
         Ok(())
     }};
 }
 
 /// Owners are counted: the only one leaves with the value.
 macro_rules! counted {
-    ($rt:ident $(, $right:ident)?) => {{
-        let owner = Owner::new_with($rt.alloc(), 6u32 $(, $right)?)?;
-        let (other, weak) = (owner.another()?, owner.downgrade());
-        let alone = owner.try_into_inner().is_ok();
-        println!($rt; "owner: try_into_inner {alone}, upgrade {}", weak.upgrade()?.is_some())?;
-        let content = other.try_into_inner().ok();
-        println!($rt; "owner: try_into_inner {content:?}, upgrade {}", weak.upgrade()?.is_some())?;
+    ($lines:ident $(, $right:ident)?) => {{
+        let owner = Owner::new_with($lines.rt.alloc(), 6u32 $(, $right)?)?;
+        let (other, weak) = (owner.another(), owner.downgrade());
+        $lines.show("owner: try_into_inner", owner.try_into_inner().ok());
+        $lines.found("owner: upgrade", weak.upgrade());
+        $lines.show("owner: try_into_inner", other?.try_into_inner().ok());
+        $lines.found("owner: upgrade", weak.upgrade());
         Ok(())
     }};
 }
 
 /// Futures that take the value, and those that leave it.
 macro_rules! waits {
-    ($rt:ident $(, $right:ident)?) => {{
-        let owner = Owner::new_with($rt.alloc(), 7u32 $(, $right)?)?;
-        println!($rt; "owner: get {:?}", run($rt, owner.get())?)?;
-        println!($rt; "owner: get_shared {:?}", run($rt, owner.get_shared()?)?)?;
-        println!($rt; "owner: get_weak {:?}", run($rt, owner.get_weak())?)?;
-        println!($rt; "owner: take {:?}", run($rt, owner.take())?)?;
+    ($lines:ident $(, $right:ident)?) => {{
+        let owner = Owner::new_with($lines.rt.alloc(), 7u32 $(, $right)?)?;
+        $lines.run("owner: get", owner.get());
+        $lines.run("owner: get_shared", owner.get_shared()?);
+        $lines.run("owner: get_weak", owner.get_weak());
+        $lines.run("owner: take", owner.take());
         owner.set(8);
-        println!($rt; "owner: take_shared {:?}", run($rt, owner.take_shared()?)?)?;
+        $lines.run("owner: take_shared", owner.take_shared()?);
         owner.set(9);
-        println!($rt; "owner: take_weak {:?}", run($rt, owner.take_weak())?)?;
+        $lines.run("owner: take_weak", owner.take_weak());
         Ok(())
     }};
 }
 
 /// Futures of a weak owner, and the owners that weak futures become.
 macro_rules! weak {
-    ($rt:ident $(, $right:ident)?) => {{
-        let owner = Owner::new_with($rt.alloc(), 10u32 $(, $right)?)?;
+    ($lines:ident $(, $right:ident)?) => {{
+        let owner = Owner::new_with($lines.rt.alloc(), 10u32 $(, $right)?)?;
         let weak = owner.downgrade();
         let (taker, getter) = (weak.take(), weak.get());
-        println!($rt; "weak: upgrade take {}", taker.upgrade()?.is_some())?;
-        println!($rt; "weak: upgrade get {}", getter.upgrade()?.is_some())?;
-        println!($rt; "weak: get {:?}", run($rt, getter)?)?;
-        println!($rt; "weak: take {:?}", run($rt, taker)?)?;
+        $lines.found("weak: upgrade take", taker.upgrade());
+        $lines.found("weak: upgrade get", getter.upgrade());
+        $lines.run("weak: get", getter);
+        $lines.run("weak: take", taker);
         drop(owner);
-        println!($rt; "weak: get {:?}", run($rt, weak.get())?)?;
+        $lines.run("weak: get", weak.get());
         weak.take().cancel();
         Ok(())
     }};
@@ -68,12 +71,12 @@ macro_rules! weak {
 
 /// A stream of values, which ends with the last owner.
 macro_rules! values {
-    ($rt:ident $(, $right:ident)?) => {{
-        let owner = Owner::new_with($rt.alloc(), 11u32 $(, $right)?)?;
+    ($lines:ident $(, $right:ident)?) => {{
+        let owner = Owner::new_with($lines.rt.alloc(), 11u32 $(, $right)?)?;
         let mut values = owner.take_weak().values();
-        println!($rt; "values: {:?}", run($rt, values.next())?)?;
+        $lines.run("values:", values.next());
         drop(owner);
-        println!($rt; "values: {:?}", run($rt, values.next())?)?;
+        $lines.run("values:", values.next());
         values.cancel();
         Ok(())
     }};
@@ -81,39 +84,36 @@ macro_rules! values {
 
 /// What each end of a guard leaves.
 macro_rules! guards {
-    ($rt:ident $(, $right:ident)?) => {{
-        let owner = Owner::new($rt.alloc() $(, $right)?)?;
+    ($lines:ident $(, $right:ident)?) => {{
+        let owner = Owner::new($lines.rt.alloc() $(, $right)?)?;
         let guard = owner.guard(12u32);
-        let is_set = guard.cell().is_set($(&$right)?);
-        println!($rt; "guard: is_set {} {is_set}", guard.is_set())?;
+        $lines.show("guard: is_set", guard.is_set());
+        $lines.show("guard: cell", guard.cell().is_set($(&$right)?));
         drop(guard);
-        println!($rt; "guard: drop {:?}", owner.try_take())?;
+        $lines.show("guard: drop", owner.try_take());
         owner.guard(13).release();
-        println!($rt; "guard: release {:?}", owner.try_take())?;
+        $lines.show("guard: release", owner.try_take());
         owner.guard(14).set(15);
-        println!($rt; "guard: set {:?}", owner.try_take())?;
+        $lines.show("guard: set", owner.try_take());
         owner.guard(16).or_set(17);
-        println!($rt; "guard: or_set {:?}", owner.try_take())?;
-        let Ok(guard) = owner.guard_shared(18) else {
-            return Err(Refusal::Memory.into());
-        };
-        drop(guard);
-        println!($rt; "guard: shared {:?}", owner.try_take())?;
+        $lines.show("guard: or_set", owner.try_take());
+        drop(owner.guard_shared(18).ok());
+        $lines.show("guard: shared", owner.try_take());
         drop(owner.guard_shared_or_drop(19)?);
-        println!($rt; "guard: shared_or_drop {:?}", owner.try_take())?;
+        $lines.show("guard: shared_or_drop", owner.try_take());
         Ok(())
     }};
 }
 
 /// A notice, and those that wait for it.
 macro_rules! notices {
-    ($rt:ident $(, $right:ident)?) => {{
-        let owner = Owner::new($rt.alloc() $(, $right)?)?;
+    ($lines:ident $(, $right:ident)?) => {{
+        let owner = Owner::new($lines.rt.alloc() $(, $right)?)?;
         let told = owner.wait_shared()?;
         owner.notify();
-        println!($rt; "notice: wait_shared {:?}", run($rt, told)?)?;
+        $lines.run("notice: wait_shared", told);
         owner.notify();
-        println!($rt; "notice: wait {:?}", run($rt, owner.wait())?)?;
+        $lines.run("notice: wait", owner.wait());
         Ok(())
     }};
 }

@@ -1,31 +1,31 @@
 //! Callers of `Shared` of `async_cell_sync`, which a call must end: so no `?` stands beside one.
-use crate::host::{Host, run};
-use anyhow::Result;
-use async_cell_sync::{AsyncCell, CellRef, GetWeak, Poll, Refusal, Shared, TakeWeak};
+use async_cell_lines::{Host, Lines};
+use async_cell_sync::{AsyncCell, CellRef, GetWeak, Refusal, Shared, TakeWeak};
 use futures::test::MockTask;
 
-/// The result of a poll that is never ready without a value.
-type Polled<T> = Poll<std::result::Result<T, Refusal>>;
-
-/// The first owner of a new cell, and of one that there is already.
-fn first_owners<R: Host>(rt: R) -> Result<()> {
+/// The first owner of a new cell.
+fn first_owner<R: Host>(lines: &mut Lines<R>) -> Result<(), Refusal> {
+    let rt = lines.rt;
     let owner: Shared<u32> = AsyncCell::shared(rt.alloc())?;
     owner.cell().set(1, &rt);
-    let printed = owners(&owner, rt);
+    let owned = owners(&owner, lines);
     owner.end(&rt);
-    printed?;
+    owned
+}
+
+/// Owners of a cell that there is already.
+fn later_owners<R: Host>(lines: &mut Lines<R>) -> Result<(), Refusal> {
+    let rt = lines.rt;
     let Ok(owner) = AsyncCell::new_with(rt.alloc(), 2u32).into_shared() else {
-        return Err(Refusal::Memory.into());
+        return Err(Refusal::Memory);
     };
-    let content = content_of(owner, rt);
-    println!(rt; "shared: try_into_inner {content:?}")?;
+    lines.show("shared: try_into_inner", content_of(owner, rt));
     let Ok(owner) = Shared::into_shared(AsyncCell::new_with(rt.alloc(), 3u32)) else {
-        return Err(Refusal::Memory.into());
+        return Err(Refusal::Memory);
     };
-    println!(rt; "shared: with {:?}", owner.with(rt).try_take())?;
+    lines.show("shared: with", owner.with(rt).try_take());
     let owner = AsyncCell::new_with(rt.alloc(), 4u32).into_shared_or_drop()?;
-    let content = content_of(owner, rt);
-    println!(rt; "shared: into_shared_or_drop {content:?}")?;
+    lines.show("shared: into_shared_or_drop", content_of(owner, rt));
     Ok(())
 }
 
@@ -41,122 +41,145 @@ fn content_of<R: Host>(owner: Shared<u32>, rt: R) -> Option<u32> {
 }
 
 /// Owners are counted, while this one lives.
-fn owners<R: Host>(owner: &Shared<u32>, rt: R) -> Result<()> {
+fn owners<R: Host>(owner: &Shared<u32>, lines: &mut Lines<R>) -> Result<(), Refusal> {
+    let rt = lines.rt;
     owner.another(&rt)?.end(&rt);
     owner.another(&rt)?.leave(&rt);
-    println!(rt; "shared: is_closed {}", owner.cell().is_closed(&rt))?;
-    let content = content_of(owner.another(&rt)?, rt);
-    println!(rt; "shared: try_into_inner {content:?}")?;
-    match owner.downgrade().upgrade(&rt)? {
-        Some(upgraded) => upgraded.end(&rt),
-        None => return Err(Refusal::Closed.into()),
+    lines.show("shared: is_closed", owner.cell().is_closed(&rt));
+    lines.show(
+        "shared: try_into_inner",
+        content_of(owner.another(&rt)?, rt),
+    );
+    let weak = owner.downgrade();
+    if let Some(upgraded) = weak.upgrade(&rt)? {
+        lines.show("shared: upgrade", content_of(upgraded, rt));
     }
-    let weak = owner.downgrade().with(rt);
-    println!(rt; "shared: upgrade {}", weak.upgrade()?.is_some())?;
+    lines.found("shared: upgrade", weak.with(rt).upgrade());
     Ok(())
 }
 
 /// Futures of an owner, which are owners too.
-fn futures_of<R: Host>(rt: R) -> Result<()> {
-    let task = MockTask::new(&rt)?;
+fn futures_of<R: Host>(task: &MockTask, lines: &mut Lines<R>) -> Result<(), Refusal> {
+    let rt = lines.rt;
     let owner: Shared<u32> = Shared::shared(rt.alloc())?;
     owner.cell().set(4, &rt);
-    let got = polled_get(&owner, &task, rt);
-    let taken = polled_take(&owner, &task, rt);
-    let waiting = polled_take(&owner, &task, rt);
+    let polled = polls(&owner, task, lines);
     owner.end(&rt);
-    println!(rt; "get: poll_shared {:?}", got?)?;
-    println!(rt; "take: poll_shared {:?}, then {:?}", taken?, waiting?)?;
-    println!(rt; "take: is_woken {}", task.is_woken())?;
-    Ok(())
+    lines.show("take: is_woken", task.is_woken());
+    polled
 }
 
-fn polled_get<R: Host>(owner: &Shared<u32>, task: &MockTask, rt: R) -> Result<Polled<u32>> {
+/// A getter, a taker, and a taker that waits.
+fn polls<R: Host>(
+    owner: &Shared<u32>,
+    task: &MockTask,
+    lines: &mut Lines<R>,
+) -> Result<(), Refusal> {
+    let rt = lines.rt;
     let get = owner.get_shared(&rt)?;
-    let polled = task.enter(|cx| get.poll_shared(cx, &rt));
+    lines.show(
+        "get: poll_shared",
+        task.enter(|cx| get.poll_shared(cx, &rt)),
+    );
     get.0.end(&rt);
-    Ok(polled)
-}
-
-fn polled_take<R: Host>(owner: &Shared<u32>, task: &MockTask, rt: R) -> Result<Polled<u32>> {
     let take = owner.take_shared(&rt)?;
-    let polled = task.enter(|cx| take.poll_shared(cx, &rt));
+    lines.show(
+        "take: poll_shared",
+        task.enter(|cx| take.poll_shared(cx, &rt)),
+    );
+    lines.show(
+        "take: poll_shared",
+        task.enter(|cx| take.poll_shared(cx, &rt)),
+    );
     take.0.end(&rt);
-    Ok(polled)
+    Ok(())
 }
 
 /// Weak futures, and the owners that they become.
-fn weak<R: Host>(rt: R) -> Result<()> {
+fn weak<R: Host>(task: &MockTask, lines: &mut Lines<R>) -> Result<(), Refusal> {
+    let rt = lines.rt;
     let owner: Shared<u32> = Shared::shared(rt.alloc())?;
     let (get, take) = (owner.get_weak(), owner.take_weak());
     owner.cell().set(5, &rt);
-    let printed = weak_of(&get, &take, rt);
+    let polled = weak_polls(&get, &take, task, lines);
     owner.end(&rt);
-    printed?;
-    let (got, taken) = (run(rt, get.with(rt))?, run(rt, take.with(rt))?);
-    println!(rt; "weak: with get {got:?}, take {taken:?}")?;
-    Ok(())
+    lines.run("get weak: with", get.with(rt));
+    lines.run("take weak: with", take.with(rt));
+    polled
 }
 
-fn weak_of<R: Host>(get: &GetWeak<u32>, take: &TakeWeak<u32>, rt: R) -> Result<()> {
-    let task = MockTask::new(&rt)?;
-    match get.upgrade(&rt)? {
-        Some(upgraded) => upgraded.0.end(&rt),
-        None => return Err(Refusal::Closed.into()),
+fn weak_polls<R: Host>(
+    get: &GetWeak<u32>,
+    take: &TakeWeak<u32>,
+    task: &MockTask,
+    lines: &mut Lines<R>,
+) -> Result<(), Refusal> {
+    let rt = lines.rt;
+    if let Some(upgraded) = get.upgrade(&rt)? {
+        upgraded.0.end(&rt);
     }
-    match take.upgrade(&rt)? {
-        Some(upgraded) => upgraded.0.end(&rt),
-        None => return Err(Refusal::Closed.into()),
+    if let Some(upgraded) = take.upgrade(&rt)? {
+        upgraded.0.end(&rt);
     }
-    let got = task.enter(|cx| get.poll_shared(cx, &rt));
-    let taken = task.enter(|cx| take.poll_shared(cx, &rt));
-    println!(rt; "weak: poll_shared get {got:?}, take {taken:?}")?;
+    lines.show(
+        "get weak: poll_shared",
+        task.enter(|cx| get.poll_shared(cx, &rt)),
+    );
+    lines.show(
+        "take weak: poll_shared",
+        task.enter(|cx| take.poll_shared(cx, &rt)),
+    );
     Ok(())
 }
 
 /// What each end of a guard leaves.
-fn guards<R: Host>(rt: R) -> Result<()> {
+fn guards<R: Host>(lines: &mut Lines<R>) {
+    let rt = lines.rt;
     let cell = AsyncCell::new(rt.alloc());
     let guard = cell.guard(6u32);
-    let is_set = guard.cell().is_set(&rt);
+    lines.show("guarded: is_set", guard.cell().is_set(&rt));
     guard.cancel(&rt);
-    println!(rt; "guarded: is_set {is_set}, cancel {:?}", cell.try_take(&rt))?;
+    lines.show("guarded: cancel", cell.try_take(&rt));
     cell.guard(7).release(&rt);
-    println!(rt; "guarded: release {:?}", cell.try_take(&rt))?;
+    lines.show("guarded: release", cell.try_take(&rt));
     cell.guard(8).set(9, &rt);
-    println!(rt; "guarded: set {:?}", cell.try_take(&rt))?;
+    lines.show("guarded: set", cell.try_take(&rt));
     cell.guard(10).or_set(11, &rt);
-    println!(rt; "guarded: or_set {:?}", cell.try_take(&rt))?;
-    Ok(())
+    lines.show("guarded: or_set", cell.try_take(&rt));
 }
 
 /// A guard that is an owner, and a notice that an owner waits for.
-fn shared_guard<R: Host>(rt: R) -> Result<()> {
+fn shared_guard<R: Host>(task: &MockTask, lines: &mut Lines<R>) -> Result<(), Refusal> {
+    let rt = lines.rt;
     let owner: Shared<()> = Shared::shared(rt.alloc())?;
-    let told = told(&owner, rt);
+    let told = told(&owner, task, lines);
     owner.end(&rt);
-    println!(rt; "shared: wait_shared {:?}", told?)?;
-    Ok(())
+    told
 }
 
-fn told<R: Host>(owner: &Shared<()>, rt: R) -> Result<Polled<()>> {
-    let task = MockTask::new(&rt)?;
-    match owner.guard_shared((), &rt) {
-        Ok(guard) => guard.cancel(&rt),
-        Err((why, ())) => return Err(why.into()),
+fn told<R: Host>(owner: &Shared<()>, task: &MockTask, lines: &mut Lines<R>) -> Result<(), Refusal> {
+    let rt = lines.rt;
+    if let Ok(guard) = owner.guard_shared((), &rt) {
+        guard.cancel(&rt);
     }
     owner.guard_shared_or_drop((), &rt)?.release(&rt);
     let waits = owner.wait_shared(&rt)?;
-    let polled = task.enter(|cx| waits.poll_shared(cx, &rt));
+    lines.show(
+        "shared: wait_shared",
+        task.enter(|cx| waits.poll_shared(cx, &rt)),
+    );
     waits.0.end(&rt);
-    Ok(polled)
+    Ok(())
 }
 
 /// Makes each of them.
-pub fn all<R: Host>(rt: R) -> Result<()> {
-    first_owners(rt)?;
-    futures_of(rt)?;
-    weak(rt)?;
-    guards(rt)?;
-    shared_guard(rt)
+pub fn all<R: Host>(lines: &mut Lines<R>) -> anyhow::Result<()> {
+    let task = MockTask::new(&lines.rt)?;
+    first_owner(lines)?;
+    later_owners(lines)?;
+    futures_of(&task, lines)?;
+    weak(&task, lines)?;
+    guards(lines);
+    shared_guard(&task, lines)?;
+    Ok(())
 }

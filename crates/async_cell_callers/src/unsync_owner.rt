@@ -1,46 +1,45 @@
 //! Callers of the owners of `async_cell_unsync`, under the names of the facade.
-use crate::host::{Host, run};
 use crate::owned::{calls, counted, guards, notices, values, waits, weak};
-use anyhow::Result;
 use async_cell::Refusal;
 use async_cell::unsync::Owner;
+use async_cell_lines::{Host, Lines, next};
 use futures::StreamExt;
 
-fn calls<R: Host>(rt: R) -> Result<()> {
-    calls!(rt)
+fn calls<R: Host>(lines: &mut Lines<R>) -> Result<(), Refusal> {
+    calls!(lines)
 }
 
-fn counted<R: Host>(rt: R) -> Result<()> {
-    counted!(rt)
+fn counted<R: Host>(lines: &mut Lines<R>) -> Result<(), Refusal> {
+    counted!(lines)
 }
 
-fn waits<R: Host>(rt: R) -> Result<()> {
-    waits!(rt)
+fn waits<R: Host>(lines: &mut Lines<R>) -> Result<(), Refusal> {
+    waits!(lines)
 }
 
-fn weak<R: Host>(rt: R) -> Result<()> {
-    weak!(rt)
+fn weak<R: Host>(lines: &mut Lines<R>) -> Result<(), Refusal> {
+    weak!(lines)
 }
 
-fn values<R: Host>(rt: R) -> Result<()> {
-    values!(rt)
+fn values<R: Host>(lines: &mut Lines<R>) -> Result<(), Refusal> {
+    values!(lines)
 }
 
-fn guards<R: Host>(rt: R) -> Result<()> {
-    guards!(rt)
+fn guards<R: Host>(lines: &mut Lines<R>) -> Result<(), Refusal> {
+    guards!(lines)
 }
 
-fn notices<R: Host>(rt: R) -> Result<()> {
-    notices!(rt)
+fn notices<R: Host>(lines: &mut Lines<R>) -> Result<(), Refusal> {
+    notices!(lines)
 }
 
 /// Makes each of them.
-pub fn all<R: Host>(rt: R) -> Result<()> {
-    calls(rt)?;
-    counted(rt)?;
-    waits(rt)?;
-    weak(rt)?;
-    values(rt)?;
-    guards(rt)?;
-    notices(rt)
+pub fn all<R: Host>(lines: &mut Lines<R>) -> Result<(), Refusal> {
+    calls(lines)?;
+    counted(lines)?;
+    waits(lines)?;
+    weak(lines)?;
+    values(lines)?;
+    guards(lines)?;
+    notices(lines)
 }

@@ -1,107 +1,107 @@
 //! Callers of `Shared` of `async_cell_unsync`, and of its futures that are polled by hand.
-use crate::host::{Host, run};
-use anyhow::Result;
+use async_cell_lines::{Host, Lines};
 use async_cell_unsync::{AsyncCell, Refusal, Shared};
 use futures::test::MockTask;
 
 /// Owners are counted, and the only one leaves with the value.
-fn owners<R: Host>(rt: R) -> Result<()> {
-    let owner: Shared<u32> = AsyncCell::shared(rt.alloc())?;
+fn owners<R: Host>(lines: &mut Lines<R>) -> Result<(), Refusal> {
+    let owner: Shared<u32> = AsyncCell::shared(lines.rt.alloc())?;
     let (other, weak) = (owner.another()?, owner.downgrade());
     owner.cell().set(1);
-    println!(rt; "shared: try_into_inner {}", owner.try_into_inner().is_ok())?;
-    println!(rt; "shared: upgrade {}", weak.upgrade()?.is_some())?;
-    println!(rt; "shared: try_into_inner {:?}", other.try_into_inner().ok())?;
-    println!(rt; "shared: upgrade {}", weak.with().upgrade()?.is_some())?;
-    let cell = AsyncCell::new_with(rt.alloc(), 2u32);
-    let Ok(owner) = cell.into_shared() else {
-        return Err(Refusal::Memory.into());
-    };
-    println!(rt; "shared: into_shared {:?}", owner.with().try_take())?;
-    let owner = AsyncCell::new_with(rt.alloc(), 8u32).into_shared_or_drop()?;
-    println!(rt; "shared: into_shared_or_drop {:?}", owner.with().try_take())?;
+    lines.show("shared: try_into_inner", owner.try_into_inner().ok());
+    lines.found("shared: upgrade", weak.upgrade());
+    lines.show("shared: try_into_inner", other.try_into_inner().ok());
+    lines.found("shared: upgrade", weak.with().upgrade());
     Ok(())
 }
 
-/// The futures and the guard of an owner.
-fn futures_of<R: Host>(rt: R) -> Result<()> {
-    let Ok(owner) = Shared::into_shared(AsyncCell::new_with(rt.alloc(), 3u32)) else {
-        return Err(Refusal::Memory.into());
+/// Owners of a cell that there is already.
+fn later_owners<R: Host>(lines: &mut Lines<R>) -> Result<(), Refusal> {
+    let Ok(owner) = AsyncCell::new_with(lines.rt.alloc(), 2u32).into_shared() else {
+        return Err(Refusal::Memory);
     };
-    let get = run(rt, owner.get_shared()?)?;
-    let get_weak = run(rt, owner.get_weak())?;
-    println!(rt; "shared: get_shared {get:?}, get_weak {get_weak:?}")?;
-    let take = run(rt, owner.take_shared()?)?;
+    lines.show("shared: into_shared", owner.with().try_take());
+    let owner = AsyncCell::new_with(lines.rt.alloc(), 8u32).into_shared_or_drop()?;
+    lines.show("shared: into_shared_or_drop", owner.with().try_take());
+    Ok(())
+}
+
+/// The futures and the guards of an owner.
+fn futures_of<R: Host>(lines: &mut Lines<R>) -> Result<(), Refusal> {
+    let owner: Shared<u32> = Shared::shared(lines.rt.alloc())?;
+    owner.cell().set(3);
+    lines.run("shared: get_shared", owner.get_shared()?);
+    lines.run("shared: get_weak", owner.get_weak());
+    lines.run("shared: take_shared", owner.take_shared()?);
     drop(owner.guard_shared(4).ok());
-    let take_weak = run(rt, owner.take_weak())?;
-    println!(rt; "shared: take_shared {take:?}, take_weak {take_weak:?}")?;
+    lines.run("shared: take_weak", owner.take_weak());
     drop(owner.guard_shared_or_drop(9)?);
-    println!(rt;
-        "shared: guard_shared_or_drop {:?}",
-        owner.cell().try_take()
-    )?;
+    lines.show("shared: guard_shared_or_drop", owner.cell().try_take());
     Ok(())
 }
 
 /// A notice that an owner waits for.
-fn notice<R: Host>(rt: R) -> Result<()> {
-    let owner: Shared<()> = Shared::shared(rt.alloc())?;
+fn notice<R: Host>(lines: &mut Lines<R>) -> Result<(), Refusal> {
+    let owner: Shared<()> = Shared::shared(lines.rt.alloc())?;
     let told = owner.wait_shared()?;
     owner.cell().notify();
-    println!(rt; "shared: wait_shared {:?}", run(rt, told)?)?;
+    lines.run("shared: wait_shared", told);
     Ok(())
 }
 
 /// Futures that are polled by a shared reference.
-fn polls<R: Host>(rt: R) -> Result<()> {
-    let task = MockTask::new(&rt)?;
-    let owner: Shared<u32> = Shared::shared(rt.alloc())?;
+fn polls<R: Host>(task: &MockTask, lines: &mut Lines<R>) -> Result<(), Refusal> {
+    let owner: Shared<u32> = Shared::shared(lines.rt.alloc())?;
     let (get, take) = (owner.get_shared()?, owner.take_shared()?);
-    let (get_weak, take_weak) = (owner.get_weak(), owner.take_weak());
-    let early = task.enter(|cx| take.poll_shared(cx));
+    lines.show("take: poll_shared", task.enter(|cx| take.poll_shared(cx)));
     owner.cell().set(5);
-    println!(rt; "take: poll_shared {early:?}, is_woken {}", task.is_woken())?;
-    let got = task.enter(|cx| get.poll_shared(cx));
-    let got_weakly = task.enter(|cx| get_weak.poll_shared(cx));
-    println!(rt; "get: poll_shared {got:?}, weakly {got_weakly:?}")?;
-    let taken = task.enter(|cx| take_weak.poll_shared(cx));
-    println!(rt; "take: poll_shared weakly {taken:?}")?;
+    lines.show("take: is_woken", task.is_woken());
+    lines.show("get: poll_shared", task.enter(|cx| get.poll_shared(cx)));
+    let (get, take) = (owner.get_weak(), owner.take_weak());
+    lines.show(
+        "get weak: poll_shared",
+        task.enter(|cx| get.poll_shared(cx)),
+    );
+    lines.show(
+        "take weak: poll_shared",
+        task.enter(|cx| take.poll_shared(cx)),
+    );
     Ok(())
 }
 
 /// Futures that hold one place.
-fn places<R: Host>(rt: R) -> Result<()> {
-    let owner: Shared<u32> = Shared::shared(rt.alloc())?;
+fn places<R: Host>(lines: &mut Lines<R>) -> Result<(), Refusal> {
+    let owner: Shared<u32> = Shared::shared(lines.rt.alloc())?;
     owner.cell().set(6);
-    let get = run(rt, owner.cell().get().in_place())?;
-    let get_weak = run(rt, owner.get_weak().in_place())?;
-    println!(rt; "get: in_place {get:?}, weakly {get_weak:?}")?;
-    let take = run(rt, owner.cell().take().in_place())?;
+    lines.run("get: in_place", owner.cell().get().in_place());
+    lines.run("get weak: in_place", owner.get_weak().in_place());
+    lines.run("take: in_place", owner.cell().take().in_place());
     owner.cell().set(7);
-    let take_weak = run(rt, owner.take_weak().in_place())?;
-    println!(rt; "take: in_place {take:?}, weakly {take_weak:?}")?;
+    lines.run("take weak: in_place", owner.take_weak().in_place());
     Ok(())
 }
 
 /// The owners that weak futures become.
-fn upgraded<R: Host>(rt: R) -> Result<()> {
-    let owner: Shared<u32> = Shared::shared(rt.alloc())?;
-    let (get_weak, take_weak) = (owner.get_weak(), owner.take_weak());
-    let is_get = get_weak.upgrade()?.is_some();
-    let is_take = take_weak.upgrade()?.is_some();
-    println!(rt; "weak: upgrade get {is_get}, take {is_take}")?;
+fn upgraded<R: Host>(lines: &mut Lines<R>) -> Result<(), Refusal> {
+    let owner: Shared<u32> = Shared::shared(lines.rt.alloc())?;
+    let (get, take) = (owner.get_weak(), owner.take_weak());
+    lines.found("get weak: upgrade", get.upgrade());
+    lines.found("take weak: upgrade", take.upgrade());
     drop(owner);
-    let (got, taken) = (run(rt, get_weak.with())?, run(rt, take_weak.with())?);
-    println!(rt; "weak: with get {got:?}, take {taken:?}")?;
+    lines.run("get weak: with", get.with());
+    lines.run("take weak: with", take.with());
     Ok(())
 }
 
 /// Makes each of them.
-pub fn all<R: Host>(rt: R) -> Result<()> {
-    owners(rt)?;
-    futures_of(rt)?;
-    notice(rt)?;
-    polls(rt)?;
-    places(rt)?;
-    upgraded(rt)
+pub fn all<R: Host>(lines: &mut Lines<R>) -> anyhow::Result<()> {
+    let task = MockTask::new(&lines.rt)?;
+    owners(lines)?;
+    later_owners(lines)?;
+    futures_of(lines)?;
+    notice(lines)?;
+    polls(&task, lines)?;
+    places(lines)?;
+    upgraded(lines)?;
+    Ok(())
 }

@@ -19,6 +19,7 @@ mod taken;
 mod text;
 
 use anyhow::Result;
+use async_cell_lines::Lines;
 use std::alloc::AllocGlobal;
 use std::io::Print;
 use std::sync::Wait;
@@ -45,9 +46,11 @@ fn main(rt: HostRuntime) -> Result<()> {
     room::a_skipped_waker_takes_up_no_room();
     room::a_fill_ends_the_room();
     room::room_spares_a_poll_from_want_of_memory();
-    own::bells(rt)?;
-    own::pointers(rt)?;
-    driver::all(rt)?;
+    let mut lines = Lines::new(rt);
+    own::bells(&mut lines);
+    own::pointers(&mut lines);
+    driver::all(&mut lines)?;
+    lines.end()?;
     recorded::all(&rt)?;
     conclusions(&rt)?;
     let (answered, history) = audit::audited(&rt, rt.alloc())?;

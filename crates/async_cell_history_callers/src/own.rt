@@ -2,13 +2,9 @@
 ghost use Rattle.std.specs.Prelude.{true};
 ghost use Rattle.std.proofs.Common.{rules};
 
-use anyhow::Result;
 use async_cell_core::{Core, Wakes};
+use async_cell_lines::{Host, Lines};
 use async_cell_sync::AsyncCell;
-use futures::executor::block_on;
-use std::alloc::AllocGlobal;
-use std::io::Print;
-use std::random::RandomSource;
 use std::sync::Wait;
 
 /// A waker that would wake every other.
@@ -34,15 +30,11 @@ impl Wakes for Bell {
 }
 
 /// A second bell need not wait.
-pub fn bells(rt: HostRuntime) -> Result<()> {
-    let mut core: Core<u32, Bell> = Core::new(rt.alloc());
-    println!(rt; "bell: poll_take {:?}", core.poll_take(&Bell))?;
-    println!(rt;
-        "bell: poll_get {:?}, waiting {}",
-        core.poll_get(&Bell),
-        core.waiting()
-    )?;
-    Ok(())
+pub fn bells(lines: &mut Lines<HostRuntime>) {
+    let mut core: Core<u32, Bell> = Core::new(lines.rt.alloc());
+    lines.show("bell: poll_take", core.poll_take(&Bell));
+    lines.show("bell: poll_get", core.poll_get(&Bell));
+    lines.show("bell: waiting", core.waiting());
 }
 
 /// A pointer to a cell of one thread.
@@ -72,19 +64,10 @@ impl async_cell_sync::CellRef for Far<'_> {
 }
 
 /// Futures over both pointers.
-pub fn pointers<R>(rt: R) -> Result<()>
-where
-    R: AllocGlobal + Copy + Print + RandomSource + Wait,
-{
+pub fn pointers<R: Host>(lines: &mut Lines<R>) {
+    let rt = lines.rt;
     let near = async_cell_unsync::AsyncCell::new_with(rt.alloc(), 1u32);
-    println!(rt;
-        "near: get {}",
-        block_on(&rt, async_cell_unsync::Get(Near(&near)))??
-    )?;
+    lines.run("near: get", async_cell_unsync::Get(Near(&near)));
     let far = AsyncCell::new_with(rt.alloc(), 2u32);
-    println!(rt;
-        "far: take {}",
-        block_on(&rt, async_cell_sync::Take(Far(&far)).with(rt))??
-    )?;
-    Ok(())
+    lines.run("far: take", async_cell_sync::Take(Far(&far)).with(rt));
 }

@@ -3,16 +3,20 @@
 #![tactic(auto)]
 
 mod followed;
-mod host;
 mod latest;
 mod sync_latest;
 mod unsync_latest;
 
 use anyhow::Result;
+use async_cell_lines::Lines;
 
 fn main(rt: HostRuntime) -> Result<()> {
-    latest::all(rt)?;
-    unsync_latest::all(rt)?;
-    sync_latest::all(rt)?;
+    let mut lines = Lines::new(rt);
+    latest::all(&mut lines);
+    lines.show("front:", "unsync");
+    unsync_latest::all(&mut lines)?;
+    lines.show("front:", "sync");
+    sync_latest::all(&mut lines)?;
+    lines.end()?;
     Ok(())
 }

@@ -1,35 +1,38 @@
 //! Callers of `async_cell_latest_sync`.
 use crate::followed::{changes, follower, owner, waits};
-use crate::host::{Host, run};
-use anyhow::Result;
-use async_cell_latest_sync::Owner;
+use async_cell_latest_sync::{Owner, Refusal};
+use async_cell_lines::{Host, Lines};
 use futures::StreamExt;
 use std::mem;
 
 /// Each call of an owner.
-fn owner<R: Host>(rt: R) -> Result<()> {
-    owner!(rt, rt)
+fn owner<R: Host>(lines: &mut Lines<R>) -> Result<(), Refusal> {
+    let rt = lines.rt;
+    owner!(lines, rt)
 }
 
 /// The changes in one step.
-fn changes<R: Host>(rt: R) -> Result<()> {
-    changes!(rt, rt)
+fn changes<R: Host>(lines: &mut Lines<R>) -> Result<(), Refusal> {
+    let rt = lines.rt;
+    changes!(lines, rt)
 }
 
 /// Each look of a follower.
-fn follower<R: Host>(rt: R) -> Result<()> {
-    follower!(rt, rt)
+fn follower<R: Host>(lines: &mut Lines<R>) -> Result<(), Refusal> {
+    let rt = lines.rt;
+    follower!(lines, rt)
 }
 
 /// The futures and the stream of a follower.
-fn waits<R: Host>(rt: R) -> Result<()> {
-    waits!(rt, rt)
+fn waits<R: Host>(lines: &mut Lines<R>) -> Result<(), Refusal> {
+    let rt = lines.rt;
+    waits!(lines, rt)
 }
 
 /// Makes each of them.
-pub fn all<R: Host>(rt: R) -> Result<()> {
-    owner(rt)?;
-    changes(rt)?;
-    follower(rt)?;
-    waits(rt)
+pub fn all<R: Host>(lines: &mut Lines<R>) -> Result<(), Refusal> {
+    owner(lines)?;
+    changes(lines)?;
+    follower(lines)?;
+    waits(lines)
 }
