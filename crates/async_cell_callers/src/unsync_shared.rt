@@ -28,8 +28,9 @@ fn later_owners<R: Host>(lines: &mut Lines<R>) -> Result<(), Refusal> {
 
 /// The futures and the guards of an owner.
 fn futures_of<R: Host>(lines: &mut Lines<R>) -> Result<(), Refusal> {
-    let owner: Shared<u32> = Shared::shared(lines.rt.alloc())?;
-    owner.cell().set(3);
+    let Ok(owner) = Shared::into_shared(AsyncCell::new_with(lines.rt.alloc(), 3u32)) else {
+        return Err(Refusal::Memory);
+    };
     lines.run("shared: get_shared", owner.get_shared()?);
     lines.run("shared: get_weak", owner.get_weak());
     lines.run("shared: take_shared", owner.take_shared()?);
