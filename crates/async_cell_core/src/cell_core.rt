@@ -236,23 +236,35 @@ impl<T: Drop, W: Wakes> Core<T, W> {
     }
 }
 
-/// Dropping a `Core` wakes all waiting wakers, in order.
+/// Dropping a `Core` drops its value, and wakes all waiting wakers, in order.
 impl<T: Drop, W: Wakes> Drop for Core<T, W> {
     #[inline(always)]
     fn drop(self) {
+        self.end();
+    }
+}
+
+impl<T: Drop, W: Wakes> Core<T, W> {
+    /// Internal: may change without notice. The drop, for the drop of what holds a core: a level of
+    /// calls less.
+    #[doc(hidden)]
+    #[inline(always)]
+    pub fn end(self) {
         let Core {
             value,
             owners: _,
             waiting,
         } = self;
         drop(value);
-        if !waiting.is_empty() {
+        if waiting.is_bare() {
+            mem::forget(waiting); // It holds nothing.
+        } else {
             wake(waiting);
         }
     }
 }
 
-/// Wakes all waiting wakers. Apart from `drop`, which is then small where nobody waits.
+/// Wakes all waiting wakers. Apart from `end`, which is then small where nobody waits.
 #[inline(never)]
 fn wake<W: Wakes>(mut waiting: WaitList<W>) {
     waiting.hand_out().wake_all();

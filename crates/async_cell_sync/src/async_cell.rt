@@ -22,12 +22,24 @@ use std::sync::Wait;
 /// A future made by `with` holds one place in the wait list while it waits (see `With`), so the
 /// list is no longer than the number of such futures that were alive at once. Each `poll_shared`
 /// that waits may add one waker, which stays until the next fill or close.
-#[derive(Drop)]
 pub struct AsyncCell<T> {
     pub(crate) core: LockedCore<T, TaskWaker>,
     /// The source that waiting tasks register with.
     pub(crate) source: Source,
     pub(crate) alloc: Global,
+}
+
+/// Wakes all waiters.
+impl<T: Drop> Drop for AsyncCell<T> {
+    #[inline(always)]
+    fn drop(self) {
+        let AsyncCell {
+            core,
+            source: _,
+            alloc: _,
+        } = self;
+        core.into_core().end();
+    }
 }
 
 impl<T: Drop> AsyncCell<T> {
@@ -80,7 +92,12 @@ impl<T: Drop> AsyncCell<T> {
 
     /// Returns the content. Wakes all waiters. Does not take the lock.
     pub fn into_inner(self) -> Option<T> {
-        self.core.into_inner()
+        let AsyncCell {
+            core,
+            source: _,
+            alloc: _,
+        } = self;
+        core.into_inner()
     }
 
     /// Returns a future that takes the value.

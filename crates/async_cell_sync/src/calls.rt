@@ -13,7 +13,7 @@ use std::sync::Wait;
 impl<T: Drop> AsyncCell<T> {
     /// Sets the value and drops the old one. Wakes all waiters.
     pub fn set<R: Wait>(&self, value: T, rt: &R) {
-        let _ = self.core.replace(value, rt);
+        self.core.put(value, rt);
     }
 
     /// Sets the value and wakes all waiters, if the cell holds no value. Drops `value` otherwise.
@@ -112,7 +112,7 @@ impl AsyncCell<()> {
 impl<T: Drop, R: Wait + Drop> Owner<T, R> {
     /// Sets the value and drops the old one. Wakes all waiters.
     pub fn set(&self, value: T) {
-        self.shared.cell.set(value, &self.rt);
+        self.shared.cell.core.put(value, &self.rt);
     }
 
     /// Sets the value and wakes all waiters, if the cell holds no value. Drops `value` otherwise.

@@ -16,7 +16,7 @@ use crate::weak_owner::WeakOwner;
 use async_cell_core::Refusal;
 use async_cell_waiting::With;
 use std::alloc::Global;
-use std::sync::Wait;
+use std::sync::{Arc, Wait};
 
 /// One counted owner of a cell, with the right to wait for the lock. It ends by its drop, in any
 /// thread, also at `?` or an early `return`. Its calls and futures take no `rt`. The end of the
@@ -68,7 +68,12 @@ impl<T: Drop, R: Wait + Copy> Owner<T, R> {
         ensures of_this { IfOk result (λ owner. cell_owned owner ≡ cell_owned self.now) }
         ensures refused { IfErr result IsOwnerRefusal }
     {
-        Ok(self.shared.another(&self.rt)?.with(self.rt))
+        let cell = Arc::try_clone(&self.shared.cell)?;
+        cell.core.add_owner(&self.rt)?;
+        Ok(Owner {
+            shared: Shared { cell },
+            rt: self.rt,
+        })
     }
 
     /// Returns a weak owner. If its pointer cannot be counted, its calls fail with `Memory`.
@@ -188,8 +193,14 @@ impl<R: Wait + Copy> Owner<(), R> {
 /// Ends the owner. May wait for the lock.
 impl<T: Drop, R: Wait + Drop> Drop for Owner<T, R> {
     fn drop(self) {
-        let Owner { shared, rt } = self;
-        shared.end(&rt);
+        let Owner {
+            rt,
+            shared: Shared { cell },
+        } = self;
+        // The only pointer: its drop is the end of the cell.
+        if Arc::strong_count(&cell) != 1 {
+            let _ = cell.core.end_owner(&rt);
+        }
     }
 }
 

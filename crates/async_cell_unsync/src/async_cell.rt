@@ -24,12 +24,24 @@ use std::fmt;
 /// A future made by `with` holds one place in the wait list while it waits (see `With`), so the
 /// list is no longer than the number of such futures that were alive at once. Each poll of any
 /// other future that waits may add a waker. It outlives that future, until the next fill or close.
-#[derive(Drop)]
 pub struct AsyncCell<T> {
     pub(crate) core: Lender<CellCore<T, TaskWaker>>,
     /// The source that waiting tasks register with.
     pub(crate) source: Source,
     pub(crate) alloc: Global,
+}
+
+/// Wakes all waiters.
+impl<T: Drop> Drop for AsyncCell<T> {
+    #[inline(always)]
+    fn drop(self) {
+        let AsyncCell {
+            core,
+            source: _,
+            alloc: _,
+        } = self;
+        core.into_core().end();
+    }
 }
 
 impl<T: Drop> AsyncCell<T> {
@@ -77,7 +89,7 @@ impl<T: Drop> AsyncCell<T> {
 
     /// Sets the value and drops the old one. Wakes all waiters.
     pub fn set(&self, value: T) {
-        let _ = self.core.replace(value, &OneThread);
+        self.core.put(value, &OneThread);
     }
 
     /// Sets the value and wakes all waiters, if the cell holds no value. Drops `value` otherwise.
@@ -182,14 +194,24 @@ impl<T: Drop> AsyncCell<T> {
 
     /// Returns the content. Wakes all waiters.
     pub fn into_inner(self) -> Option<T> {
-        self.core.into_inner()
+        let AsyncCell {
+            core,
+            source: _,
+            alloc: _,
+        } = self;
+        core.into_inner()
     }
 
     /// Internal: may change without notice. Returns the core. Ensures what holds of every core.
     pub fn into_core(self) -> Core<T, TaskWaker>
         ensures { IsSound ⟦<TaskWaker as Wakes>⟧.will_wake result }
     {
-        self.core.into_core()
+        let AsyncCell {
+            core,
+            source: _,
+            alloc: _,
+        } = self;
+        core.into_core()
     }
 
     /// Returns a future that takes the value.
@@ -231,7 +253,7 @@ impl<T: Drop> AsyncCell<T> {
         ensures refused { FailsWithMemory result }
     {
         let copy: Result<_, _> = value.clone();
-        self.set(value);
+        self.core.put_back(value, &OneThread);
         Ok(copy?)
     }
 }

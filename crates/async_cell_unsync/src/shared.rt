@@ -163,6 +163,9 @@ impl Shared<()> {
 impl<T: Drop> Drop for Shared<T> {
     fn drop(self) {
         let Shared { cell } = self;
-        let _ = cell.core.end_owner(&OneThread);
+        // The only pointer: its drop is the end of the cell.
+        if Rc::strong_count(&cell) != 1 {
+            let _ = cell.core.end_owner(&OneThread);
+        }
     }
 }

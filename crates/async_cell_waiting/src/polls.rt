@@ -8,11 +8,11 @@ ghost use Rattle.async_cell_model.specs.Refusal.{FailsWithMemory, FailsWithMemor
 use crate::ended::{Held, end, open_holding};
 use crate::query::Query;
 use crate::room::Room;
-use crate::store::{Opens, Step, StoredCore, Stores};
+use crate::store::{Opens, Step, StoredCore, Stores, opened};
 use crate::with::At;
 use async_cell_model::Refusal;
 use async_cell_wakers::{Place, TaskWaker};
-use futures::task::{Context, Poll, Source, Waker};
+use futures::task::{Context, Poll, Source};
 
 /// Answers the query, or waits, in the place if any. Fails with `Memory` if there is no memory for
 /// the task's waker or for the growth of the list. Asks to be polled again if the core is not lent.
@@ -31,9 +31,7 @@ pub fn poll<'a, C: Room, M: Stores<Core = C>, Q: Query<C>, R: Opens<'a, M>>(
     ensures kept { Keeps cx.old cx.new }
     ensures refused { IfReady result FailsWithMemoryOrClosed }
 {
-    let Some(mut core) = rt.open(store) else {
-        return cx.yield_now();
-    };
+    let mut core = opened!(rt, store, else return cx.yield_now());
     if !query.must_wait(core.peek()) {
         if let Some(place) = place {
             place.forget();
@@ -47,8 +45,7 @@ pub fn poll<'a, C: Room, M: Stores<Core = C>, Q: Query<C>, R: Opens<'a, M>>(
     if core.peek().is_new(place) {
         return waits(add_at(core, source, place, cx));
     }
-    let waker = core.core().take_back(place);
-    renew(store, core, waker, source, query, place, cx, rt)
+    renew(store, core, source, query, place, cx, rt)
 }
 
 /// Registers the task, and adds its waker as the last. It is a new one: nothing is dropped, and
@@ -106,8 +103,7 @@ fn add_at<C: Room, G: Step<Core = C>>(
 #[inline(never)]
 fn renew<'a, C: Room, M: Stores<Core = C>, Q: Query<C>, R: Opens<'a, M>>(
     store: &'a StoredCore<M>,
-    core: R::Open,
-    waker: Held<Option<Waker>>,
+    mut core: R::Open,
     source: &Source,
     query: Q,
     place: &mut Place,
@@ -120,6 +116,7 @@ fn renew<'a, C: Room, M: Stores<Core = C>, Q: Query<C>, R: Opens<'a, M>>(
     ensures kept { Keeps cx.old cx.new }
     ensures refused { IfReady result FailsWithMemoryOrClosed }
 {
+    let waker = core.core().take_back(place);
     let mut slot = end(core, waker);
     let _ = cx.register::<()>(source, &mut slot);
     let Some(waker) = slot else {

@@ -45,7 +45,29 @@ pub trait Opens<'a, M: Stores> {
     /// Lends the core. Returns `None` during another step of a store that cannot wait for its end,
     /// which no caller ever sees: a step calls nothing that could call the cell.
     fn open(&self, store: &'a StoredCore<M>) -> Option<Self::Open>;
+
+    /// `open`, if no other step runs.
+    fn try_open(&self, store: &'a StoredCore<M>) -> Option<Self::Open>;
+
+    /// `open`, for where `try_open` found another step: never inlined.
+    fn wait_open(&self, store: &'a StoredCore<M>) -> Option<Self::Open>;
 }
+
+/// Lends the core, or else does what is said. It is `open` for the calls that are made most: what
+/// waits is apart, and no function stands between, after which the compiler would test its flag.
+macro_rules! opened {
+    ($rt:expr, $store:expr, else $other:expr) => {
+        match $rt.try_open($store) {
+            Some(core) => core,
+            None => match $rt.wait_open($store) {
+                Some(core) => core,
+                None => $other,
+            },
+        }
+    };
+}
+
+pub(crate) use opened;
 
 /// A core that is lent for one step. It must be consumed: by `end`, or by an end that wakes.
 pub trait Step {

@@ -134,8 +134,10 @@ impl<P: Upgrade<R>, R: Copy> With<P, R> {
 impl<P: Request<R>, R: Drop> Drop for With<P, R> {
     fn drop(self) {
         let With { polled, rt, place } = self;
-        if let Some(cell) = polled.cell() {
-            cell.leave(place, &rt);
+        if place.was_held() {
+            if let Some(cell) = polled.cell() {
+                cell.leave(place, &rt);
+            }
         }
     }
 }

@@ -120,9 +120,7 @@ impl Wakes for TaskWaker {
 
     fn wake(self) {
         let TaskWaker { waker, link: _ } = self;
-        if let Some(waker) = waker {
-            waker.wake();
-        }
+        if let Some(_dropped) = waker {} // Its drop wakes. It is no call, as that of `drop` is.
     }
 
     ghost clone_is_source = { Prim.search rules };

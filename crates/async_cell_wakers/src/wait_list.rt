@@ -71,6 +71,15 @@ impl<W: Drop> WaitList<W> {
         self.first.is_none()
     }
 
+    /// Returns whether no waker waits and there is no memory for more than one: a drop of the list
+    /// would do nothing.
+    #[inline(always)]
+    pub fn is_bare(&self) -> bool
+        ensures { IsTrue result → (self.now.wakers ≡ []) × (self.now.room ≡ 0) }
+    {
+        self.is_empty() && self.rest.capacity() == 0
+    }
+
     /// Makes room: the next `additional` wakers need no memory beyond their clones, until
     /// `hand_out` empties the list. Fails if there is no memory for them; the list is then
     /// unchanged.
@@ -97,7 +106,8 @@ impl<W: Drop> WaitList<W> {
         ensures room_suffices { 0 < self.old.room → IsOk result }
     {
         if self.is_empty() {
-            self.first = Some(waker);
+            // To assign would drop the one before, which is none, and so count as a loop.
+            mem::forget(self.first.replace(waker));
             return Ok(());
         }
         if self.rest.reserve(1).is_err() {

@@ -1,5 +1,5 @@
 //! Internal: may change without notice. Calls for the crates that build on this one.
-ghost use Rattle.std.specs.Prelude.{◌≡◌, ◌↔◌, [], true, false, Ok, Some, IsOk, IfOk, IfErr, OnErr};
+ghost use Rattle.std.specs.Prelude.{◌≡◌, ◌↔◌, [], None, true, false, Ok, Some, IsOk, IfOk, IfErr, OnOk, OnErr};
 ghost use Rattle.async_cell_model.specs.Cell.{content, is_full, is_vacant};
 ghost use Rattle.async_cell_model.specs.History.{IsSound};
 ghost use Rattle.async_cell_core.specs.IsStep.{IsStep, replies, replace_answer, poll_answer};
@@ -29,6 +29,25 @@ impl<T: Drop, W: Wakes> Core<T, W> {
             Some(held) => Ok(mem::replace(held, value)),
             None => Err(value),
         }
+    }
+
+    /// Internal: may change without notice.
+    ///
+    /// `replace` on a vacant cell on which nobody waits, and whose list has no memory. On others it
+    /// changes nothing, and returns `value` in the error.
+    #[doc(hidden)]
+    #[inline(always)]
+    pub fn put_quiet(&mut self, value: T) -> Result<(), T>
+        ensures model { OnOk result (IsStep W.Wakes
+            self.old (Kept.Replace value) (replace_answer (Ok (None, []))) self.new) }
+        ensures unchanged { OnErr result (self.new ≡ self.old) }
+        ensures comes_back { IfErr result (λ back. back ≡ value) }
+    {
+        if self.value.is_some() || self.owners == 0 || !self.waiting.is_bare() {
+            return Err(value);
+        }
+        self.value = Some(value);
+        Ok(())
     }
 
     /// Internal: may change without notice.

@@ -5,7 +5,7 @@ ghost use Rattle.async_cell_model.specs.Refusal.{FailsWithClosed, FailsWithMemor
 
 use super::CellCore;
 use crate::ended::{Held, end, end_and_wake, end_and_wake_one};
-use crate::store::{Opens, Step, StoredCore, Stores};
+use crate::store::{Opens, Step, StoredCore, Stores, opened};
 use async_cell_core::{Core, Poll, Refusal, Wakes, end_guard};
 
 impl<M: Stores<Core = CellCore<T, W>>, T: Drop, W: Wakes> StoredCore<M> {
@@ -38,14 +38,27 @@ impl<M: Stores<Core = CellCore<T, W>>, T: Drop, W: Wakes> StoredCore<M> {
         Ok(())
     }
 
+    /// `set`, where nobody reads what comes back: a closed cell drops the value.
+    #[inline]
+    pub fn put<'a, R: Opens<'a, M>>(&'a self, value: T, rt: &R) {
+        let mut core = opened!(rt, self, else return);
+        if core.peek().core.is_set() {
+            let old = Held::of(core.core().core.overwrite(value)); // Nobody waits on a full cell.
+            let _ = end(core, old);
+            return;
+        }
+        match core.core().core.fill_first(value) {
+            Ok(first) => end_and_wake_one(core, Held::waking((), first)),
+            Err(value) => put_over(core, value),
+        }
+    }
+
     /// Sets the value, wakes all waiters, returns the old one. A closed cell gives the value back.
     #[inline]
     pub fn replace<'a, R: Opens<'a, M>>(&'a self, value: T, rt: &R) -> Result<Option<T>, T>
         ensures comes_back { IfErr result (λ back. back ≡ value) }
     {
-        let Some(mut core) = rt.open(self) else {
-            return Err(value);
-        };
+        let mut core = opened!(rt, self, else return Err(value));
         if core.peek().core.is_set() {
             let old = Held::of(core.core().core.overwrite(value)); // Nobody waits on a full cell.
             return Ok(Some(end(core, old)?));
@@ -130,10 +143,20 @@ impl<M: Stores<Core = CellCore<T, W>>, T: Drop, W: Wakes> StoredCore<M> {
         }
     }
 
+    /// Internal: may change without notice. `put`, of a value that was taken out of the cell.
+    #[doc(hidden)]
+    pub fn put_back<'a, R: Opens<'a, M>>(&'a self, value: T, rt: &R) {
+        let mut core = opened!(rt, self, else return);
+        match core.core().core.put_quiet(value) {
+            Ok(()) => end(core, Held::of(())),
+            Err(value) => put_over(core, value),
+        }
+    }
+
     /// Takes the value, if there is one. The waiters stay registered.
     #[inline]
     pub fn try_take<'a, R: Opens<'a, M>>(&'a self, rt: &R) -> Option<T> {
-        let mut core = rt.open(self)?;
+        let mut core = opened!(rt, self, else return None);
         let taken = Held::of(core.core().core.try_take());
         end(core, taken)
     }
@@ -202,7 +225,7 @@ impl<M: Stores<Core = CellCore<T, W>>, T: Drop, W: Wakes> StoredCore<M> {
         ensures refused { IfErr result (λ why.
             (why ≡ Refusal.Closed) ⊎ (why ≡ Refusal.OwnersFull)) }
     {
-        let mut core = rt.open(self).ok_or(Refusal::Closed)?;
+        let mut core = opened!(rt, self, else return Err(Refusal::Closed));
         let added = Held::of(core.core().core.add_owner());
         end(core, added)
     }
@@ -212,12 +235,18 @@ impl<M: Stores<Core = CellCore<T, W>>, T: Drop, W: Wakes> StoredCore<M> {
     pub fn end_owner<'a, R: Opens<'a, M>>(&'a self, rt: &R) -> Result<(), Refusal>
         ensures refused { FailsWithClosed result }
     {
-        let mut core = rt.open(self).ok_or(Refusal::Closed)?;
+        let mut core = opened!(rt, self, else return Err(Refusal::Closed));
         if core.core().core.end_other() {
             end(core, Held::of(()));
             return Ok(());
         }
-        end_last(core)
+        match core.core().core.close_first() {
+            Some((value, first)) => {
+                drop(end_and_wake_one(core, Held::waking(value, first)));
+                Ok(())
+            }
+            None => end_last(core),
+        }
     }
 
     /// Closes the cell, wakes all waiters and returns the value, if there is one owner. Fails with
@@ -233,7 +262,7 @@ impl<M: Stores<Core = CellCore<T, W>>, T: Drop, W: Wakes> StoredCore<M> {
 }
 
 /// `replace`, of a core that is lent: apart, so that `replace` pays for it only where it is called.
-#[inline(always)]
+#[inline(never)]
 fn write<G: Step<Core = CellCore<T, W>>, T: Drop, W: Wakes>(
     mut core: G,
     value: T,
@@ -244,17 +273,18 @@ fn write<G: Step<Core = CellCore<T, W>>, T: Drop, W: Wakes>(
     end_and_wake(core, replaced)
 }
 
+/// `write`, whose old value is dropped.
+#[inline(never)]
+fn put_over<G: Step<Core = CellCore<T, W>>, T: Drop, W: Wakes>(core: G, value: T) {
+    let _ = write(core, value);
+}
+
 /// Ends the last owner, of a core that is lent.
+#[inline(never)]
 fn end_last<G: Step<Core = CellCore<T, W>>, T: Drop, W: Wakes>(mut core: G) -> Result<(), Refusal>
     ensures refused { FailsWithClosed result }
 {
-    let value = match core.core().core.close_first() {
-        Some((value, first)) => end_and_wake_one(core, Held::waking(value, first)),
-        None => {
-            let ended = Held::of_result(core.core().core.end_owner());
-            end_and_wake(core, ended)?
-        }
-    };
-    drop(value);
+    let ended = Held::of_result(core.core().core.end_owner());
+    drop(end_and_wake(core, ended)?);
     Ok(())
 }

@@ -38,8 +38,18 @@ impl<'a, C: 'a> Opens<'a, RefCell<C>> for OneThread {
 
     #[inline(always)]
     fn open(&self, store: &'a Lender<C>) -> Option<Lent<'a, C>> {
+        self.try_open(store)
+    }
+
+    #[inline(always)]
+    fn try_open(&self, store: &'a Lender<C>) -> Option<Lent<'a, C>> {
         let core = store.store.try_borrow_mut().ok()?;
         Some(Lent { core })
+    }
+
+    #[inline(always)]
+    fn wait_open(&self, _: &'a Lender<C>) -> Option<Lent<'a, C>> {
+        None
     }
 }
 

@@ -44,6 +44,18 @@ impl<'a, C: 'a, R: Wait> Opens<'a, Mutex<C>> for R {
         };
         Some(Locked { core })
     }
+
+    #[inline(always)]
+    fn try_open(&self, store: &'a Lock<C>) -> Option<Locked<'a, C>> {
+        let core = store.store.try_lock()?;
+        Some(Locked { core })
+    }
+
+    #[inline(never)]
+    fn wait_open(&self, store: &'a Lock<C>) -> Option<Locked<'a, C>> {
+        let core = store.store.lock(self);
+        Some(Locked { core })
+    }
 }
 
 impl<C> Step for Locked<'_, C> {
