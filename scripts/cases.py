@@ -15,9 +15,9 @@ import subprocess
 import sys
 import tempfile
 
-import edits_kit
 import lay_out
 import random_cases
+import try_kit
 from lay_out import TOP, copy_crates, files_below, read, without_lock, write
 
 PLAYER = f"{TOP}/tests/player"
@@ -62,26 +62,14 @@ def cases(chosen):
     return "".join(text)
 
 
-def build_and_play(folder, inputs, objects):
-    """Builds the player, and runs it for each file of the folder `inputs`."""
-    rt = edits_kit.load()
-    rt.rtlib.guarded()
-    crate = next(it for it in rt.rtlib.crates_below(folder) if it.name == "player")
-    os.chdir(crate.folder)
-    # (its look at names, beside the try, is for what is to be proved)
-    rt.rtlib.RATTLE = "true"
-    # (before the kit's own libraries, so that their functions of memory are not looked for)
-    rt.rtlib.TRY_FLAGS.append("--link")
-    links = [word for it in objects for word in ("--link", it)]
-    return crate.try_unproved([*links, "--cases", inputs, "--seconds", SECONDS], [])
-
-
-def play(words, random_text):
-    """Does so in a process of its own. Prints its lines, each random case once that came out
-    otherwise, and returns what each run counted."""
-    words = [sys.executable, os.path.abspath(__file__), "--play", *words]
+def play(project, inputs, objects, random_text):
+    """Builds the player, and runs it for each file of the folder `inputs`. Prints its lines, each
+    random case once that came out otherwise, and returns what each run counted."""
+    words = ["--steps", "1", "--seconds", SECONDS, "--cases", inputs]
+    words = try_kit.command(project, "player", objects, words)
+    how = {"stdin": subprocess.DEVNULL, "stdout": subprocess.PIPE, "stderr": subprocess.STDOUT}
     counts, told = [], set()
-    with subprocess.Popen(words, stdout=subprocess.PIPE, stderr=subprocess.STDOUT, text=True) as ran:
+    with subprocess.Popen(words, text=True, **how) as ran:
         for line in ran.stdout:
             found = re.match(r"(\d+) passed, (\d+) failed$", line)
             if found:
@@ -116,7 +104,7 @@ def main(words):
         write(f"{folder}/inputs/plain", f"{text}file random\n{made}")
         few = random_cases.cases(-(-asked.random // 10), asked.seed) if made else ""
         write(f"{folder}/inputs/refusing", f"refuse\n{text}file random refused\n{few}")
-        counts = play([f"{folder}/project", f"{folder}/inputs", *compiled(folder)], made)
+        counts = play(f"{folder}/project", f"{folder}/inputs", compiled(folder), made)
     passed, failed = (sum(it) for it in zip((0, 0), *counts))
     failed += 2 - len(counts)
     print(f"{passed} passed, {failed} failed")
@@ -124,6 +112,4 @@ def main(words):
 
 
 if __name__ == "__main__":
-    if sys.argv[1:2] == ["--play"]:
-        sys.exit(build_and_play(sys.argv[2], sys.argv[3], sys.argv[4:]))
     sys.exit(main(sys.argv[1:]))

@@ -73,19 +73,8 @@ def build(told, room, words):
     named = [it for it in (word.split("::")[0] for word in words) if lay_out.texts_of(it)]
     lay_out.lay_out(f"{room}/project", [*named, "checks"] if named else None)
     told.begin("compiling, some two minutes")
-    lib = try_kit.load()
-    if not lib:
-        return None, tried_plainly(f"{room}/project/crates/tests")
     refuses = lay_out.compiled(f"{lay_out.TOP}/scripts/refuse.c", f"{room}/refuse.o")
-    return try_kit.built(lib, f"{room}/project/crates/tests", [refuses], f"{room}/built")
-
-
-def tried_plainly(folder):
-    """Tries the tests by `rt try`, with a kit whose rt has not what scripts/try_kit.py needs. None
-    of them is run again. Returns what they printed."""
-    words = ["rt", "try", "--test", "--seconds", str(test_runs.SECONDS)]
-    how = {"stdin": subprocess.DEVNULL, "stdout": subprocess.PIPE, "stderr": subprocess.STDOUT}
-    return subprocess.run(words, cwd=folder, text=True, **how).stdout
+    return try_kit.built(f"{room}/project", "tests", [refuses], f"{room}/built")
 
 
 def chosen(program, words):
