@@ -66,7 +66,7 @@ def lay_project(folder):
     shutil.copy(f"{TOP}/HANDLES", folder)
     lines = needed()
     for name in (it.split(":")[0] for it in lines):
-        others = shutil.ignore_patterns("must-fail", "bugs")
+        others = shutil.ignore_patterns("must-fail", "bugs.txt")
         shutil.copytree(f"{TOP}/crates/{name}", f"{folder}/crates/{name}", ignore=others)
     write(f"{folder}/crates.txt", "\n".join(lines) + "\n")
 

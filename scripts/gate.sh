@@ -1,7 +1,7 @@
 #!/usr/bin/env bash
 # The whole gate, which CI runs too: a look at the deliberate bugs and at the pages, all tests without
-# a proof, `rt ci`, the check of the script that tries deliberate bugs, the deliberate bugs of bugs/,
-# the built program, also with each request for memory refused, the cases of misuse that must not
+# a proof, `rt ci`, the check of the script that tries deliberate bugs, those of bugs.txt, the built
+# program, also with each request for memory refused, the cases of misuse that must not
 # compile, the first program in a repository of its own, the snippets of the pages, and, where there
 # is valgrind, what the calls cost. Prints a line at least every minute, at the end a line for each
 # step with what it has shown and how long it took, and last 'N passed, M failed', with the totals of
@@ -87,12 +87,12 @@ read='^pages: [1-9][0-9]* read, 0 faults$'
 vendored='^vendor_check: .* runs in a repository of its own: .'
 counted='^count: [1-9][0-9]* counted, 0 rose '
 
-show 'the deliberate bugs can be applied' "$applied" python3 scripts/check_edits.py
+show 'the deliberate bugs can be applied' "$applied" python3 scripts/bugs.py --list
 show 'the pages (scripts/pages.py)' "$read" python3 scripts/pages.py
 count 'all tests, without a proof (scripts/tests.sh)' bash scripts/tests.sh
 count 'proofs, programs, and the bugs of must-fail/ (rt ci)' rt ci
-show 'what tries deliberate bugs (scripts/edits_check.py)' "$counts" python3 scripts/edits_check.py
-count 'the bugs of bugs/ (scripts/edits.py)' python3 scripts/edits.py proved
+show 'what tries deliberate bugs (scripts/bugs_check.py)' "$counts" python3 scripts/bugs_check.py
+count 'the bugs of bugs.txt (scripts/bugs.py)' python3 scripts/bugs.py
 show 'the built program (scripts/program.sh)' "$counts" bash scripts/program.sh
 show 'no memory (scripts/memory.sh)' "$counts" bash scripts/memory.sh
 show 'misuse that must not compile (misuse/check.sh)' "$counts" bash misuse/check.sh

@@ -4,13 +4,13 @@
     scripts/planted.py [--table FILE] [--compare FILE] [--edits FOLDER] [--enough N] [--only WORDS]
                        [--without WORDS] [--keep FOLDER] [tests] [cases]
 
-The bugs are the files crates/NAME/must-fail/*.edit and crates/NAME/bugs/*.edit. All that change no
-more than bodies of functions are compiled into one program behind a switch, and the tests and cases
-(without words: both) that come by one are run with it. A case is played as it is, and with each
-request for memory refused; so is a test that tests/again.txt lists. Nothing is proved. It prints a
-line for each bug: what catches it, or `only a contract`. It stops at the first N that do (3 if not
-said). A bug that does not compile, or changes more than bodies, is listed as not wrapped. First all
-is run without a bug, and has to pass.
+The bugs are those of crates/NAME/bugs.txt and the files crates/NAME/must-fail/*.edit. All that
+change no more than bodies of functions are compiled into one program behind a switch, and the tests
+and cases (without words: both) that come by one are run with it. A case is played as it is, and
+with each request for memory refused; so is a test that tests/again.txt lists. Nothing is proved. It
+prints a line for each bug: what catches it, or `only a contract`. It stops at the first N that do
+(3 if not said). A bug that does not compile, or changes more than bodies, is listed as not wrapped.
+First all is run without a bug, and has to pass.
 
 --table FILE writes a table: the bug, the tests and the cases that catch it, between tabs.
 --compare FILE reads such a table, and fails if a bug that was caught there is not caught now.
@@ -32,12 +32,6 @@ from lay_out import TOP
 from planted_runs import Runner, cases_of, tests_of
 
 KINDS = ("tests", "cases")
-
-
-def name_of(bug):
-    """Returns the name of a bug, which stays where it is moved to another folder: CRATE/NAME."""
-    parts = bug.split("/")
-    return f"{parts[-3]}/{os.path.splitext(parts[-1])[0]}"
 
 
 def asked():
@@ -95,10 +89,10 @@ def is_caught(row):
 def line_of(bug, row):
     """Returns the line that is printed of a bug."""
     if any(it.startswith("not wrapped") for it in row.values()) and not is_caught(row):
-        return f"{name_of(bug)}: {next(iter(row.values()))}"
+        return f"{bug}: {next(iter(row.values()))}"
     if not is_caught(row):
-        return f"{name_of(bug)}: only a contract"
-    return f"{name_of(bug)}: " + "; ".join(f"{kind}: {it or 'none'}" for kind, it in row.items())
+        return f"{bug}: only a contract"
+    return f"{bug}: " + "; ".join(f"{kind}: {it or 'none'}" for kind, it in row.items())
 
 
 def try_all(how, bugs, runners, made):
@@ -107,7 +101,7 @@ def try_all(how, bugs, runners, made):
     with ThreadPoolExecutor(how.jobs) as pool:
         ran = [pool.submit(tried, runners, made, it, bug, how.enough) for it, bug in bugs]
         for (_, bug), one in zip(bugs, ran):
-            rows[name_of(bug)] = one.result()
+            rows[bug] = one.result()
             print(line_of(bug, one.result()), flush=True)
     return rows
 
@@ -149,13 +143,13 @@ def faults(runners):
 
 def main():
     how = asked()
-    paths = planted_program.all_bugs(how.edits)
-    bugs = list(enumerate(paths, 1))
+    planted_program.CHANGES.update(planted_program.all_bugs(how.edits))
+    bugs = list(enumerate(planted_program.CHANGES, 1))
     with tempfile.TemporaryDirectory(prefix="planted-") as room:
         made = programs(how, bugs, how.keep or room)
         runners = ready(how, made)
         failed = faults(runners)
-        tried_now = [it for it in bugs if re.search(how.only or "", name_of(it[1]))]
+        tried_now = [it for it in bugs if re.search(how.only or "", it[1])]
         rows = try_all(how, tried_now, runners, made)
     if how.table:
         write_table(how.table, rows)

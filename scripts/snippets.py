@@ -190,7 +190,7 @@ def lay_out(work, name, files):
         lines.append(line)
         target = os.path.join(work, "crates", crate)
         if not os.path.isdir(target):
-            ignored = shutil.ignore_patterns("out", "must-fail", "bugs")
+            ignored = shutil.ignore_patterns("out", "must-fail", "bugs.txt")
             shutil.copytree(os.path.join(TOP, "crates", crate), target, ignore=ignored)
     lines.append(f"{name}: " + " ".join(sorted(used)))
     with open(os.path.join(work, "crates.txt"), "w", encoding="utf-8") as out:

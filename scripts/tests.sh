@@ -7,5 +7,5 @@
 # failed'; the status is 0 if none failed.
 set -euo pipefail
 scripts=$(dirname "$0")
-python3 "$scripts/check_edits.py"
+python3 "$scripts/bugs.py" --list
 exec python3 "$scripts/tests.py" "$@"

@@ -11,7 +11,7 @@ from pathlib import Path
 TOP = Path(__file__).resolve().parent.parent
 # The folder of a copy that has what is no crate's.
 HOME = "railyarrow"
-LEFT_OUT = ("must-fail", "bugs", "out")
+LEFT_OUT = ("must-fail", "bugs.txt", "out")
 HANDLES = ("Threads", "Wait", "Net", "Processes")
 LINK = re.compile(r"\[([^\]]*)\]\(([^)#\s]+)(#[^)\s]*)?\)")
 # What stands below the title of a copied page of docs/.

@@ -7,7 +7,7 @@
 #     bash scripts/vendor.sh --lines FOLDER     prints the lines that the project needs
 #
 # FOLDER is the folder `crates` of the project; it is made if it is not there. A crate comes with
-# those of this repository that it stands on, without its deliberate bugs (must-fail/ and bugs/) and
+# those of this repository that it stands on, without its deliberate bugs (must-fail/ and bugs.txt) and
 # without what checks keep (out/). FOLDER/railyarrow has the licence, the version, the commit, the
 # checksum of each file that was copied, and the pages of docs/ that the crates' pages point to.
 #

@@ -56,7 +56,7 @@ are_copied() {
     mkdir "$work/wanted"
     for crate in "$@"; do
         cp -r "$work/clone/crates/$crate" "$work/wanted/"
-        rm -rf "$work/wanted/$crate"/{must-fail,bugs,out}
+        rm -rf "$work/wanted/$crate"/{must-fail,bugs.txt,out}
         ! grep -q '](../../docs/' "$work/wanted/$crate/CALLING.md" 2>/dev/null ||
             sed -i 's|](../../docs/|](../railyarrow/|' "$work/wanted/$crate/CALLING.md"
     done
