@@ -68,6 +68,7 @@ def play(project, inputs, objects, random_text):
     words = ["--steps", "1", "--seconds", SECONDS, "--cases", inputs]
     words = try_kit.command(project, "player", objects, words)
     how = {"stdin": subprocess.DEVNULL, "stdout": subprocess.PIPE, "stderr": subprocess.STDOUT}
+    how["env"] = {**os.environ, "TMPDIR": os.path.dirname(inputs)}
     counts, told = [], set()
     with subprocess.Popen(words, text=True, **how) as ran:
         for line in ran.stdout:
