@@ -36,7 +36,7 @@ pub fn above(x: u8) -> u8
 """
 # What is changed, what comes in its place, and what is to be said of it.
 PLANTED = {
-    "a wrong body": ("    x + STEP", "    x", "refused: note: src/lib.rt:8"),
+    "a wrong body": ("    x + STEP", "    x", "refused: note: src/lib.rt:6"),
     "a wrong body below a harmless one": ("{ x } else", "{ 1 } else", "refused: note: src/lib.rt"),
     "a harmless one above a wrong body": ("capped(x) + 1", "1 + capped(x)", "FAILED: the crate is"),
     "the same meaning": ("    x + STEP", "    STEP + x", "FAILED: the crate is still proved with"),
