@@ -39,6 +39,7 @@ PLANTED = {
     "a wrong body": ("    x + STEP", "    x", "refused: note: src/lib.rt:6"),
     "a wrong body below a harmless one": ("{ x } else", "{ 1 } else", "refused: note: src/lib.rt"),
     "a harmless one above a wrong body": ("capped(x) + 1", "1 + capped(x)", "FAILED: the crate is"),
+    "a harmless one above a weak clause": ("capped(x) + 1", "1 + capped(x)", "FAILED: the crate is"),
     "the same meaning": ("    x + STEP", "    STEP + x", "FAILED: the crate is still proved with"),
     "a constant of any value": ("u8 = 2;", "u8 = 1;", "FAILED: the crate is still proved with"),
     "a clause that a caller needs": ("90 + 10", "90 + 110", "refused: note: src/lib.rt"),
