@@ -23,9 +23,7 @@ TOP = os.path.dirname(os.path.dirname(os.path.abspath(__file__)))
 PARTS = ("src", "specs", "proofs")
 CODE = f"{TOP}/tests/code"
 PROGRAM = "cellrun"
-# Texts of tests of both cells, by their folder. As they stand they are of the cell that threads
-# share. That of one thread takes no right to wait for a lock, and its owners end by their drop.
-OF_BOTH = {"cells": ("sync", "unsync")}
+# That of one thread takes no right to wait for a lock, and its owners end by their drop.
 WITHOUT_LOCK = [
     (r"(\bcrate::|_)sync\b", r"\1unsync"),
     (r"use std::sync::Arc;\n", ""),
@@ -97,18 +95,6 @@ def texts_of(module):
     return [it for it in files_below(CODE) if re.match(rf"{module}(/|\.rt\.txt$)", it)]
 
 
-def texts_by_name(module):
-    """Returns the texts of a module of the tests, by the names of the files that they are laid out
-    as."""
-    made = {it.removesuffix(".txt"): read(f"{CODE}/{it}") for it in texts_of(module)}
-    for folder, (with_lock, without) in OF_BOTH.items():
-        for it in texts_of(folder) if module in (with_lock, without) else []:
-            text = read(f"{CODE}/{it}")
-            name = f"{module}/{os.path.relpath(it, folder).removesuffix('.txt')}"
-            made[name] = text if module == with_lock else without_lock(text)
-    return made
-
-
 def with_used(modules):
     """Returns these modules of the tests, and those that they use."""
     found = []
@@ -117,7 +103,7 @@ def with_used(modules):
         module = left.pop()
         if module not in found and texts_of(module):
             found.append(module)
-            text = "".join(texts_by_name(module).values())
+            text = "".join(read(f"{CODE}/{it}") for it in texts_of(module))
             left += re.findall(r"\bcrate::(\w+)::", text)
     return sorted(found)
 
@@ -126,8 +112,8 @@ def lay_tests(folder, modules):
     """Lays modules out as the crate `tests`."""
     source = f"{folder}/crates/tests/src"
     for module in modules:
-        for name, text in texts_by_name(module).items():
-            write(f"{source}/{name}", text)
+        for it in texts_of(module):
+            write(f"{source}/{it.removesuffix('.txt')}", read(f"{CODE}/{it}"))
     declared = "".join(f"#[cfg(test)]\nmod {it};\n" for it in modules)
     write(f"{source}/lib.rt", f"//! Tests.\n#![tactic(auto)]\n\n{declared}")
     with open(f"{folder}/crates.txt", "a", encoding="utf-8") as file:
@@ -153,7 +139,7 @@ def lay_out(folder, modules=None):
     all."""
     copy_crates(folder)
     every = sorted({it.split("/")[0].removesuffix(".rt.txt") for it in files_below(CODE)})
-    chosen = with_used(modules or [it for it in every if texts_of(it) and it not in OF_BOTH])
+    chosen = with_used(modules or [it for it in every if texts_of(it)])
     lay_tests(folder, chosen)
     if PROGRAM in chosen:
         lay_program(folder)
