@@ -23,11 +23,12 @@ AGAIN = f"{lay_out.TOP}/tests/again.txt"
 
 
 class Told:
-    """What is printed: a line at least every half minute."""
+    """What is printed, a line at least every half minute, and how many tests passed and failed."""
 
     def __init__(self):
         self.begun = self.last = time.monotonic()
         self.doing = ""
+        self.passed = self.failed = 0
         threading.Thread(target=self.tick, daemon=True).start()
 
     def say(self, text):
@@ -44,27 +45,13 @@ class Told:
             if time.monotonic() - self.last > 25:
                 self.say(f"{self.doing} ..")
 
-
-class Results:
-    """How many tests passed and failed."""
-
-    def __init__(self, told):
-        self.told = told
-        self.passed = self.failed = 0
-
     def count(self, name, complaint):
         """Counts a test, and prints it if there is a complaint."""
-        if complaint is None:
-            self.passed += 1
-        else:
-            self.failed += 1
-            self.told.say(f"failed {name}:")
+        self.passed += complaint is None
+        self.failed += complaint is not None
+        if complaint is not None:
+            self.say(f"failed {name}:")
             print(complaint, flush=True)
-
-    def add(self, passed, failed):
-        """Counts what another program has counted."""
-        self.passed += passed
-        self.failed += failed
 
 
 def build(told, room, words):
@@ -87,23 +74,22 @@ def chosen(program, words):
     return [it for it in runs if not words or any(word in it[1] for word in words)]
 
 
-def run(program, runs, results):
+def run(program, runs, told):
     """Runs the tests, as many side by side as there are processors, and tells of each group once
     all of it have ended."""
     left = collections.Counter(group for group, _, _ in runs)
-    failed = collections.Counter()
-    wanted = dict(left)
+    failed, wanted = collections.Counter(), dict(left)
     with concurrent.futures.ThreadPoolExecutor(len(os.sched_getaffinity(0))) as pool:
         begun = {pool.submit(test_runs.complaint_of, program, *it[1:]): it for it in runs}
         for ended in concurrent.futures.as_completed(list(begun)):
             group, test, way = begun.pop(ended)
-            results.count(test if way == "once" else f"{test}, {way}", ended.result())
+            told.count(test if way == "once" else f"{test}, {way}", ended.result())
             left[group] -= 1
             failed[group] += ended.result() is not None
-            results.told.doing = "running " + ", ".join(it[1] for it in list(begun.values())[:1])
+            told.doing = "running " + ", ".join(it[1] for it in list(begun.values())[:1])
             if not left[group]:
                 passed = wanted[group] - failed[group]
-                results.told.say(f"{group}: {passed} passed, {failed[group]} failed")
+                told.say(f"{group}: {passed} passed, {failed[group]} failed")
 
 
 def begin_cases():
@@ -113,36 +99,36 @@ def begin_cases():
     return subprocess.Popen(words, text=True, **how)
 
 
-def read_cases(played, results):
+def read_cases(played, told):
     """Waits until the cases are played, counts them, and prints what did not come out right."""
-    results.told.doing = "playing the cases"
+    told.doing = "playing the cases"
     lines = played.communicate()[0].splitlines()
     found = re.fullmatch(r"(\d+) passed, (\d+) failed", lines[-1] if lines else "")
     passed, failed = (int(it) for it in found.groups()) if found else (0, 1)
     failed = max(failed, int(played.returncode != 0))
-    results.add(passed, failed)
-    results.told.say(f"cases: {passed} passed, {failed} failed")
+    told.passed, told.failed = told.passed + passed, told.failed + failed
+    told.say(f"cases: {passed} passed, {failed} failed")
     if failed:
         print("\n".join(lines), flush=True)
 
 
 def main(words):
-    results = Results(Told())
+    told = Told()
     played = None if words else begin_cases()
     for it in [] if words else lay_out.formatted():
-        results.count(f"tests/{it}", "not as `python3 scripts/lay_out.py --format` writes it")
+        told.count(f"tests/{it}", "not as `python3 scripts/lay_out.py --format` writes it")
     with tempfile.TemporaryDirectory(prefix="tests-") as room:
-        program, said = build(results.told, room, words)
+        program, said = build(told, room, words)
         runs = chosen(program, words) if program else []
         if runs:
-            results.told.say(f"compiled: {len(runs)} runs of tests")
-            run(program, runs, results)
+            told.say(f"compiled: {len(runs)} runs of tests")
+            run(program, runs, told)
         else:
-            results.count("the tests", f"{said}\nnot each test ran in each way")
+            told.count("the tests", f"{said}\nnot each test ran in each way")
     if played:
-        read_cases(played, results)
-    print(f"{results.passed} passed, {results.failed} failed")
-    return 1 if results.failed else 0
+        read_cases(played, told)
+    print(f"{told.passed} passed, {told.failed} failed")
+    return 1 if told.failed else 0
 
 
 if __name__ == "__main__":
