@@ -1,73 +1,101 @@
 #!/usr/bin/env python3
 """Counts what the calls cost, and tells what has risen since bench/counts.tsv was written.
 
-    count.py [--write] [--keep FOLDER] [--programs FOLDER]
+    count.py [--write]
 
-It builds the programs without a proof (unproved.py), counts the instructions of each operation of
-table.py by callgrind, and prints each figure that has risen or fallen by more than 2 per cent. The
+It takes the programs bench_* of crates/, proved and built as users' are (`rt ci` has built them; one
+that is not there, or older than a source, is built by `rt run`), and counts the instructions of each
+operation by callgrind. It prints each figure that has risen or fallen by more than 2 per cent. The
 status is 0 if none has risen by more than 5 per cent, and the figures are those of the table.
 
---write writes the table anew, and then what bench/page.py makes of it. --keep FOLDER leaves the
-programs there, and --programs FOLDER counts those of a folder, such as the proved ones that run.sh
-has built. JOBS says how many runs go side by side.
+--write writes the table anew, and what bench/page.py makes of it. JOBS says how many runs go side by
+side.
 """
-import argparse
+import glob
 import os
 import platform
+import re
 import shutil
 import subprocess
 import sys
-import tempfile
 from concurrent.futures import ThreadPoolExecutor
 
 import counts
 import page
-import table
-import unproved
+
+TOP = os.path.dirname(counts.FOLDER)
+# The rows: the program of each, and the operations that it has.
+ALL = ("reply", "watch", "fan", "again", "stream")
+ROWS = {
+    "unsync": ("cells", ALL[:4]),
+    "unsync Owner": ("unsync_owner", ALL),
+    "sync": ("cells", ALL[:4]),
+    "sync Owner": ("owner", ALL),
+    "latest_sync": ("latest", ("watch", "fan", "again")),
+    "bare": ("cells", ALL[:4]),
+}
+# The columns: title, operation, and how many wait at once.
+COLUMNS = [
+    ("reply slot", "reply", 1),
+    ("watcher", "watch", 1),
+    ("fan-out 1", "fan", 1),
+    ("fan-out 8", "fan", 8),
+    ("fan-out 64", "fan", 64),
+    ("fan-out 1024", "fan", 1024),
+    ("fan-out 100,000", "fan", 100_000),
+    ("poll again", "again", 1),
+    ("stream", "stream", 1),
+]
+POLLS = 4096
 
 
-def asked():
-    """Returns what the words of the command ask for."""
-    said = argparse.ArgumentParser(usage=__doc__)
-    said.add_argument("--write", action="store_true")
-    said.add_argument("--keep")
-    said.add_argument("--programs")
-    found = said.parse_args()
-    found.jobs = int(os.environ.get("JOBS") or len(os.sched_getaffinity(0)))
-    return found
+def built(name):
+    """Returns the path of a program, which it builds if need be."""
+    folder = f"{TOP}/crates/bench_{name}"
+    program = f"{folder}/out/bench_{name}"
+    sources = glob.glob(f"{TOP}/crates/*/src/**/*.rt", recursive=True)
+    if not os.path.isfile(program) or max(map(os.path.getmtime, sources)) > os.path.getmtime(program):
+        ran = subprocess.run(["rt", "run"], cwd=folder, capture_output=True, text=True, check=False)
+        if ran.returncode:
+            sys.exit(f"count: bench_{name} was not built:\n{(ran.stdout + ran.stderr)[-3000:]}")
+    return program
 
 
-def columns():
-    """Returns the columns that are counted."""
-    return [it for it in table.COLUMNS if it[1] != "threads"]
+def collected(program, words, rounds, waiters):
+    """Returns the instructions of a run, which has to count what it is asked for."""
+    command = [program, *words, str(rounds), str(waiters)]
+    callgrind = ["valgrind", "--tool=callgrind", "--callgrind-out-file=/dev/null"]
+    ran = subprocess.run([*callgrind, *command], capture_output=True, text=True, check=True)
+    is_sum = words[1] in ("reply", "watch", "stream")
+    wanted = rounds * (rounds - 1) // 2 if is_sum else rounds * waiters
+    if ran.stdout != f"{wanted}\n":
+        sys.exit(f"count: {' '.join(command)} printed {ran.stdout!r}, and not {wanted}")
+    return int(re.search(r"Collected : (\d+)", ran.stderr)[1])
 
 
-def counted(folder, jobs):
-    """Counts the instructions of each kind and operation, by the programs in a folder."""
+def instructions(program, row, operation, waiters):
+    """Counts the instructions of one operation: those of twice as many rounds, less those of once."""
+    few = max(POLLS // waiters, 2)
+    words = (row.split()[0], operation)
+    once, twice = (collected(program, words, it * few, waiters) for it in (1, 2))
+    return round((twice - once) / few / waiters)
+
+
+def counted(jobs):
+    """Counts each figure of the table."""
+    programs = {name: built(name) for name in dict.fromkeys(it for it, _ in ROWS.values())}
     fields = [
-        (kind, title, workload, waiters)
-        for kind in table.KINDS
-        for title, workload, waiters, _ in columns()
-        if table.applies(kind, workload, waiters)
+        (row, title, operation, waiters)
+        for row, (_, operations) in ROWS.items()
+        for title, operation, waiters in COLUMNS
+        if operation in operations
     ]
     with ThreadPoolExecutor(jobs) as pool:
-        ran = pool.map(lambda it: table.instructions(folder, it[0], it[2], it[3]), fields)
-        made = {}
-        for (kind, title, *_), figure in zip(fields, ran):
-            made.setdefault(kind, {})[title] = figure
+        ran = pool.map(lambda it: instructions(programs[ROWS[it[0]][0]], it[0], *it[2:]), fields)
+        made = {row: {} for row in ROWS}
+        for (row, title, *_), figure in zip(fields, ran):
+            made[row][title] = figure
     return made
-
-
-def built(how, folder):
-    """Builds the programs, or takes those that are named. Returns their folder."""
-    if how.programs:
-        return how.programs
-    with tempfile.TemporaryDirectory(prefix="bench-") as room:
-        names = list(dict.fromkeys([*table.KINDS.values(), "servers"]))
-        unproved.build(room, names, folder, how.jobs)
-    if how.keep:
-        shutil.copytree(folder, how.keep, dirs_exist_ok=True)
-    return folder
 
 
 def conditions():
@@ -76,25 +104,24 @@ def conditions():
     return f"{kit.split()[0]}, {' '.join(platform.libc_ver())}"
 
 
-def main():
-    how = asked()
+def main(words):
+    if words not in ([], ["--write"]):
+        sys.exit(__doc__)
     if not shutil.which("valgrind"):
         sys.exit("count: there is no valgrind, which counts the instructions")
-    with tempfile.TemporaryDirectory(prefix="bench-") as folder:
-        now = counted(built(how, folder), how.jobs)
-    said, _, before = counts.read(counts.COUNTS) if os.path.isfile(counts.COUNTS) else ("", [], {})
+    now = counted(int(os.environ.get("JOBS") or len(os.sched_getaffinity(0))))
+    said, before = counts.read(counts.COUNTS) if os.path.isfile(counts.COUNTS) else ("", {})
     if said != conditions():
         print(f"the table is of {said or 'nothing'}, and this is {conditions()}")
     told, faults = counts.compared(before, now)
-    for line in told:
-        print(line)
-    if how.write:
-        page.write(counts.COUNTS, counts.printed(conditions(), [it[0] for it in columns()], now))
+    print("\n".join(told))
+    if words:
+        page.write(counts.COUNTS, counts.printed(conditions(), [it[0] for it in COLUMNS], now))
         page.write_all()
     figures = sum(map(len, now.values()))
     print(f"count: {figures} counted, {faults} rose by more than {counts.FAILS} % or are not there")
-    return 1 if faults and not how.write else 0
+    return 1 if faults and not words else 0
 
 
 if __name__ == "__main__":
-    sys.exit(main())
+    sys.exit(main(sys.argv[1:]))

@@ -1,25 +1,33 @@
 #!/usr/bin/env python3
-"""Makes the table of bench/README.md and the pictures of bench/counts.tsv and bench/peers.tsv.
+"""Makes the table and the picture of bench/counts.tsv and bench/peers.tsv.
 
-    page.py            writes them
+    page.py            writes them into bench/README.md and bench/counts.svg
     page.py --check    fails if one of them is not as this script makes it
 """
 import re
 import sys
+from html import escape
 
 import counts
-import picture
 
-PAGE = f"{counts.FOLDER}/README.md"
+PAGE, PICTURE = f"{counts.FOLDER}/README.md", f"{counts.FOLDER}/counts.svg"
 TABLE = re.compile(r"(<!-- made by page\.py -->\n).*?(?=<!-- end -->\n)", re.S)
-# What the short picture has: the columns, and the kinds of ours and of others.
-SHORT = ["reply slot", "watcher", "fan-out 64"]
-SHORT_OURS = ["unsync Owner", "sync Owner", "latest_sync"]
-SHORT_PEERS = ["Rust unsync by `Rc`", "Rust unsync", "Rust sync by `Arc`", "Rust sync",
-               "oneshot of tokio", "watch of tokio"]
-# What the other one has: the columns that the peers have, and of ours what users take.
-OURS = ["unsync", "unsync Owner", "sync", "sync Owner", "latest_unsync", "latest_sync"]
-LAST = "fan-out 1024"
+# What the picture has: a panel a column, and in it the rows of ours and of others.
+PANELS = ["reply slot", "watcher", "fan-out 64"]
+OURS = ["unsync Owner", "sync Owner", "latest_sync"]
+PEERS = ["Rust unsync by `Rc`", "Rust unsync", "Rust sync by `Arc`", "Rust sync",
+         "oneshot of tokio", "watch of tokio"]
+WHAT = "Instructions for an operation, in a fan-out for each waiter; less is better"
+WIDTH, BAR, STEP, LABELS, TOP = 310, 12, 18, 150, 40
+STYLE = """<style>
+text { font: 12px sans-serif; fill: #1f2328 }
+.title { font-weight: bold }
+.label { text-anchor: end }
+.paper { fill: #ffffff }
+.ours { fill: #0969da }
+.rust { fill: #d9730d }
+.others { fill: #afb8c1 }
+</style>"""
 
 
 def read(path):
@@ -32,49 +40,81 @@ def write(path, text):
         file.write(text)
 
 
-def chosen(table, kinds):
-    return {it: table[it] for it in kinds}
-
-
-def markdown(columns, *tables):
-    """Returns a table of these columns, with the kinds of these tables one after another."""
+def markdown(*tables):
+    """Returns a table with the rows of these tables one after another."""
+    columns = list(dict.fromkeys(it for table in tables for row in table.values() for it in row))
     titles = [re.sub(r"^fan-out (?!1$)", "", it).replace("1024", "1,024") for it in columns]
     lines = [f"| | {' | '.join(titles)} |", "|---" * (len(columns) + 1) + "|"]
     for table in tables:
-        for kind, row in table.items():
+        for name, row in table.items():
             fields = [f"{row[it]:,}" if it in row else "" for it in columns]
-            lines.append(f"| {kind} | {' | '.join(fields)} |")
+            lines.append(f"| {name} | {' | '.join(fields)} |")
     return "\n".join(lines) + "\n"
+
+
+def text(x, y, said, kind=""):
+    return f'<text x="{x}" y="{y}" class="{kind}">{escape(said)}</text>'
+
+
+def rectangle(x, y, width, height, kind):
+    return f'<rect class="{kind}" x="{x}" y="{y}" width="{width}" height="{height}"/>'
+
+
+def bars_of(column, ours, peers):
+    """Returns the bars of a panel, the shortest first: a figure, its row, and whose it is."""
+    whose = {**{it: "ours" for it in OURS}, **{it: "others" for it in PEERS}}
+    whose.update({it: "rust" for it in PEERS if it.startswith("Rust ")})
+    rows = {**ours, **peers}
+    return sorted((rows[it][column], it, whose[it]) for it in whose if column in rows[it])
+
+
+def panel(column, bars, left):
+    """Returns the lines that draw a panel."""
+    lines = [text(left + LABELS + 4, TOP + 14, column.replace("out ", "out to "), "title")]
+    for at, (figure, row, whose) in enumerate(bars):
+        y = TOP + 26 + at * STEP
+        width = max(round(figure * (WIDTH - LABELS - 52) / bars[-1][0]), 1)
+        lines.append(text(left + LABELS, y + BAR - 1, row.replace("`", ""), "label"))
+        lines.append(rectangle(left + LABELS + 4, y, width, BAR, whose))
+        lines.append(text(left + LABELS + width + 8, y + BAR - 1, f"{figure:,}"))
+    return lines
+
+
+def drawn(ours, peers):
+    """Returns the picture."""
+    panels = [(it, bars_of(it, ours, peers)) for it in PANELS]
+    lines, width = [text(12, 22, WHAT, "title")], WIDTH * len(panels)
+    for x, whose, said in ((540, "ours", "here"), (620, "rust", "the Rust crate"),
+                           (770, "others", "others")):
+        lines += [rectangle(x, 11, BAR, BAR, whose), text(x + BAR + 5, 22, said)]
+    for place, (column, bars) in enumerate(panels):
+        lines += panel(column, bars, place * WIDTH)
+    height = TOP + 48 + STEP * max(len(bars) for _, bars in panels)
+    head = f'<svg xmlns="http://www.w3.org/2000/svg" viewBox="0 0 {width} {height}" width="{width}">'
+    return "\n".join([head, STYLE, rectangle(0, 0, width, height, "paper"), *lines, "</svg>", ""])
 
 
 def made():
     """Returns what this script makes: the texts, by their paths."""
-    said, columns, ours = counts.read(counts.COUNTS)
-    _, of_peers, peers = counts.read(counts.PEERS)
-    table = f"Counted with {said}.\n\n{markdown(columns, ours, peers)}"
-    of_both = [it for it in columns if it in of_peers]
-    full = picture.drawn(of_both[: of_both.index(LAST) + 1], chosen(ours, OURS), peers)
-    short = picture.drawn(SHORT, chosen(ours, SHORT_OURS), chosen(peers, SHORT_PEERS))
-    return {
-        PAGE: TABLE.sub(lambda it: f"{it[1]}\n{table}\n", read(PAGE)),
-        f"{counts.FOLDER}/counts.svg": full,
-        f"{counts.FOLDER}/counts_short.svg": short,
-    }
+    (said, ours), (_, peers) = counts.read(counts.COUNTS), counts.read(counts.PEERS)
+    table = f"Counted with {said}.\n\n{markdown(ours, peers)}"
+    page = TABLE.sub(lambda it: f"{it[1]}\n{table}\n", read(PAGE))
+    return {PAGE: page, PICTURE: drawn(ours, peers)}
 
 
 def write_all():
-    for path, text in made().items():
-        write(path, text)
+    for path, it in made().items():
+        write(path, it)
 
 
 def main(words):
-    if words == ["--check"]:
-        others = [path for path, text in made().items() if text != read(path)]
-        for path in others:
-            print(f"page: {path} is not as page.py makes it")
-        return 1 if others else 0
-    write_all()
-    return 0
+    if words != ["--check"]:
+        write_all()
+        return 0
+    others = [path for path, it in made().items() if it != read(path)]
+    for path in others:
+        print(f"page: {path} is not as page.py makes it")
+    return 1 if others else 0
 
 
 if __name__ == "__main__":

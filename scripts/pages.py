@@ -3,8 +3,10 @@
 
 It finds a row of a table without a header (a blank line ends a table), a link to a file or to a
 heading that is not there, and, written as code or in a shell's block, a path of the repository where
-nothing lies, or the name of a crate that is not there. Prints a line for each, and last how many
-pages it read and how many faults it found; the status is 0 if there is none.
+nothing lies, or the name of a crate that is not there; and a figure that is typed by hand in a
+section on instructions. Then it compares what stands around the libraries with the libraries: tests,
+scripts, bench and misuse may have no more lines than their sources. Prints a line for each fault, those two sums, and last how many pages it read and how
+many faults it found; the status is 0 if there is none.
 """
 import glob
 import os
@@ -19,6 +21,11 @@ CODE = re.compile(r"`([^`\n]+)`")
 PATH = re.compile(r"(?:crates|docs|scripts|tests|bench|misuse|reentry|examples)/[\w./*-]+")
 # Names of crates begin so.
 CRATE = re.compile(r"(?:async_cell|example)_\w+|cellrun")
+# Pages that may have figures: the table's own, and what each choice saved when it was made.
+WITH_FIGURES = ("bench/README.md", "docs/DECISIONS.md", "CHANGELOG.md")
+# What stands around the libraries, and the sources of these.
+AROUND = re.compile(r"(?:tests|scripts|bench|misuse|crates/bench_\w+)/")
+SOURCES = re.compile(r"crates/(?:async_cell(?!\w*_(?:callers|uses|lines)/)\w*|cellrun)/src/")
 # What a page says of a project of its reader's.
 THEIRS = ("crates/my_program", "crates/railyarrow", "crates/line_server")
 
@@ -81,6 +88,28 @@ def names_of_nothing(lines):
                 yield at, f"`{name}`, and there is no such crate"
 
 
+def typed_figures(page, lines):
+    """Yields numbers in the sections that speak of instructions, but for round ones and sizes."""
+    if page in WITH_FIGURES:
+        return
+    heads = [at for at, line in enumerate(lines) if line.startswith("#")]
+    for start, end in zip([0, *heads], [*heads, len(lines)]):
+        if "instruction" not in " ".join(lines[start:end]).lower():
+            continue
+        for at in range(start, end):
+            for figure in re.findall(r"(?<![\w.-])\d[\d,]*\d(?![\w-])", lines[at]):
+                number = int(figure.replace(",", ""))
+                if number > 99 and number % 100 and number != 1024:
+                    yield at, f"{figure}: figures stand in the table of bench/README.md alone"
+
+
+def sums():
+    """Returns how many lines stand around the libraries, and how many their sources have."""
+    files = subprocess.run(["git", "ls-files"], stdout=subprocess.PIPE, text=True, check=True)
+    lines = {it: read(it).count("\n") for it in files.stdout.split("\n") if os.path.isfile(it)}
+    return [sum(n for it, n in lines.items() if of.match(it)) for of in (AROUND, SOURCES)]
+
+
 def read(path):
     with open(path, encoding="utf-8") as it:
         return it.read()
@@ -88,7 +117,8 @@ def read(path):
 
 def faults_of(page):
     lines = prose_of(read(page))
-    return [*rows_without_header(lines), *dead_links(page, lines), *names_of_nothing(lines)]
+    looks = [rows_without_header(lines), dead_links(page, lines), names_of_nothing(lines)]
+    return [fault for it in [*looks, typed_figures(page, lines)] for fault in it]
 
 
 def main(pages):
@@ -98,8 +128,11 @@ def main(pages):
     faults = [(page, at + 1, why) for page in pages for at, why in faults_of(page)]
     for page, line, why in faults:
         print(f"{page}:{line}: {why}")
-    print(f"pages: {len(pages)} read, {len(faults)} faults")
-    return 1 if faults or not pages else 0
+    around, sources = sums()
+    print(f"lines: {around} of tests, scripts, bench and misuse; {sources} of the libraries' sources")
+    failed = len(faults) + (around > sources)
+    print(f"pages: {len(pages)} read, {failed} faults")
+    return 1 if failed or not pages else 0
 
 
 if __name__ == "__main__":

@@ -1,0 +1,86 @@
+//! Runs a workload of the bench on a latest state, and prints what it counted.
+#![tactic(auto)]
+
+use async_cell_latest_sync::{Owner, States};
+use bench_work::{Asked, Kind, run};
+use futures::stream::Stream;
+use futures::task::{Context, Poll};
+use std::alloc::Global;
+use std::io;
+use std::sync::Wait;
+
+/// An owner of a state. Its followers are streams, which hold a place.
+#[derive(Drop)]
+struct Followed<R: Wait + Copy> {
+    owner: Owner<u64, R>,
+}
+
+/// Polls a follower. Returns the state that it is shown, if any.
+#[inline(never)]
+fn look<R: Wait + Copy>(states: &mut States<u64, R>, cx: &mut Context<'_>) -> Option<u64> {
+    match states.poll_next(cx) {
+        Poll::Ready(Some(Ok(state))) => Some(state),
+        _ => None,
+    }
+}
+
+impl<R: Wait + Copy> Kind<R> for Followed<R> {
+    type Taker = ();
+
+    type Getter = States<u64, R>;
+
+    fn make(alloc: Global, rt: &R) -> Option<Self> {
+        Some(Followed {
+            owner: Owner::new(alloc, 0u64, *rt).ok()?,
+        })
+    }
+
+    fn set(&self, value: u64, _: &R) {
+        self.owner.set(value);
+    }
+
+    fn taker(&self, _: &R) -> Option<()> {
+        None
+    }
+
+    fn getter(&self, _: &R) -> Option<Self::Getter> {
+        Some(self.owner.follow().ok()?.states())
+    }
+
+    fn take(&self, _: &mut (), _: &mut Context<'_>, _: &R) -> Option<u64> {
+        None
+    }
+
+    fn get(&self, states: &mut Self::Getter, cx: &mut Context<'_>, _: &R) -> Option<u64> {
+        look(states, cx)
+    }
+
+    fn waits(&self, states: &mut Self::Getter, cx: &mut Context<'_>, _: &R) -> bool {
+        look(states, cx).is_none()
+    }
+
+    fn settle(&self, all: &mut Vec<Self::Getter>, cx: &mut Context<'_>, _: &R) {
+        for states in all {
+            let _ = look(states, cx);
+        }
+    }
+
+    fn poll_again(&self, cx: &mut Context<'_>, rounds: u64, _: &R) -> u64 {
+        let mut pending = 0u64;
+        let Ok(follower) = self.owner.follow() else {
+            return pending;
+        };
+        let mut states = follower.states();
+        for _ in 0..rounds {
+            if look(&mut states, cx).is_none() {
+                pending = pending.wrapping_add(1);
+            }
+        }
+        pending
+    }
+}
+
+fn main(rt: HostRuntime) -> io::Result<()> {
+    let counted = run::<Followed<HostRuntime>, HostRuntime>(&Asked::read(&rt)?, &rt)?;
+    println!(rt; "{counted}")
+}
