@@ -22,11 +22,11 @@ from lay_out import TOP, copy_crates, files_below, read, without_lock, write
 
 PLAYER = f"{TOP}/tests/player"
 USED = ["model", "wakers", "core", "waiting", "unsync", "sync"]
-USED += ["latest", "latest_unsync", "latest_sync"]
+USED += ["latest", "latest_sync"]
 CRATES = [f"async_cell_{it}" for it in USED]
 SECONDS = "600"
 # Texts that are laid out twice: as they are for what threads share, and for what one thread has.
-TWICE = {"cells": ("sync", "unsync"), "states": ("sync_latest", "unsync_latest")}
+TWICE = {"cells": ("sync", "unsync")}
 
 
 def laid_out(name):

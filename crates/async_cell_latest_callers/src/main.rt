@@ -5,7 +5,6 @@
 mod followed;
 mod latest;
 mod sync_latest;
-mod unsync_latest;
 
 use anyhow::Result;
 use async_cell_lines::Lines;
@@ -13,9 +12,6 @@ use async_cell_lines::Lines;
 fn main(rt: HostRuntime) -> Result<()> {
     let mut lines = Lines::new(rt);
     latest::all(&mut lines);
-    lines.show("front:", "unsync");
-    unsync_latest::all(&mut lines)?;
-    lines.show("front:", "sync");
     sync_latest::all(&mut lines)?;
     lines.end()?;
     Ok(())
