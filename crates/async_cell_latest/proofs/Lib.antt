@@ -1,11 +1,8 @@
 pub mod ClosedState
 pub mod CoveredWakers
-pub mod Found
 pub mod JoinedHistories
 pub mod LastShown
 pub mod NewerVersions
-pub mod OneState
-pub mod Polled
 pub mod SoundAfter
 pub mod Versions
 pub mod WaitingPoll

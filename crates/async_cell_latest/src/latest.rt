@@ -1,19 +1,20 @@
 ghost use Rattle.std.specs.Prelude.{◌≡◌, ◌≤◌, ◌+◌, [], length, true, Ok, IsOk, IfOk, IfErr, OnOk, OnErr, ◌↔◌};
+ghost use Rattle.async_cell_model.specs.Clones.{IsExact};
 ghost use Rattle.async_cell_wakers.specs.WaitList.{first_then};
 ghost use Rattle.async_cell_latest.specs.State.{IsSound, is_closed, is_writable};
 ghost use Rattle.async_cell_latest.specs.Step.{Write, Read, Shown};
 ghost use Rattle.async_cell_latest.specs.IsStep.{IsStep, replies, write_answer};
 
 mod changes;
-mod get;
 mod places;
 mod polls;
 mod writers;
 
+use async_cell_model::Refusal;
 use async_cell_wakers::{WaitList, Wakers, Wakes};
-use std::alloc::Global;
+use std::alloc::{AllocError, Global};
 use std::marker::Model;
-use std::mem;
+use std::{fmt, mem};
 
 /// A value that is always there, with its version, counted writers, and the wait list of the wakers
 /// of followers that have seen this version.
@@ -88,8 +89,6 @@ impl<T: Drop, W: Wakes> Latest<T, W> {
         Ok((old, self.waiting.hand_out()))
     }
 
-    /// Internal: may change without notice.
-    ///
     /// `write`, to a state whose list has no memory for more than one waker. Returns the old value,
     /// and that waker, if one waits, to be woken by the caller. Otherwise it changes nothing, and
     /// returns `value` in the error.
@@ -156,5 +155,33 @@ impl<T: Drop, W: Wakes> Drop for Latest<T, W> {
         let (value, woken) = self.into_inner();
         drop(value);
         woken.wake_all();
+    }
+}
+
+impl<T: Clone, W: Wakes> Latest<T, W> {
+    /// Returns the version and a clone of the value. Fails with `Memory` if there is no memory for
+    /// the clone.
+    pub fn get(&self) -> Result<(u64, T), Refusal>
+        ensures model { IsExact T.is_clone → IfOk result (λ shown.
+            IsStep W.Wakes self.now Read (replies (Shown shown.0 shown.1)) self.now) }
+
+        ensures version { IfOk result (λ shown. shown.0 ≡ self.now.version) }
+        ensures clones { IfOk result (λ shown. T.is_clone self.now.value shown.1) }
+        ensures sure { T.is_infallible self.now.value → IsOk result }
+        ensures refused { IfErr result (λ why. why ≡ Refusal.Memory) }
+    {
+        let copy: Result<T, AllocError> = self.value.clone();
+        Ok((self.version, copy?))
+    }
+}
+
+/// Prints `Latest(..)` with the value's own debug text, or `Latest::Closed(..)` if the state is
+/// closed.
+impl<T: fmt::Debug, W: Wakes> fmt::Debug for Latest<T, W> {
+    fn fmt<F: fmt::Write>(&self, f: &mut fmt::Formatter<F>) -> fmt::Result {
+        match self.writers {
+            0 => write!(f, "Latest::Closed({:?})", self.value),
+            _ => write!(f, "Latest({:?})", self.value),
+        }
     }
 }

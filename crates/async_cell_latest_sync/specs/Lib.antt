@@ -1,3 +1,5 @@
+pub mod Found
 pub mod Names
+pub mod OneState
 pub mod Seen
-pub mod Source
+pub mod Told

@@ -1,4 +1,5 @@
 -- Which cell an owner or a follower is of.
+use Rattle.std.specs.Prelude.{◌≡◌, ℕ}
 use Rattle.std.specs.Arc.{arc_value}
 use Rattle.async_cell_latest_sync.specs.declared.cell.LatestCell.{LatestCell}
 use Rattle.async_cell_latest_sync.specs.declared.owner.Owner.{Owner}
@@ -12,3 +13,7 @@ module _ {T R : Type 0} where
   -- the cell that a follower follows
   abbrev pub cell_followed : Follower T R → LatestCell T
   cell_followed follower = arc_value follower.cell
+
+  -- the source that the tasks that wait for it register with
+  abbrev pub sources : Follower T R → ℕ → Type 0
+  sources follower s = s ≡ (cell_followed follower).source.id

@@ -1,7 +1,7 @@
 -- What a follower has seen.
 use Rattle.async_cell_wakers.specs.declared.task_waker.TaskWaker.{TaskWaker}
 use Rattle.async_cell_latest.specs.State.{State}
-use Rattle.async_cell_latest.specs.OneState.{OfOneState}
+use Rattle.async_cell_latest_sync.specs.OneState.{OfOneState}
 use Rattle.async_cell_latest_sync.specs.declared.follower.Follower.{Follower}
 
 module _ {T R : Type 0} where

@@ -6,21 +6,11 @@ ghost use Rattle.async_cell_latest.specs.State.{State};
 ghost use Rattle.async_cell_latest_sync.specs.Names.{cell_followed};
 ghost use Rattle.async_cell_latest_sync.specs.Seen.{HasSeen};
 
+use crate::awaited::{Changed, States, WaitFor};
 use crate::cell::LatestCell;
-use async_cell_latest::{Follows, Place, Refusal, Shows, TaskWaker, Unseen, UnseenState};
-use async_cell_waiting::{Held, Step, end, poll};
-use futures::task::{Context, Poll};
+use async_cell_latest::{Place, Refusal, TaskWaker};
 use std::alloc::AllocError;
 use std::sync::{Arc, Wait};
-
-/// The future of `Follower::changed`. **Dropping it may wait for the lock.**
-pub type Changed<'a, T, R> = async_cell_latest::Changed<'a, Follower<T, R>>;
-
-/// The future of `Follower::wait_for`. **Dropping it may wait for the lock.**
-pub type WaitFor<'a, T, R, F> = async_cell_latest::WaitFor<'a, Follower<T, R>, F>;
-
-/// The stream of `Follower::states`. **Dropping it may wait for the lock.**
-pub type States<T, R> = async_cell_latest::States<Follower<T, R>>;
 
 /// One follower of a state, with the right to wait for its lock. It knows which state it has seen,
 /// and waits for a later one. It is no owner. `Owner::follow` makes one, and a clone another.
@@ -33,12 +23,12 @@ pub type States<T, R> = async_cell_latest::States<Follower<T, R>>;
 #[derive_where(Debug)]
 pub struct Follower<T: Drop, R> {
     #[derive_where(skip)]
-    cell: Arc<LatestCell<T>>,
+    pub(crate) cell: Arc<LatestCell<T>>,
     /// The version that it has seen; 0 if none.
     #[derive_where(skip)]
-    seen: u64,
+    pub(crate) seen: u64,
     #[derive_where(skip)]
-    rt: R,
+    pub(crate) rt: R,
 }
 
 impl<T: Drop, R: Wait + Drop> Follower<T, R> {
@@ -56,7 +46,10 @@ impl<T: Drop, R: Wait + Drop> Follower<T, R> {
     pub fn changed(&mut self) -> Changed<'_, T, R>
         ensures of_this { result.follower.now ≡ self.old }
     {
-        Changed::new(self)
+        Changed {
+            follower: self,
+            place: Place::new(),
+        }
     }
 
     /// Returns a future that is ready with a clone of the first state that the predicate holds of.
@@ -71,14 +64,23 @@ impl<T: Drop, R: Wait + Drop> Follower<T, R> {
         ensures of_this { result.follower.now ≡ self.old }
         ensures looks { result.predicate ≡ predicate }
     {
-        WaitFor::new(self, predicate)
+        WaitFor {
+            follower: self,
+            place: Place::new(),
+            predicate,
+            looked_at: 0,
+        }
     }
 
     /// Returns the stream of unseen states, as clones. Once closed, it ends after the last state.
     pub fn states(self) -> States<T, R>
         ensures of_this { result.follower ≡ self }
     {
-        States::new(self)
+        let follower = self;
+        States {
+            follower,
+            place: Place::new(),
+        }
     }
 
     /// Returns a clone of the last value, and marks nothing. Fails with `Memory`.
@@ -139,9 +141,7 @@ impl<T: Drop, R: Wait + Drop> Follower<T, R> {
 
     /// Returns whether the last owner has ended: the state is then the last one.
     pub fn is_closed(&self) -> bool {
-        let core = self.cell.core.lock(&self.rt);
-        let is_closed = core.peek().is_closed();
-        end(core, Held::of(is_closed))
+        self.cell.is_closed(&self.rt)
     }
 
     /// Marks the current state as unseen: `changed` is ready at once, and `states` begins with it.
@@ -171,75 +171,5 @@ impl<T: Drop, R: Copy> Clone for Follower<T, R> {
             seen: self.seen,
             rt: self.rt,
         })
-    }
-}
-
-impl<T: Drop, R: Wait + Drop> Follows for Follower<T, R> {
-    ghost use Rattle.async_cell_latest_sync.specs.Names.{cell_followed};
-    ghost use Rattle.async_cell_latest_sync.specs.Source.{source_of};
-
-    type Value = T;
-
-    type Cell = LatestCell<T>;
-
-    ghost cell = { λ follower. cell_followed follower };
-
-    ghost source = { λ cell. source_of cell };
-
-    ghost marked = { λ follower. follower.seen };
-
-    #[inline(always)]
-    fn seen(&self) -> u64 {
-        self.seen
-    }
-
-    #[inline(always)]
-    fn mark(&mut self, version: u64) {
-        self.seen = version;
-    }
-
-    fn poll_unseen(
-        &self,
-        seen: u64,
-        place: &mut Place,
-        cx: &mut Context<'_>,
-    ) -> Poll<Result<u64, Refusal>> {
-        let cell = self.cell.as_ref();
-        let version = Unseen(seen);
-        poll(&cell.core, &cell.source, version, Some(place), cx, &self.rt)
-    }
-
-    fn leave(&self, place: Place) {
-        self.cell.core.leave(place, &self.rt);
-    }
-
-    fn cancel(&self, place: Place) {
-        self.cell.core.cancel(place, &self.rt);
-    }
-}
-
-/// The clone is made, and the predicate runs, while the lock is held.
-impl<T: Clone, R: Wait + Drop> Shows for Follower<T, R> {
-    ghost copies = { λ value copy. T.is_clone value copy };
-
-    #[inline(always)]
-    fn poll_state(
-        &self,
-        place: &mut Place,
-        cx: &mut Context<'_>,
-    ) -> Poll<Result<(u64, T), Refusal>> {
-        let cell = self.cell.as_ref();
-        let state = UnseenState(self.seen);
-        poll(&cell.core, &cell.source, state, Some(place), cx, &self.rt)
-    }
-
-    fn test<P: FnMut(&T) -> bool>(
-        &self,
-        seen: u64,
-        predicate: &mut P,
-    ) -> Option<(u64, Result<Option<T>, Refusal>)> {
-        let core = self.cell.core.lock(&self.rt);
-        let tested = core.peek().test(seen, predicate);
-        end(core, Held::of(tested))
     }
 }

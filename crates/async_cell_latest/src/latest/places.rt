@@ -5,12 +5,10 @@ ghost use Rattle.async_cell_latest.specs.Step.{PollChanged};
 ghost use Rattle.async_cell_latest.specs.IsStep.{IsStep, wait_answer};
 
 use super::Latest;
-use async_cell_wakers::{Place, TaskWaker, Wakers, Wakes};
+use async_cell_wakers::{Place, TaskWaker, Wakes};
 use futures::task::Waker;
 
 impl<T: Drop, W: Wakes> Latest<T, W> {
-    /// Internal: may change without notice.
-    ///
     /// Adds a waker, by value, as the last, for a poll that has to wait. The state must be open,
     /// and the waker of a type of which none would wake another, so it is never skipped. If there
     /// is no memory to grow the list, fails and returns the waker in the error.
@@ -35,8 +33,6 @@ impl<T: Drop, W: Wakes> Latest<T, W> {
 }
 
 impl<T: Drop> Latest<T, TaskWaker> {
-    /// Internal: may change without notice.
-    ///
     /// Returns whether a future with this place has to be added: it has none, and none is free.
     #[doc(hidden)]
     #[inline(always)]
@@ -44,8 +40,6 @@ impl<T: Drop> Latest<T, TaskWaker> {
         self.waiting.is_new(place)
     }
 
-    /// Internal: may change without notice.
-    ///
     /// `add`, at a place: that of the waker from then on.
     #[doc(hidden)]
     #[inline(always)]
@@ -59,8 +53,6 @@ impl<T: Drop> Latest<T, TaskWaker> {
         self.waiting.store_new(place, waker)
     }
 
-    /// Internal: may change without notice.
-    ///
     /// Takes the waker out of the place, or out of a free place that is taken over. Returns `None`
     /// if there is neither. The waker may be another task's.
     #[doc(hidden)]
@@ -71,8 +63,6 @@ impl<T: Drop> Latest<T, TaskWaker> {
         self.waiting.take_back(place)
     }
 
-    /// Internal: may change without notice.
-    ///
     /// Stores a waker in the place, in a free place that is taken over, or as the last of the list.
     /// The state must be open. Returns the waker that was there, if any, which wakes its task when
     /// it is dropped. If there is no memory to grow the list, the waker is returned in the error.
@@ -94,34 +84,20 @@ impl<T: Drop> Latest<T, TaskWaker> {
         self.waiting.store(place, waker)
     }
 
-    /// Internal: may change without notice.
-    ///
-    /// Leaves the place free, also while the state is only looked at. Its waker stays there: to
-    /// drop it would wake the task. Returns the index of the place, unless it was given up.
+    /// Leaves the place free. Its waker stays there: to drop it would wake the task. Returns the
+    /// index of the place, unless it was given up.
     #[doc(hidden)]
-    pub fn leave(&self, place: Place) -> Option<usize> {
+    pub fn leave(&mut self, place: Place) -> Option<usize>
+        ensures unchanged { self.new ≡ self.old }
+    {
         self.waiting.leave(place)
     }
 
-    /// Internal: may change without notice.
-    ///
     /// Takes the waker out of the place at `index`, if that place is free.
     #[doc(hidden)]
     pub fn take_left(&mut self, index: usize) -> Option<Waker>
         ensures unchanged { self.new ≡ self.old }
     {
         self.waiting.take_left(index)
-    }
-
-    /// Internal: may change without notice.
-    ///
-    /// Hands out all waiting wakers, to be woken by the caller, and gives up all places: each task
-    /// is polled once more, and waits again. Nothing is written.
-    #[doc(hidden)]
-    pub fn hand_out(&mut self) -> Wakers<TaskWaker>
-        ensures hands_out_all { result ≡ self.old.waiting }
-        ensures state_stays { Stays self.old self.new }
-    {
-        self.waiting.hand_out()
     }
 }

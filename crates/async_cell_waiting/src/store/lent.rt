@@ -1,7 +1,7 @@
 ghost use Rattle.std.specs.RefCell.{ref_mut_value};
 
 use super::{OneThread, Opens, Step, StoredCore, Stores};
-use std::cell::{Ref, RefCell, RefMut};
+use std::cell::{RefCell, RefMut};
 
 /// A core of one thread.
 pub type Lender<C> = StoredCore<RefCell<C>>;
@@ -9,20 +9,6 @@ pub type Lender<C> = StoredCore<RefCell<C>>;
 /// A core that is lent. It is not `Drop` and must be consumed.
 pub struct Lent<'a, C> {
     core: RefMut<'a, C>,
-}
-
-impl<C> StoredCore<RefCell<C>> {
-    /// Lends the core beside other looks, for a look. Returns `None` during a step.
-    #[inline(always)]
-    pub fn glance(&self) -> Option<Ref<'_, C>> {
-        self.store.try_borrow().ok()
-    }
-
-    /// Returns whether the core is lent, for a step or a look.
-    #[inline(always)]
-    pub fn is_lent(&self) -> bool {
-        self.store.try_borrow_mut().is_err()
-    }
 }
 
 impl<C> Stores for RefCell<C> {

@@ -37,12 +37,7 @@ impl<'a, C: 'a, R: Wait> Opens<'a, Mutex<C>> for R {
 
     #[inline(always)]
     fn open(&self, store: &'a Lock<C>) -> Option<Locked<'a, C>> {
-        // As `lock` does: a level of calls less.
-        let core = match store.store.try_lock() {
-            Some(core) => core,
-            None => store.store.lock(self),
-        };
-        Some(Locked { core })
+        Some(store.lock(self))
     }
 
     #[inline(always)]

@@ -1,0 +1,13 @@
+use Rattle.async_cell_latest_sync.proofs.Polled.{on_pending}
+use Rattle.async_cell_latest_sync.proofs.awaited.ChangedFuture.TheImpl.Goals as goal
+
+-- what the poll says of its own meets what the trait asks
+pub poll-tells : goal.poll-tells
+poll-tells g x c =
+    let poll = c.ensures in record {
+      value = poll.value;
+      again = on_pending c.result tt;
+      same = on_pending c.result (λ answer gives. gives);
+      registered = poll.registered;
+      kept = poll.kept;
+    }

@@ -1,0 +1,27 @@
+-- What a wait for a predicate gives.
+use Rattle.std.specs.Prelude.{Bool, true, false, List, Option, Result, IfOk, MatchOption}
+use Rattle.std.specs.List.{FoldsTo}
+use Rattle.std.specs.Borrow.{Bor}
+use Rattle.std.specs.Fn.{Mut, CalledAt}
+use Rattle.async_cell_model.specs.declared.refusal.Refusal.{Refusal}
+use Rattle.async_cell_model.specs.Refusal.{FailsWithMemoryOrClosed}
+
+module _ {F T : Type 0} (calls : Mut F (Bor T × Unit {0}) Bool) where
+  -- the predicate was false on some values, one after the other, and then true on this one
+  abbrev pub HoldsFirstOf : F → T → Type 0
+  HoldsFirstOf predicate value =
+      (denied : List T) × (f g : F)
+      × FoldsTo (λ p x q. CalledAt calls p x false q) predicate denied f
+      × CalledAt calls f value true g
+
+  -- the answer is a clone of the first value that the predicate holds of, or why there is none
+  abbrev pub IsFound : (T → T → Type 0) → F → Result T Refusal → Type 0
+  IsFound is_clone predicate answer =
+      FailsWithMemoryOrClosed answer
+      × IfOk answer (λ copy. (value : T) × is_clone value copy × HoldsFirstOf predicate value)
+
+  -- what a test of this value finds: a clone of it, if the predicate holds of it
+  abbrev pub IsTested : (T → T → Type 0) → F → T → Result (Option T) Refusal → F → Type 0
+  IsTested is_clone before value answer after =
+      IfOk answer (λ found. MatchOption found (CalledAt calls before value false after)
+      (λ copy. CalledAt calls before value true after × is_clone value copy))

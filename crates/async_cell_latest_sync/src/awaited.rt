@@ -1,0 +1,266 @@
+//! The futures and the stream of a follower.
+ghost use Rattle.std.specs.Prelude.{◌≡◌, ◌≢◌, ◌⊎◌, true, false, Err, IfOk, IfNone, IfSome, OnOk, OnErr};
+ghost use Rattle.std.specs.Fn.{CalledAt};
+ghost use Rattle.std.specs.List.{AllByRecursion};
+ghost use Rattle.futures.specs.Poll.{IfReady, OnPending};
+ghost use Rattle.futures.specs.Task.{Covers, Keeps};
+ghost use Rattle.async_cell_model.specs.Refusal.{FailsWithMemory, FailsWithMemoryOrClosed};
+ghost use Rattle.async_cell_latest_sync.specs.Found.{IsFound};
+ghost use Rattle.async_cell_latest_sync.specs.Names.{cell_followed, sources};
+ghost use Rattle.async_cell_latest_sync.specs.OneState.{OfOneState};
+ghost use Rattle.async_cell_latest_sync.specs.Told.{AreTold};
+
+use crate::cell::{Unseen, UnseenState};
+use crate::follower::Follower;
+use async_cell_latest::{Place, Refusal};
+use futures::future::Future;
+use futures::stream::Stream;
+use futures::task::{Context, Poll};
+use std::mem;
+use std::sync::Wait;
+
+/// The future of `Follower::changed`.
+///
+/// While it waits it holds one place in the wait list, and each poll renews the waker there: the
+/// task that polled it last is woken. **Dropping it may wait for the lock**, and wakes nobody. The
+/// place is then free for the next such future, and the task that polled the dropped one may be
+/// woken once more.
+#[derive_where(Debug)]
+pub struct Changed<'a, T: Drop, R: Wait + Drop> {
+    #[derive_where(skip)]
+    pub(crate) follower: &'a mut Follower<T, R>,
+    #[derive_where(skip)]
+    pub(crate) place: Place,
+}
+
+impl<T: Drop, R: Wait + Drop> Changed<'_, T, R> {
+    /// Drops the future, and the waker that it left in the state: the task that polled it last is
+    /// polled once more. A waker keeps what its executor needs to wake the task, so cancel a wait
+    /// that came to nothing on a state that is written seldom, as when its time is up. May wait for
+    /// the lock.
+    pub fn cancel(self) {
+        let Changed { follower, place } = self;
+        follower.cell.core.cancel(place, &follower.rt);
+    }
+}
+
+/// Leaves its place in the wait list free.
+impl<T: Drop, R: Wait + Drop> Drop for Changed<'_, T, R> {
+    fn drop(self) {
+        let Changed { follower, place } = self;
+        follower.cell.core.leave(place, &follower.rt);
+    }
+}
+
+impl<T: Drop, R: Wait + Drop> Future for Changed<'_, T, R> {
+    type Output = Result<(), Refusal>;
+
+    ghost needs = { λ future. sources future.follower.now };
+
+    ghost gives = { λ _. FailsWithMemoryOrClosed };
+
+    fn poll(&mut self, cx: &mut Context<'_>) -> Poll<Result<(), Refusal>>
+        ensures marks { IfReady result (λ told. OnOk told (OfOneState {T = T}
+            self.new.follower.now.seen (λ s. s.version ≢ self.old.follower.now.seen))) }
+        ensures unmarked { IfReady result (λ told. OnErr told
+            (self.new.follower.now ≡ self.old.follower.now)) }
+        ensures unchanged { OnPending result (self.new.follower.now ≡ self.old.follower.now) }
+        ensures of_this { cell_followed self.new.follower.now
+            ≡ cell_followed self.old.follower.now }
+        ensures value { IfReady result FailsWithMemoryOrClosed }
+        ensures registered { OnPending result (Covers cx.new (sources self.new.follower.now)) }
+        ensures kept { Keeps cx.old cx.new }
+    {
+        let follower = &*self.follower;
+        let asked = Unseen(follower.seen);
+        match follower.cell.poll(asked, &mut self.place, cx, &follower.rt) {
+            Poll::Ready(Ok(told)) => {
+                self.follower.seen = told;
+                Poll::Ready(Ok(()))
+            }
+            Poll::Ready(Err(why)) => Poll::Ready(Err(why)),
+            Poll::Pending => Poll::Pending,
+        }
+    }
+}
+
+/// The future of `Follower::wait_for`.
+///
+/// While it waits it holds one place in the wait list, as `Changed` does. **Dropping it may wait
+/// for the lock**, and wakes nobody.
+#[derive_where(Debug)]
+pub struct WaitFor<'a, T: Drop, R: Wait + Drop, F: Drop> {
+    #[derive_where(skip)]
+    pub(crate) follower: &'a mut Follower<T, R>,
+    #[derive_where(skip)]
+    pub(crate) place: Place,
+    #[derive_where(skip)]
+    pub(crate) predicate: F,
+    /// The version that the predicate was called on last; 0 if on none.
+    #[derive_where(skip)]
+    pub(crate) looked_at: u64,
+}
+
+impl<T: Drop, R: Wait + Drop, F: Drop> WaitFor<'_, T, R, F> {
+    /// Drops the future, and the waker that it left in the state: the task that polled it last is
+    /// polled once more (see `Changed::cancel`). May wait for the lock.
+    pub fn cancel(self) {
+        let WaitFor {
+            follower,
+            place,
+            predicate: _,
+            looked_at: _,
+        } = self;
+        follower.cell.core.cancel(place, &follower.rt);
+    }
+}
+
+/// Leaves its place in the wait list free.
+impl<T: Drop, R: Wait + Drop, F: Drop> Drop for WaitFor<'_, T, R, F> {
+    fn drop(self) {
+        let WaitFor {
+            follower,
+            place,
+            predicate: _,
+            looked_at: _,
+        } = self;
+        follower.cell.core.leave(place, &follower.rt);
+    }
+}
+
+impl<T: Clone, R: Wait + Drop, F: FnMut(&T) -> bool + Drop> Future for WaitFor<'_, T, R, F> {
+    type Output = Result<T, Refusal>;
+
+    ghost can_poll = { λ future. F.IsAlwaysCallable future.predicate };
+
+    ghost needs = { λ future. sources future.follower.now };
+
+    ghost gives = { λ future. IsFound F.FnMut T.is_clone future.predicate };
+
+    fn poll(&mut self, cx: &mut Context<'_>) -> Poll<Result<T, Refusal>>
+        requires can_poll { F.IsAlwaysCallable self.old.predicate }
+        ensures of_one_state { IfReady result (λ answer. IfOk answer (λ copy.
+            OfOneState self.new.follower.now.seen (λ s. T.is_clone s.value copy
+            × CalledAt F.FnMut self.old.predicate s.value true self.new.predicate))) }
+        ensures unmarked { result ≡ Poll.Ready (Err Refusal.Memory)
+            → self.new.follower.now ≡ self.old.follower.now }
+        ensures value { IfReady result (IsFound F.FnMut T.is_clone self.old.predicate) }
+        ensures same { OnPending result ((answer : _)
+            → IsFound F.FnMut T.is_clone self.new.predicate answer
+            → IsFound F.FnMut T.is_clone self.old.predicate answer) }
+        ensures again { OnPending result (F.IsAlwaysCallable self.new.predicate) }
+        ensures looked { OnPending result (((self.new.predicate ≡ self.old.predicate)
+            × (self.new.follower.now ≡ self.old.follower.now))
+            ⊎ OfOneState self.new.follower.now.seen (λ s.
+            CalledAt F.FnMut self.old.predicate s.value false self.new.predicate)) }
+        ensures of_this { cell_followed self.new.follower.now
+            ≡ cell_followed self.old.follower.now }
+        ensures registered { OnPending result (Covers cx.new (sources self.new.follower.now)) }
+        ensures kept { Keeps cx.old cx.new }
+    {
+        let follower = &*self.follower;
+        let (cell, rt) = (follower.cell.as_ref(), &follower.rt);
+        let Some((version, tested)) = cell.test(self.looked_at, &mut self.predicate, rt) else {
+            return match cell.poll(Unseen(self.looked_at), &mut self.place, cx, rt) {
+                Poll::Ready(Err(why)) => Poll::Ready(Err(why)),
+                Poll::Ready(Ok(_)) => cx.yield_now(), // It was written meanwhile.
+                Poll::Pending => Poll::Pending,
+            };
+        };
+        let found = match tested {
+            Ok(found) => found,
+            Err(why) => return Poll::Ready(Err(why)),
+        };
+        self.place.forget();
+        if let Some(copy) = found {
+            self.looked_at = version;
+            self.follower.seen = version;
+            return Poll::Ready(Ok(copy));
+        }
+        let polled = match cell.poll(Unseen(version), &mut self.place, cx, rt) {
+            Poll::Ready(Err(Refusal::Memory)) => {
+                // Nothing is marked, so the next poll looks at this state again.
+                let place = mem::replace(&mut self.place, Place::new());
+                cell.core.leave(place, rt);
+                return Poll::Ready(Err(Refusal::Memory));
+            }
+            Poll::Ready(Err(why)) => Poll::Ready(Err(why)),
+            Poll::Ready(Ok(_)) => cx.yield_now(), // It was written meanwhile.
+            Poll::Pending => Poll::Pending,
+        };
+        self.looked_at = version;
+        self.follower.seen = version;
+        polled
+    }
+}
+
+/// The states that a follower is in time for, as a stream of clones: each is one that it has not
+/// seen before. It ends after the last state, once the last owner has ended. `Follower::states`
+/// makes it.
+///
+/// An item is an error (`Memory`) if a poll was refused; the stream may be polled on, and misses
+/// nothing by it.
+///
+/// While it waits it holds one place in the wait list, as `Changed` does. **Dropping it may wait
+/// for the lock**, and wakes nobody.
+#[derive_where(Debug)]
+pub struct States<T: Drop, R: Wait + Drop> {
+    #[derive_where(skip)]
+    pub(crate) follower: Follower<T, R>,
+    #[derive_where(skip)]
+    pub(crate) place: Place,
+}
+
+impl<T: Drop, R: Wait + Drop> States<T, R> {
+    /// Drops the stream, and the waker that it left in the state: the task that polled it last is
+    /// polled once more (see `Changed::cancel`). May wait for the lock.
+    pub fn cancel(self) {
+        let States { follower, place } = self;
+        follower.cell.core.cancel(place, &follower.rt);
+    }
+}
+
+/// Leaves its place in the wait list free.
+impl<T: Drop, R: Wait + Drop> Drop for States<T, R> {
+    fn drop(self) {
+        let States { follower, place } = self;
+        follower.cell.core.leave(place, &follower.rt);
+    }
+}
+
+impl<T: Clone, R: Wait + Drop> Stream for States<T, R> {
+    type Item = Result<T, Refusal>;
+
+    ghost needs = { λ states. sources states.follower };
+
+    ghost yields = { λ states items last.
+        AllByRecursion FailsWithMemory items × IfSome last FailsWithMemory
+        × AreTold T.is_clone states.follower.seen items last };
+
+    fn poll_next(&mut self, cx: &mut Context<'_>) -> Poll<Option<Result<T, Refusal>>>
+        ensures of_one_state { IfReady result (λ item. IfSome item (λ told. IfOk told (λ copy.
+            OfOneState self.new.follower.seen (λ s.
+            (s.version ≢ self.old.follower.seen) × T.is_clone s.value copy)))) }
+        ensures unmarked { IfReady result (λ item. IfSome item (λ told. OnErr told
+            (self.new.follower ≡ self.old.follower))) }
+        ensures ended { IfReady result (λ item. IfNone item
+            (self.new.follower ≡ self.old.follower)) }
+        ensures value { IfReady result (λ item. IfSome item FailsWithMemory) }
+        ensures unchanged { OnPending result (self.new.follower ≡ self.old.follower) }
+        ensures of_this { cell_followed self.new.follower ≡ cell_followed self.old.follower }
+        ensures registered { OnPending result (Covers cx.new (sources self.new.follower)) }
+        ensures kept { Keeps cx.old cx.new }
+    {
+        let follower = &self.follower;
+        let asked = UnseenState(follower.seen);
+        match follower.cell.poll(asked, &mut self.place, cx, &follower.rt) {
+            Poll::Ready(Ok((shown, value))) => {
+                self.follower.seen = shown;
+                Poll::Ready(Some(Ok(value)))
+            }
+            Poll::Ready(Err(Refusal::Closed)) => Poll::Ready(None),
+            Poll::Ready(Err(why)) => Poll::Ready(Some(Err(why))),
+            Poll::Pending => Poll::Pending,
+        }
+    }
+}

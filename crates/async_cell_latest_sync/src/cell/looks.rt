@@ -1,0 +1,98 @@
+//! The looks at a state. Closures, and clones of the value, run while the lock is held.
+ghost use Rattle.std.specs.Prelude.{◌≡◌, IsOk, IfOk, IfSome, IfNone};
+ghost use Rattle.std.specs.Fn.{FnOnceReturnsAt};
+ghost use Rattle.async_cell_model.specs.Refusal.{FailsWithMemory};
+ghost use Rattle.async_cell_latest.specs.State.{State};
+ghost use Rattle.async_cell_latest_sync.specs.Found.{IsTested};
+ghost use Rattle.async_cell_latest_sync.specs.OneState.{OfOneState};
+
+use super::LatestCell;
+use async_cell_latest::{Refusal, TaskWaker};
+use async_cell_waiting::{Held, Step, end};
+use std::alloc::AllocError;
+use std::sync::Wait;
+
+impl<T: Drop> LatestCell<T> {
+    /// Calls the closure on the value, while the lock is held. Returns the version too.
+    pub(crate) fn peek<A, F: FnOnce(&T) -> A, R: Wait>(&self, look: F, rt: &R) -> (u64, A)
+        requires { F.IsAlwaysCallable look }
+        ensures of_one_state { OfOneState result.0 (λ s.
+            FnOnceReturnsAt F.FnOnce look s.value result.1) }
+    {
+        let core = self.core.lock(rt);
+        let (version, value) = core.peek().state.read();
+        let answer = look(value);
+        end(core, Held::of((version, answer)))
+    }
+
+    /// Returns the version and a clone of the value, made under the lock. Fails with `Memory`.
+    pub(crate) fn get<R: Wait>(&self, rt: &R) -> Result<(u64, T), Refusal>
+    where
+        T: Clone,
+        ensures of_one_state { IfOk result (λ shown. OfOneState shown.0 (λ s.
+            T.is_clone s.value shown.1)) }
+        ensures sure { ((value : T) → T.is_infallible value) → IsOk result }
+        ensures refused { FailsWithMemory result }
+    {
+        let core = self.core.lock(rt);
+        let copy = Held::of(core.peek().state.get());
+        end(core, copy)
+    }
+
+    /// Calls the predicate on the value, if the state has another version than this one, and
+    /// returns the version, and a clone of the value if the predicate holds of it. Fails with
+    /// `Memory` if the clone fails. Returns `None`, without the call, of a state of this version.
+    pub(crate) fn test<P: FnMut(&T) -> bool, R: Wait>(
+        &self,
+        seen: u64,
+        predicate: &mut P,
+        rt: &R,
+    ) -> Option<(u64, Result<Option<T>, Refusal>)>
+    where
+        T: Clone,
+        requires { P.IsAlwaysCallable predicate.old }
+        ensures of_one_state { IfSome result (λ tested. OfOneState tested.0 (λ s.
+            IsTested P.FnMut T.is_clone predicate.old s.value tested.1 predicate.new)) }
+        ensures uncalled { IfNone result (predicate.new ≡ predicate.old) }
+        ensures again { P.IsAlwaysCallable predicate.new }
+        ensures refused { IfSome result (λ tested. FailsWithMemory tested.1) }
+    {
+        let core = self.core.lock(rt);
+        let (version, value) = core.peek().state.read();
+        if version == seen {
+            end(core, Held::of(()));
+            return None;
+        }
+        let found = find(value, predicate);
+        Some(end(core, Held::of((version, found))))
+    }
+
+    /// Returns the version.
+    pub(crate) fn version<R: Wait>(&self, rt: &R) -> u64
+        ensures of_one_state { (s : State T TaskWaker) × (result ≡ s.version) }
+    {
+        self.peek(|_| (), rt).0
+    }
+
+    /// Returns whether the last owner has ended.
+    pub(crate) fn is_closed<R: Wait>(&self, rt: &R) -> bool {
+        let core = self.core.lock(rt);
+        let is_closed = core.peek().state.is_closed();
+        end(core, Held::of(is_closed))
+    }
+}
+
+/// Returns a clone of the value if the predicate holds of it. Fails with `Memory`.
+#[inline]
+fn find<T: Clone, P: FnMut(&T) -> bool>(value: &T, predicate: &mut P) -> Result<Option<T>, Refusal>
+    requires { P.IsAlwaysCallable predicate.old }
+    ensures tested { IsTested P.FnMut T.is_clone predicate.old value.now result predicate.new }
+    ensures again { P.IsAlwaysCallable predicate.new }
+    ensures refused { FailsWithMemory result }
+{
+    if !predicate(value) {
+        return Ok(None);
+    }
+    let copy: Result<T, AllocError> = value.clone();
+    Ok(Some(copy?))
+}

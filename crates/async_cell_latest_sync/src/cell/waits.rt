@@ -1,0 +1,134 @@
+//! The wait list of a state, and what polls ask it.
+ghost use Rattle.std.specs.Prelude.{◌≡◌, IfOk};
+ghost use Rattle.futures.specs.Poll.{IfReady, OnPending};
+ghost use Rattle.futures.specs.Task.{Covers, Keeps};
+ghost use Rattle.async_cell_model.specs.Refusal.{FailsWithMemoryOrClosed};
+
+use super::{LatestCell, LatestCore};
+use async_cell_latest::{Place, Refusal, TaskWaker};
+use async_cell_waiting::{Held, Query, Room, poll};
+use futures::task::{Context, Poll, Waker};
+use std::sync::Wait;
+
+impl<T: Drop> LatestCell<T> {
+    /// Answers the query, or waits in the place.
+    #[inline(always)]
+    pub(crate) fn poll<Q: Query<LatestCore<T>>, R: Wait>(
+        &self,
+        query: Q,
+        place: &mut Place,
+        cx: &mut Context<'_>,
+        rt: &R,
+    ) -> Poll<Result<Q::Answer, Refusal>>
+        ensures told { IfReady result (λ answer. IfOk answer (λ told. Q.gives query told)) }
+        ensures registered { OnPending result (Covers cx.new (λ s. s ≡ self.now.source.id)) }
+        ensures kept { Keeps cx.old cx.new }
+        ensures refused { IfReady result FailsWithMemoryOrClosed }
+    {
+        poll(&self.core, &self.source, query, Some(place), cx, rt)
+    }
+}
+
+impl<T: Drop> Room for LatestCore<T> {
+    ghost use Rattle.std.specs.Prelude.{◌≡◌, false};
+    ghost use Rattle.async_cell_latest.specs.State.{is_closed};
+
+    ghost vacant = { λ core. is_closed core.state ≡ false };
+
+    #[inline(always)]
+    fn add(&mut self, waker: TaskWaker) -> Held<Result<(), TaskWaker>> {
+        Held::of(self.state.add(waker))
+    }
+
+    #[inline(always)]
+    fn is_new(&self, place: &Place) -> bool {
+        self.state.is_new(place)
+    }
+
+    #[inline(always)]
+    fn store_new(&mut self, place: &mut Place, waker: TaskWaker) -> Held<Result<(), TaskWaker>> {
+        Held::of(self.state.store_new(place, waker))
+    }
+
+    #[inline(always)]
+    fn take_back(&mut self, place: &mut Place) -> Held<Option<Waker>> {
+        Held::of(self.state.take_back(place))
+    }
+
+    #[inline(always)]
+    fn store(
+        &mut self,
+        place: &mut Place,
+        waker: TaskWaker,
+    ) -> Held<Result<Option<TaskWaker>, TaskWaker>> {
+        Held::of(self.state.store(place, waker))
+    }
+
+    #[inline(always)]
+    fn leave(&mut self, place: Place) -> Option<usize> {
+        self.state.leave(place)
+    }
+
+    #[inline(always)]
+    fn take_left(&mut self, index: usize) -> Held<Option<Waker>> {
+        Held::of(self.state.take_left(index))
+    }
+
+    #[inline(always)]
+    fn places(&self) -> usize {
+        self.state.waiting()
+    }
+}
+
+/// Asks a state for its version, if it is another one than this.
+#[derive(Clone, Copy, Drop)]
+pub struct Unseen(pub u64);
+
+/// `Unseen`, with a clone of the value, made during the step.
+#[derive(Clone, Copy, Drop)]
+pub struct UnseenState(pub u64);
+
+impl<T: Drop> Query<LatestCore<T>> for Unseen {
+    ghost use Rattle.std.specs.Prelude.{◌≢◌};
+    ghost use Rattle.async_cell_latest_sync.specs.OneState.{OfOneState};
+
+    type Answer = u64;
+
+    ghost gives = { λ asked version. OfOneState {T = T} version (λ s. s.version ≢ asked.0) };
+
+    #[inline(always)]
+    fn must_wait(self, core: &LatestCore<T>) -> bool {
+        !core.state.is_unseen(self.0) && !core.state.is_closed()
+    }
+
+    #[inline(always)]
+    fn answer(self, core: &mut LatestCore<T>) -> Held<Result<u64, Refusal>> {
+        match core.state.is_unseen(self.0) {
+            true => Held::of(Ok(core.state.version())),
+            false => Held::of(Err(Refusal::Closed)),
+        }
+    }
+}
+
+impl<T: Clone> Query<LatestCore<T>> for UnseenState {
+    ghost use Rattle.std.specs.Prelude.{◌≢◌};
+    ghost use Rattle.async_cell_latest_sync.specs.OneState.{OfOneState};
+
+    type Answer = (u64, T);
+
+    ghost gives = { λ asked shown.
+        OfOneState shown.0 (λ s. (s.version ≢ asked.0) × T.is_clone s.value shown.1) };
+
+    #[inline(always)]
+    fn must_wait(self, core: &LatestCore<T>) -> bool {
+        Unseen(self.0).must_wait(core)
+    }
+
+    #[inline(always)]
+    fn answer(self, core: &mut LatestCore<T>) -> Held<Result<(u64, T), Refusal>> {
+        match core.state.is_unseen(self.0) {
+            true => Held::of(core.state.get()),
+            false => Held::of(Err(Refusal::Closed)),
+        }
+    }
+}

@@ -1,0 +1,122 @@
+//! The calls that change a state. Wakers are woken, and old values dropped, after the lock is
+//! released.
+ghost use Rattle.std.specs.Prelude.{◌≡◌, IfOk, IfErr};
+ghost use Rattle.std.specs.Fn.{FnOnceReturnsAt, FnOnceReturnsAtMut};
+ghost use Rattle.async_cell_model.specs.Refusal.{FailsWithClosed, IsOwnerRefusal};
+ghost use Rattle.async_cell_latest_sync.specs.Names.{cell_owned};
+
+use super::{LatestCell, LatestCore};
+use crate::owner::Owner;
+use async_cell_latest::Refusal;
+use async_cell_waiting::{Held, Opens, Step, end, end_and_wake, end_and_wake_one};
+use std::sync::{Arc, Wait};
+
+impl<T: Drop, R: Wait + Drop> Owner<T, R> {
+    /// Sets the value and drops the old one. Wakes all followers that wait.
+    pub fn set(&self, value: T) {
+        let Some(mut core) = self.rt.try_open(&self.cell.core) else {
+            return self.set_in_turn(value);
+        };
+        match core.core().state.write_first(value) {
+            Ok((old, first)) => drop(end_and_wake_one(core, Held::waking(old, first))),
+            Err(value) => write(core, value),
+        }
+    }
+
+    /// `set`, where the lock is not free.
+    #[inline(never)]
+    fn set_in_turn(&self, value: T) {
+        let _ = self.replace(value);
+    }
+
+    /// Sets the value and returns the old one. Wakes all followers that wait. If the state takes no
+    /// further write, the value is returned in the error.
+    pub fn replace(&self, value: T) -> Result<T, T>
+        ensures comes_back { IfErr result (λ back. back ≡ value) }
+    {
+        let mut core = self.cell.core.lock(&self.rt);
+        let written = Held::of_result(core.core().state.write(value));
+        end_and_wake(core, written)
+    }
+
+    /// Calls the closure on the value, sets the one that it returns, and drops the old one. Wakes
+    /// all followers that wait. No other call comes in between: the lock is held meanwhile, so a
+    /// closure that calls its own state waits forever.
+    pub fn update<F: FnOnce(&T) -> T>(&self, change: F)
+        requires { F.IsAlwaysCallable change }
+        ensures called { (old new : T) × FnOnceReturnsAt F.FnOnce change old new }
+    {
+        let mut core = self.cell.core.lock(&self.rt);
+        let written = Held::of_result(core.core().state.update(change));
+        let _ = end_and_wake(core, written);
+    }
+
+    /// Calls the closure on the value, which it may change in place, and returns what it returns.
+    /// Wakes all followers that wait. No other call comes in between: the lock is held meanwhile,
+    /// so a closure that calls its own state, or drops a value that does, waits forever.
+    ///
+    /// Fails with `Closed` if the state takes no further write; the closure is then not called.
+    pub fn modify<A, F: FnOnce(&mut T) -> A + Drop>(&self, change: F) -> Result<A, Refusal>
+        requires { F.IsAlwaysCallable change }
+        ensures called { IfOk result (λ answer. (old new : T)
+            × FnOnceReturnsAtMut F.FnOnce change old answer new) }
+        ensures refused { FailsWithClosed result }
+    {
+        let mut core = self.cell.core.lock(&self.rt);
+        let modified = match core.core().state.modify(change) {
+            Ok((answer, woken)) => Held::waking(Ok(answer), Some(woken)),
+            Err(why) => Held::waking(Err(why), None),
+        };
+        end_and_wake(core, modified)
+    }
+
+    /// `modify`, if the closure returns `true`. If it returns `false`, nothing is written: nobody
+    /// is woken, and no follower is told of a new state. Returns what the closure returned.
+    ///
+    /// A closure that returns `false` should change nothing: what it did stays, and nobody is told.
+    pub fn modify_if<F: FnOnce(&mut T) -> bool + Drop>(&self, change: F) -> Result<bool, Refusal>
+        requires { F.IsAlwaysCallable change }
+        ensures called { IfOk result (λ changed. (old new : T)
+            × FnOnceReturnsAtMut F.FnOnce change old changed new) }
+        ensures refused { FailsWithClosed result }
+    {
+        let mut core = self.cell.core.lock(&self.rt);
+        let modified = match core.core().state.modify_if(change) {
+            Ok(Some(woken)) => Held::waking(Ok(true), Some(woken)),
+            Ok(None) => Held::waking(Ok(false), None),
+            Err(why) => Held::waking(Err(why), None),
+        };
+        end_and_wake(core, modified)
+    }
+}
+
+impl<T: Drop, R: Wait + Copy> Owner<T, R> {
+    /// Adds an owner, in place of a clone. Fails with `Memory` if the pointer cannot be counted, or
+    /// with `OwnersFull`; `Closed` is in the contract, but cannot happen while this owner lives.
+    pub fn another(&self) -> Result<Self, Refusal>
+        ensures of_this { IfOk result (λ owner. cell_owned owner ≡ cell_owned self.now) }
+        ensures refused { IfErr result IsOwnerRefusal }
+    {
+        let cell = Arc::try_clone(&self.cell)?;
+        let mut core = cell.core.lock(&self.rt);
+        let added = Held::of(core.core().state.add_writer());
+        end(core, added)?;
+        Ok(Owner { cell, rt: self.rt })
+    }
+}
+
+impl<T: Drop> LatestCell<T> {
+    /// Ends one owner. The last one closes the state, which stays, and wakes all waiters.
+    pub(crate) fn end_owner<R: Wait>(&self, rt: &R) {
+        let mut core = self.core.lock(rt);
+        let woken = core.core().state.end_writer().ok();
+        end_and_wake(core, Held::waking((), woken));
+    }
+}
+
+/// `set`, of a core that is lent: apart from it, which is then small where at most one waits.
+#[inline(never)]
+fn write<T: Drop, G: Step<Core = LatestCore<T>>>(mut core: G, value: T) {
+    let written = Held::of_result(core.core().state.write(value));
+    let _ = end_and_wake(core, written);
+}
