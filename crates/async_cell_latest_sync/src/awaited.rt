@@ -13,6 +13,7 @@ ghost use Rattle.async_cell_latest_sync.specs.Told.{AreTold};
 use crate::cell::{Unseen, UnseenState};
 use crate::follower::Follower;
 use async_cell_latest::{Place, Refusal};
+use async_cell_waiting::poll;
 use futures::future::Future;
 use futures::stream::Stream;
 use futures::task::{Context, Poll};
@@ -72,8 +73,16 @@ impl<T: Drop, R: Wait + Drop> Future for Changed<'_, T, R> {
         ensures kept { Keeps cx.old cx.new }
     {
         let follower = &*self.follower;
+        let cell = follower.cell.as_ref();
         let asked = Unseen(follower.seen);
-        match follower.cell.poll(asked, &mut self.place, cx, &follower.rt) {
+        match poll(
+            &cell.core,
+            &cell.source,
+            asked,
+            Some(&mut self.place),
+            cx,
+            &follower.rt,
+        ) {
             Poll::Ready(Ok(told)) => {
                 self.follower.seen = told;
                 Poll::Ready(Ok(()))
@@ -161,7 +170,15 @@ impl<T: Clone, R: Wait + Drop, F: FnMut(&T) -> bool + Drop> Future for WaitFor<'
         let follower = &*self.follower;
         let (cell, rt) = (follower.cell.as_ref(), &follower.rt);
         let Some((version, tested)) = cell.test(self.looked_at, &mut self.predicate, rt) else {
-            return match cell.poll(Unseen(self.looked_at), &mut self.place, cx, rt) {
+            let asked = Unseen(self.looked_at);
+            return match poll(
+                &cell.core,
+                &cell.source,
+                asked,
+                Some(&mut self.place),
+                cx,
+                rt,
+            ) {
                 Poll::Ready(Err(why)) => Poll::Ready(Err(why)),
                 Poll::Ready(Ok(_)) => cx.yield_now(), // It was written meanwhile.
                 Poll::Pending => Poll::Pending,
@@ -177,7 +194,15 @@ impl<T: Clone, R: Wait + Drop, F: FnMut(&T) -> bool + Drop> Future for WaitFor<'
             self.follower.seen = version;
             return Poll::Ready(Ok(copy));
         }
-        let polled = match cell.poll(Unseen(version), &mut self.place, cx, rt) {
+        let asked = Unseen(version);
+        let polled = match poll(
+            &cell.core,
+            &cell.source,
+            asked,
+            Some(&mut self.place),
+            cx,
+            rt,
+        ) {
             Poll::Ready(Err(Refusal::Memory)) => {
                 // Nothing is marked, so the next poll looks at this state again.
                 let place = mem::replace(&mut self.place, Place::new());
@@ -252,8 +277,16 @@ impl<T: Clone, R: Wait + Drop> Stream for States<T, R> {
         ensures kept { Keeps cx.old cx.new }
     {
         let follower = &self.follower;
+        let cell = follower.cell.as_ref();
         let asked = UnseenState(follower.seen);
-        match follower.cell.poll(asked, &mut self.place, cx, &follower.rt) {
+        match poll(
+            &cell.core,
+            &cell.source,
+            asked,
+            Some(&mut self.place),
+            cx,
+            &follower.rt,
+        ) {
             Poll::Ready(Ok((shown, value))) => {
                 self.follower.seen = shown;
                 Poll::Ready(Some(Ok(value)))

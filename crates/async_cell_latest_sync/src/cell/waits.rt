@@ -1,33 +1,8 @@
 //! The wait list of a state, and what polls ask it.
-ghost use Rattle.std.specs.Prelude.{◌≡◌, IfOk};
-ghost use Rattle.futures.specs.Poll.{IfReady, OnPending};
-ghost use Rattle.futures.specs.Task.{Covers, Keeps};
-ghost use Rattle.async_cell_model.specs.Refusal.{FailsWithMemoryOrClosed};
-
-use super::{LatestCell, LatestCore};
+use super::LatestCore;
 use async_cell_latest::{Place, Refusal, TaskWaker};
-use async_cell_waiting::{Held, Query, Room, poll};
-use futures::task::{Context, Poll, Waker};
-use std::sync::Wait;
-
-impl<T: Drop> LatestCell<T> {
-    /// Answers the query, or waits in the place.
-    #[inline(always)]
-    pub(crate) fn poll<Q: Query<LatestCore<T>>, R: Wait>(
-        &self,
-        query: Q,
-        place: &mut Place,
-        cx: &mut Context<'_>,
-        rt: &R,
-    ) -> Poll<Result<Q::Answer, Refusal>>
-        ensures told { IfReady result (λ answer. IfOk answer (λ told. Q.gives query told)) }
-        ensures registered { OnPending result (Covers cx.new (λ s. s ≡ self.now.source.id)) }
-        ensures kept { Keeps cx.old cx.new }
-        ensures refused { IfReady result FailsWithMemoryOrClosed }
-    {
-        poll(&self.core, &self.source, query, Some(place), cx, rt)
-    }
-}
+use async_cell_waiting::{Held, Query, Room};
+use futures::task::Waker;
 
 impl<T: Drop> Room for LatestCore<T> {
     ghost use Rattle.std.specs.Prelude.{◌≡◌, false};

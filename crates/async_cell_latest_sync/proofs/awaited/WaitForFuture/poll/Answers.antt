@@ -47,3 +47,11 @@ returns-clause-looked g c =
       | in-Pending-poll w ↦ subst Kept (sym w.self-is) denied
     ] in
     on_pending c.match-poll-3.polled (inr (one.0, one.1, kept))
+
+pub returns-clause-again : goal.returns-clause-again
+returns-clause-again g c =
+    elim c.match-poll-3.branch [
+      | in-Ready-Err-poll w ↦ rw w.self-is (on_pending c.match-poll-3.polled c.test.ensures.again)
+      | in-Ready-Ok-poll w ↦ rw w.self-is (on_pending c.match-poll-3.polled c.test.ensures.again)
+      | in-Pending-poll w ↦ rw w.self-is (on_pending c.match-poll-3.polled c.test.ensures.again)
+    ]
