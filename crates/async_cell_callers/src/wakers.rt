@@ -49,7 +49,7 @@ fn place(task: &MockTask, lines: &mut Lines<HostRuntime>) -> Result<(), Refusal>
             list.store(&mut place, TaskWaker::of(waker)).is_ok(),
         );
     }
-    lines.show("place: leave", list.leave(place));
+    lines.show("place: leave", list.vacate(place));
     let left = list.take_left(0).map(TaskWaker::of);
     lines.show("place: take_left", left.is_some());
     lines.show("place: is_woken", task.is_woken());

@@ -245,7 +245,7 @@ impl<T: Drop, W: Wakes> Drop for Core<T, W> {
 }
 
 impl<T: Drop, W: Wakes> Core<T, W> {
-    /// Internal: may change without notice. The drop, for the drop of what holds a core: a level of
+    /// The drop, for the drop of what holds a core: a level of
     /// calls less.
     #[doc(hidden)]
     #[inline(always)]

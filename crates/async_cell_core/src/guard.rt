@@ -6,8 +6,6 @@ ghost use Rattle.async_cell_core.specs.IsStep.{IsStep, end_guard_answer};
 use crate::{Core, Wakers, Wakes};
 use async_cell_model::Kept;
 
-/// Internal: may change without notice.
-///
 /// Ends a guard of this cell. `cancel` is its cancel value, or `None` if the guard was released. An
 /// unreleased guard makes one `or_set` of its cancel value; a released one makes no call.
 ///

@@ -1,4 +1,6 @@
 //! The cell as a pure state machine: each call returns its reply and the wakers to be woken.
+//!
+//! What is `doc(hidden)` is for the crates that build on this one, and may change without notice.
 #![tactic(auto)]
 
 mod call;

@@ -102,8 +102,6 @@ pub fn step<T: Clone, W: Wakes, E: Edit<T> + Drop>(
     }
 }
 
-/// Internal: may change without notice.
-///
 /// Makes one call on a cell of `Copy` values, which are copied and not cloned. The reply is exactly
 /// the model's.
 pub fn step_copied<T: Copy, W: Wakes, E: Edit<T> + Drop>(

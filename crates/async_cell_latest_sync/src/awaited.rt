@@ -49,7 +49,7 @@ impl<T: Drop, R: Wait + Drop> Changed<'_, T, R> {
 impl<T: Drop, R: Wait + Drop> Drop for Changed<'_, T, R> {
     fn drop(self) {
         let Changed { follower, place } = self;
-        follower.cell.core.leave(place, &follower.rt);
+        follower.cell.core.vacate(place, &follower.rt);
     }
 }
 
@@ -133,7 +133,7 @@ impl<T: Drop, R: Wait + Drop, F: Drop> Drop for WaitFor<'_, T, R, F> {
             predicate: _,
             looked_at: _,
         } = self;
-        follower.cell.core.leave(place, &follower.rt);
+        follower.cell.core.vacate(place, &follower.rt);
     }
 }
 
@@ -206,7 +206,7 @@ impl<T: Clone, R: Wait + Drop, F: FnMut(&T) -> bool + Drop> Future for WaitFor<'
             Poll::Ready(Err(Refusal::Memory)) => {
                 // Nothing is marked, so the next poll looks at this state again.
                 let place = mem::replace(&mut self.place, Place::new());
-                cell.core.leave(place, rt);
+                cell.core.vacate(place, rt);
                 return Poll::Ready(Err(Refusal::Memory));
             }
             Poll::Ready(Err(why)) => Poll::Ready(Err(why)),
@@ -249,7 +249,7 @@ impl<T: Drop, R: Wait + Drop> States<T, R> {
 impl<T: Drop, R: Wait + Drop> Drop for States<T, R> {
     fn drop(self) {
         let States { follower, place } = self;
-        follower.cell.core.leave(place, &follower.rt);
+        follower.cell.core.vacate(place, &follower.rt);
     }
 }
 

@@ -78,7 +78,7 @@ impl<T: Drop, R: Wait + Drop> Owner<T, R> {
         self.cell.core.purge(&self.rt);
     }
 
-    /// Internal: may change without notice. Returns the number of places in the wait list.
+    /// Returns the number of places in the wait list.
     #[doc(hidden)]
     pub fn waiting(&self) -> usize {
         self.cell.core.places(&self.rt)

@@ -85,7 +85,7 @@ impl<T: Drop> AsyncCell<T> {
         self.into_shared().map_err(|(why, _)| why)
     }
 
-    /// Internal: may change without notice. Returns the number of places in the wait list.
+    /// Returns the number of places in the wait list.
     pub fn waiting<R: Wait>(&self, rt: &R) -> usize {
         self.core.waiting(rt)
     }
@@ -134,8 +134,8 @@ impl AsyncCell<()> {
 
 impl<T: Drop, R: Wait> Places<R> for AsyncCell<T> {
     #[inline(always)]
-    fn leave(&self, place: Place, rt: &R) {
-        self.core.leave(place, rt);
+    fn vacate(&self, place: Place, rt: &R) {
+        self.core.vacate(place, rt);
     }
 
     fn cancel(&self, place: Place, rt: &R) {

@@ -187,7 +187,7 @@ impl<T: Drop> AsyncCell<T> {
         self.core.purge(&OneThread);
     }
 
-    /// Internal: may change without notice. Returns the number of places in the wait list.
+    /// Returns the number of places in the wait list.
     pub fn waiting(&self) -> usize {
         self.core.waiting(&OneThread)
     }
@@ -202,7 +202,7 @@ impl<T: Drop> AsyncCell<T> {
         core.into_inner()
     }
 
-    /// Internal: may change without notice. Returns the core. Ensures what holds of every core.
+    /// Returns the core. Ensures what holds of every core.
     pub fn into_core(self) -> Core<T, TaskWaker>
         ensures { IsSound ⟦<TaskWaker as Wakes>⟧.will_wake result }
     {
@@ -274,8 +274,8 @@ impl AsyncCell<()> {
 
 impl<T: Drop> Places<OneThread> for AsyncCell<T> {
     #[inline(always)]
-    fn leave(&self, place: Place, rt: &OneThread) {
-        self.core.leave(place, rt);
+    fn vacate(&self, place: Place, rt: &OneThread) {
+        self.core.vacate(place, rt);
     }
 
     fn cancel(&self, place: Place, rt: &OneThread) {

@@ -1,4 +1,6 @@
 //! A cell of one thread: an optional value that the futures of one thread wait for.
+//!
+//! What is `doc(hidden)` is for the crates that build on this one, and may change without notice.
 #![tactic(auto)]
 
 mod async_cell;
@@ -24,4 +26,4 @@ pub use shared::Shared;
 pub use take::Take;
 pub use weak::{GetWeak, TakeWeak, Weak};
 pub use weak_owner::WeakOwner;
-pub use with::{InPlace, Values, With};
+pub use with::{Values, With};

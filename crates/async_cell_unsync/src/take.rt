@@ -5,7 +5,7 @@ ghost use Rattle.async_cell_model.specs.Refusal.{FailsWithMemoryOrClosed};
 
 use crate::async_cell::AsyncCell;
 use crate::cell_ref::CellRef;
-use crate::with::{InPlace, With};
+use crate::with::With;
 use async_cell_core::Refusal;
 use async_cell_waiting::{At, OneThread, Polled, Request, Taking, poll};
 use futures::future::Future;
@@ -35,13 +35,6 @@ impl<C: CellRef> Take<C> {
         ensures polls { result.polled ≡ self }
     {
         With::new(self, OneThread)
-    }
-
-    /// Returns the future that holds one place in the wait list while it waits, as `with` does.
-    pub fn in_place(self) -> InPlace<Self>
-        ensures polls { result.polled ≡ self }
-    {
-        self.with()
     }
 }
 

@@ -16,7 +16,7 @@ use crate::owner::Owner;
 use crate::shared::Shared;
 use crate::take::Take;
 use crate::weak_owner::WeakOwner;
-use crate::with::{InPlace, With};
+use crate::with::With;
 use async_cell_core::Refusal;
 use async_cell_waiting::{At, OneThread, Polled, Request, Takes, Taking, Upgrade, poll, weakly};
 use futures::future::Future;
@@ -118,13 +118,6 @@ impl<T: Drop> TakeWeak<T> {
         With::new(self, OneThread)
     }
 
-    /// Returns the future that holds one place in the wait list while it waits, as `with` does.
-    pub fn in_place(self) -> InPlace<Self>
-        ensures polls { result.polled ≡ self }
-    {
-        self.with()
-    }
-
     /// Makes a `Take` that is a new owner. Fails, and returns `None`, as `Weak::upgrade` does.
     pub fn upgrade(&self) -> Result<Option<Take<Shared<T>>>, Refusal>
         ensures of_this { IfOk result (λ found. IfSome found (λ own. OwnsNamed self.now.0 own.0)) }
@@ -214,13 +207,6 @@ impl<T: Drop> GetWeak<T> {
         ensures polls { result.polled ≡ self }
     {
         With::new(self, OneThread)
-    }
-
-    /// Returns the future that holds one place in the wait list while it waits, as `with` does.
-    pub fn in_place(self) -> InPlace<Self>
-        ensures polls { result.polled ≡ self }
-    {
-        self.with()
     }
 
     /// Makes a `Get` that is a new owner. Fails, and returns `None`, as `Weak::upgrade` does.

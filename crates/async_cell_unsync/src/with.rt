@@ -6,8 +6,5 @@ use async_cell_waiting::OneThread;
 /// wait list. Their `with` makes it, as do the calls of an `Owner` and a `WeakOwner`.
 pub type With<P> = async_cell_waiting::With<P, OneThread>;
 
-/// The name of `With` that goes with `in_place`.
-pub type InPlace<P> = With<P>;
-
 /// The stream of the values of a cell, which `values` of a future of a `TakeWeak` makes.
 pub type Values<T> = async_cell_waiting::Values<TakeWeak<T>, OneThread>;

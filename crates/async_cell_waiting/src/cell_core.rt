@@ -12,21 +12,21 @@ pub use waits::{Cloning, Taking};
 /// a step. The calls of a `StoredCore` make them, and hold what comes out.
 #[derive(Drop)]
 pub struct CellCore<T, W: Wakes> {
-    core: Core<T, W>,
+    inner: Core<T, W>,
 }
 
 impl<T: Drop, W: Wakes> CellCore<T, W> {
     /// Wraps the core, whatever its state.
     pub fn of(core: Core<T, W>) -> Self {
-        CellCore { core }
+        CellCore { inner: core }
     }
 
     /// Returns the core. Ensures what holds of every core.
     pub fn into_core(self) -> Core<T, W>
         ensures { IsSound W.will_wake result }
     {
-        let CellCore { core } = self;
-        core.soundness();
-        core
+        let CellCore { inner } = self;
+        inner.soundness();
+        inner
     }
 }

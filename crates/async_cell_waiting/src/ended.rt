@@ -17,20 +17,20 @@ pub struct Held<X, K = ()> {
 
 /// Ends the step: gives the core back, and returns what was held.
 #[inline(always)]
-pub fn end<G: Step, X>(core: G, held: Held<X>) -> X
+pub fn end<G: Step, X>(step: G, held: Held<X>) -> X
     ensures answers { result ≡ held.answer }
 {
-    core.release();
+    step.release();
     let Held { answer, woken: _ } = held;
     answer
 }
 
 /// Ends the step: gives the core back, wakes the wakers that it handed out, and returns the answer.
 #[inline(always)]
-pub fn end_and_wake<G: Step, X, W: Wakes>(core: G, held: Held<X, Option<Wakers<W>>>) -> X
+pub fn end_and_wake<G: Step, X, W: Wakes>(step: G, held: Held<X, Option<Wakers<W>>>) -> X
     ensures answers { result ≡ held.answer }
 {
-    core.release(); // What is woken or dropped may call this cell: never during a step.
+    step.release(); // What is woken or dropped may call this cell: never during a step.
     let Held { answer, woken } = held;
     if let Some(woken) = woken {
         woken.wake_all();
@@ -40,10 +40,10 @@ pub fn end_and_wake<G: Step, X, W: Wakes>(core: G, held: Held<X, Option<Wakers<W
 
 /// `end_and_wake`, of at most one waker.
 #[inline(always)]
-pub fn end_and_wake_one<G: Step, X, W: Wakes>(core: G, held: Held<X, Option<W>>) -> X
+pub fn end_and_wake_one<G: Step, X, W: Wakes>(step: G, held: Held<X, Option<W>>) -> X
     ensures answers { result ≡ held.answer }
 {
-    core.release();
+    step.release();
     let Held { answer, woken } = held;
     if let Some(waker) = woken {
         waker.wake();
@@ -58,8 +58,8 @@ pub fn open_holding<'a, M: Stores, X: Drop, R: Opens<'a, M>>(
     held: X,
     rt: &R,
 ) -> Option<(R::Open, Held<X>)> {
-    let core = rt.open(store)?;
-    Some((core, Held::of(held)))
+    let step = rt.open(store)?;
+    Some((step, Held::of(held)))
 }
 
 impl<X> Held<X> {

@@ -5,42 +5,41 @@ use crate::room::Room;
 use crate::store::{Opens, Step, StoredCore, Stores};
 use async_cell_wakers::Place;
 
-/// Internal: may change without notice.
 #[doc(hidden)]
 impl<M: Stores<Core: Room>> StoredCore<M> {
     /// Lets go of all wakers that dropped futures left.
     pub fn purge<'a, R: Opens<'a, M>>(&'a self, rt: &R) {
         for index in 0..self.places(rt) {
-            if let Some(mut core) = rt.open(self) {
-                let left = core.core().take_left(index);
-                drop(end(core, left));
+            if let Some(mut step) = rt.open(self) {
+                let left = step.lend().take_left(index);
+                drop(end(step, left));
             }
         }
     }
 
     /// Returns the number of places in the wait list.
     pub fn places<'a, R: Opens<'a, M>>(&'a self, rt: &R) -> usize {
-        let Some(core) = rt.open(self) else {
+        let Some(step) = rt.open(self) else {
             return 0;
         };
-        let places = core.peek().places();
-        end(core, Held::of(places))
+        let places = step.shown().places();
+        end(step, Held::of(places))
     }
 
     /// Leaves the place of a future that is dropped.
     #[inline(always)]
-    pub fn leave<'a, R: Opens<'a, M>>(&'a self, place: Place, rt: &R) {
+    pub fn vacate<'a, R: Opens<'a, M>>(&'a self, place: Place, rt: &R) {
         if place.was_held() {
-            self.leave_held(place, rt);
+            self.vacate_held(place, rt);
         }
     }
 
-    /// `leave`, of a place that may still be held.
+    /// `vacate`, of a place that may still be held.
     #[inline(never)]
-    fn leave_held<'a, R: Opens<'a, M>>(&'a self, place: Place, rt: &R) {
-        if let Some(mut core) = rt.open(self) {
-            let _ = core.core().leave(place);
-            end(core, Held::of(()));
+    fn vacate_held<'a, R: Opens<'a, M>>(&'a self, place: Place, rt: &R) {
+        if let Some(mut step) = rt.open(self) {
+            let _ = step.lend().vacate(place);
+            end(step, Held::of(()));
         }
     }
 
@@ -49,13 +48,13 @@ impl<M: Stores<Core: Room>> StoredCore<M> {
         if !place.was_held() {
             return;
         }
-        let Some(mut core) = rt.open(self) else {
+        let Some(mut step) = rt.open(self) else {
             return;
         };
-        let left = match core.core().leave(place) {
-            Some(index) => core.core().take_left(index),
+        let left = match step.lend().vacate(place) {
+            Some(index) => step.lend().take_left(index),
             None => Held::of(None),
         };
-        drop(end(core, left));
+        drop(end(step, left));
     }
 }

@@ -31,31 +31,31 @@ pub fn poll<'a, C: Room, M: Stores<Core = C>, Q: Query<C>, R: Opens<'a, M>>(
     ensures kept { Keeps cx.old cx.new }
     ensures refused { IfReady result FailsWithMemoryOrClosed }
 {
-    let mut core = opened!(rt, store, else return cx.yield_now());
-    if !query.must_wait(core.peek()) {
+    let mut step = opened!(rt, store, else return cx.yield_now());
+    if !query.must_wait(step.shown()) {
         if let Some(place) = place {
             place.forget();
         }
-        let answer = query.answer(core.core());
-        return Poll::Ready(end(core, answer));
+        let answer = query.answer(step.lend());
+        return Poll::Ready(end(step, answer));
     }
     let Some(place) = place else {
-        return waits(add(core, source, cx));
+        return waits(add(step, source, cx));
     };
-    if core.peek().is_new(place) {
-        return waits(add_at(core, source, place, cx));
+    if step.shown().is_new(place) {
+        return waits(add_at(step, source, place, cx));
     }
-    renew(store, core, source, query, place, cx, rt)
+    renew(store, step, source, query, place, cx, rt)
 }
 
 /// Registers the task, and adds its waker as the last. It is a new one: nothing is dropped, and
 /// nobody woken, during the step. Fails with `Memory`.
 fn add<C: Room, G: Step<Core = C>>(
-    mut core: G,
+    mut step: G,
     source: &Source,
     cx: &mut Context<'_>,
 ) -> Result<(), Refusal>
-    requires { C.vacant (G.shows core) }
+    requires { C.vacant (G.shows step) }
     ensures armed { IsArmed cx.new }
     ensures heard { Hears cx.new source.now.id }
     ensures kept { Keeps cx.old cx.new }
@@ -64,10 +64,10 @@ fn add<C: Room, G: Step<Core = C>>(
     let mut new = None;
     let _ = cx.register::<()>(source, &mut new);
     let Some(waker) = new else {
-        return end(core, Held::of(Err(Refusal::Memory)));
+        return end(step, Held::of(Err(Refusal::Memory)));
     };
-    let added = core.core().add(TaskWaker::of(waker));
-    match end(core, added) {
+    let added = step.lend().add(TaskWaker::of(waker));
+    match end(step, added) {
         Ok(()) => Ok(()),
         Err(_unused) => Err(Refusal::Memory),
     }
@@ -75,12 +75,12 @@ fn add<C: Room, G: Step<Core = C>>(
 
 /// `add`, at a new place: that of the waker from then on.
 fn add_at<C: Room, G: Step<Core = C>>(
-    mut core: G,
+    mut step: G,
     source: &Source,
     place: &mut Place,
     cx: &mut Context<'_>,
 ) -> Result<(), Refusal>
-    requires { C.vacant (G.shows core) }
+    requires { C.vacant (G.shows step) }
     ensures armed { IsArmed cx.new }
     ensures heard { Hears cx.new source.now.id }
     ensures kept { Keeps cx.old cx.new }
@@ -89,10 +89,10 @@ fn add_at<C: Room, G: Step<Core = C>>(
     let mut made = None;
     let _ = cx.register::<()>(source, &mut made);
     let Some(waker) = made else {
-        return end(core, Held::of(Err(Refusal::Memory)));
+        return end(step, Held::of(Err(Refusal::Memory)));
     };
-    let stored = core.core().store_new(place, TaskWaker::of(waker));
-    match end(core, stored) {
+    let stored = step.lend().store_new(place, TaskWaker::of(waker));
+    match end(step, stored) {
         Ok(()) => Ok(()),
         Err(_unused) => Err(Refusal::Memory),
     }
@@ -103,7 +103,7 @@ fn add_at<C: Room, G: Step<Core = C>>(
 #[inline(never)]
 fn renew<'a, C: Room, M: Stores<Core = C>, Q: Query<C>, R: Opens<'a, M>>(
     store: &'a StoredCore<M>,
-    mut core: R::Open,
+    mut step: R::Open,
     source: &Source,
     query: Q,
     place: &mut Place,
@@ -116,24 +116,24 @@ fn renew<'a, C: Room, M: Stores<Core = C>, Q: Query<C>, R: Opens<'a, M>>(
     ensures kept { Keeps cx.old cx.new }
     ensures refused { IfReady result FailsWithMemoryOrClosed }
 {
-    let waker = core.core().take_back(place);
-    let mut slot = end(core, waker);
+    let waker = step.lend().take_back(place);
+    let mut slot = end(step, waker);
     let _ = cx.register::<()>(source, &mut slot);
     let Some(waker) = slot else {
         return Poll::Ready(Err(Refusal::Memory));
     };
-    let Some((mut core, waker)) = open_holding(store, waker, rt) else {
+    let Some((mut step, waker)) = open_holding(store, waker, rt) else {
         return cx.yield_now();
     };
     // Between the two steps the core may have been written to, or closed.
-    if !query.must_wait(core.peek()) {
+    if !query.must_wait(step.shown()) {
         place.forget();
-        let answer = query.answer(core.core());
-        let (answer, _unused) = end(core, answer.and(waker));
+        let answer = query.answer(step.lend());
+        let (answer, _unused) = end(step, answer.and(waker));
         return Poll::Ready(answer);
     }
-    let stored = waker.store_in(core.core(), place);
-    match end(core, stored) {
+    let stored = waker.store_in(step.lend(), place);
+    match end(step, stored) {
         Ok(_before) => Poll::Pending,
         Err(_unused) => Poll::Ready(Err(Refusal::Memory)),
     }

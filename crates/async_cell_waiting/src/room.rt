@@ -36,7 +36,7 @@ pub trait Room {
         requires { vacant self.old };
 
     /// Leaves the place free, with its waker. Returns its index, unless the place was given up.
-    fn leave(&mut self, place: Place) -> Option<usize>;
+    fn vacate(&mut self, place: Place) -> Option<usize>;
 
     /// Takes the waker out of the place at `index`, if that place is free.
     fn take_left(&mut self, index: usize) -> Held<Option<Waker>>;

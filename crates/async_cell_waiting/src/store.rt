@@ -78,11 +78,11 @@ pub trait Step {
     ghost shows: { Self → Self.Core };
 
     /// Shows the core.
-    fn peek(&self) -> &Self::Core
+    fn shown(&self) -> &Self::Core
         ensures { result.now ≡ shows self.now };
 
     /// Lends the core to one call, after which nothing is known of it.
-    fn core(&mut self) -> &mut Self::Core
+    fn lend(&mut self) -> &mut Self::Core
         ensures { result.now ≡ shows self.old };
 
     /// Gives the core back.

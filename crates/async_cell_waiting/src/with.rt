@@ -18,7 +18,7 @@ pub type At<'a> = Option<&'a mut Place>;
 /// A cell in which futures hold places. `R` is the right that a step on it needs.
 pub trait Places<R> {
     /// Leaves the place of a future that is dropped.
-    fn leave(&self, place: Place, rt: &R);
+    fn vacate(&self, place: Place, rt: &R);
 
     /// Leaves the place of a future that is cancelled, and lets go of its waker.
     fn cancel(&self, place: Place, rt: &R);
@@ -89,7 +89,7 @@ pub struct With<P: Request<R>, R> {
 }
 
 impl<P: Request<R>, R> With<P, R> {
-    /// Internal: may change without notice. The future of this request, without a place yet.
+    /// The future of this request, without a place yet.
     #[doc(hidden)]
     pub fn new(polled: P, rt: R) -> Self
         ensures polls { result.polled ≡ polled }
@@ -136,7 +136,7 @@ impl<P: Request<R>, R: Drop> Drop for With<P, R> {
         let With { polled, rt, place } = self;
         if place.was_held() {
             if let Some(cell) = polled.cell() {
-                cell.leave(place, &rt);
+                cell.vacate(place, &rt);
             }
         }
     }

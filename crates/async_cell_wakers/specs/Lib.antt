@@ -1,4 +1,3 @@
-pub mod Lacking
 pub mod Named
 pub mod Place
 pub mod WaitList

@@ -1,9 +1,7 @@
-ghost use Rattle.std.specs.Prelude.{◌≡◌, IfNone};
-ghost use Rattle.futures.specs.Task.{Hears, IsArmed, Keeps};
-ghost use Rattle.async_cell_wakers.specs.Lacking.{LacksWaker};
+ghost use Rattle.std.specs.Prelude.{◌≡◌};
 
 use crate::wakes::Wakes;
-use futures::task::{Context, Source, Waker};
+use futures::task::Waker;
 use std::alloc::AllocError;
 use std::cell::Cell;
 use std::marker::Model;
@@ -33,20 +31,6 @@ impl Model for TaskWaker {
 }
 
 impl TaskWaker {
-    /// Makes a waker for the task that is being polled, and registers it with `source`. The caller
-    /// stores it, and wakes or drops it when there is news. Returns `None` if there was no memory;
-    /// the task is then polled again.
-    pub fn register(cx: &mut Context<'_>, source: &Source) -> Option<TaskWaker>
-        ensures armed { IsArmed cx.new }
-        ensures heard { Hears cx.new source.now.id }
-        ensures kept { Keeps cx.old cx.new }
-        ensures only_for_memory { IfNone result (LacksWaker cx.new) }
-    {
-        let mut slot = None;
-        let _ = cx.register::<()>(source, &mut slot);
-        Some(TaskWaker::of(slot?))
-    }
-
     /// Makes what is stored in the place of a future: its waker.
     pub fn of(waker: Waker) -> TaskWaker {
         TaskWaker {
@@ -76,12 +60,6 @@ impl TaskWaker {
         ensures unchanged { self.new ≡ self.old }
     {
         self.waker.take()
-    }
-
-    /// Returns the waker, unless it is taken out.
-    pub fn into_waker(self) -> Option<Waker> {
-        let TaskWaker { waker, link: _ } = self;
-        waker
     }
 }
 

@@ -1,4 +1,4 @@
-//! Internal: may change without notice. The fast paths of a write and of an end: where no more than
+//! The fast paths of a write and of an end: where no more than
 //! one waker waits, it is returned by itself, and no list is made.
 ghost use Rattle.std.specs.Prelude.{◌≡◌, [], None, true, false, Ok, Some, IfSome, IfNone, IfOk, IfErr, OnOk, OnErr};
 ghost use Rattle.async_cell_model.specs.Cell.{content, is_vacant, owners_of};
@@ -10,8 +10,6 @@ use async_cell_model::Kept;
 use async_cell_wakers::Wakes;
 
 impl<T: Drop, W: Wakes> Core<T, W> {
-    /// Internal: may change without notice.
-    ///
     /// `replace` on a vacant cell whose list has no memory for more than one waker. Returns that
     /// waker, if one waits, to be woken by the caller. On other cells it changes nothing, and
     /// returns `value` in the error.
@@ -39,8 +37,6 @@ impl<T: Drop, W: Wakes> Core<T, W> {
         }
     }
 
-    /// Internal: may change without notice.
-    ///
     /// `end_owner` of the last owner of a cell whose list has no memory for more than one waker.
     /// Returns the value and that waker, if one waits, to be woken by the caller. Otherwise it
     /// changes nothing, and returns `None`.
@@ -64,8 +60,6 @@ impl<T: Drop, W: Wakes> Core<T, W> {
         Some((self.value.take(), first))
     }
 
-    /// Internal: may change without notice.
-    ///
     /// `end_owner` of an owner that is not the last: nobody is woken, and nothing comes out.
     /// Returns whether it is so; if not, nothing changes.
     #[doc(hidden)]

@@ -1,4 +1,4 @@
-//! Internal: may change without notice. Calls for the crates that build on this one.
+//! Calls for the crates that build on this one.
 ghost use Rattle.std.specs.Prelude.{◌≡◌, ◌↔◌, [], None, true, false, Ok, Some, IsOk, IfOk, IfErr, OnOk, OnErr};
 ghost use Rattle.async_cell_model.specs.Cell.{content, is_full, is_vacant};
 ghost use Rattle.async_cell_model.specs.History.{IsSound};
@@ -11,8 +11,6 @@ use futures::task::Poll;
 use std::mem;
 
 impl<T: Drop, W: Wakes> Core<T, W> {
-    /// Internal: may change without notice.
-    ///
     /// Replaces the value of a cell that holds one, on which nobody waits. Returns the old value.
     /// If there is none, returns `value` in the error and changes nothing.
     #[doc(hidden)]
@@ -31,8 +29,6 @@ impl<T: Drop, W: Wakes> Core<T, W> {
         }
     }
 
-    /// Internal: may change without notice.
-    ///
     /// `replace` on a vacant cell on which nobody waits, and whose list has no memory. On others it
     /// changes nothing, and returns `value` in the error.
     #[doc(hidden)]
@@ -50,16 +46,12 @@ impl<T: Drop, W: Wakes> Core<T, W> {
         Ok(())
     }
 
-    /// Internal: may change without notice.
-    ///
     /// Returns whether to wake the waiting wakers would wake nobody (see `Wakes::wakes_nobody`).
     #[doc(hidden)]
     pub fn wakes_nobody(&self) -> bool {
         self.waiting.wakes_nobody()
     }
 
-    /// Internal: may change without notice.
-    ///
     /// Does nothing. Its contract states what holds of every core: its state is sound.
     pub fn soundness(&self)
         ensures { IsSound W.will_wake self.now }
@@ -69,8 +61,6 @@ impl<T: Drop, W: Wakes> Core<T, W> {
 }
 
 impl<T: Copy, W: Wakes> Core<T, W> {
-    /// Internal: may change without notice.
-    ///
     /// `try_get` for `Copy` values, which are copied and not cloned.
     pub fn try_get_copied(&self) -> Option<T>
         ensures model { IsStep W.Wakes
@@ -80,8 +70,6 @@ impl<T: Copy, W: Wakes> Core<T, W> {
         self.value
     }
 
-    /// Internal: may change without notice.
-    ///
     /// `poll_get` for `Copy` values, which are copied and not cloned.
     pub fn poll_get_copied(&mut self, waker: &W) -> Result<Poll<Option<T>>, Refusal>
         ensures model { IsStep W.Wakes

@@ -1,4 +1,4 @@
-//! Internal: may change without notice. The places of waiting futures, and wakers that are never
+//! The places of waiting futures, and wakers that are never
 //! skipped.
 ghost use Rattle.std.specs.Prelude.{◌≡◌, ◌<◌, [], ◌∷◌, ◌++◌, true, false, IsOk, IfOk, IfErr, OnOk, OnErr, MatchOption};
 ghost use Rattle.async_cell_model.specs.Cell.{is_vacant};
@@ -10,8 +10,6 @@ use async_cell_wakers::{Place, TaskWaker, Wakes};
 use futures::task::Waker;
 
 impl<T: Drop, W: Wakes> Core<T, W> {
-    /// Internal: may change without notice.
-    ///
     /// Adds a waker, by value, as the last, for a poll that has to wait. The cell must be vacant,
     /// and the waker of a type of which none would wake another, so it is never skipped. If there
     /// is no memory to grow the list, fails and returns the waker in the error.
@@ -34,8 +32,6 @@ impl<T: Drop, W: Wakes> Core<T, W> {
 }
 
 impl<T: Drop> Core<T, TaskWaker> {
-    /// Internal: may change without notice.
-    ///
     /// Returns whether a future with this place has to be added: it has none, and none is free.
     #[doc(hidden)]
     #[inline(always)]
@@ -43,8 +39,6 @@ impl<T: Drop> Core<T, TaskWaker> {
         self.waiting.is_new(place)
     }
 
-    /// Internal: may change without notice.
-    ///
     /// `add`, at a place: that of the waker from then on.
     #[doc(hidden)]
     #[inline(always)]
@@ -58,8 +52,6 @@ impl<T: Drop> Core<T, TaskWaker> {
         self.waiting.store_new(place, waker)
     }
 
-    /// Internal: may change without notice.
-    ///
     /// Takes the waker out of the place, or out of a free place that is taken over. Returns `None`
     /// if there is neither. The waker may be another task's.
     #[doc(hidden)]
@@ -70,8 +62,6 @@ impl<T: Drop> Core<T, TaskWaker> {
         self.waiting.take_back(place)
     }
 
-    /// Internal: may change without notice.
-    ///
     /// Stores a waker in the place, in a free place that is taken over, or as the last of the list.
     /// The cell must be vacant. Returns the waker that was there, if any, which wakes its task when
     /// it is dropped. If there is no memory to grow the list, the waker is returned in the error.
@@ -93,19 +83,15 @@ impl<T: Drop> Core<T, TaskWaker> {
         self.waiting.store(place, waker)
     }
 
-    /// Internal: may change without notice.
-    ///
     /// Leaves the place free. Its waker stays there: to drop it would wake the task. Returns the
     /// index of the place, unless it was given up.
     #[doc(hidden)]
-    pub fn leave(&mut self, place: Place) -> Option<usize>
+    pub fn vacate(&mut self, place: Place) -> Option<usize>
         ensures unchanged { self.new ≡ self.old }
     {
-        self.waiting.leave(place)
+        self.waiting.vacate(place)
     }
 
-    /// Internal: may change without notice.
-    ///
     /// Takes the waker out of the place at `index`, if that place is free.
     #[doc(hidden)]
     pub fn take_left(&mut self, index: usize) -> Option<Waker>

@@ -1,4 +1,4 @@
-//! Internal: may change without notice. Waiting with a waker that no waiting one would wake.
+//! Waiting with a waker that no waiting one would wake.
 ghost use Rattle.std.specs.Prelude.{◌≡◌, ◌≤◌, [], ◌∷◌, ◌++◌, true, false, IsOk, OnOk, OnErr};
 ghost use Rattle.async_cell_model.specs.Cell.{is_vacant};
 ghost use Rattle.async_cell_model.specs.WaitList.{skips};
@@ -11,8 +11,6 @@ use async_cell_model::{Kept, Refusal};
 use async_cell_wakers::Wakes;
 
 impl<T: Drop, W: Wakes> Core<T, W> {
-    /// Internal: may change without notice.
-    ///
     /// Registers a unique waker, for a poll that has to wait: a clone of it is added as the last.
     /// The cell must be vacant, and no waiting waker one that would wake it. So none is asked, and
     /// the time does not grow with their number. Fails with `Memory` if there is no memory for the

@@ -1,4 +1,4 @@
-//! Internal: may change without notice. Wakers by value, and the places of waiting futures.
+//! Wakers by value, and the places of waiting futures.
 ghost use Rattle.std.specs.Prelude.{◌≡◌, ◌<◌, [], ◌∷◌, ◌++◌, true, false, IsOk, IfOk, IfErr, OnOk, OnErr, MatchOption};
 ghost use Rattle.async_cell_latest.specs.State.{Stays, is_closed};
 ghost use Rattle.async_cell_latest.specs.Step.{PollChanged};
@@ -87,10 +87,10 @@ impl<T: Drop> Latest<T, TaskWaker> {
     /// Leaves the place free. Its waker stays there: to drop it would wake the task. Returns the
     /// index of the place, unless it was given up.
     #[doc(hidden)]
-    pub fn leave(&mut self, place: Place) -> Option<usize>
+    pub fn vacate(&mut self, place: Place) -> Option<usize>
         ensures unchanged { self.new ≡ self.old }
     {
-        self.waiting.leave(place)
+        self.waiting.vacate(place)
     }
 
     /// Takes the waker out of the place at `index`, if that place is free.

@@ -19,10 +19,10 @@ impl<T: Drop> LatestCell<T> {
         ensures of_one_state { OfOneState result.0 (λ s.
             FnOnceReturnsAt F.FnOnce look s.value result.1) }
     {
-        let core = self.core.lock(rt);
-        let (version, value) = core.peek().state.read();
+        let step = self.core.lock(rt);
+        let (version, value) = step.shown().state.read();
         let answer = look(value);
-        end(core, Held::of((version, answer)))
+        end(step, Held::of((version, answer)))
     }
 
     /// Returns the version and a clone of the value, made under the lock. Fails with `Memory`.
@@ -34,9 +34,9 @@ impl<T: Drop> LatestCell<T> {
         ensures sure { ((value : T) → T.is_infallible value) → IsOk result }
         ensures refused { FailsWithMemory result }
     {
-        let core = self.core.lock(rt);
-        let copy = Held::of(core.peek().state.get());
-        end(core, copy)
+        let step = self.core.lock(rt);
+        let copy = Held::of(step.shown().state.get());
+        end(step, copy)
     }
 
     /// Calls the predicate on the value, if the state has another version than this one, and
@@ -57,14 +57,14 @@ impl<T: Drop> LatestCell<T> {
         ensures again { P.IsAlwaysCallable predicate.new }
         ensures refused { IfSome result (λ tested. FailsWithMemory tested.1) }
     {
-        let core = self.core.lock(rt);
-        let (version, value) = core.peek().state.read();
+        let step = self.core.lock(rt);
+        let (version, value) = step.shown().state.read();
         if version == seen {
-            end(core, Held::of(()));
+            end(step, Held::of(()));
             return None;
         }
         let found = find(value, predicate);
-        Some(end(core, Held::of((version, found))))
+        Some(end(step, Held::of((version, found))))
     }
 
     /// Returns the version.
@@ -76,9 +76,9 @@ impl<T: Drop> LatestCell<T> {
 
     /// Returns whether the last owner has ended.
     pub(crate) fn is_closed<R: Wait>(&self, rt: &R) -> bool {
-        let core = self.core.lock(rt);
-        let is_closed = core.peek().state.is_closed();
-        end(core, Held::of(is_closed))
+        let step = self.core.lock(rt);
+        let is_closed = step.shown().state.is_closed();
+        end(step, Held::of(is_closed))
     }
 }
 

@@ -40,8 +40,8 @@ impl<T: Drop> Room for LatestCore<T> {
     }
 
     #[inline(always)]
-    fn leave(&mut self, place: Place) -> Option<usize> {
-        self.state.leave(place)
+    fn vacate(&mut self, place: Place) -> Option<usize> {
+        self.state.vacate(place)
     }
 
     #[inline(always)]

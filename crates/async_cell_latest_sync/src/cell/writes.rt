@@ -14,12 +14,12 @@ use std::sync::{Arc, Wait};
 impl<T: Drop, R: Wait + Drop> Owner<T, R> {
     /// Sets the value and drops the old one. Wakes all followers that wait.
     pub fn set(&self, value: T) {
-        let Some(mut core) = self.rt.try_open(&self.cell.core) else {
+        let Some(mut step) = self.rt.try_open(&self.cell.core) else {
             return self.set_in_turn(value);
         };
-        match core.core().state.write_first(value) {
-            Ok((old, first)) => drop(end_and_wake_one(core, Held::waking(old, first))),
-            Err(value) => write(core, value),
+        match step.lend().state.write_first(value) {
+            Ok((old, first)) => drop(end_and_wake_one(step, Held::waking(old, first))),
+            Err(value) => write(step, value),
         }
     }
 
@@ -34,9 +34,9 @@ impl<T: Drop, R: Wait + Drop> Owner<T, R> {
     pub fn replace(&self, value: T) -> Result<T, T>
         ensures comes_back { IfErr result (λ back. back ≡ value) }
     {
-        let mut core = self.cell.core.lock(&self.rt);
-        let written = Held::of_result(core.core().state.write(value));
-        end_and_wake(core, written)
+        let mut step = self.cell.core.lock(&self.rt);
+        let written = Held::of_result(step.lend().state.write(value));
+        end_and_wake(step, written)
     }
 
     /// Calls the closure on the value, sets the one that it returns, and drops the old one. Wakes
@@ -46,9 +46,9 @@ impl<T: Drop, R: Wait + Drop> Owner<T, R> {
         requires { F.IsAlwaysCallable change }
         ensures called { (old new : T) × FnOnceReturnsAt F.FnOnce change old new }
     {
-        let mut core = self.cell.core.lock(&self.rt);
-        let written = Held::of_result(core.core().state.update(change));
-        let _ = end_and_wake(core, written);
+        let mut step = self.cell.core.lock(&self.rt);
+        let written = Held::of_result(step.lend().state.update(change));
+        let _ = end_and_wake(step, written);
     }
 
     /// Calls the closure on the value, which it may change in place, and returns what it returns.
@@ -62,12 +62,12 @@ impl<T: Drop, R: Wait + Drop> Owner<T, R> {
             × FnOnceReturnsAtMut F.FnOnce change old answer new) }
         ensures refused { FailsWithClosed result }
     {
-        let mut core = self.cell.core.lock(&self.rt);
-        let modified = match core.core().state.modify(change) {
+        let mut step = self.cell.core.lock(&self.rt);
+        let modified = match step.lend().state.modify(change) {
             Ok((answer, woken)) => Held::waking(Ok(answer), Some(woken)),
             Err(why) => Held::waking(Err(why), None),
         };
-        end_and_wake(core, modified)
+        end_and_wake(step, modified)
     }
 
     /// `modify`, if the closure returns `true`. If it returns `false`, nothing is written: nobody
@@ -80,13 +80,13 @@ impl<T: Drop, R: Wait + Drop> Owner<T, R> {
             × FnOnceReturnsAtMut F.FnOnce change old changed new) }
         ensures refused { FailsWithClosed result }
     {
-        let mut core = self.cell.core.lock(&self.rt);
-        let modified = match core.core().state.modify_if(change) {
+        let mut step = self.cell.core.lock(&self.rt);
+        let modified = match step.lend().state.modify_if(change) {
             Ok(Some(woken)) => Held::waking(Ok(true), Some(woken)),
             Ok(None) => Held::waking(Ok(false), None),
             Err(why) => Held::waking(Err(why), None),
         };
-        end_and_wake(core, modified)
+        end_and_wake(step, modified)
     }
 }
 
@@ -98,9 +98,9 @@ impl<T: Drop, R: Wait + Copy> Owner<T, R> {
         ensures refused { IfErr result IsOwnerRefusal }
     {
         let cell = Arc::try_clone(&self.cell)?;
-        let mut core = cell.core.lock(&self.rt);
-        let added = Held::of(core.core().state.add_writer());
-        end(core, added)?;
+        let mut step = cell.core.lock(&self.rt);
+        let added = Held::of(step.lend().state.add_writer());
+        end(step, added)?;
         Ok(Owner { cell, rt: self.rt })
     }
 }
@@ -108,15 +108,15 @@ impl<T: Drop, R: Wait + Copy> Owner<T, R> {
 impl<T: Drop> LatestCell<T> {
     /// Ends one owner. The last one closes the state, which stays, and wakes all waiters.
     pub(crate) fn end_owner<R: Wait>(&self, rt: &R) {
-        let mut core = self.core.lock(rt);
-        let woken = core.core().state.end_writer().ok();
-        end_and_wake(core, Held::waking((), woken));
+        let mut step = self.core.lock(rt);
+        let woken = step.lend().state.end_writer().ok();
+        end_and_wake(step, Held::waking((), woken));
     }
 }
 
 /// `set`, of a core that is lent: apart from it, which is then small where at most one waits.
 #[inline(never)]
-fn write<T: Drop, G: Step<Core = LatestCore<T>>>(mut core: G, value: T) {
-    let written = Held::of_result(core.core().state.write(value));
-    let _ = end_and_wake(core, written);
+fn write<T: Drop, G: Step<Core = LatestCore<T>>>(mut step: G, value: T) {
+    let written = Held::of_result(step.lend().state.write(value));
+    let _ = end_and_wake(step, written);
 }

@@ -15,11 +15,11 @@ impl<M: Stores<Core = CellCore<T, W>>, T: Drop, W: Wakes> StoredCore<M> {
     /// Lends the core for a look. Ensures what holds of every core, whatever other steps did.
     #[inline(always)]
     fn look<'a, R: Opens<'a, M>>(&'a self, rt: &R) -> Option<R::Open>
-        ensures kept { IfSome result (λ core. IsSound W.will_wake (R.Open.shows core).core) }
+        ensures kept { IfSome result (λ step. IsSound W.will_wake (R.Open.shows step).inner) }
     {
-        let core = rt.open(self)?;
-        core.peek().core.soundness();
-        Some(core)
+        let step = rt.open(self)?;
+        step.shown().inner.soundness();
+        Some(step)
     }
 
     /// Returns a clone of the value, if there is one, made during the step. Fails with `Memory`.
@@ -29,14 +29,14 @@ impl<M: Stores<Core = CellCore<T, W>>, T: Drop, W: Wakes> StoredCore<M> {
         ensures sure { ((value : T) → T.is_infallible value) → IsOk result }
         ensures refused { FailsWithMemory result }
     {
-        let Some(core) = self.look(rt) else {
+        let Some(step) = self.look(rt) else {
             return Ok(None);
         };
-        let copied = Held::of(core.peek().core.try_get());
-        end(core, copied)
+        let copied = Held::of(step.shown().inner.try_get());
+        end(step, copied)
     }
 
-    /// Internal: may change without notice. Calls the closure on the value, if there is one, during
+    /// Calls the closure on the value, if there is one, during
     /// the step, and returns its answer. A closure that was not called is dropped afterwards.
     #[doc(hidden)]
     pub fn peek<'a, A, F, R: Opens<'a, M>>(&'a self, look: F, rt: &R) -> Option<A>
@@ -46,9 +46,9 @@ impl<M: Stores<Core = CellCore<T, W>>, T: Drop, W: Wakes> StoredCore<M> {
         ensures called { IfSome result (λ answer. (seen : T)
             × FnOnceReturnsAt F.FnOnce look seen answer) }
     {
-        let core = self.look(rt)?;
-        let looked = Held::of(core.peek().core.peek(look));
-        match end(core, looked) {
+        let step = self.look(rt)?;
+        let looked = Held::of(step.shown().inner.peek(look));
+        match end(step, looked) {
             Ok(answer) => Some(answer),
             Err(_not_called) => None,
         }
@@ -57,11 +57,11 @@ impl<M: Stores<Core = CellCore<T, W>>, T: Drop, W: Wakes> StoredCore<M> {
     /// Returns whether the cell holds a value.
     #[inline]
     pub fn is_set<'a, R: Opens<'a, M>>(&'a self, rt: &R) -> bool {
-        let Some(core) = self.look(rt) else {
+        let Some(step) = self.look(rt) else {
             return false;
         };
-        let is_set = core.peek().core.is_set();
-        end(core, Held::of(is_set))
+        let is_set = step.shown().inner.is_set();
+        end(step, Held::of(is_set))
     }
 
     /// Returns whether the cell is closed.
@@ -71,34 +71,34 @@ impl<M: Stores<Core = CellCore<T, W>>, T: Drop, W: Wakes> StoredCore<M> {
 
     /// Returns the number of owners: 0 once the cell is closed.
     pub fn owners<'a, R: Opens<'a, M>>(&'a self, rt: &R) -> u32 {
-        let Some(core) = self.look(rt) else {
+        let Some(step) = self.look(rt) else {
             return 0;
         };
-        let owners = core.peek().core.owners();
-        end(core, Held::of(owners))
+        let owners = step.shown().inner.owners();
+        end(step, Held::of(owners))
     }
 
     /// Returns how many wakers wait.
     pub fn waiting<'a, R: Opens<'a, M>>(&'a self, rt: &R) -> usize {
-        let Some(core) = self.look(rt) else {
+        let Some(step) = self.look(rt) else {
             return 0;
         };
-        let waiting = core.peek().core.waiting();
-        end(core, Held::of(waiting))
+        let waiting = step.shown().inner.waiting();
+        end(step, Held::of(waiting))
     }
 
-    /// Internal: may change without notice. Whether a task waits; `None` if it is closed or full.
+    /// Whether a task waits; `None` if it is closed or full.
     #[doc(hidden)]
     pub fn is_pending<'a, R: Opens<'a, M>>(&'a self, rt: &R) -> Option<bool> {
-        let core = self.look(rt)?;
-        let waits = match core.peek().core.is_vacant() {
-            true => Some(!core.peek().core.wakes_nobody()),
+        let step = self.look(rt)?;
+        let waits = match step.shown().inner.is_vacant() {
+            true => Some(!step.shown().inner.wakes_nobody()),
             false => None,
         };
-        end(core, Held::of(waits))
+        end(step, Held::of(waits))
     }
 
-    /// Internal: may change without notice. Prints the cell during the step. Fails with `Memory`.
+    /// Prints the cell during the step. Fails with `Memory`.
     #[doc(hidden)]
     pub fn debug_text<'a, R: Opens<'a, M>>(
         &'a self,
@@ -109,11 +109,11 @@ impl<M: Stores<Core = CellCore<T, W>>, T: Drop, W: Wakes> StoredCore<M> {
         T: fmt::Debug,
         ensures refused { FailsWithMemory result }
     {
-        let core = self.look(rt).ok_or(Refusal::Memory)?;
-        let text = match format!(in alloc; "{:?}", &core.peek().core) {
+        let step = self.look(rt).ok_or(Refusal::Memory)?;
+        let text = match format!(in alloc; "{:?}", &step.shown().inner) {
             Ok(text) => Ok(text),
             Err(why) => Err(why.into()),
         };
-        end(core, Held::of(text))
+        end(step, Held::of(text))
     }
 }

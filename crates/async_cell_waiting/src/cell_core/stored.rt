@@ -14,7 +14,7 @@ impl<M: Stores<Core = CellCore<T, W>>, T: Drop, W: Wakes> StoredCore<M> {
         StoredCore::of(CellCore::of(core))
     }
 
-    /// Internal: may change without notice. Returns the core. Waits for no step.
+    /// Returns the core. Waits for no step.
     #[doc(hidden)]
     pub fn into_core(self) -> Core<T, W>
         ensures { IsSound W.will_wake result }
@@ -41,15 +41,15 @@ impl<M: Stores<Core = CellCore<T, W>>, T: Drop, W: Wakes> StoredCore<M> {
     /// `set`, where nobody reads what comes back: a closed cell drops the value.
     #[inline]
     pub fn put<'a, R: Opens<'a, M>>(&'a self, value: T, rt: &R) {
-        let mut core = opened!(rt, self, else return);
-        if core.peek().core.is_set() {
-            let old = Held::of(core.core().core.overwrite(value)); // Nobody waits on a full cell.
-            let _ = end(core, old);
+        let mut step = opened!(rt, self, else return);
+        if step.shown().inner.is_set() {
+            let old = Held::of(step.lend().inner.overwrite(value)); // Nobody waits on a full cell.
+            let _ = end(step, old);
             return;
         }
-        match core.core().core.fill_first(value) {
-            Ok(first) => end_and_wake_one(core, Held::waking((), first)),
-            Err(value) => put_over(core, value),
+        match step.lend().inner.fill_first(value) {
+            Ok(first) => end_and_wake_one(step, Held::waking((), first)),
+            Err(value) => put_over(step, value),
         }
     }
 
@@ -58,17 +58,17 @@ impl<M: Stores<Core = CellCore<T, W>>, T: Drop, W: Wakes> StoredCore<M> {
     pub fn replace<'a, R: Opens<'a, M>>(&'a self, value: T, rt: &R) -> Result<Option<T>, T>
         ensures comes_back { IfErr result (λ back. back ≡ value) }
     {
-        let mut core = opened!(rt, self, else return Err(value));
-        if core.peek().core.is_set() {
-            let old = Held::of(core.core().core.overwrite(value)); // Nobody waits on a full cell.
-            return Ok(Some(end(core, old)?));
+        let mut step = opened!(rt, self, else return Err(value));
+        if step.shown().inner.is_set() {
+            let old = Held::of(step.lend().inner.overwrite(value)); // Nobody waits on a full cell.
+            return Ok(Some(end(step, old)?));
         }
-        match core.core().core.fill_first(value) {
+        match step.lend().inner.fill_first(value) {
             Ok(first) => {
-                end_and_wake_one(core, Held::waking((), first));
+                end_and_wake_one(step, Held::waking((), first));
                 Ok(None)
             }
-            Err(value) => write(core, value),
+            Err(value) => write(step, value),
         }
     }
 
@@ -77,11 +77,11 @@ impl<M: Stores<Core = CellCore<T, W>>, T: Drop, W: Wakes> StoredCore<M> {
     pub fn or_set<'a, R: Opens<'a, M>>(&'a self, value: T, rt: &R) -> Result<(), T>
         ensures comes_back { IfErr result (λ back. back ≡ value) }
     {
-        let Some(mut core) = rt.open(self) else {
+        let Some(mut step) = rt.open(self) else {
             return Err(value);
         };
-        let written = Held::of_result(core.core().core.or_set(value));
-        let unused = end_and_wake(core, written)?;
+        let written = Held::of_result(step.lend().inner.or_set(value));
+        let unused = end_and_wake(step, written)?;
         drop(unused);
         Ok(())
     }
@@ -90,14 +90,14 @@ impl<M: Stores<Core = CellCore<T, W>>, T: Drop, W: Wakes> StoredCore<M> {
     pub fn try_set<'a, R: Opens<'a, M>>(&'a self, value: T, rt: &R) -> Result<(), T>
         ensures comes_back { IfErr result (λ back. back ≡ value) }
     {
-        let Some(mut core) = rt.open(self) else {
+        let Some(mut step) = rt.open(self) else {
             return Err(value);
         };
-        let written = match core.core().core.or_set(value) {
+        let written = match step.lend().inner.or_set(value) {
             Ok((unused, woken)) => Held::waking(unused.map_or(Ok(()), Err), Some(woken)),
             Err(value) => Held::waking(Err(value), None),
         };
-        end_and_wake(core, written)
+        end_and_wake(step, written)
     }
 
     /// Calls the closure on the content and stores what it returns, all in one step. Wakes all
@@ -110,16 +110,16 @@ impl<M: Stores<Core = CellCore<T, W>>, T: Drop, W: Wakes> StoredCore<M> {
         ensures called { OnOk result ((saw put : Option T) × F.post change saw put) }
         ensures refused { FailsWithClosed result }
     {
-        let mut core = rt.open(self).ok_or(Refusal::Closed)?;
-        if core.peek().core.is_closed() {
-            let _not_called = end(core, Held::of(change));
+        let mut step = rt.open(self).ok_or(Refusal::Closed)?;
+        if step.shown().inner.is_closed() {
+            let _not_called = end(step, Held::of(change));
             return Err(Refusal::Closed);
         }
-        let updated = match core.core().core.update(change) {
+        let updated = match step.lend().inner.update(change) {
             Ok(woken) => Held::waking(Ok(()), Some(woken)),
             Err(why) => Held::waking(Err(why), None),
         };
-        end_and_wake(core, updated)
+        end_and_wake(step, updated)
     }
 
     /// `update`, of a value: the closure is not called if there is none. Fails with `Closed` on a
@@ -130,46 +130,46 @@ impl<M: Stores<Core = CellCore<T, W>>, T: Drop, W: Wakes> StoredCore<M> {
         requires { F.IsAlwaysCallable change }
         ensures refused { FailsWithClosed result }
     {
-        let mut core = rt.open(self).ok_or(Refusal::Closed)?;
-        if core.peek().core.is_set() {
-            let updated = Held::of(core.core().core.update_some(change));
-            return end(core, updated);
+        let mut step = rt.open(self).ok_or(Refusal::Closed)?;
+        if step.shown().inner.is_set() {
+            let updated = Held::of(step.lend().inner.update_some(change));
+            return end(step, updated);
         }
-        let is_closed = core.peek().core.is_closed();
-        let _not_called = end(core, Held::of(change));
+        let is_closed = step.shown().inner.is_closed();
+        let _not_called = end(step, Held::of(change));
         match is_closed {
             true => Err(Refusal::Closed),
             false => Ok(()),
         }
     }
 
-    /// Internal: may change without notice. `put`, of a value that was taken out of the cell.
+    /// `put`, of a value that was taken out of the cell.
     #[doc(hidden)]
     pub fn put_back<'a, R: Opens<'a, M>>(&'a self, value: T, rt: &R) {
-        let mut core = opened!(rt, self, else return);
-        match core.core().core.put_quiet(value) {
-            Ok(()) => end(core, Held::of(())),
-            Err(value) => put_over(core, value),
+        let mut step = opened!(rt, self, else return);
+        match step.lend().inner.put_quiet(value) {
+            Ok(()) => end(step, Held::of(())),
+            Err(value) => put_over(step, value),
         }
     }
 
     /// Takes the value, if there is one. The waiters stay registered.
     #[inline]
     pub fn try_take<'a, R: Opens<'a, M>>(&'a self, rt: &R) -> Option<T> {
-        let mut core = opened!(rt, self, else return None);
-        let taken = Held::of(core.core().core.try_take());
-        end(core, taken)
+        let mut step = opened!(rt, self, else return None);
+        let taken = Held::of(step.lend().inner.try_take());
+        end(step, taken)
     }
 
-    /// Internal: may change without notice. Takes the content out; `None` if the cell is closed.
+    /// Takes the content out; `None` if the cell is closed.
     #[doc(hidden)]
     pub fn take_out<'a, R: Opens<'a, M>>(&'a self, rt: &R) -> Option<Option<T>> {
-        let mut core = rt.open(self)?;
-        if core.peek().core.is_closed() {
-            return end(core, Held::of(None));
+        let mut step = rt.open(self)?;
+        if step.shown().inner.is_closed() {
+            return end(step, Held::of(None));
         }
-        let content = Held::of(Some(core.core().core.try_take()));
-        end(core, content)
+        let content = Held::of(Some(step.lend().inner.try_take()));
+        end(step, content)
     }
 
     /// Takes the value, or waits: registers the waker (see `WaitList::skips`). `Ready(None)` on a
@@ -181,9 +181,9 @@ impl<M: Stores<Core = CellCore<T, W>>, T: Drop, W: Wakes> StoredCore<M> {
     ) -> Result<Poll<Option<T>>, Refusal>
         ensures refused { FailsWithMemory result }
     {
-        let mut core = rt.open(self).ok_or(Refusal::Memory)?;
-        let polled = Held::of(core.core().core.poll_take(waker));
-        end(core, polled)
+        let mut step = rt.open(self).ok_or(Refusal::Memory)?;
+        let polled = Held::of(step.lend().inner.poll_take(waker));
+        end(step, polled)
     }
 
     /// `poll_take`, of a clone made during the step. Fails with `Memory` for the clone too.
@@ -196,9 +196,9 @@ impl<M: Stores<Core = CellCore<T, W>>, T: Drop, W: Wakes> StoredCore<M> {
         T: Clone,
         ensures refused { FailsWithMemory result }
     {
-        let mut core = rt.open(self).ok_or(Refusal::Memory)?;
-        let polled = Held::of(core.core().core.poll_get(waker));
-        end(core, polled)
+        let mut step = rt.open(self).ok_or(Refusal::Memory)?;
+        let polled = Held::of(step.lend().inner.poll_get(waker));
+        end(step, polled)
     }
 
     /// Makes room: the next `additional` wakers need no memory beyond their clones, until a fill or
@@ -206,17 +206,17 @@ impl<M: Stores<Core = CellCore<T, W>>, T: Drop, W: Wakes> StoredCore<M> {
     pub fn reserve<'a, R: Opens<'a, M>>(&'a self, additional: usize, rt: &R) -> Result<(), Refusal>
         ensures refused { FailsWithMemory result }
     {
-        let mut core = rt.open(self).ok_or(Refusal::Memory)?;
-        let reserved = Held::of(core.core().core.reserve(additional));
-        end(core, reserved)
+        let mut step = rt.open(self).ok_or(Refusal::Memory)?;
+        let reserved = Held::of(step.lend().inner.reserve(additional));
+        end(step, reserved)
     }
 
-    /// Internal: may change without notice. Ends a guard: `cancel` is `None` if it was released.
+    /// Ends a guard: `cancel` is `None` if it was released.
     #[doc(hidden)]
     pub fn end_guard<'a, R: Opens<'a, M>>(&'a self, cancel: Option<T>, rt: &R) {
-        if let Some(mut core) = rt.open(self) {
-            let (unused, woken) = end_guard(&mut core.core().core, cancel);
-            drop(end_and_wake(core, Held::waking(unused, Some(woken))));
+        if let Some(mut step) = rt.open(self) {
+            let (unused, woken) = end_guard(&mut step.lend().inner, cancel);
+            drop(end_and_wake(step, Held::waking(unused, Some(woken))));
         }
     }
 
@@ -225,9 +225,9 @@ impl<M: Stores<Core = CellCore<T, W>>, T: Drop, W: Wakes> StoredCore<M> {
         ensures refused { IfErr result (λ why.
             (why ≡ Refusal.Closed) ⊎ (why ≡ Refusal.OwnersFull)) }
     {
-        let mut core = opened!(rt, self, else return Err(Refusal::Closed));
-        let added = Held::of(core.core().core.add_owner());
-        end(core, added)
+        let mut step = opened!(rt, self, else return Err(Refusal::Closed));
+        let added = Held::of(step.lend().inner.add_owner());
+        end(step, added)
     }
 
     /// Ends one owner. The last one closes the cell, drops its value and wakes all waiters. Fails
@@ -235,17 +235,17 @@ impl<M: Stores<Core = CellCore<T, W>>, T: Drop, W: Wakes> StoredCore<M> {
     pub fn end_owner<'a, R: Opens<'a, M>>(&'a self, rt: &R) -> Result<(), Refusal>
         ensures refused { FailsWithClosed result }
     {
-        let mut core = opened!(rt, self, else return Err(Refusal::Closed));
-        if core.core().core.end_other() {
-            end(core, Held::of(()));
+        let mut step = opened!(rt, self, else return Err(Refusal::Closed));
+        if step.lend().inner.end_other() {
+            end(step, Held::of(()));
             return Ok(());
         }
-        match core.core().core.close_first() {
+        match step.lend().inner.close_first() {
             Some((value, first)) => {
-                drop(end_and_wake_one(core, Held::waking(value, first)));
+                drop(end_and_wake_one(step, Held::waking(value, first)));
                 Ok(())
             }
-            None => end_last(core),
+            None => end_last(step),
         }
     }
 
@@ -255,36 +255,36 @@ impl<M: Stores<Core = CellCore<T, W>>, T: Drop, W: Wakes> StoredCore<M> {
         ensures refused { IfErr result (λ why.
             (why ≡ Refusal.Closed) ⊎ (why ≡ Refusal.StillShared)) }
     {
-        let mut core = rt.open(self).ok_or(Refusal::Closed)?;
-        let closed = Held::of_result(core.core().core.take_inner());
-        end_and_wake(core, closed)
+        let mut step = rt.open(self).ok_or(Refusal::Closed)?;
+        let closed = Held::of_result(step.lend().inner.take_inner());
+        end_and_wake(step, closed)
     }
 }
 
 /// `replace`, of a core that is lent: apart, so that `replace` pays for it only where it is called.
 #[inline(never)]
 fn write<G: Step<Core = CellCore<T, W>>, T: Drop, W: Wakes>(
-    mut core: G,
+    mut step: G,
     value: T,
 ) -> Result<Option<T>, T>
     ensures comes_back { IfErr result (λ back. back ≡ value) }
 {
-    let replaced = Held::of_result(core.core().core.replace(value));
-    end_and_wake(core, replaced)
+    let replaced = Held::of_result(step.lend().inner.replace(value));
+    end_and_wake(step, replaced)
 }
 
 /// `write`, whose old value is dropped.
 #[inline(never)]
-fn put_over<G: Step<Core = CellCore<T, W>>, T: Drop, W: Wakes>(core: G, value: T) {
-    let _ = write(core, value);
+fn put_over<G: Step<Core = CellCore<T, W>>, T: Drop, W: Wakes>(step: G, value: T) {
+    let _ = write(step, value);
 }
 
 /// Ends the last owner, of a core that is lent.
 #[inline(never)]
-fn end_last<G: Step<Core = CellCore<T, W>>, T: Drop, W: Wakes>(mut core: G) -> Result<(), Refusal>
+fn end_last<G: Step<Core = CellCore<T, W>>, T: Drop, W: Wakes>(mut step: G) -> Result<(), Refusal>
     ensures refused { FailsWithClosed result }
 {
-    let ended = Held::of_result(core.core().core.end_owner());
-    drop(end_and_wake(core, ended)?);
+    let ended = Held::of_result(step.lend().inner.end_owner());
+    drop(end_and_wake(step, ended)?);
     Ok(())
 }

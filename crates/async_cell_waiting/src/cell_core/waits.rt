@@ -10,26 +10,26 @@ impl<T: Drop> Room for CellCore<T, TaskWaker> {
     ghost use Rattle.std.specs.Prelude.{◌≡◌, true};
     ghost use Rattle.async_cell_model.specs.Cell.{is_vacant};
 
-    ghost vacant = { λ cell. is_vacant cell.core.cell ≡ true };
+    ghost vacant = { λ cell. is_vacant cell.inner.cell ≡ true };
 
     #[inline(always)]
     fn add(&mut self, waker: TaskWaker) -> Held<Result<(), TaskWaker>> {
-        Held::of(self.core.add(waker))
+        Held::of(self.inner.add(waker))
     }
 
     #[inline(always)]
     fn is_new(&self, place: &Place) -> bool {
-        self.core.is_new(place)
+        self.inner.is_new(place)
     }
 
     #[inline(always)]
     fn store_new(&mut self, place: &mut Place, waker: TaskWaker) -> Held<Result<(), TaskWaker>> {
-        Held::of(self.core.store_new(place, waker))
+        Held::of(self.inner.store_new(place, waker))
     }
 
     #[inline(always)]
     fn take_back(&mut self, place: &mut Place) -> Held<Option<Waker>> {
-        Held::of(self.core.take_back(place))
+        Held::of(self.inner.take_back(place))
     }
 
     #[inline(always)]
@@ -38,22 +38,22 @@ impl<T: Drop> Room for CellCore<T, TaskWaker> {
         place: &mut Place,
         waker: TaskWaker,
     ) -> Held<Result<Option<TaskWaker>, TaskWaker>> {
-        Held::of(self.core.store(place, waker))
+        Held::of(self.inner.store(place, waker))
     }
 
     #[inline(always)]
-    fn leave(&mut self, place: Place) -> Option<usize> {
-        self.core.leave(place)
+    fn vacate(&mut self, place: Place) -> Option<usize> {
+        self.inner.vacate(place)
     }
 
     #[inline(always)]
     fn take_left(&mut self, index: usize) -> Held<Option<Waker>> {
-        Held::of(self.core.take_left(index))
+        Held::of(self.inner.take_left(index))
     }
 
     #[inline(always)]
     fn places(&self) -> usize {
-        self.core.waiting()
+        self.inner.waiting()
     }
 }
 
@@ -70,12 +70,12 @@ impl<T: Drop> Query<CellCore<T, TaskWaker>> for Taking {
 
     #[inline(always)]
     fn must_wait(self, core: &CellCore<T, TaskWaker>) -> bool {
-        core.core.is_vacant()
+        core.inner.is_vacant()
     }
 
     #[inline(always)]
     fn answer(self, core: &mut CellCore<T, TaskWaker>) -> Held<Result<T, Refusal>> {
-        Held::of(core.core.try_take().ok_or(Refusal::Closed))
+        Held::of(core.inner.try_take().ok_or(Refusal::Closed))
     }
 }
 
@@ -89,7 +89,7 @@ impl<T: Clone> Query<CellCore<T, TaskWaker>> for Cloning {
 
     #[inline(always)]
     fn answer(self, core: &mut CellCore<T, TaskWaker>) -> Held<Result<T, Refusal>> {
-        match core.core.try_get() {
+        match core.inner.try_get() {
             Ok(copy) => Held::of(copy.ok_or(Refusal::Closed)),
             Err(why) => Held::of(Err(why)),
         }

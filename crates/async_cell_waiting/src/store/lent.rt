@@ -45,12 +45,12 @@ impl<C> Step for Lent<'_, C> {
     ghost shows = { λ lent. ref_mut_value lent.core };
 
     #[inline(always)]
-    fn peek(&self) -> &C {
+    fn shown(&self) -> &C {
         &*self.core
     }
 
     #[inline(always)]
-    fn core(&mut self) -> &mut C {
+    fn lend(&mut self) -> &mut C {
         &mut *self.core
     }
 

@@ -66,12 +66,12 @@ impl<C> Step for Locked<'_, C> {
     ghost shows = { λ locked. mutex_guard_value locked.core };
 
     #[inline(always)]
-    fn peek(&self) -> &C {
+    fn shown(&self) -> &C {
         &*self.core
     }
 
     #[inline(always)]
-    fn core(&mut self) -> &mut C {
+    fn lend(&mut self) -> &mut C {
         &mut *self.core
     }
 

@@ -77,7 +77,7 @@ impl WaitList<TaskWaker> {
 
     /// Leaves the place free, also while the list is only looked at. Its waker stays there: to drop
     /// it would wake the task. Returns the index of the place, unless it was given up.
-    pub fn leave(&self, place: Place) -> Option<usize>
+    pub fn vacate(&self, place: Place) -> Option<usize>
         ensures held { IsSome result ↔ Holds self.now place }
         ensures there { IfSome result (λ index. index ≡ place.index) }
     {

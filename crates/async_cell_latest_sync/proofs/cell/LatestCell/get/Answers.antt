@@ -8,4 +8,4 @@ pub returns-clause-of_one_state : goal.returns-clause-of_one_state
 returns-clause-of_one_state g c =
     let copy = c.get.ensures in
     subst (λ found. IfOk found (λ it. OfOneState it.0 (λ s. g.T.Clone.is_clone s.value it.1))) (sym (c.end.ensures.answers ∙ c.of-copy.ensures))
-    (shown g.T.Clone.is_clone c.peek.result.now.state c.get.result copy.version copy.clones)
+    (shown g.T.Clone.is_clone c.shown.result.now.state c.get.result copy.version copy.clones)

@@ -9,5 +9,5 @@ returns g c =
     let read = c.read-version.ensures in record {
       of_one_state =
           subst (λ shown. OfOneState shown.0 (λ s. FnOnceReturnsAt g.F.FnOnce c.args.look s.value shown.1)) (sym (c.end.ensures.answers ∙ c.of.ensures))
-          (c.peek.result.now.state, read.version, (c.read-version.result.1, c.look-answer.ensures, read.gives));
+          (c.shown.result.now.state, read.version, (c.read-version.result.1, c.look-answer.ensures, read.gives));
     }

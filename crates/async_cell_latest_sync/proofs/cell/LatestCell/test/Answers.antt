@@ -8,4 +8,4 @@ pub returns-clause-of_one_state : goal.returns-clause-of_one_state
 returns-clause-of_one_state g c =
     let read = c.read-version.ensures in
     subst (λ tested. OfOneState tested.0 (λ s. IsTested g.P.FnMut g.T.Clone.is_clone c.args.predicate.now s.value tested.1 c.find-found.new.predicate)) (sym (c.end-2.ensures.answers ∙ c.of-2.ensures))
-    (c.peek.result.now.state, read.version, subst (λ value. IsTested g.P.FnMut g.T.Clone.is_clone c.args.predicate.now value c.find-found.result c.find-found.new.predicate) read.gives c.find-found.ensures.tested)
+    (c.shown.result.now.state, read.version, subst (λ value. IsTested g.P.FnMut g.T.Clone.is_clone c.args.predicate.now value c.find-found.result c.find-found.new.predicate) read.gives c.find-found.ensures.tested)
