@@ -1,0 +1,144 @@
+"""Reads the files of cases, and writes what the player plays: each case on each of its kinds.
+
+What is read and never played is a fault, and so is a word of the language that no case uses.
+"""
+import re
+from collections import namedtuple
+
+from lay_out import TOP, read
+
+KINDS = "core locked sync unsync sync_owner unsync_owner shared sync_closed unsync_closed"
+KINDS = f"{KINDS} sync_latest unsync_latest".split()
+GROUPS = {
+    "cells": ("sync", "unsync"),
+    "owners": ("sync_owner", "unsync_owner"),
+    "closed": ("sync_closed", "unsync_closed"),
+    "states": ("sync_latest", "unsync_latest"),
+}
+REPLIES = "ok pending ready some back old unused item inner none true false memory closed full shared"
+REPLIES = f"{REPLIES} end woke dropped cloned saw".split()
+PLACES = "drop clone debug closure wake".split()
+# A case, and a line of it: where it stands, how often it is played, whether without memory, its
+# call, its reply on each kind, and what is called inside: where, in which place, of which value, and
+# with which reply.
+Case = namedtuple("Case", "file at kinds lines")
+Line = namedtuple("Line", "at times word call replies inside")
+Inside = namedtuple("Inside", "at call reply place number")
+CALL = re.compile(r"(without memory: )?(?:(\d+) times: )?(.*?)(?:; on (.*))?$")
+INSIDE = re.compile(rf"in ({'|'.join(PLACES)})(?: of (-?\d+))?: (.*)$")
+
+
+class Wrong(Exception):
+    """What was wanted in a line that cannot be read, or would not be played."""
+
+
+def kinds_of(words, among=KINDS):
+    """Returns the kinds that these words name, of those that they may name."""
+    found = [it for word in words.split() for it in GROUPS.get(word, (word,))]
+    if not found or not set(found) <= set(among):
+        raise Wrong("kinds, among those of the case")
+    return found
+
+
+def pair(text):
+    """Returns a call and its reply."""
+    call, _, reply = text.partition(" -> ")
+    return call.strip(), reply.strip() or "ok"
+
+
+def line_of(at, text, kinds):
+    """Reads a call and its reply, and that on other kinds."""
+    without, times, said, other = CALL.match(text).groups()
+    if times is not None and int(times) < 1:
+        raise Wrong("a call that is made at least once")
+    call, reply = pair(said)
+    replies = dict.fromkeys(kinds, reply)
+    if other is not None:
+        on, otherwise = pair(other)
+        replies.update(dict.fromkeys(kinds_of(on, kinds), otherwise))
+        if len(set(replies.values())) == 1:
+            raise Wrong("another reply on some of the kinds")
+    return Line(at, int(times or 1), "without" if without else "call", call, replies, [])
+
+
+def add_note(line, at, text):
+    """Reads what stands below a call: where it is not made, or what is called inside."""
+    if text.startswith("not on "):
+        replies = set(line.replies.values())
+        for it in kinds_of(text.removeprefix("not on "), line.replies):
+            line.replies.pop(it, None)
+        if set(line.replies.values()) != replies:
+            raise Wrong("for each reply a kind on which the call is made")
+        return
+    found = INSIDE.match(text)
+    if not found:
+        raise Wrong("`not on KINDS`, or `in PLACE of VALUE: CALL`")
+    place, number, said = found.groups()
+    line.inside.append(Inside(at, *pair(said), place, number or ""))
+
+
+def case_of(file, first, text):
+    """Reads a case, whose lines begin at this number. Returns it, and what of it is wrong."""
+    kinds, lines, title, faults = [], [], 0, []
+    for at, said in enumerate(text, first):
+        try:
+            if said.startswith("#"):
+                if title:
+                    raise Wrong("an empty line before another case")
+                title = at
+            elif said.startswith("on "):
+                if kinds or lines:
+                    raise Wrong("one line of kinds, before all calls")
+                kinds = kinds_of(said.removeprefix("on "))
+            elif not said.startswith("  "):
+                lines.append(line_of(at, said, kinds))
+            elif not lines:
+                raise Wrong("a call above it")
+            else:
+                add_note(lines[-1], at, said.strip())
+        except Wrong as wanted:
+            faults.append(f"{file}:{at}: wanted: {wanted}")
+    if not faults and not (title and kinds and lines):
+        faults.append(f"{file}:{first}: wanted: a title, `on` with kinds, and calls")
+    return Case(file, title, kinds, lines), faults
+
+
+def cases_of(file, text):
+    """Returns the cases of a text, which end at empty lines, and what of them is wrong."""
+    lines, found, faults, first = [*text.split("\n"), ""], [], [], None
+    for at, line in enumerate(lines, 1):
+        if line.strip():
+            first = first or at
+        elif first:
+            case, wrong = case_of(file, first, lines[first - 1 : at - 1])
+            found, faults, first = [*found, case], faults + wrong, None
+    return found, faults
+
+
+def written(case, kind):
+    """Returns the lines by which the player plays a case on a kind."""
+    said = [("case", case.at, kind, case.file)]
+    for line in (it for it in case.lines if kind in it.replies):
+        for number in range(1, line.times + 1):
+            call = line.call.replace("#", str(number), 1)
+            said.append((line.word, line.at, call, line.replies[kind]))
+            said += [("in", *it) for it in line.inside]
+    return "".join("\t".join(map(str, it)) + "\n" for it in [*said, ("end",)])
+
+
+def played(cases):
+    """Returns what the player reads of these cases."""
+    return "".join(written(case, kind) for case in cases for kind in case.kinds)
+
+
+def unused(cases):
+    """Returns the words of the language that no case uses."""
+    calls = re.search(r'CALLS: &str = "(.*?)"', read(f"{TOP}/tests/player/words.rt.txt"), re.S)[1]
+    wanted = [it.split()[0] for it in calls.replace("\\\n", "").split(";")] + REPLIES + PLACES
+    used = {kind for case in cases for kind in case.kinds}
+    for line in (it for case in cases for it in case.lines):
+        said = [(line.call, it) for it in line.replies.values()]
+        for call, reply in said + [(it.call, it.reply) for it in line.inside]:
+            used |= {call.split()[0], *reply.replace(",", " ").split()}
+        used |= {it.place for it in line.inside}
+    return [it for it in KINDS + wanted if it not in used]
