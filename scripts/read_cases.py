@@ -5,8 +5,6 @@ What is read and never played is a fault, and so is a word of the language that 
 import re
 from collections import namedtuple
 
-from lay_out import TOP, read
-
 KINDS = "core locked sync unsync sync_owner unsync_owner shared sync_closed unsync_closed"
 KINDS = f"{KINDS} sync_latest unsync_latest".split()
 GROUPS = {
@@ -15,12 +13,37 @@ GROUPS = {
     "closed": ("sync_closed", "unsync_closed"),
     "states": ("sync_latest", "unsync_latest"),
 }
-REPLIES = "ok pending ready some back old unused item inner none true false memory closed full shared"
-REPLIES = f"{REPLIES} end woke dropped cloned saw".split()
+REPLIES = "ok pending ready some back old unused item inner none true false memory closed full"
+REPLIES = f"{REPLIES} shared end woke dropped cloned saw".split()
 PLACES = "drop clone debug closure wake".split()
+# What a call takes, in this order. What ends in `?` may be left out. NAME is a thing that has a
+# name (none: `it`), MADE the name that a new thing gets, ON is `on NAME`, and BY is `by TASK`.
+CALLS = """
+new VALUE?; new_owned VALUE; drop NAME; clones HOW; waker_clones; set VALUE ON?; or_set VALUE ON?;
+try_set VALUE ON?; replace VALUE ON?; update HOW? VALUE? ON?; update_some HOW? VALUE? ON?;
+modify HOW? VALUE? ON?; modify_if HOW? VALUE? ON?; try_take NAME?; try_get NAME?; is_set NAME?;
+is_closed NAME?; waiting NAME?; purge NAME?; debug NAME?; prints NAME; into_inner NAME?;
+take MADE? ON? BY?; get MADE? ON? BY?; take_shared MADE ON? BY?; get_shared MADE ON? BY?;
+take_weak MADE ON? BY?; get_weak MADE ON? BY?; poll NAME BY; cancel NAME; own MADE ON?; end NAME?;
+into_owner MADE ON?; weak MADE ON?; clone NAME MADE; upgrade NAME MADE; values MADE ON?;
+next NAME BY; guard MADE VALUE ON?; guarded VALUE HOW MORE? ON?; release NAME; reserve VALUE;
+owners; add_owner; end_owner; take_inner; read NAME?; peek NAME?; follow MADE ON?; states MADE ON;
+changed MADE? ON BY?; wait_for VALUE MADE ON BY?; has_changed NAME; mark_changed NAME;
+mark_unchanged NAME; read_and_update NAME; peek_and_update NAME
+"""
+CALLS = {it.split()[0]: it.strip() for it in CALLS.split(";")}
+FORMS = {
+    "NAME": r"(?P<name>(?!on |by )[a-z]\S*)",
+    "MADE": r"(?P<made>(?!on |by )[a-z]\S*)",
+    "ON": r"on (?P<name>\S+)",
+    "BY": r"by (?P<task>\d+#?)",
+    "VALUE": r"(?P<value>-?\d+#?)",
+    "MORE": r"(?P<more>-?\d+)",
+    "HOW": r"(?P<how>none|keep|add|hide|drop|release|set|or_set|fail|work)",
+}
 # A case, and a line of it: where it stands, how often it is played, whether without memory, its
-# call, its reply on each kind, and what is called inside: where, in which place, of which value, and
-# with which reply.
+# call, its reply on each kind, and what is called inside: where, with which reply, in which place,
+# and of which value.
 Case = namedtuple("Case", "file at kinds lines")
 Line = namedtuple("Line", "at times word call replies inside")
 Inside = namedtuple("Inside", "at call reply place number")
@@ -38,6 +61,23 @@ def kinds_of(words, among=KINDS):
     if not found or not set(found) <= set(among):
         raise Wrong("kinds, among those of the case")
     return found
+
+
+def words_of(call):
+    """Returns the parts of a call, each in its place, and a dash for none."""
+    word = call.split()[0] if call else ""
+    if word not in CALLS:
+        raise Wrong("a call that tests/README.md names")
+    said = word
+    for form in CALLS[word].split()[1:]:
+        part = f" {FORMS[form.rstrip('?')]}"
+        said += f"(?:{part})?" if form.endswith("?") else part
+    found = re.fullmatch(said, call)
+    if not found:
+        raise Wrong(CALLS[word])
+    parts = {"name": "it", **{it: part for it, part in found.groupdict().items() if part}}
+    places = ("name", "made", "how", "value", "more", "task")
+    return " ".join([word, *(parts.get(it, "-") for it in places)])
 
 
 def pair(text):
@@ -58,7 +98,8 @@ def line_of(at, text, kinds):
         replies.update(dict.fromkeys(kinds_of(on, kinds), otherwise))
         if len(set(replies.values())) == 1:
             raise Wrong("another reply on some of the kinds")
-    return Line(at, int(times or 1), "without" if without else "call", call, replies, [])
+    word = "without" if without else "call"
+    return Line(at, int(times or 1), word, words_of(call), replies, [])
 
 
 def add_note(line, at, text):
@@ -74,7 +115,8 @@ def add_note(line, at, text):
     if not found:
         raise Wrong("`not on KINDS`, or `in PLACE of VALUE: CALL`")
     place, number, said = found.groups()
-    line.inside.append(Inside(at, *pair(said), place, number or ""))
+    call, reply = pair(said)
+    line.inside.append(Inside(at, words_of(call), reply, place, number or ""))
 
 
 def case_of(file, first, text):
@@ -133,12 +175,11 @@ def played(cases):
 
 def unused(cases):
     """Returns the words of the language that no case uses."""
-    calls = re.search(r'CALLS: &str = "(.*?)"', read(f"{TOP}/tests/player/words.rt.txt"), re.S)[1]
-    wanted = [it.split()[0] for it in calls.replace("\\\n", "").split(";")] + REPLIES + PLACES
+    wanted = [*KINDS, *CALLS, *REPLIES, *PLACES]
     used = {kind for case in cases for kind in case.kinds}
     for line in (it for case in cases for it in case.lines):
         said = [(line.call, it) for it in line.replies.values()]
         for call, reply in said + [(it.call, it.reply) for it in line.inside]:
             used |= {call.split()[0], *reply.replace(",", " ").split()}
         used |= {it.place for it in line.inside}
-    return [it for it in KINDS + wanted if it not in used]
+    return [it for it in wanted if it not in used]
