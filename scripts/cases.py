@@ -57,7 +57,10 @@ def compiled(folder):
 def cases(chosen):
     """Returns the cases of these files, or of all, and what of them is wrong."""
     found, faults = [], []
-    for name in chosen or sorted(os.listdir(f"{TOP}/tests/cases")):
+    known = sorted(os.listdir(f"{TOP}/tests/cases"))
+    for name in chosen or known:
+        if name not in known:
+            sys.exit(f"cases.py: tests/cases has no file {name}; it has {' '.join(known)}")
         of_file, wrong = read_cases.cases_of(name, read(f"{TOP}/tests/cases/{name}"))
         found, faults = found + of_file, faults + wrong
     if not chosen:
