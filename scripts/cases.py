@@ -19,15 +19,34 @@ import lay_out
 import random_cases
 import read_cases
 import try_kit
-from lay_out import TOP, copy_crates, files_below, read, without_lock, write
+from lay_out import TOP, copy_crates, files_below, read, write
 
 PLAYER = f"{TOP}/tests/player"
 USED = ["model", "wakers", "core", "waiting", "unsync", "sync"]
 USED += ["latest", "latest_unsync", "latest_sync"]
 CRATES = [f"async_cell_{it}" for it in USED]
 SECONDS = "600"
-# Texts that are laid out twice: as they are for what threads share, and for what one thread has.
+# Texts that are laid out twice: as they are for what threads share, and for what one thread has,
+# which takes no right to wait for a lock, and whose owners end by their drop.
 TWICE = {"cells": ("sync", "unsync"), "states": ("sync_latest", "unsync_latest")}
+WITHOUT_LOCK = [
+    (r"_sync\b", "_unsync"),
+    (r"use std::sync::Arc;\n", ""),
+    (r"\bArc::try_clone\(pointer\)", "pointer.clone()"),
+    (r"\bArc\b", "Rc"),
+    (r"\bowner\.end\(&world\.rt\)", "drop(owner)"),
+    (r", R>", ">"),
+    (r" as Request<R>>", " as Request<_>>"),
+    (r", R, ", ", "),
+    (r"(, )?&?world\.rt\)", ")"),
+]
+
+
+def without_lock(text):
+    """Returns a text on what threads share as one on what one thread has."""
+    for old, new in WITHOUT_LOCK:
+        text = re.sub(old, new, text)
+    return text
 
 
 def laid_out(name):
