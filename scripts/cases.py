@@ -17,16 +17,36 @@ import tempfile
 
 import lay_out
 import random_cases
+import read_cases
 import try_kit
-from lay_out import TOP, copy_crates, files_below, read, without_lock, write
+from lay_out import TOP, copy_crates, files_below, read, write
 
 PLAYER = f"{TOP}/tests/player"
 USED = ["model", "wakers", "core", "waiting", "unsync", "sync"]
 USED += ["latest", "latest_sync"]
 CRATES = [f"async_cell_{it}" for it in USED]
 SECONDS = "600"
-# Texts that are laid out twice: as they are for what threads share, and for what one thread has.
+# Texts that are laid out twice: as they are for what threads share, and for what one thread has,
+# which takes no right to wait for a lock, and whose owners end by their drop.
 TWICE = {"cells": ("sync", "unsync")}
+WITHOUT_LOCK = [
+    (r"_sync\b", "_unsync"),
+    (r"use std::sync::Arc;\n", ""),
+    (r"\bArc::try_clone\(pointer\)", "pointer.clone()"),
+    (r"\bArc\b", "Rc"),
+    (r"\bowner\.end\(&world\.rt\)", "drop(owner)"),
+    (r", R>", ">"),
+    (r" as Request<R>>", " as Request<_>>"),
+    (r", R, ", ", "),
+    (r"(, )?&?world\.rt\)", ")"),
+]
+
+
+def without_lock(text):
+    """Returns a text on what threads share as one on what one thread has."""
+    for old, new in WITHOUT_LOCK:
+        text = re.sub(old, new, text)
+    return text
 
 
 def laid_out(name):
@@ -54,12 +74,17 @@ def compiled(folder):
 
 
 def cases(chosen):
-    """Returns the text of the files of cases, each after a line that names it."""
-    text = []
-    for name in chosen or sorted(os.listdir(f"{TOP}/tests/cases")):
-        with open(f"{TOP}/tests/cases/{name}", encoding="utf-8") as file:
-            text.append(f"file {name}\n{file.read()}\n")
-    return "".join(text)
+    """Returns the cases of these files, or of all, and what of them is wrong."""
+    found, faults = [], []
+    known = sorted(os.listdir(f"{TOP}/tests/cases"))
+    for name in chosen or known:
+        if name not in known:
+            sys.exit(f"cases.py: tests/cases has no file {name}; it has {' '.join(known)}")
+        of_file, wrong = read_cases.cases_of(name, read(f"{TOP}/tests/cases/{name}"))
+        found, faults = found + of_file, faults + wrong
+    if not chosen:
+        faults += [f"no case has the word `{it}`" for it in read_cases.unused(found)]
+    return found, faults
 
 
 def play(project, inputs, objects, random_text):
@@ -93,20 +118,23 @@ def shown(line, random_text):
 
 def main(words):
     reader = argparse.ArgumentParser(description=__doc__.split("\n\n", maxsplit=1)[0])
-    reader.add_argument("--random", type=int, default=20, help="how many of each sort")
+    reader.add_argument("--random", type=int, default=40, help="how many of each sort")
     reader.add_argument("--seed", type=int, default=0, help="the first seed")
     reader.add_argument("files", nargs="*", help="files of tests/cases")
     asked = reader.parse_args(words)
+    by_hand, faults = cases(asked.files)
     made = "" if asked.files else random_cases.cases(asked.random, asked.seed)
+    few = random_cases.cases(-(-asked.random // 10), asked.seed) if made else ""
+    (random, wrong), (refused, _) = (read_cases.cases_of("random", it) for it in (made, few))
+    print("".join(f"{it}\n" for it in faults + wrong), end="", flush=True)
     with tempfile.TemporaryDirectory(prefix="cases-") as folder:
         lay_player(f"{folder}/project")
         os.mkdir(f"{folder}/inputs")
-        text = cases(asked.files) + ("" if asked.files else "all\n")
-        write(f"{folder}/inputs/plain", f"{text}file random\n{made}")
-        few = random_cases.cases(-(-asked.random // 10), asked.seed) if made else ""
-        write(f"{folder}/inputs/refusing", f"refuse\n{text}file random refused\n{few}")
+        write(f"{folder}/inputs/plain", read_cases.played(by_hand + random))
+        refusing = read_cases.played(by_hand + refused)
+        write(f"{folder}/inputs/refusing", f"refuse\n{refusing}")
         counts = play(f"{folder}/project", f"{folder}/inputs", compiled(folder), made)
-    passed, failed = (sum(it) for it in zip((0, 0), *counts))
+    passed, failed = (sum(it) for it in zip((0, len(faults + wrong)), *counts))
     failed += 2 - len(counts)
     print(f"{passed} passed, {failed} failed")
     return 1 if failed or not passed else 0

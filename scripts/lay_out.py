@@ -23,29 +23,6 @@ TOP = os.path.dirname(os.path.dirname(os.path.abspath(__file__)))
 PARTS = ("src", "specs", "proofs")
 CODE = f"{TOP}/tests/code"
 PROGRAM = "cellrun"
-# That of one thread takes no right to wait for a lock, and its owners end by their drop.
-WITHOUT_LOCK = [
-    (r"(\bcrate::|_)sync\b", r"\1unsync"),
-    (r"use std::sync::Arc;\n", ""),
-    (r"\bArc::try_clone\(pointer\)", "pointer.clone()"),
-    (r"\bArc\b", "Rc"),
-    (r"\b(\w+)(\.0)?\.end\(&(world\.)?rt\)", r"drop(\1)"),
-    (r"<R: Wait>\(", "("),
-    (r",\s*rt: &(R|impl Wait),?(?=\s*\))", ""),
-    (r", [R_]>", ">"),
-    (r" as Request<R>>", " as Request<_>>"),
-    (r", R, ", ", "),
-    (r"(, )?&?world\.rt\)", ")"),
-    (r"((?:\.(?!now_or_never)|\btick_)\w+\()(?:((?:[^()\n]|\(\))*), )?&?rt\)", r"\1\2)"),
-    (r"(\w+::new\(rt\.alloc\(\)), rt\)", r"\1)"),
-]
-
-
-def without_lock(text):
-    """Returns a text on what threads share as one on what one thread has."""
-    for old, new in WITHOUT_LOCK:
-        text = re.sub(old, new, text)
-    return text
 
 
 def read(path):

@@ -293,8 +293,16 @@ class States(Maker):
             cell.happen("saw", cell.content)
         self.line(f"{word} {name}", reply)
 
+    def places(self):
+        """Asks for the places of those who wait, or has those that were left let go."""
+        owner = self.some(self.owners)
+        if self.random.random() < 0.5:
+            return self.line(f"waiting {owner}", str(len(self.cell.wait.tasks)))
+        self.cell.happen("woke", *self.cell.wait.purge())
+        return self.line(f"purge {owner}")
+
     def lend(self):
-        """Makes a future or a stream of a follower: its place, and the state that it looked at."""
+        """Polls a new future or stream of a follower: its place, and the state that it looked at."""
         of, name = self.some(self.free()), self.name("c")
         kind = self.some(["changed", "wait_for", "states"])
         wanted = self.value() if kind == "wait_for" else 0
@@ -304,6 +312,7 @@ class States(Maker):
         self.made[name] = [kind, None, 0 if kind == "wait_for" else None, wanted]
         called = f"wait_for {wanted}" if kind == "wait_for" else kind
         self.line(f"{called} {name} on {of}")
+        self.poll(name)
 
     def poll(self, name):
         future, of, task = self.made[name], self.lent[name], self.some(TASKS)
@@ -351,18 +360,18 @@ class States(Maker):
         self.line(f"{self.some(['drop', 'end'])} {name}")
 
     def step(self):
-        chosen = self.random.randrange(10)
+        chosen = self.random.randrange(12)
         if chosen < 2 and self.owners:
             self.write(f" on {self.some(self.owners)}")
         elif chosen == 2 and self.owners:
-            self.own()
+            self.random.choice([self.own, self.places])()
         elif chosen == 3 and len(self.seen) < 5 and (self.owners or self.free()):
             self.follow()
-        elif chosen == 4 and self.free() and len(self.made) < 5:
+        elif chosen < 6 and self.free() and len(self.made) < 5:
             self.lend()
-        elif chosen == 5 and self.made:
+        elif chosen < 8 and self.made:
             self.end(self.some(self.made))
-        elif chosen == 6 and self.free():
+        elif chosen < 10 and self.free():
             self.look(self.some(self.free()))
         elif self.made:
             self.poll(self.some(self.made))
