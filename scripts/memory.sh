@@ -1,8 +1,8 @@
 #!/usr/bin/env bash
 # Runs the built program with each request for memory refused in turn: with the first, then with the
-# second, and on until a run asks for no more. Prints a line, and at the end how many passed and
-# failed; the status is 0 if none failed. It proves nothing: the gate, or `rt run` in
-# crates/cellrun, builds the program. The tests run so in scripts/tests.sh.
+# second, and on until a run asks for no more. Each run has to print all answers and end with status
+# 0, or the first of them, whole, and end with status 1. Prints how many did and did not; the status
+# is 0 if all did. It proves nothing: the gate, or `rt run` in crates/cellrun, builds the program.
 set -euo pipefail
 top=$(cd "$(dirname "$0")/.." && pwd)
 work=$(mktemp -d)
@@ -21,22 +21,22 @@ kit=$(dirname "$(dirname "$(readlink -f "$(command -v rt)")")")
     -fPIC -shared -nostdlib -fuse-ld=lld -o "$work/refuse.so" "$top/scripts/refuse.c"
 ulimit -c 0
 
-# If the third line finds no memory, the program has written what the two lines before it print, and
-# its status is 1.
-name='cellrun: the answers before one that finds no memory' number=0 status='' seen=''
-while [ "$number" -eq 0 ] || [ -s "$work/refused" ]; do
-    number=$((number + 1))
+# What a run may end with: its status, and its lines. If the third line finds no memory, the program
+# has written the answers to the two before it. The last run, of which none is refused, has all.
+all='0 owners 2/pending/done woke 18446744073709551615/' two='1 owners 2/pending/'
+passed=0 failed=0 seen=''
+until [ -e "$work/refused" ] && [ ! -s "$work/refused" ]; do
     status=0
     printf 'own\nget 18446744073709551615\nset 7\n' |
-        timeout 20 env REFUSE="$number" TELL=3 LD_PRELOAD="$work/refuse.so" \
+        timeout 20 env REFUSE=$((passed + failed + 1)) TELL=3 LD_PRELOAD="$work/refuse.so" \
             "$program" >"$work/out" 2>&1 3>"$work/refused" || status=${PIPESTATUS[1]}
-    seen+="$status $(tr '\n' '/' <"$work/out")"$'\n'
+    last="$status $(tr '\n' '/' <"$work/out")"
+    seen+=$last$'\n'
+    case $last in
+    "$all" | "$two" | '1 ' | '1 owners 2/' | '0 owners 2/refused memory/done/') : $((passed++)) ;;
+    *) : $((failed++)) ;;
+    esac
 done
-if grep -qxF '1 owners 2/pending/' <<<"$seen"; then
-    echo "passed $name"
-    echo 'memory: 1 passed, 0 failed'
-else
-    printf 'failed %s. Each status and text:\n%s' "$name" "$seen"
-    echo 'memory: 0 passed, 1 failed'
-    exit 1
-fi
+echo "memory: $passed passed, $failed failed"
+[ "$failed" -eq 0 ] && [ "$last" = "$all" ] && grep -qxF "$two" <<<"$seen" && exit
+printf 'Each status and text:\n%s' "$seen" && exit 1

@@ -27,7 +27,7 @@ WITH_FIGURES = ("bench/README.md", "docs/DECISIONS.md", "CHANGELOG.md")
 AROUND = re.compile(r"(?:tests|scripts|bench|misuse|crates/bench_\w+)/")
 SOURCES = re.compile(r"crates/(?:async_cell(?!\w*_(?:callers|uses|lines)/)\w*|cellrun)/src/")
 # What a page says of a project of its reader's.
-THEIRS = ("crates/my_program", "crates/railyarrow", "crates/line_server")
+THEIRS = ("crates/my_program", "crates/railyarrow")
 
 
 def prose_of(text):
