@@ -93,7 +93,7 @@ count 'all tests, without a proof (scripts/tests.sh)' bash scripts/tests.sh
 count 'proofs, programs, and the bugs of must-fail/ (rt ci)' rt ci
 show 'what tries deliberate bugs (scripts/bugs_check.py)' "$counts" python3 scripts/bugs_check.py
 count 'the bugs of bugs.txt (scripts/bugs.py)' python3 scripts/bugs.py
-show 'the built program (scripts/program.sh)' "$counts" bash scripts/program.sh
+show 'the built program (scripts/program.py)' "$counts" python3 scripts/program.py
 show 'no memory (scripts/memory.sh)' "$counts" bash scripts/memory.sh
 show 'misuse that must not compile (misuse/check.sh)' "$counts" bash misuse/check.sh
 show 'a project of its own (scripts/vendor_check.sh)' "$vendored" bash scripts/vendor_check.sh

@@ -3,6 +3,7 @@ pub mod EndText
 pub mod LineFeed
 pub mod LineNumber
 pub mod LineParts
+pub mod Names
 pub mod OutputContents
 pub mod Places
 pub mod UpdateReply

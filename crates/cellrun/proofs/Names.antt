@@ -1,0 +1,102 @@
+-- The names that a session knows, through each call.
+use Rattle.std.proofs.Common.{◌≡◌, ℕ, ℤ, Bool, true, false, ◌||◌, cond, List, [], ◌∷◌, ◌++◌, Option, None, refl, subst, ◌∙◌, append-nil}
+use Rattle.std.specs.Prelude.{nat_eq, filter_map, if◌then◌else◌}
+use Rattle.std.specs.Ordering.{nat_cmp, is_eq}
+use Rattle.std.specs.BTreeSet.{BTreeSet, contains, Updates}
+use Rattle.std.proofs.lemmas.Bool.{eqb-true}
+use Rattle.std.proofs.lemmas.List.Folds.{list_any-append}
+use Rattle.async_cell_wakers.specs.Named.{same_name}
+use Rattle.async_cell_wakers.specs.declared.named.Named.{Named}
+use Rattle.async_cell_model.specs.declared.entry.Entry.{Entry}
+use Rattle.async_cell_model.specs.declared.entry.Kept.{Kept}
+use Rattle.async_cell_model.specs.declared.reply.Reply.{Reply}
+use Rattle.async_cell_model.specs.WaitList.{wait_list, skips}
+use Rattle.async_cell_model.proofs.OneMoreWaker.{wait_list-one}
+use Rattle.async_cell_model.specs.History.{State, IsSound, has_fill_or_close, is_pending, waker_of, pending_waker}
+use Rattle.async_cell_model.specs.Legal.{Steps}
+use Rattle.cellrun.specs.Names.{KnowsNames}
+
+-- where nobody waits, any names will do
+pub nobody : (waiting : List Named) (names : BTreeSet ℕ) (all : Bool) → waiting ≡ [] → KnowsNames waiting names all
+nobody waiting names all none = record { each = λ _ name skipped. absurd (cc (rw none at skipped)) }
+
+-- nor need they be all
+pub not_known : (waiting : List Named) (names : BTreeSet ℕ) (all : Bool) → all ≡ false → KnowsNames waiting names all
+not_known waiting names all is = record { each = λ so name skipped. absurd (cc (rw is at so)) }
+
+differs : (a b : Bool) → (a ≡ true → b ≡ true) → b ≡ false → a ≡ false
+differs true b so not = absurd (cc (rw not at so refl))
+differs false b so not = refl
+
+-- a name that is not known is none that waits
+pub no_skip : (waiting : List Named) (names : BTreeSet ℕ) (all : Bool) (name : ℕ) → KnowsNames waiting names all → all ≡ true → contains nat_cmp names name ≡ false
+    → skips same_name waiting (record { 0 = name }) ≡ false
+no_skip waiting names all name known is absent = differs (skips same_name waiting (record { 0 = name })) (contains nat_cmp names name) (known.each is name) absent
+
+stays : (b o : Bool) → o ≡ true → cond b true o ≡ true
+stays true o is = refl
+stays false o is = is
+
+-- one name more
+pub noted : (waiting : List Named) (old new : BTreeSet ℕ) (all : Bool) (name : ℕ) → KnowsNames waiting old all → Updates nat_cmp old new name true → KnowsNames waiting new all
+noted waiting old new all name known updates = record {
+  each = λ so q skipped. updates.0 q ∙ stays (is_eq (nat_cmp name q)) (contains nat_cmp old q) (known.each so q skipped);
+}
+
+added : (s n c : Bool) → (s ≡ true → c ≡ true) → (n ≡ true → c ≡ true) → (s || (n || false)) ≡ true → c ≡ true
+added true n c old one is = old refl
+added false true c old one is = one refl
+added false false c old one is = absurd (cc is)
+
+-- one waits more whose name is known
+pub one_more : (before after : List Named) (names : BTreeSet ℕ) (all : Bool) (name : ℕ) → KnowsNames before names all → (all ≡ true → contains nat_cmp names name ≡ true)
+    → after ≡ before ++ record { 0 = name } ∷ [] → KnowsNames after names all
+one_more before after names all name known has one = record {
+  each = λ so q skipped.
+      let parts = rw (one, list_any-append (λ v. same_name v (record { 0 = q })) before (record { 0 = name } ∷ [])) at skipped in
+      added (skips same_name before (record { 0 = q })) (nat_eq name q) (contains nat_cmp names q) (known.each so q)
+      (λ is. subst (λ k. contains nat_cmp names k ≡ true) (eqb-true name q is) (has so)) parts;
+}
+
+polled_by : (skipped : Bool) (before after : List Named) (names : BTreeSet ℕ) (all : Bool) (name : ℕ) → KnowsNames before names all → (all ≡ true → contains nat_cmp names name ≡ true)
+    → after ≡ (if skipped then before else before ++ record { 0 = name } ∷ []) → KnowsNames after names all
+polled_by true before after names all name known has is = rw is known
+polled_by false before after names all name known has is = one_more before after names all name known has is
+
+-- a poll that has to wait, by a name that is known
+pub polled : (from : State ℤ Named) (after : List Named) (names : BTreeSet ℕ) (all : Bool) (name : ℕ) → KnowsNames from.waiting names all → IsSound same_name from
+    → (all ≡ true → contains nat_cmp names name ≡ true) → after ≡ wait_list same_name (from.waiting ++ record { 0 = name } ∷ []) → KnowsNames after names all
+polled from after names all name known sound has is =
+    polled_by (skips same_name from.waiting (record { 0 = name })) from.waiting after names all name known has (is ∙ wait_list-one same_name from.waiting (record { 0 = name }) sound.kept)
+
+waiting_by : (ends : Bool) (waiting : List Named) (e : Entry ℤ Named) → pending_waker e ≡ None → wait_list same_name waiting ≡ waiting
+    → wait_list same_name ((if ends then [] else waiting) ++ filter_map pending_waker (if ends then [] else e ∷ [])) ≡ (if ends then [] else waiting)
+waiting_by true waiting e none kept = refl
+waiting_by false waiting e none kept = rw (none, append-nil waiting) kept
+
+kept_by : (ends : Bool) (waiting after : List Named) (names : BTreeSet ℕ) (all : Bool) → after ≡ (if ends then [] else waiting) → KnowsNames waiting names all → KnowsNames after names all
+kept_by true waiting after names all is known = nobody after names all is
+kept_by false waiting after names all is known = rw is known
+
+none_by : (pending : Bool) (waker : Option Named) → waker ≡ None → (if pending then waker else None) ≡ None
+none_by true waker none = none
+none_by false waker none = refl
+
+-- a call that adds nobody
+nobody_added : (from to : State ℤ Named) (call : Kept ℤ Named) (reply : Reply ℤ) (woken : List Named) (names : BTreeSet ℕ) (all : Bool)
+    → Steps same_name true from call reply woken to → pending_waker (record { call = call; reply = reply }) ≡ None
+    → KnowsNames from.waiting names all → KnowsNames to.waiting names all
+nobody_added from to call reply woken names all steps none known =
+    let e : Entry ℤ Named = record { call = call; reply = reply } in
+    let ends = has_fill_or_close from.cell (e ∷ []) in
+    kept_by ends from.waiting to.waiting names all (steps.waiting_is ∙ waiting_by ends from.waiting e none steps.sound.kept) known
+
+-- a call that is no poll
+pub no_poll : (from to : State ℤ Named) (call : Kept ℤ Named) (reply : Reply ℤ) (woken : List Named) (names : BTreeSet ℕ) (all : Bool)
+    → KnowsNames from.waiting names all → Steps same_name true from call reply woken to → waker_of call ≡ None → KnowsNames to.waiting names all
+no_poll from to call reply woken names all known steps none = nobody_added from to call reply woken names all steps (none_by (is_pending reply) (waker_of call) none) known
+
+-- a poll that did not have to wait
+pub not_pending : (from to : State ℤ Named) (call : Kept ℤ Named) (reply : Reply ℤ) (woken : List Named) (names : BTreeSet ℕ) (all : Bool)
+    → KnowsNames from.waiting names all → Steps same_name true from call reply woken to → is_pending reply ≡ false → KnowsNames to.waiting names all
+not_pending from to call reply woken names all known steps none = nobody_added from to call reply woken names all steps (rw none refl) known
