@@ -1,35 +1,37 @@
-//! One caller of each public function of the cells, at types of a program. The proof of it says
-//! that a program can meet what each call requires; what it prints, that no call gives up.
+//! Callers of the cells and of the latest state that threads share, at types of a program. Each
+//! call here requires something, or is proved of every closure, clone, pointer or future: that a
+//! program can meet what it is proved from is proved here. `async_cell_uses` does the same for
+//! `Core`, `Latest`, the driver, the recorded cell and the laws. What a library calls, without
+//! requiring as much of its own callers, needs no call here; what calls do is for cases and tests.
 #![tactic(auto)]
 
-mod bare;
-mod cell_core;
-mod locked_core;
-mod owned;
-mod sync_cell;
-mod sync_owner;
-mod sync_shared;
-mod unsync_cell;
-mod unsync_owner;
-mod unsync_shared;
-mod wakers;
+mod cells;
+mod latest;
+mod pointers;
+mod sync;
+mod unsync;
 
 use anyhow::Result;
-use async_cell_lines::Lines;
+use std::alloc::AllocGlobal;
+use std::random::RandomSource;
+use std::sync::Wait;
+
+/// The runtime of a program that waits.
+trait Host: AllocGlobal + Copy + RandomSource + Wait {}
+
+impl<R: AllocGlobal + Copy + RandomSource + Wait> Host for R {}
+
+/// A look at a value.
+fn half(value: &u32) -> u32 {
+    value / 2
+}
 
 fn main(rt: HostRuntime) -> Result<()> {
-    let mut lines = Lines::new(rt);
-    wakers::all(&mut lines)?;
-    cell_core::all(&mut lines)?;
-    lines.show("front:", "unsync");
-    unsync_cell::all(&mut lines)?;
-    unsync_owner::all(&mut lines)?;
-    unsync_shared::all(&mut lines)?;
-    lines.show("front:", "sync");
-    locked_core::all(&mut lines);
-    sync_cell::all(&mut lines)?;
-    sync_owner::all(&mut lines)?;
-    sync_shared::all(&mut lines)?;
-    lines.end()?;
+    sync::all(rt)?;
+    unsync::all(rt)?;
+    pointers::at_near(rt);
+    pointers::at_far(rt);
+    latest::of_owner(rt)?;
+    latest::of_follower(rt)?;
     Ok(())
 }

@@ -1,0 +1,37 @@
+//! Calls of both cells: the same words, with the right to wait for those of `sync`. Each is the
+//! body of a function, whose module imports the names.
+
+/// What is given a closure, and what clones the value, of a cell, an owner or a locked core.
+macro_rules! content {
+    ($cell:expr $(, $right:expr)?) => {{
+        let cell = $cell;
+        let _ = cell.update(|content| content.map(|value: u32| value / 2) $(, $right)?);
+        let _ = cell.update_some(|value| value / 2 $(, $right)?);
+        let _ = cell.peek(half $(, $right)?);
+        let _ = cell.try_get($($right)?);
+    }};
+}
+
+/// Futures over each pointer to a cell, weak ones that become owners, a stream, and guards. Each
+/// future is ready.
+macro_rules! waits {
+    ($rt:ident $(, $right:ident)?) => {{
+        let owner = Owner::new_with($rt.alloc(), 1u32 $(, $right)?)?;
+        let _ = block_on(&$rt, owner.get());
+        let _ = block_on(&$rt, owner.get_shared()?);
+        let taker = owner.take_weak();
+        let _ = block_on(&$rt, owner.get_weak());
+        drop(taker.upgrade());
+        taker.cancel();
+        drop(owner.guard_shared(2).ok());
+        let _ = block_on(&$rt, owner.take());
+        let mut values = owner.take_weak().values();
+        drop(owner);
+        let _ = block_on(&$rt, values.next());
+        values.cancel();
+        Ok(())
+    }};
+}
+
+pub(crate) use content;
+pub(crate) use waits;

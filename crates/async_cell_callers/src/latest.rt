@@ -1,0 +1,34 @@
+//! Callers of `async_cell_latest_sync`.
+use crate::{Host, half};
+use async_cell_latest_sync::{Owner, Refusal};
+use futures::StreamExt;
+use futures::executor::block_on;
+use std::mem;
+
+/// What is given a closure, and what clones the value.
+pub fn of_owner<R: Host>(rt: R) -> Result<(), Refusal> {
+    let owner = Owner::new(rt.alloc(), 1u32, rt)?;
+    owner.update(half);
+    let _ = owner.modify(|value| mem::replace(value, 7));
+    let _ = owner.modify_if(|value| *value == 7);
+    let _ = owner.peek(half);
+    let _ = owner.read();
+    Ok(())
+}
+
+/// Looks of a follower, and its futures and stream, each of which is ready.
+pub fn of_follower<R: Host>(rt: R) -> Result<(), Refusal> {
+    let owner = Owner::new(rt.alloc(), 1u32, rt)?;
+    let mut follower = owner.follow()?;
+    let _ = follower.peek(half);
+    let _ = follower.read();
+    let _ = follower.read_and_update();
+    owner.set(2);
+    let _ = block_on(&rt, follower.changed());
+    let _ = block_on(&rt, follower.wait_for(|value: &u32| *value == 2));
+    let _ = follower.peek_and_update(half);
+    drop(owner);
+    let mut states = follower.states();
+    let _ = block_on(&rt, states.next());
+    Ok(())
+}

@@ -1,0 +1,51 @@
+//! Callers of `async_cell_sync`, under the names of the facade but for a `LockedCore`.
+use crate::cells::{content, waits};
+use crate::{Host, half};
+use async_cell::Refusal;
+use async_cell::sync::{AsyncCell, Owner};
+use async_cell_core::{Core, Named};
+use async_cell_sync::LockedCore;
+use futures::StreamExt;
+use futures::executor::block_on;
+use futures::test::MockTask;
+
+fn cell<R: Host>(rt: R) {
+    content!(AsyncCell::new_with(rt.alloc(), 1), &rt)
+}
+
+fn locked_core<R: Host>(rt: R) {
+    let core: Core<u32, Named> = Core::new_with(rt.alloc(), 1);
+    let core = LockedCore::new(core);
+    let _ = core.poll_get(&Named(1), &rt);
+    content!(core, &rt)
+}
+
+fn owner<R: Host>(rt: R) -> Result<(), Refusal> {
+    content!(Owner::new_with(rt.alloc(), 1, rt)?);
+    Ok(())
+}
+
+fn waits<R: Host>(rt: R) -> Result<(), Refusal> {
+    waits!(rt, rt)
+}
+
+/// Polls by a shared reference.
+fn polls<R: Host>(rt: R) -> anyhow::Result<()> {
+    let (task, cell) = (MockTask::new(&rt)?, AsyncCell::new_with(rt.alloc(), 1u32));
+    let _ = task.enter(|cx| cell.get().poll_shared(cx, &rt));
+    let _ = task.enter(|cx| cell.take().poll_shared(cx, &rt));
+    let owner = cell.into_shared_or_drop()?;
+    let weak = owner.get_weak();
+    owner.end(&rt);
+    let _ = task.enter(|cx| weak.poll_shared(cx, &rt));
+    Ok(())
+}
+
+/// Makes each of them.
+pub fn all<R: Host>(rt: R) -> anyhow::Result<()> {
+    cell(rt);
+    locked_core(rt);
+    owner(rt)?;
+    waits(rt)?;
+    polls(rt)
+}

@@ -1,0 +1,31 @@
+//! Callers of `async_cell_unsync`, under the names of the facade.
+use crate::cells::{content, waits};
+use crate::{Host, half};
+use async_cell::Refusal;
+use async_cell::unsync::{AsyncCell, Owner};
+use futures::StreamExt;
+use futures::executor::block_on;
+
+fn cell<R: Host>(rt: R) {
+    content!(AsyncCell::new_with(rt.alloc(), 1))
+}
+
+fn waits<R: Host>(rt: R) -> Result<(), Refusal> {
+    waits!(rt)
+}
+
+/// The futures of a `Shared`, which are polled as they are.
+fn shared<R: Host>(rt: R) -> Result<(), Refusal> {
+    let owner = AsyncCell::new_with(rt.alloc(), 1u32).into_shared_or_drop()?;
+    let _ = block_on(&rt, owner.get_shared()?);
+    let _ = block_on(&rt, owner.get_weak());
+    let _ = block_on(&rt, owner.take_weak());
+    Ok(())
+}
+
+/// Makes each of them.
+pub fn all<R: Host>(rt: R) -> Result<(), Refusal> {
+    cell(rt);
+    waits(rt)?;
+    shared(rt)
+}

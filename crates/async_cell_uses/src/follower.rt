@@ -1,0 +1,112 @@
+//! What is promised of a follower of a `Latest` follows from the laws, whatever calls others make in
+//! between.
+ghost use Rattle.std.specs.Prelude.{◌≡◌, ◌≢◌, ◌≤◌, ◌<◌, ℕ, None, Some, Ok, true, IfSome, IsSome};
+ghost use Rattle.std.specs.Fn.{FnOnceReturnsAtMut};
+ghost use Rattle.async_cell_latest.specs.State.{State, Stays, is_closed, is_writable};
+ghost use Rattle.async_cell_uses.specs.Calls.{AreCalls};
+
+use async_cell_latest::laws::{
+    the_last_state_stays, the_versions_of_a_follower_rise, two_histories_are_one,
+};
+use async_cell_latest::{Latest, Named, Poll, Refusal};
+use std::alloc::Global;
+
+/// A follower that has seen the version `seen` polls, others make any calls, and it polls again.
+/// Returns the versions that it is shown, if each poll shows one: they rise.
+pub fn two_polls<F>(
+    latest: &mut Latest<u64, Named>,
+    seen: u64,
+    name: &Named,
+    others: F,
+) -> Option<(u64, u64)>
+where
+    F: FnOnce(&mut Latest<u64, Named>) + Drop,
+    requires callable { F.IsAlwaysCallable others }
+    requires calls { (s t : State ℕ Named) → FnOnceReturnsAtMut F.FnOnce others s tt t
+        → AreCalls s t }
+    requires seen_before { seen ≤ latest.old.version }
+    ensures rise { IfSome result (λ told. (seen < told.0) × (told.0 < told.1)) }
+{
+    // For the proof: the three steps are one history, and the versions in it rise.
+    two_histories_are_one::<u64, Named>();
+    the_versions_of_a_follower_rise::<u64, Named>();
+    let first = shown(latest.poll_changed(seen, name))?;
+    others(latest);
+    let second = shown(latest.poll_changed(first, name))?;
+    Some((first, second))
+}
+
+/// The last writer writes this value and ends, and others make any calls. A follower that polls
+/// then is shown the value, and told the end when it polls again. Returns both, unless the state
+/// takes no further write.
+pub fn last_state_and_end<F>(
+    latest: &mut Latest<u64, Named>,
+    seen: u64,
+    name: &Named,
+    value: u64,
+    others: F,
+) -> Option<(u64, Poll<Option<u64>>)>
+where
+    F: FnOnce(&mut Latest<u64, Named>) + Drop,
+    requires callable { F.IsAlwaysCallable others }
+    requires calls { (s t : State ℕ Named) → FnOnceReturnsAtMut F.FnOnce others s tt t
+        → AreCalls s t }
+    requires seen_before { seen ≤ latest.old.version }
+    requires last_writer { latest.old.writers ≡ 1 }
+    ensures told { is_writable latest.old ≡ true → IsSome result }
+    ensures last { IfSome result (λ told. told.0 ≡ value) }
+    ensures end { IfSome result (λ told. told.1 ≡ Poll.Ready None) }
+{
+    let (_, woken) = latest.write(value).ok()?;
+    woken.wake_all();
+    latest.end_writer().ok()?.wake_all();
+    after_the_end(latest, others);
+    let version = shown(latest.poll_changed(seen, name))?;
+    let (_, last) = latest.read();
+    let last = *last;
+    let then = latest.poll_changed(version, name).ok()?;
+    Some((last, then))
+}
+
+/// Writes the value, and wakes all that wait: a call that others may make in between.
+pub fn write(latest: &mut Latest<u64, Named>, value: u64)
+    ensures calls { AreCalls latest.old latest.new }
+{
+    if let Ok((_, woken)) = latest.write(value) {
+        woken.wake_all();
+    }
+}
+
+/// Others make any calls on a closed state: its value and its version stay, and it stays closed.
+fn after_the_end<F>(latest: &mut Latest<u64, Named>, others: F)
+where
+    F: FnOnce(&mut Latest<u64, Named>),
+    requires callable { F.IsAlwaysCallable others }
+    requires calls { (s t : State ℕ Named) → FnOnceReturnsAtMut F.FnOnce others s tt t
+        → AreCalls s t }
+    requires closed { is_closed latest.old ≡ true }
+    ensures stays { Stays latest.old latest.new }
+{
+    the_last_state_stays::<u64, Named>(); // For the proof.
+    others(latest);
+}
+
+/// The version that a poll shows, if it shows one.
+fn shown(polled: Result<Poll<Option<u64>>, Refusal>) -> Option<u64>
+    ensures shows { IfSome result (λ version. polled ≡ Ok (Poll.Ready (Some version))) }
+    ensures some { (version : ℕ) → polled ≡ Ok (Poll.Ready (Some version)) → IsSome result }
+{
+    match polled {
+        Ok(Poll::Ready(version)) => version,
+        _ => None,
+    }
+}
+
+/// What both tell of a new state, around a write of others.
+pub fn around_a_write(alloc: Global) -> (Option<(u64, u64)>, Option<(u64, Poll<Option<u64>>)>) {
+    let mut latest = Latest::new(alloc, 0);
+    let rising = two_polls(&mut latest, 0, &Named(7), |state| write(state, 5));
+    let mut latest = Latest::new(alloc, 0);
+    let ended = last_state_and_end(&mut latest, 0, &Named(7), 6, |state| write(state, 7));
+    (rising, ended)
+}
