@@ -83,7 +83,7 @@ count() {
 # The last line of a step that counts, and those of four that do not.
 counts='^([a-z]+: )?[1-9][0-9]* passed, 0 failed$'
 applied='^[1-9][0-9]* deliberate bugs, 0 of which cannot be applied$'
-read='^pages: [1-9][0-9]* read, 0 faults$'
+read='^pages: [1-9][0-9]* read, 0 faults; '
 vendored='^vendor_check: .* runs in a repository of its own: .'
 counted='^count: [1-9][0-9]* counted, 0 rose '
 
