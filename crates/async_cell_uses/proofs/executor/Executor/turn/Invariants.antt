@@ -4,7 +4,7 @@ use Rattle.async_cell_uses.proofs.executor.Executor.turn.Given as goal
 
 -- there is room for what the tasks that are left may have got, and no task is ready
 abbrev pub invariant-loop-i : goal.invariant-loop-i
-invariant-loop-i g l = record {
+invariant-loop-i l = record {
   space : vec_len l.finished + (l.i-end - l.i) ≤ vec_capacity l.finished;
   none_ready : (j : ℕ) → is_ready l.self.driver [] j ≡ false;
 }
