@@ -1,8 +1,6 @@
 //! A state that any number of followers follow, as a pure state machine. Each write replaces the
 //! value and moves its version on, and returns the wakers of the followers that wait. The last
-//! state stays when the last writer ends.
-//!
-//! What is `doc(hidden)` is for the crates that build on this one, and may change without notice.
+//! state stays when the last writer ends. What is `doc(hidden)` may change without notice.
 #![tactic(auto)]
 
 mod latest;

@@ -1,6 +1,4 @@
 //! A state that many threads follow: owners write it, and each follower sees the last one.
-//!
-//! What is `doc(hidden)` is for the crates that build on this one, and may change without notice.
 #![tactic(auto)]
 
 mod awaited;
