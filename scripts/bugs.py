@@ -25,7 +25,7 @@ import threading
 import time
 from concurrent.futures import ThreadPoolExecutor
 
-from lay_out import TOP, read, write
+from lay_out import READ, TOP, read, write
 
 PARTS = ("src", "specs", "proofs", "out/incremental", "out/rlib")
 BUG = re.compile(r"^(?P<file>[^\s:]+): (?P<name>.+)\n(?P<pairs>(?:- .+\n\+.*\n)+)", re.M)
@@ -146,8 +146,7 @@ def lay(room, source, crates, copied):
 
 def run_rt(folder, *words):
     """Runs rt in a folder, and returns its status and what it said."""
-    how = {"stdin": subprocess.DEVNULL, "stdout": subprocess.PIPE, "stderr": subprocess.STDOUT}
-    ran = subprocess.run(["rt", *words], cwd=folder, errors="replace", **how)
+    ran = subprocess.run(["rt", *words], cwd=folder, errors="replace", **READ)
     return ran.returncode, ran.stdout
 
 

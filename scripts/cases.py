@@ -18,7 +18,7 @@ import tempfile
 import random_cases
 import read_cases
 import try_kit
-from lay_out import TOP, lay_crate, read, texts_below, write
+from lay_out import READ, TOP, lay_crate, read, texts_below, write
 
 PLAYER = f"{TOP}/tests/player"
 SECONDS = "600"
@@ -69,7 +69,7 @@ def play(project, inputs, random_text):
     refuses = try_kit.compiled(f"{TOP}/scripts/refuse.c", f"{inputs}.o", "-DPLAYER")
     words = ["--steps", "1", "--seconds", SECONDS, "--cases", inputs]
     words = try_kit.command(project, "player", [refuses], words)
-    how = {**try_kit.READ, "env": {**os.environ, "TMPDIR": os.path.dirname(inputs)}}
+    how = {**READ, "env": {**os.environ, "TMPDIR": os.path.dirname(inputs)}}
     counts, told = [], set()
     with subprocess.Popen(words, **how) as ran:
         for line in ran.stdout:

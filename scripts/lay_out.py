@@ -22,6 +22,9 @@ import tempfile
 TOP = os.path.dirname(os.path.dirname(os.path.abspath(__file__)))
 CODE = f"{TOP}/tests/code"
 PROGRAM = "cellrun"
+# How a program is run of which all that it says is read.
+READ = {"stdin": subprocess.DEVNULL, "stdout": subprocess.PIPE, "stderr": subprocess.STDOUT}
+READ["text"] = True
 
 
 def read(path):

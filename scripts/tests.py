@@ -162,7 +162,7 @@ def read_cases(played, told):
 def main(words):
     told = Told()
     cases = [sys.executable, f"{TOP}/scripts/cases.py"]
-    played = None if words else subprocess.Popen(cases, **try_kit.READ)
+    played = None if words else subprocess.Popen(cases, **lay_out.READ)
     for it in [] if words else lay_out.formatted():
         told.count(f"tests/{it}", "not as `python3 scripts/lay_out.py --format` writes it")
     with tempfile.TemporaryDirectory(prefix="tests-") as room:
