@@ -25,6 +25,8 @@ import threading
 import time
 from concurrent.futures import ThreadPoolExecutor
 
+from lay_out import READ, TOP, read, write
+
 PARTS = ("src", "specs", "proofs", "out/incremental", "out/rlib")
 BUG = re.compile(r"^(?P<file>[^\s:]+): (?P<name>.+)\n(?P<pairs>(?:- .+\n\+.*\n)+)", re.M)
 EDIT = re.compile(r"^file: src/(?P<file>\S+)\n(?P<pairs>(?:old: .+\nnew:.*\n)+)", re.M)
@@ -40,16 +42,6 @@ TOLD = re.compile(
     re.M,
 )
 UNREAD = re.compile(r"^(?:\./)?(?P<file>src/\S+?):(?P<line>\d+):\d+: error.*", re.M)
-
-
-def read(path):
-    with open(path, encoding="utf-8", errors="replace") as file:
-        return file.read()
-
-
-def write(path, text):
-    with open(path, "w", encoding="utf-8") as file:
-        file.write(text)
 
 
 def function_at(lines, at):
@@ -154,8 +146,7 @@ def lay(room, source, crates, copied):
 
 def run_rt(folder, *words):
     """Runs rt in a folder, and returns its status and what it said."""
-    how = {"stdin": subprocess.DEVNULL, "stdout": subprocess.PIPE, "stderr": subprocess.STDOUT}
-    ran = subprocess.run(["rt", *words], cwd=folder, errors="replace", **how)
+    ran = subprocess.run(["rt", *words], cwd=folder, errors="replace", **READ)
     return ran.returncode, ran.stdout
 
 
@@ -169,7 +160,8 @@ class Tries:
         """Prints and keeps why a bug is not refused, or what the prover has told of it."""
         self.judged.append(not why)
         said = f"FAILED: {why}" if why else f"refused: {told[0][0]}"
-        print(f"{bug.crate}: {bug.name}: {said[:160]}", flush=True)
+        # (the text and its line feed at once: other threads print too)
+        print(f"{bug.crate}: {bug.name}: {said[:160]}\n", end="", flush=True)
 
     def checked(self, bugs):
         """Checks a crate with these bugs. Returns whether it is still proved, what is told of
@@ -208,7 +200,8 @@ class Tries:
         """Says each minute how many bugs are judged."""
         for minutes in itertools.count(1):
             time.sleep(60)
-            print(f"bugs: {minutes} min, {len(self.judged)} of {total} tried", flush=True)
+            if len(self.judged) < total:
+                print(f"bugs: {minutes} min, {len(self.judged)} of {total} tried", flush=True)
 
     def try_all(self, bugs, jobs):
         """Proves the crates of these bugs, and tries the bugs, so many checks at a time."""
@@ -228,11 +221,9 @@ class Tries:
 
 
 def main():
-    os.chdir(os.path.dirname(os.path.dirname(os.path.abspath(__file__))))
+    os.chdir(TOP)
     reader = argparse.ArgumentParser(description=__doc__.split("\n\n", maxsplit=1)[0])
     reader.add_argument("--list", action="store_true", help="only look whether each can be applied")
-    processors = len(os.sched_getaffinity(0))
-    reader.add_argument("--jobs", type=int, default=processors, help="how many checks at a time")
     reader.add_argument("crates", nargs="*", help="crates whose bugs are tried; none: all")
     asked = reader.parse_args()
     for it in asked.crates:
@@ -250,7 +241,7 @@ def main():
         return 1 if faults or not bugs else 0
     with tempfile.TemporaryDirectory(prefix="bugs-") as room:
         tries = Tries(room)
-        tries.try_all(bugs, max(asked.jobs, 1))
+        tries.try_all(bugs, len(os.sched_getaffinity(0)))
     passed, failed = sum(tries.judged), len(faults) + len(bugs) - sum(tries.judged)
     print(f"{passed} passed, {failed} failed")
     return 1 if failed or not passed else 0

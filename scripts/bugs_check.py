@@ -3,11 +3,12 @@
 
 Prints what it says, what it should have said, and last 'N passed, M failed'.
 """
-import os
 import shutil
 import subprocess
 import sys
 import tempfile
+
+from lay_out import TOP, write
 
 TOY = """#![tactic(auto)]
 ghost use Rattle.std.specs.Prelude.{◌≡◌, ◌+◌, ◌<◌, ◌≤◌};
@@ -51,14 +52,13 @@ PLANTED = {
 def said_of(room):
     """Lays the crate and its bugs out as a repository, and returns what the script says there."""
     bugs = [f"lib.rt: {it}\n- {old}\n+ {new}\n" for it, (old, new, _) in PLANTED.items()]
-    files = {"src/lib.rt": TOY, "bugs.txt": "".join(bugs)}
-    files.update({"../../crates.txt": "toy:\n", "../../HANDLES": "Handles allowed: none.\n"})
-    os.makedirs(f"{room}/crates/toy/src")
-    for path, text in files.items():
-        with open(f"{room}/crates/toy/{path}", "w", encoding="utf-8") as file:
-            file.write(text)
-    script = shutil.copy(f"{os.path.dirname(os.path.abspath(__file__))}/bugs.py", f"{room}/crates")
-    return subprocess.run([sys.executable, script], stdout=subprocess.PIPE, text=True).stdout
+    write(f"{room}/crates/toy/bugs.txt", "".join(bugs))
+    write(f"{room}/crates/toy/src/lib.rt", TOY)
+    write(f"{room}/crates.txt", "toy:\n")
+    write(f"{room}/HANDLES", "Handles allowed: none.\n")
+    shutil.copytree(f"{TOP}/scripts", f"{room}/scripts")
+    words = [sys.executable, f"{room}/scripts/bugs.py"]
+    return subprocess.run(words, stdout=subprocess.PIPE, text=True).stdout
 
 
 def main():

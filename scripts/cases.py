@@ -15,20 +15,15 @@ import subprocess
 import sys
 import tempfile
 
-import lay_out
 import random_cases
 import read_cases
 import try_kit
-from lay_out import TOP, copy_crates, files_below, read, write
+from lay_out import READ, TOP, lay_crate, read, texts_below, write
 
 PLAYER = f"{TOP}/tests/player"
-USED = ["model", "wakers", "core", "waiting", "unsync", "sync"]
-USED += ["latest", "latest_sync"]
-CRATES = [f"async_cell_{it}" for it in USED]
 SECONDS = "600"
-# Texts that are laid out twice: as they are for what threads share, and for what one thread has,
-# which takes no right to wait for a lock, and whose owners end by their drop.
-TWICE = {"cells": ("sync", "unsync")}
+# What stands otherwise in the text of cells that one thread has: no right to wait for a lock is
+# taken, and owners end by their drop.
 WITHOUT_LOCK = [
     (r"_sync\b", "_unsync"),
     (r"use std::sync::Arc;\n", ""),
@@ -42,35 +37,16 @@ WITHOUT_LOCK = [
 ]
 
 
-def without_lock(text):
-    """Returns a text on what threads share as one on what one thread has."""
+def lay_player(folder):
+    """Lays the player out as a project: its text of cells as it is, for what threads share, and
+    once more for what one thread has."""
+    lay_crate(folder, "player", PLAYER, texts_below(PLAYER))
+    kinds = f"{folder}/crates/player/src/kinds"
+    os.rename(f"{kinds}/cells.rt", f"{kinds}/sync.rt")
+    text = read(f"{kinds}/sync.rt")
     for old, new in WITHOUT_LOCK:
         text = re.sub(old, new, text)
-    return text
-
-
-def laid_out(name):
-    """Returns what a text of the player is laid out as: names below src/, each with its text."""
-    text, (folder, file) = read(f"{PLAYER}/{name}"), os.path.split(name.removesuffix(".rt.txt"))
-    if file not in TWICE:
-        return {name.removesuffix(".txt"): text}
-    pair = text, without_lock(text)
-    return {f"{folder}/{it}.rt": each for it, each in zip(TWICE[file], pair)}
-
-
-def lay_player(folder):
-    """Lays the player and the crates below it out as a project."""
-    copy_crates(folder, CRATES)
-    used = [it for it in read(f"{TOP}/crates.txt").split("\n") if it.split(":")[0] in CRATES]
-    write(f"{folder}/crates.txt", "\n".join(used) + "\n" + read(f"{PLAYER}/crates.line"))
-    for name in (it for it in files_below(PLAYER) if it.endswith(".rt.txt")):
-        for it, text in laid_out(name).items():
-            write(f"{folder}/crates/player/src/{it}", text)
-
-
-def compiled(folder):
-    """Compiles what refuses the player's requests for memory. Returns the objects."""
-    return [lay_out.compiled(f"{TOP}/scripts/refuse.c", f"{folder}/refuse.o", "-DPLAYER")]
+    write(f"{kinds}/unsync.rt", text)
 
 
 def cases(chosen):
@@ -87,15 +63,15 @@ def cases(chosen):
     return found, faults
 
 
-def play(project, inputs, objects, random_text):
+def play(project, inputs, random_text):
     """Builds the player, and runs it for each file of the folder `inputs`. Prints its lines, each
     random case once that came out otherwise, and returns what each run counted."""
+    refuses = try_kit.compiled(f"{TOP}/scripts/refuse.c", f"{inputs}.o", "-DPLAYER")
     words = ["--steps", "1", "--seconds", SECONDS, "--cases", inputs]
-    words = try_kit.command(project, "player", objects, words)
-    how = {"stdin": subprocess.DEVNULL, "stdout": subprocess.PIPE, "stderr": subprocess.STDOUT}
-    how["env"] = {**os.environ, "TMPDIR": os.path.dirname(inputs)}
+    words = try_kit.command(project, "player", [refuses], words)
+    how = {**READ, "env": {**os.environ, "TMPDIR": os.path.dirname(inputs)}}
     counts, told = [], set()
-    with subprocess.Popen(words, text=True, **how) as ran:
+    with subprocess.Popen(words, **how) as ran:
         for line in ran.stdout:
             found = re.match(r"(\d+) passed, (\d+) failed$", line)
             if found:
@@ -129,11 +105,10 @@ def main(words):
     print("".join(f"{it}\n" for it in faults + wrong), end="", flush=True)
     with tempfile.TemporaryDirectory(prefix="cases-") as folder:
         lay_player(f"{folder}/project")
-        os.mkdir(f"{folder}/inputs")
         write(f"{folder}/inputs/plain", read_cases.played(by_hand + random))
         refusing = read_cases.played(by_hand + refused)
         write(f"{folder}/inputs/refusing", f"refuse\n{refusing}")
-        counts = play(f"{folder}/project", f"{folder}/inputs", compiled(folder), made)
+        counts = play(f"{folder}/project", f"{folder}/inputs", made)
     passed, failed = (sum(it) for it in zip((0, len(faults + wrong)), *counts))
     failed += 2 - len(counts)
     print(f"{passed} passed, {failed} failed")

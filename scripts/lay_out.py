@@ -20,9 +20,11 @@ import sys
 import tempfile
 
 TOP = os.path.dirname(os.path.dirname(os.path.abspath(__file__)))
-PARTS = ("src", "specs", "proofs")
 CODE = f"{TOP}/tests/code"
 PROGRAM = "cellrun"
+# How a program is run of which all that it says is read.
+READ = {"stdin": subprocess.DEVNULL, "stdout": subprocess.PIPE, "stderr": subprocess.STDOUT}
+READ["text"] = True
 
 
 def read(path):
@@ -36,104 +38,78 @@ def write(path, text):
         file.write(text)
 
 
-def kit_folder():
-    """Returns the folder of the kit."""
-    return os.path.dirname(os.path.dirname(os.path.realpath(shutil.which("rt"))))
-
-
-def compiled(source, made, *words):
-    """Compiles a C file by the kit's own compiler. Returns the path of the object file."""
-    words = [*words, "--target=x86_64-unknown-linux-gnu", "-O1", "-Wall", "-Werror", "-fPIC"]
-    clang = f"{kit_folder()}/toolchain/bin/clang"
-    subprocess.run([clang, *words, "-c", source, "-o", made], check=True)
-    return made
-
-
-def files_below(folder):
-    """Returns the paths of all files below a folder, from that folder on, in order."""
+def texts_below(folder):
+    """Returns the paths of all texts below a folder, from that folder on, in order."""
     found = [os.path.join(at, name) for at, _, names in os.walk(folder) for name in names]
-    return sorted(os.path.relpath(it, folder) for it in found)
+    return sorted(os.path.relpath(it, folder) for it in found if it.endswith(".rt.txt"))
 
 
-def copy_crates(folder, names=None):
-    """Copies what is proved into a new project: the crates of these names, or all."""
-    os.makedirs(f"{folder}/crates")
-    for it in ("HANDLES", "crates.txt"):
-        shutil.copy(f"{TOP}/{it}", folder)
-    for name in sorted(names or os.listdir(f"{TOP}/crates")):
-        for part in PARTS:
-            if os.path.isdir(f"{TOP}/crates/{name}/{part}"):
-                shutil.copytree(f"{TOP}/crates/{name}/{part}", f"{folder}/crates/{name}/{part}")
+def lay_crate(folder, name, source, texts):
+    """Makes a project in a new folder: the crates, and one more, of these texts of a source."""
+    ignored = shutil.ignore_patterns("out", "must-fail", "bugs.txt")
+    shutil.copytree(f"{TOP}/crates", f"{folder}/crates", ignore=ignored)
+    shutil.copy(f"{TOP}/HANDLES", folder)
+    write(f"{folder}/crates.txt", read(f"{TOP}/crates.txt") + read(f"{source}/crates.line"))
     subprocess.run(["git", "init", "-q", folder], check=True)
+    for it in texts:
+        write(f"{folder}/crates/{name}/src/{it.removesuffix('.txt')}", read(f"{source}/{it}"))
 
 
 def texts_of(module):
     """The texts of a module of the tests, from tests/code on."""
-    return [it for it in files_below(CODE) if re.match(rf"{module}(/|\.rt\.txt$)", it)]
+    return [it for it in texts_below(CODE) if re.match(rf"{module}(/|\.rt\.txt$)", it)]
 
 
 def with_used(modules):
     """Returns these modules of the tests, and those that they use."""
-    found = []
-    left = list(modules)
+    found, left = set(), {*modules}
     while left:
-        module = left.pop()
-        if module not in found and texts_of(module):
-            found.append(module)
-            text = "".join(read(f"{CODE}/{it}") for it in texts_of(module))
-            left += re.findall(r"\bcrate::(\w+)::", text)
+        found |= left
+        text = "".join(read(f"{CODE}/{it}") for module in left for it in texts_of(module))
+        left = {it for it in re.findall(r"\bcrate::(\w+)::", text) if texts_of(it)} - found
     return sorted(found)
-
-
-def lay_tests(folder, modules):
-    """Lays modules out as the crate `tests`."""
-    source = f"{folder}/crates/tests/src"
-    for module in modules:
-        for it in texts_of(module):
-            write(f"{source}/{it.removesuffix('.txt')}", read(f"{CODE}/{it}"))
-    declared = "".join(f"#[cfg(test)]\nmod {it};\n" for it in modules)
-    write(f"{source}/lib.rt", f"//! Tests.\n#![tactic(auto)]\n\n{declared}")
-    with open(f"{folder}/crates.txt", "a", encoding="utf-8") as file:
-        file.write(read(f"{CODE}/crates.line"))
 
 
 def lay_program(folder):
     """Lays the modules of the program into the crate `tests`, as modules of one that has its name,
     and declares in each the tests that lie there already."""
     source, to = f"{folder}/crates/{PROGRAM}/src", f"{folder}/crates/tests/src/{PROGRAM}"
-    tests = [it.removesuffix(".rt").split("/") for it in files_below(to)]
-    for it in files_below(source):
-        # (its proofs are named as those of the crate, whatever that is)
-        text = read(f"{source}/{it}")
-        text = re.sub(r"\bcrate::(?!proofs::|specs::)", f"crate::{PROGRAM}::", text)
-        inside = [name for *module, name in tests if f"{'/'.join(module)}.rt" == it]
-        write(f"{to}/{it}", text + "".join(f"\nmod {name};\n" for name in inside))
+    tests = [it.split("/") for it in texts_of(PROGRAM)]
+    for at, _, names in os.walk(source):
+        for it in (os.path.relpath(f"{at}/{name}", source) for name in names):
+            # (its proofs are named as those of the crate, whatever that is)
+            text = read(f"{source}/{it}")
+            text = re.sub(r"\bcrate::(?!proofs::|specs::)", f"crate::{PROGRAM}::", text)
+            inside = [name for _, *module, name in tests if f"{'/'.join(module)}.rt" == it]
+            mods = [f"\nmod {name.removesuffix('.rt.txt')};\n" for name in inside]
+            write(f"{to}/{it}", text + "".join(mods))
     os.rename(f"{to}/main.rt", f"{to}.rt")
 
 
 def lay_out(folder, modules=None):
     """Makes the project in a new folder, with these modules of the tests and what they use, or with
     all."""
-    copy_crates(folder)
-    every = sorted({it.split("/")[0].removesuffix(".rt.txt") for it in files_below(CODE)})
-    chosen = with_used(modules or [it for it in every if texts_of(it)])
-    lay_tests(folder, chosen)
+    every = {it.split("/")[0].removesuffix(".rt.txt") for it in texts_below(CODE)}
+    chosen = with_used(modules or every)
+    lay_crate(folder, "tests", CODE, [text for it in chosen for text in texts_of(it)])
+    declared = "".join(f"#[cfg(test)]\nmod {it};\n" for it in chosen)
+    write(f"{folder}/crates/tests/src/lib.rt", f"//! Tests.\n#![tactic(auto)]\n\n{declared}")
     if PROGRAM in chosen:
         lay_program(folder)
 
 
 def formatted():
     """Returns, by their names from tests/ on, the texts that `rt fmt` would write otherwise."""
-    texts = [it for it in files_below(f"{TOP}/tests") if it.endswith(".rt.txt")]
+    before = {it: read(f"{TOP}/tests/{it}") for it in texts_below(f"{TOP}/tests")}
     with tempfile.TemporaryDirectory() as folder:
         write(f"{folder}/crates.txt", "texts:\n")
-        made = {it: f"{folder}/crates/texts/src/{it.removesuffix('.txt')}" for it in texts}
-        for it, path in made.items():
-            write(path, read(f"{TOP}/tests/{it}"))
+        source = f"{folder}/crates/texts/src"
+        for it, text in before.items():
+            write(f"{source}/{it.removesuffix('.txt')}", text)
         how = {"cwd": f"{folder}/crates/texts", "stdout": subprocess.DEVNULL}
         subprocess.run(["rt", "fmt"], check=True, **how)
-        every = {it: read(path) for it, path in made.items()}
-    return {it: text for it, text in every.items() if text != read(f"{TOP}/tests/{it}")}
+        after = {it: read(f"{source}/{it.removesuffix('.txt')}") for it in before}
+    return {it: text for it, text in after.items() if text != before[it]}
 
 
 def main(words):

@@ -15,6 +15,8 @@ import re
 import subprocess
 import sys
 
+from lay_out import TOP, read
+
 # The end of a link, whose words may begin on the line above.
 LINK = re.compile(r"\]\(([^)\s]+)\)")
 CODE = re.compile(r"`([^`\n]+)`")
@@ -46,15 +48,10 @@ def prose_of(text):
     return lines
 
 
-def is_row(line):
-    return line.startswith("|")
-
-
 def rows_without_header(lines):
     """Yields each row that begins a table without a second row of dashes below it."""
-    for at, line in enumerate(lines):
-        is_first = is_row(line) and not (at and is_row(lines[at - 1]))
-        below = lines[at + 1] if at + 1 < len(lines) else ""
+    for at, (above, line, below) in enumerate(zip(["", *lines], lines, [*lines[1:], ""])):
+        is_first = line.startswith("|") and not above.startswith("|")
         if is_first and not re.fullmatch(r"\|[\s:|-]+\|", below):
             yield at, f"a row of a table without a header: {line[:60]}"
 
@@ -106,16 +103,15 @@ def typed_figures(page, lines):
                     yield at, f"{figure}: figures stand in the table of bench/README.md alone"
 
 
+def git_files(*patterns):
+    words = ["git", "ls-files", *patterns]
+    return subprocess.run(words, stdout=subprocess.PIPE, text=True, check=True).stdout.split()
+
+
 def sums():
     """Returns how many lines stand around the libraries, and how many their sources have."""
-    files = subprocess.run(["git", "ls-files"], stdout=subprocess.PIPE, text=True, check=True)
-    lines = {it: read(it).count("\n") for it in files.stdout.split("\n") if os.path.isfile(it)}
+    lines = {it: read(it).count("\n") for it in git_files() if os.path.isfile(it)}
     return [sum(n for it, n in lines.items() if of.match(it)) for of in (AROUND, SOURCES)]
-
-
-def read(path):
-    with open(path, encoding="utf-8") as it:
-        return it.read()
 
 
 def faults_of(page):
@@ -125,9 +121,8 @@ def faults_of(page):
 
 
 def main(pages):
-    os.chdir(os.path.dirname(os.path.dirname(os.path.abspath(__file__))))
-    known = subprocess.run(["git", "ls-files", "*.md"], stdout=subprocess.PIPE, text=True, check=True)
-    pages = pages or known.stdout.split()
+    os.chdir(TOP)
+    pages = pages or git_files("*.md")
     faults = [(page, at + 1, why) for page in pages for at, why in faults_of(page)]
     for page, line, why in faults:
         print(f"{page}:{line}: {why}")

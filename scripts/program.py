@@ -78,17 +78,16 @@ def scripts():
     """The cases of program.txt, whose head says how they are written."""
     with open(f"{FOLDER}/program.txt", encoding="ascii") as file:
         text = re.sub(r"^#.*\n", "", file.read(), flags=re.MULTILINE).replace("\n  ", " ")
-    for script, printed, bad in re.findall(r"^(.*)\n->(.*?)(?: ! (\d+))?$", text, re.MULTILINE):
-        given = "\n".join(words(script)) + "\n"
+    for script, printed, bad in re.findall(r"^(.*)\n-> ?(.*?)(?: ?! (\d+))?$", text, re.MULTILINE):
+        given = lines(script).decode("unicode_escape").encode("latin-1")
+        given = re.sub(rb"(^|\n)\$\n\Z", b"", given)
         told = f"bad line {bad}\n".encode() if bad else b""
-        out = "".join(f"{it}\n" for it in words(printed)).encode()
-        given = given.encode().decode("unicode_escape").encode("latin-1")
-        same(script, run(given.removesuffix(b"$\n")), (out, told, 2 if bad else 0))
+        same(script, run(given), (lines(printed), told, 2 if bad else 0))
 
 
-def words(text):
-    """The parts of a line of program.txt."""
-    return [it.strip(".") if it == "." else it for it in text.strip(" ").split(" / ") if text]
+def lines(text):
+    """What a line of program.txt stands for."""
+    return "".join("\n" if it == "." else f"{it}\n" for it in text.split(" / ") if it).encode()
 
 
 def failing_streams():

@@ -13,7 +13,9 @@ LENGTH = 40
 WRITES = ["set", "or_set", "try_set", "replace", "update", "update_some", "guarded"]
 MAKES = ["own", "guard", "take_shared", "get_shared", "take_weak", "get_weak", "values"]
 MARKS = ["mark_unchanged", "mark_changed", "read_and_update", "peek_and_update"]
-LOOKS = ["read", "peek", "has_changed", "is_closed", *MARKS]
+LOOKS = ["try_take", "try_get", "is_set", "waiting", "debug", "purge"]
+LOOKS_OF_A_CORE = ["try_take", "try_get", "is_set", "is_closed", "waiting", "owners"]
+LOOKS_OF_A_STATE = ["read", "peek", "has_changed", "is_closed", *MARKS]
 
 
 class Maker:
@@ -45,9 +47,6 @@ class Maker:
         self.cell.events = []
         self.lines.append(call if told == "ok" else f"{call} -> {told}")
 
-    def text(self):
-        return "\n".join(self.lines) + "\n\n"
-
     def write(self, on=""):
         """Makes a call that may write."""
         cell, value, other = self.cell, self.value(), self.value()
@@ -64,59 +63,48 @@ class Maker:
             self.line(f"{word} {value}{on}", getattr(cell, word)(value))
 
     def look(self, name=""):
-        cell = self.cell
-        replies = {
-            "try_take": cell.try_take,
-            "try_get": cell.try_get,
-            "is_set": lambda: str(cell.content is not None).lower(),
-            "waiting": lambda: str(len(cell.wait.tasks)),
-            "debug": cell.debug,
-            "purge": lambda: cell.happen("woke", *cell.wait.purge()) or "ok",
-        }
-        word = self.some(replies)
-        self.line(f"{word} {name}".strip(), replies[word]())
+        word = self.some(LOOKS)
+        self.line(f"{word} {name}".strip(), self.cell.look(word))
 
     def poll(self, name):
-        word, task = self.made[name], self.some(TASKS)
-        if word[2] == "stream":
-            reply = self.cell.poll(word, task, "item").replace("closed", "end")
+        future, task = self.made[name], self.some(TASKS)
+        if future[2] == "stream":
+            reply = self.cell.poll(future, task, "item").replace("closed", "end")
             self.line(f"next {name} by {task}", reply)
         else:
-            self.line(f"poll {name} by {task}", self.cell.poll(word, task))
+            self.line(f"poll {name} by {task}", self.cell.poll(future, task))
 
     def end(self, name):
         """Drops or cancels a future or a stream."""
         _, place, kind = self.made.pop(name)
-        if kind != "stream" and self.random.random() < 0.5:
-            self.cell.happen("woke", *self.cell.wait.cancel(place))
-            word = "cancel"
-        else:
-            self.cell.wait.leave(place)
-            word = "drop"
+        word = "cancel" if kind != "stream" and self.random.random() < 0.5 else "drop"
+        self.cell.leave(word, place)
         if kind == "owner":
             self.cell.end_owner()
         self.line(f"{word} {name}")
 
 
-def calls_on_a_cell(seed):
-    """Calls on a cell or an owner, beside futures that are kept."""
-    maker = Maker(seed, "cells owners", Cell())
-    maker.line("new")
-    for _ in range(LENGTH):
-        chosen = maker.random.randrange(8)
-        if chosen < 2 and len(maker.made) < 6:
-            name, takes = maker.name("f"), chosen == 0
-            maker.made[name] = [takes, None, "future"]
-            maker.line(f"{'take' if takes else 'get'} {name}")
-        elif chosen < 5 and maker.made:
-            maker.poll(maker.some(maker.made))
-        elif chosen == 5 and maker.made:
-            maker.end(maker.some(maker.made))
+class Cells(Maker):
+    """A cell or an owner, beside futures that are kept."""
+
+    def __init__(self, seed):
+        super().__init__(seed, "cells owners", Cell())
+        self.line("new")
+
+    def step(self):
+        chosen = self.random.randrange(8)
+        if chosen < 2 and len(self.made) < 6:
+            name, takes = self.name("f"), chosen == 0
+            self.made[name] = [takes, None, "future"]
+            self.line(f"{'take' if takes else 'get'} {name}")
+        elif chosen < 5 and self.made:
+            self.poll(self.some(self.made))
+        elif chosen == 5 and self.made:
+            self.end(self.some(self.made))
         elif chosen == 6:
-            maker.look()
+            self.look()
         else:
-            maker.write()
-    return maker.text()
+            self.write()
 
 
 class Owners(Maker):
@@ -171,9 +159,8 @@ class Owners(Maker):
             return self.line(f"into_inner {name}", "shared")
         self.owners.remove(name)
         if self.random.random() < 0.4 and self.cell.owners == 1:
-            content, self.cell.content = self.cell.content, None
+            reply = self.cell.taken("inner")
             self.cell.end_owner()
-            reply = "none" if content is None else f"inner {content}"
             return self.line(f"into_inner {name}", reply)
         self.cell.end_owner()
         return self.line(f"{self.some(['drop', 'end'])} {name}")
@@ -197,52 +184,44 @@ class Owners(Maker):
             self.poll(self.some(self.made))
 
 
-def step_of_core(maker):
-    """Makes a call. Where a lock drops what a core gives back, the reply there is another."""
-    cell, value = maker.cell, maker.value()
-    chosen = maker.random.randrange(10)
-    if chosen < 4:
-        takes, waker = chosen < 2, maker.some([1, 2, 3, 100, 101])
-        maker.line(f"{'take' if takes else 'get'} by {waker}", cell.poll_by(takes, waker))
-    elif chosen == 4:
-        reply = "ok" if cell.owners else "closed"
-        cell.owners += bool(cell.owners)
-        maker.line("add_owner", reply)
-    elif chosen == 5 and cell.owners > 1:
-        maker.line("take_inner", "shared")
-    elif chosen == 5 and not maker.random.randrange(3):
-        maker.line("take_inner", cell.close())
-    elif chosen == 6 and cell.owners > 1:
-        cell.owners -= 1
-        maker.line("end_owner", "none; on locked -> ok")
-    elif chosen == 7:
-        replies = {
-            "try_take": cell.try_take,
-            "try_get": cell.try_get,
-            "is_set": lambda: str(cell.content is not None).lower(),
-            "is_closed": lambda: str(not cell.owners).lower(),
-            "waiting": lambda: str(len(cell.wait.tasks)),
-            "owners": lambda: str(cell.owners),
-        }
-        word = maker.some(replies)
-        maker.line(word, replies[word]())
-    elif not cell.owners:
-        maker.line(f"{maker.some(['set', 'or_set', 'replace'])} {value}", f"back {value}")
-    else:
-        word = maker.some(["set", "replace", "update"])
-        if word == "update":
-            how = maker.some(["none", "keep", ""])
-            maker.line(f"update {how or value}", cell.update(how, value))
+class Cores(Maker):
+    """A core with wakers that are numbers. Where a lock drops what it gives back, it replies ok."""
+
+    def __init__(self, seed):
+        super().__init__(seed, "core locked", Core())
+        self.line("new")
+
+    def put(self, value):
+        cell = self.cell
+        if not cell.owners:
+            return self.line(f"{self.some(['set', 'or_set', 'replace'])} {value}", f"back {value}")
+        word = self.some(["set", "replace", "update"])
+        if word != "update":
+            return self.line(f"{word} {value}", getattr(cell, word)(value))
+        how = self.some(["none", "keep", ""])
+        return self.line(f"update {how or value}", cell.update(how, value))
+
+    def step(self):
+        cell, value, chosen = self.cell, self.value(), self.random.randrange(10)
+        if chosen < 4:
+            takes, waker = chosen < 2, self.some([1, 2, 3, 100, 101])
+            self.line(f"{'take' if takes else 'get'} by {waker}", cell.poll_by(takes, waker))
+        elif chosen == 4:
+            reply = "ok" if cell.owners else "closed"
+            cell.owners += bool(cell.owners)
+            self.line("add_owner", reply)
+        elif chosen == 5 and cell.owners > 1:
+            self.line("take_inner", "shared")
+        elif chosen == 5 and not self.random.randrange(3):
+            self.line("take_inner", cell.close())
+        elif chosen == 6 and cell.owners > 1:
+            cell.owners -= 1
+            self.line("end_owner", "none; on locked -> ok")
+        elif chosen == 7:
+            word = self.some(LOOKS_OF_A_CORE)
+            self.line(word, cell.look(word))
         else:
-            maker.line(f"{word} {value}", getattr(cell, word)(value))
-
-
-def calls_on_a_core(seed):
-    maker = Maker(seed, "core locked", Core())
-    maker.line("new")
-    for _ in range(LENGTH):
-        step_of_core(maker)
-    return maker.text()
+            self.put(value)
 
 
 class States(Maker):
@@ -263,7 +242,7 @@ class States(Maker):
             self.cell.happen("saw", old)
         self.cell.content = old + value if word == "modify add" else value
         self.version += 1
-        self.cell.happen("woke", *self.cell.wait.end())
+        self.cell.wake_all()
         if word not in replies:
             self.cell.drop(old)
         self.line(f"{word} {value}{on}", replies.get(word, "ok"))
@@ -279,27 +258,25 @@ class States(Maker):
 
     def look(self, name=""):
         cell, has_changed = self.cell, self.seen[name] != self.version
-        word = self.some(LOOKS)
+        word = self.some(LOOKS_OF_A_STATE)
         if word in MARKS:
             self.seen[name] = 0 if word == "mark_changed" else self.version
-        replies = {
-            "peek": str(cell.content),
-            "peek_and_update": str(cell.content),
-            "has_changed": str(has_changed).lower(),
-            "is_closed": str(not cell.owners).lower(),
-        }
-        reply = cell.cloned("some") if word.startswith("read") else replies.get(word, "ok")
-        if word.startswith("peek"):
+        if word.startswith("read"):
+            reply = cell.cloned("some")
+        elif word.startswith("peek"):
+            reply = str(cell.content)
             cell.happen("saw", cell.content)
+        elif word == "is_closed":
+            reply = cell.look(word)
+        else:
+            reply = str(has_changed).lower() if word == "has_changed" else "ok"
         self.line(f"{word} {name}", reply)
 
     def places(self):
         """Asks for the places of those who wait, or has those that were left let go."""
         owner = self.some(self.owners)
-        if self.random.random() < 0.5:
-            return self.line(f"waiting {owner}", str(len(self.cell.wait.tasks)))
-        self.cell.happen("woke", *self.cell.wait.purge())
-        return self.line(f"purge {owner}")
+        word = "waiting" if self.random.random() < 0.5 else "purge"
+        self.line(f"{word} {owner}", self.cell.look(word))
 
     def lend(self):
         """Polls a new future or stream of a follower: its place, and the state that it looked at."""
@@ -316,7 +293,7 @@ class States(Maker):
 
     def poll(self, name):
         future, of, task = self.made[name], self.lent[name], self.some(TASKS)
-        kind, place, looked, wanted = future
+        kind, _, looked, wanted = future
         seen = self.seen[of] if looked is None else looked
         reply = None
         if seen != self.version:
@@ -331,19 +308,14 @@ class States(Maker):
         if not reply and not self.cell.owners:
             reply = "end" if kind == "states" else "closed"
         if not reply:
-            future[1], let_go = self.cell.wait.wait(place, task)
-            self.cell.happen("woke", *let_go)
-            reply = "pending"
+            reply = self.cell.pend(future, task)
         self.line(f"{'next' if kind == 'states' else 'poll'} {name} by {task}", reply)
 
     def end(self, name):
         place, word = self.made.pop(name)[1], self.some(["drop", "cancel"])
         self.lent.pop(name)
         self.seen.pop(name, None)
-        if word == "cancel":
-            self.cell.happen("woke", *self.cell.wait.cancel(place))
-        else:
-            self.cell.wait.leave(place)
+        self.cell.leave(word, place)
         self.line(f"{word} {name}")
 
     def own(self):
@@ -356,7 +328,7 @@ class States(Maker):
         self.owners.remove(name)
         self.cell.owners -= 1
         if not self.owners:
-            self.cell.happen("woke", *self.cell.wait.end())
+            self.cell.wake_all()
         self.line(f"{self.some(['drop', 'end'])} {name}")
 
     def step(self):
@@ -377,16 +349,11 @@ class States(Maker):
             self.poll(self.some(self.made))
 
 
-def steps_of(maker):
-    """Writes a case of a maker that makes its own steps."""
-    for _ in range(LENGTH):
-        maker.step()
-    return maker.text()
-
-
 def cases(count, first=0):
     """Returns the text of so many cases of each sort."""
     seeds = range(first, first + count)
-    made = [sort(seed) for sort in (calls_on_a_cell, calls_on_a_core) for seed in seeds]
-    made += [steps_of(sort(seed)) for sort in (Owners, States) for seed in seeds]
-    return "".join(made)
+    made = [sort(seed) for sort in (Cells, Cores, Owners, States) for seed in seeds]
+    for it in made:
+        for _ in range(LENGTH):
+            it.step()
+    return "".join("\n".join(it.lines) + "\n\n" for it in made)

@@ -54,8 +54,8 @@ class Wait:
 class Cell:
     """A cell: what each call replies, and what happens in it. An event is a word and a number."""
 
-    def __init__(self, owners=1):
-        self.content, self.owners, self.wait, self.events = None, owners, Wait(), []
+    def __init__(self):
+        self.content, self.owners, self.wait, self.events = None, 1, Wait(), []
 
     def happen(self, word, *numbers):
         self.events += [(word, it) for it in numbers]
@@ -64,8 +64,11 @@ class Cell:
         """Puts a value in, and returns the old one."""
         old, self.content = self.content, value
         if old is None and value is not None:
-            self.happen("woke", *self.wait.end())
+            self.wake_all()
         return old
+
+    def wake_all(self):
+        self.happen("woke", *self.wait.end())
 
     def drop(self, value):
         if value is not None:
@@ -104,9 +107,13 @@ class Cell:
             self.drop(value)
         return "ok"
 
-    def try_take(self):
+    def taken(self, word):
+        """Takes the content out, and replies with it after this word."""
         taken, self.content = self.content, None
-        return "none" if taken is None else f"some {taken}"
+        return "none" if taken is None else f"{word} {taken}"
+
+    def try_take(self):
+        return self.taken("some")
 
     def try_get(self):
         return "none" if self.content is None else self.cloned("some")
@@ -120,11 +127,14 @@ class Cell:
         if not self.owners:
             return "closed"
         if self.content is None:
-            future[1], let_go = self.wait.wait(future[1], task)
-            self.happen("woke", *let_go)
-            return "pending"
+            return self.pend(future, task)
         future[1] = None
-        return self.try_take().replace("some", word) if future[0] else self.cloned(word)
+        return self.taken(word) if future[0] else self.cloned(word)
+
+    def pend(self, future, task):
+        future[1], let_go = self.wait.wait(future[1], task)
+        self.happen("woke", *let_go)
+        return "pending"
 
     def guarded(self, cancel, how, value):
         """Ends a guard."""
@@ -138,10 +148,31 @@ class Cell:
     def end_owner(self):
         self.owners -= 1
         if not self.owners:
-            self.happen("woke", *self.wait.end())
+            self.wake_all()
             self.drop(self.content)
             self.content = None
         return "ok"
+
+    def leave(self, word, place):
+        """Drops or cancels a future that waits in this place."""
+        if word == "cancel":
+            self.happen("woke", *self.wait.cancel(place))
+        else:
+            self.wait.leave(place)
+
+    def purge(self):
+        self.happen("woke", *self.wait.purge())
+        return "ok"
+
+    def look(self, word):
+        """What a call replies that is given nothing."""
+        replies = {
+            "is_set": self.content is not None,
+            "is_closed": not self.owners,
+            "waiting": len(self.wait.tasks),
+            "owners": self.owners,
+        }
+        return str(replies[word]).lower() if word in replies else getattr(self, word)()
 
     def debug(self):
         if self.content is not None:
@@ -156,27 +187,18 @@ def would_wake(waker, other):
 class Core(Cell):
     """A core: a waker that any waiting one would wake is not added."""
 
-    def add(self, waker):
-        if not any(would_wake(it, waker) for it in self.wait.tasks):
-            self.wait.tasks.append(waker)
-        return "pending"
-
-    def fill(self, value):
-        old, self.content = self.content, value
-        if old is None and value is not None:
-            self.hand_out()
-        return old
-
-    def hand_out(self):
+    def wake_all(self):
         self.happen("woke", *self.wait.tasks)
         self.wait.tasks = []
 
     def poll_by(self, takes, waker):
         if not self.owners:
             return "closed"
-        if self.content is None:
-            return self.add(waker)
-        return self.try_take().replace("some", "ready") if takes else self.cloned("ready")
+        if self.content is not None:
+            return self.taken("ready") if takes else self.cloned("ready")
+        if not any(would_wake(it, waker) for it in self.wait.tasks):
+            self.wait.tasks.append(waker)
+        return "pending"
 
     def close(self):
         """Ends an owner: the reply of a core."""
@@ -185,6 +207,5 @@ class Core(Cell):
         self.owners -= 1
         if self.owners:
             return "none"
-        self.hand_out()
-        content, self.content = self.content, None
-        return "none" if content is None else f"inner {content}"
+        self.wake_all()
+        return self.taken("inner")

@@ -2,11 +2,12 @@
 
 What is read and never played is a fault, and so is a word of the language that no case uses.
 """
+import itertools
 import re
 from collections import namedtuple
 
-KINDS = "core locked sync unsync sync_owner unsync_owner shared sync_closed unsync_closed states"
-KINDS = KINDS.split()
+KINDS = ["core", "locked", "sync", "unsync", "sync_owner", "unsync_owner", "shared"]
+KINDS += ["sync_closed", "unsync_closed", "states"]
 GROUPS = {
     "cells": ("sync", "unsync"),
     "owners": ("sync_owner", "unsync_owner"),
@@ -118,10 +119,10 @@ def add_note(line, at, text):
     line.inside.append(Inside(at, words_of(call), reply, place, number or ""))
 
 
-def case_of(file, first, text):
-    """Reads a case, whose lines begin at this number. Returns it, and what of it is wrong."""
+def case_of(file, text):
+    """Reads a case, whose lines have their numbers. Returns it, and what of it is wrong."""
     kinds, lines, title, faults = [], [], 0, []
-    for at, said in enumerate(text, first):
+    for at, said in text:
         try:
             if said.startswith("#"):
                 if title:
@@ -140,19 +141,17 @@ def case_of(file, first, text):
         except Wrong as wanted:
             faults.append(f"{file}:{at}: wanted: {wanted}")
     if not faults and not (title and kinds and lines):
-        faults.append(f"{file}:{first}: wanted: a title, `on` with kinds, and calls")
+        faults.append(f"{file}:{text[0][0]}: wanted: a title, `on` with kinds, and calls")
     return Case(file, title, kinds, lines), faults
 
 
 def cases_of(file, text):
     """Returns the cases of a text, which end at empty lines, and what of them is wrong."""
-    lines, found, faults, first = [*text.split("\n"), ""], [], [], None
-    for at, line in enumerate(lines, 1):
-        if line.strip():
-            first = first or at
-        elif first:
-            case, wrong = case_of(file, first, lines[first - 1 : at - 1])
-            found, faults, first = [*found, case], faults + wrong, None
+    found, faults, numbered = [], [], enumerate(text.split("\n"), 1)
+    for is_empty, lines in itertools.groupby(numbered, key=lambda it: not it[1].strip()):
+        if not is_empty:
+            case, wrong = case_of(file, [*lines])
+            found, faults = [*found, case], faults + wrong
     return found, faults
 
 

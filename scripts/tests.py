@@ -1,25 +1,38 @@
 """Runs all tests without a proof: what scripts/tests.sh calls, with words of their names, or none.
 
 The tests of tests/code are compiled as one program, and each is run in a process of its own; those
-of tests/again.txt run again, with requests for memory refused. Beside them scripts/cases.py plays
-the cases of tests/cases, if no word is given. Prints a line for each folder of tests as it ends,
-the output of each test that fails, and at the end how many passed and failed.
+of tests/again.txt once more, in the way that stands there. Beside them scripts/cases.py plays the
+cases of tests/cases, if no word is given. Prints a line for each folder of tests as it ends, the
+output of each test that fails, and at the end how many passed and failed.
 """
-import collections
-import concurrent.futures
+import itertools
 import os
 import re
+import resource
 import subprocess
 import sys
 import tempfile
 import threading
 import time
+from concurrent.futures import ThreadPoolExecutor
 
 import lay_out
-import test_runs
 import try_kit
+from lay_out import TOP
 
-AGAIN = f"{lay_out.TOP}/tests/again.txt"
+# How a test ends where std found no memory for a request of its own: as a `Fail` prints, or, of a
+# test that returns an `AllocError`, as that does. A call of a cell answers Refusal::Memory.
+OWN_ERRORS = {
+    "error: AllocError",
+    "Error: AllocError",
+    "error: AllocFailed { .. }",
+    "error: Kind(OutOfMemory)",
+}
+SMALL_STACK = 64 * 1024
+# The limits are what ends a test that waits for what never comes: on a busy machine the one of its
+# processors' time alone, since it then gets little of that.
+SECONDS = 300
+SECONDS_OF_PROCESSORS = 60
 
 
 class Told:
@@ -27,17 +40,12 @@ class Told:
 
     def __init__(self):
         self.begun = self.last = time.monotonic()
-        self.doing = ""
-        self.passed = self.failed = 0
+        self.doing, self.passed, self.failed = "", 0, 0
         threading.Thread(target=self.tick, daemon=True).start()
 
     def say(self, text):
         self.last = time.monotonic()
         print(f"{self.last - self.begun:4.0f} s  {text}", flush=True)
-
-    def begin(self, doing):
-        self.doing = doing
-        self.say(doing)
 
     def tick(self):
         while True:
@@ -47,11 +55,58 @@ class Told:
 
     def count(self, name, complaint):
         """Counts a test, and prints it if there is a complaint."""
-        self.passed += complaint is None
-        self.failed += complaint is not None
-        if complaint is not None:
-            self.say(f"failed {name}:")
-            print(complaint, flush=True)
+        self.passed += not complaint
+        self.failed += bool(complaint)
+        if complaint:
+            self.say(f"failed {name}:\n{complaint}")
+
+
+def limit(is_small):
+    """Sets the limits of a process: no core file, some time, and perhaps a small stack."""
+    resource.setrlimit(resource.RLIMIT_CORE, (0, 0))
+    resource.setrlimit(resource.RLIMIT_CPU, (SECONDS_OF_PROCESSORS, SECONDS_OF_PROCESSORS))
+    if is_small:
+        resource.setrlimit(resource.RLIMIT_STACK, (SMALL_STACK, SMALL_STACK))
+
+
+def run_once(program, test, refuse=0, is_small=False):
+    """Runs a test, with the request for memory of this number refused (0: none), or on a small
+    stack. Returns its status, what it said, and whether a request was refused."""
+    with tempfile.TemporaryFile() as told, tempfile.TemporaryFile() as said:
+        tell = told.fileno()
+        how = {"stdin": subprocess.DEVNULL, "stdout": said, "stderr": said, "pass_fds": [tell]}
+        how["env"] = {"REFUSE": str(refuse), "TELL": str(tell)} if refuse else {}
+        how["preexec_fn"] = lambda: limit(is_small)
+        try:
+            status = subprocess.run([*program, test], timeout=SECONDS, **how).returncode
+        except subprocess.TimeoutExpired:
+            status = f"none after {SECONDS} seconds"
+        said.seek(0)
+        return status, said.read().decode(errors="replace"), os.fstat(tell).st_size > 0
+
+
+def refused_in_turn(program, test):
+    """Runs a test until it asks for no more memory. It has to hold, or to end with the error of a
+    request of its own. Returns a complaint, or None."""
+    has_held = False
+    for number in itertools.count(1):
+        status, said, is_refused = run_once(program, test, refuse=number)
+        if status and not (is_refused and OWN_ERRORS & set(said.splitlines())):
+            return f"with request {number} refused: status {status}\n{said}"
+        if not is_refused:
+            break
+        has_held = has_held or not status
+    return None if has_held else f"each of the {number - 1} requests refused was the test's own"
+
+
+def complaint_of(program, test, way):
+    """Runs a test in a way: "once", or one of the list. Returns a complaint, or None."""
+    if way == "refused":
+        return refused_in_turn(program, test)
+    if way not in ("once", "small"):
+        return f"tests/again.txt: no way is named {way}"
+    status, said, _ = run_once(program, test, is_small=way == "small")
+    return f"status {status}\n{said}" if status else None
 
 
 def build(told, room, words):
@@ -59,62 +114,55 @@ def build(told, room, words):
     words by which the program is called, or None, and what the compiler said."""
     named = [it for it in (word.split("::")[0] for word in words) if lay_out.texts_of(it)]
     lay_out.lay_out(f"{room}/project", [*named, "checks"] if named else None)
-    told.begin("compiling, some two minutes")
-    refuses = lay_out.compiled(f"{lay_out.TOP}/scripts/refuse.c", f"{room}/refuse.o")
+    told.doing = "compiling, some two minutes"
+    told.say(told.doing)
+    refuses = try_kit.compiled(f"{TOP}/scripts/refuse.c", f"{room}/refuse.o")
     return try_kit.built(f"{room}/project", "tests", [refuses], f"{room}/built")
 
 
 def chosen(program, words):
     """Returns (group, test, way) for each run that the words choose."""
-    every = test_runs.names(program)
+    how = {"env": {}, "stdout": subprocess.PIPE, "text": True, "check": True}
+    listed = subprocess.run([*program, "--list"], **how).stdout
+    every = re.findall(r"^(.*): test$", listed, re.M)
     runs = [(it.split("::")[0], it, "once") for it in every]
-    again = test_runs.listed_again(AGAIN)
-    # (of a test that was left out, as the words name another module, no run is wanted)
-    runs += [(f"again, {way}", it, way) for it, way in again if not words or it in every]
+    again = lay_out.read(f"{TOP}/tests/again.txt").split("\n")
+    for way, it in (line.split() for line in again if line and not line.startswith("#")):
+        # (of a test that was left out, as the words name another module, no run is wanted)
+        if not words or it in every:
+            runs.append((f"again, {way}", it, way))
     return [it for it in runs if not words or any(word in it[1] for word in words)]
 
 
 def run(program, runs, told):
-    """Runs the tests, as many side by side as there are processors, and tells of each group once
-    all of it have ended."""
-    left = collections.Counter(group for group, _, _ in runs)
-    failed, wanted = collections.Counter(), dict(left)
-    with concurrent.futures.ThreadPoolExecutor(len(os.sched_getaffinity(0))) as pool:
-        begun = {pool.submit(test_runs.complaint_of, program, *it[1:]): it for it in runs}
-        for ended in concurrent.futures.as_completed(list(begun)):
-            group, test, way = begun.pop(ended)
-            told.count(test if way == "once" else f"{test}, {way}", ended.result())
-            left[group] -= 1
-            failed[group] += ended.result() is not None
-            told.doing = "running " + ", ".join(it[1] for it in list(begun.values())[:1])
-            if not left[group]:
-                passed = wanted[group] - failed[group]
-                told.say(f"{group}: {passed} passed, {failed[group]} failed")
-
-
-def begin_cases():
-    """Begins to play the cases."""
-    words = [sys.executable, f"{lay_out.TOP}/scripts/cases.py"]
-    how = {"stdin": subprocess.DEVNULL, "stdout": subprocess.PIPE, "stderr": subprocess.STDOUT}
-    return subprocess.Popen(words, text=True, **how)
+    """Runs the tests, as many side by side as there are processors, and tells of each group."""
+    with ThreadPoolExecutor(len(os.sched_getaffinity(0))) as pool:
+        begun = [(*it, pool.submit(complaint_of, program, *it[1:])) for it in runs]
+        for group, tests in itertools.groupby(begun, key=lambda it: it[0]):
+            passed, failed = told.passed, told.failed
+            for _, test, way, ended in tests:
+                told.doing = f"running {test}"
+                told.count(test if way == "once" else f"{test}, {way}", ended.result())
+            told.say(f"{group}: {told.passed - passed} passed, {told.failed - failed} failed")
 
 
 def read_cases(played, told):
     """Waits until the cases are played, counts them, and prints what did not come out right."""
     told.doing = "playing the cases"
-    lines = played.communicate()[0].splitlines()
-    found = re.fullmatch(r"(\d+) passed, (\d+) failed", lines[-1] if lines else "")
+    said = played.communicate()[0]
+    found = re.search(r"^(\d+) passed, (\d+) failed\n\Z", said, re.M)
     passed, failed = (int(it) for it in found.groups()) if found else (0, 1)
     failed = max(failed, int(played.returncode != 0))
     told.passed, told.failed = told.passed + passed, told.failed + failed
     told.say(f"cases: {passed} passed, {failed} failed")
     if failed:
-        print("\n".join(lines), flush=True)
+        print(said, flush=True)
 
 
 def main(words):
     told = Told()
-    played = None if words else begin_cases()
+    cases = [sys.executable, f"{TOP}/scripts/cases.py"]
+    played = None if words else subprocess.Popen(cases, **lay_out.READ)
     for it in [] if words else lay_out.formatted():
         told.count(f"tests/{it}", "not as `python3 scripts/lay_out.py --format` writes it")
     with tempfile.TemporaryDirectory(prefix="tests-") as room:
