@@ -28,7 +28,7 @@ CRATE = re.compile(r"(?:async_cell|example)_\w+|cellrun")
 WITH_FIGURES = ("bench/README.md", "docs/DECISIONS.md", "CHANGELOG.md")
 # What stands around the libraries, the sources of these, and how much there may be of the first for
 # each line of the second. It only falls: one for one is wanted.
-MOST = 1.2
+MOST = 1.1
 AROUND = re.compile(r"(?:tests|scripts|bench|misuse|crates/bench_\w+)/")
 SOURCES = re.compile(r"crates/(?:async_cell(?!\w*_(?:callers|uses|lines)/)\w*|cellrun)/src/")
 # What a page says of a project of its reader's.
