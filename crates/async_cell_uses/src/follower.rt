@@ -1,5 +1,5 @@
-//! What is promised of a follower of a `Latest` follows from the laws, whatever calls others make in
-//! between.
+//! What is promised of a follower of a `Latest` follows from the laws, whatever calls others make
+//! in between.
 ghost use Rattle.std.specs.Prelude.{◌≡◌, ◌≢◌, ◌≤◌, ◌<◌, ℕ, None, Some, Ok, true, IfSome, IsSome};
 ghost use Rattle.std.specs.Fn.{FnOnceReturnsAtMut};
 ghost use Rattle.async_cell_latest.specs.State.{State, Stays, is_closed, is_writable};

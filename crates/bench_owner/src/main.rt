@@ -1,4 +1,5 @@
-//! Runs a workload of the bench on an owner of a cell that threads share, and prints what it counted.
+//! Runs a workload of the bench on an owner of a cell that threads share, and prints what it
+//! counted.
 #![tactic(auto)]
 
 use async_cell_sync::{Get, Owner, Take, With};
