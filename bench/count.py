@@ -32,7 +32,6 @@ ROWS = {
     "sync": ("cells", ALL[:4]),
     "sync Owner": ("owner", ALL),
     "latest_sync": ("latest", ("watch", "fan", "again")),
-    "bare": ("cells", ALL[:4]),
 }
 # The columns: title, operation, and how many wait at once.
 COLUMNS = [
