@@ -6,10 +6,10 @@
 #     bash scripts/vendor.sh --program NAME FOLDER   makes a program there, a copy of the reply slot
 #
 # FOLDER is the project's `crates`. Crates come as the last commit here has them, with those that
-# they stand on, without deliberate bugs; FOLDER/railyarrow/VERSION names it, and the release. Each call
-# brings all of it up to date, and finishes one that was cut off. If a file of it was changed there,
-# it tells which, and writes nothing. The project's crates.txt, HANDLES and .gitignore are written,
-# or the lines printed that they have yet to get.
+# they stand on, without deliberate bugs. FOLDER/railyarrow/VERSION names release and commit.
+# Each call brings all of it up to date, and finishes one that was cut off. If a file of it was
+# changed there, it tells which, and writes nothing. The project's crates.txt, HANDLES and
+# .gitignore are written, or the lines printed that they have yet to get.
 set -euo pipefail
 top=$(cd "$(dirname "$(readlink -f "$0")")/.." && pwd)
 work=$(mktemp -d)
