@@ -5,11 +5,11 @@
 
 A snippet of a page is whole: with its `use` lines it is a program, or the body of its `main`, or
 items alone, which only have to compile. An example in a docstring is the body of a `main`, and has
-the exports of its crate and IMPORTS. All are modules of one program in a temporary project beside copies of
-the crates that they use, which `rt try` builds and runs, and proves nothing. What one prints has to
-be what its comments `// prints TEXT` say, or the text block after it that `It prints` introduces. A
-comment before a snippet may say that it is a copy of lines of a file, in their order, which the gate
-compiles and proves, and then no more is looked at:
+the exports of its crate and IMPORTS. All are modules of one program in a temporary project beside
+copies of the crates that they use, which `rt try` builds and runs, and proves nothing. What one
+prints has to be what its comments `// prints TEXT` say, or the text block after it that `It prints`
+introduces. A comment before a snippet may say that it is a copy of lines of a file, in their order,
+which the gate compiles and proves, and then no more is looked at:
 
     <!-- snippet of crates/NAME/src/FILE.rt -->
 
@@ -32,14 +32,9 @@ SNIPPET = re.compile(
 )
 EXAMPLE = re.compile(r"^ */// ```rust\n((?: *///.*\n)+?) */// ```$", re.M)
 # What the examples in docstrings name, where it is from.
-IMPORTS = {
-    "block_on": "futures::executor::block_on",
-    "next": "futures::StreamExt",
-    "pending": "futures::future::pending",
-    "ready": "futures::future::ready",
-    "thread": "std::thread",
-    "Duration": "std::time::Duration",
-}
+IMPORTS = {"next": "futures::StreamExt", "block_on": "futures::executor::block_on"}
+IMPORTS |= {it: f"futures::future::{it}" for it in ("pending", "ready")}
+IMPORTS |= {"thread": "std::thread", "Duration": "std::time::Duration"}
 # What `rt` may do in a module, where HostRuntime has no rights of its own.
 RIGHTS = (
     "std::sync::Wait + std::thread::Threads + std::net::Net + std::time::Clock + std::io::Print"
