@@ -109,7 +109,8 @@ impl<T: Drop, R: Wait + Copy> Owner<T, R> {
         self.cell().get().with(self.rt)
     }
 
-    /// Returns a future that takes the value and is a new owner. Fails as `another` does.
+    /// Returns a future that takes the value and is a new owner: while it waits the cell stays
+    /// open, so it waits forever if nobody sets a value. Fails as `another` does.
     pub fn take_shared(&self) -> Result<With<Take<Self>, R>, Refusal>
         ensures of_this { IfOk result (λ future.
             cell_owned future.polled.0 ≡ cell_owned self.now) }
@@ -118,7 +119,8 @@ impl<T: Drop, R: Wait + Copy> Owner<T, R> {
         Ok(Take(self.another()?).with(self.rt))
     }
 
-    /// Returns a future that clones the value and is a new owner. Fails as `another` does.
+    /// Returns a future that clones the value and is a new owner: while it waits the cell stays
+    /// open, so it waits forever if nobody sets a value. Fails as `another` does.
     pub fn get_shared(&self) -> Result<With<Get<Self>, R>, Refusal>
     where
         T: Clone,
@@ -129,14 +131,16 @@ impl<T: Drop, R: Wait + Copy> Owner<T, R> {
         Ok(Get(self.another()?).with(self.rt))
     }
 
-    /// Returns a future that takes the value and is not an owner.
+    /// Returns a future that takes the value and is not an owner. It is `None` once the last owner
+    /// has ended: a value that was not taken by then is lost.
     pub fn take_weak(&self) -> With<TakeWeak<T>, R>
         ensures of_this { NamesAtMost result.polled.0 (cell_owned self.now) }
     {
         self.shared.take_weak().with(self.rt)
     }
 
-    /// Returns a future that clones the value, leaves it, and is not an owner.
+    /// Returns a future that clones the value, leaves it, and is not an owner. It is `None` once
+    /// the last owner has ended.
     pub fn get_weak(&self) -> With<GetWeak<T>, R>
     where
         T: Clone,
@@ -179,8 +183,8 @@ impl<T: Drop, R: Wait + Copy> Owner<T, R> {
 }
 
 impl<R: Wait + Copy> Owner<(), R> {
-    /// Returns a future that waits for `notify`. It takes the value, so each `notify` ends at most one
-    /// `wait`: where several tasks wait, use `get`.
+    /// Returns a future that waits for `notify`. It takes the value, so each `notify` ends at most
+    /// one `wait`: where several tasks wait, use `get`.
     pub fn wait(&self) -> With<Take<&AsyncCell<()>>, R>
         ensures of_this { result.polled.0.now ≡ cell_owned self.now }
     {
