@@ -93,7 +93,7 @@ impl<T: Drop, R: Wait + Copy> Owner<T, R> {
         ended.map_err(|shared| Owner { shared, rt })
     }
 
-    /// Returns a future that takes the value.
+    /// Returns a future that takes the value (`try_take` takes it at once).
     pub fn take(&self) -> With<Take<&AsyncCell<T>>, R>
         ensures of_this { result.polled.0.now ≡ cell_owned self.now }
     {
@@ -102,6 +102,8 @@ impl<T: Drop, R: Wait + Copy> Owner<T, R> {
 
     /// Returns a future that clones the value and leaves it.
     pub fn get(&self) -> With<Get<&AsyncCell<T>>, R>
+    where
+        T: Clone,
         ensures of_this { result.polled.0.now ≡ cell_owned self.now }
     {
         self.cell().get().with(self.rt)
@@ -118,6 +120,8 @@ impl<T: Drop, R: Wait + Copy> Owner<T, R> {
 
     /// Returns a future that clones the value and is a new owner. Fails as `another` does.
     pub fn get_shared(&self) -> Result<With<Get<Self>, R>, Refusal>
+    where
+        T: Clone,
         ensures of_this { IfOk result (λ future.
             cell_owned future.polled.0 ≡ cell_owned self.now) }
         ensures refused { IfErr result IsOwnerRefusal }
@@ -134,6 +138,8 @@ impl<T: Drop, R: Wait + Copy> Owner<T, R> {
 
     /// Returns a future that clones the value, leaves it, and is not an owner.
     pub fn get_weak(&self) -> With<GetWeak<T>, R>
+    where
+        T: Clone,
         ensures of_this { NamesAtMost result.polled.0 (cell_owned self.now) }
     {
         self.shared.get_weak().with(self.rt)
@@ -173,7 +179,8 @@ impl<T: Drop, R: Wait + Copy> Owner<T, R> {
 }
 
 impl<R: Wait + Copy> Owner<(), R> {
-    /// Returns a future that waits for `notify`.
+    /// Returns a future that waits for `notify`. It takes the value, so each `notify` ends at most one
+    /// `wait`: where several tasks wait, use `get`.
     pub fn wait(&self) -> With<Take<&AsyncCell<()>>, R>
         ensures of_this { result.polled.0.now ≡ cell_owned self.now }
     {

@@ -11,7 +11,8 @@ use futures::task::{Context, Poll};
 use std::sync::Wait;
 
 /// Takes the value of a cell. Make the future by `with`. It may be polled again once ready, for
-/// further values. For the waker that `poll_shared` may add, see `AsyncCell`.
+/// further values (of several that do so one may get them all: see `Values`). For the waker that
+/// `poll_shared` may add, see `AsyncCell`.
 ///
 /// A `Take` of a `Shared` must be consumed, as its owner must: by `.0.end(rt)`.
 #[derive(Clone, Copy, Drop)]

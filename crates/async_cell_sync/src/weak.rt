@@ -24,7 +24,8 @@ use futures::task::{Context, Poll};
 use std::alloc::AllocError;
 use std::sync::{Arc, Wait};
 
-/// The stream of the values of a cell, which `values` of a future of a `TakeWeak` makes.
+/// The stream of the values of a cell, which `values` of a future of a `TakeWeak` makes. **Several
+/// streams of a cell do not take turns**: one may get every value.
 ///
 /// **Dropping it may wait for the lock**, as dropping the future does that it polls (see `With`).
 pub type Values<T, R> = async_cell_waiting::Values<TakeWeak<T>, R>;

@@ -91,7 +91,7 @@ impl<T: Drop> Owner<T> {
         self.shared.cell()
     }
 
-    /// Returns a future that takes the value.
+    /// Returns a future that takes the value (`try_take` takes it at once).
     pub fn take(&self) -> With<Take<&AsyncCell<T>>>
         ensures of_this { result.polled.0.now ≡ cell_owned self.now }
     {
@@ -100,6 +100,8 @@ impl<T: Drop> Owner<T> {
 
     /// Returns a future that clones the value and leaves it.
     pub fn get(&self) -> With<Get<&AsyncCell<T>>>
+    where
+        T: Clone,
         ensures of_this { result.polled.0.now ≡ cell_owned self.now }
     {
         self.cell().get().with()
@@ -115,6 +117,8 @@ impl<T: Drop> Owner<T> {
 
     /// Returns a future that clones the value and is a new owner. Fails as `another` does.
     pub fn get_shared(&self) -> Result<With<Get<Self>>, Refusal>
+    where
+        T: Clone,
         ensures of_this { IfOk result (λ made. cell_owned made.polled.0 ≡ cell_owned self.now) }
         ensures refused { IfErr result IsOwnerRefusal }
     {
@@ -130,6 +134,8 @@ impl<T: Drop> Owner<T> {
 
     /// Returns a future that clones the value, leaves it, and is not an owner.
     pub fn get_weak(&self) -> With<GetWeak<T>>
+    where
+        T: Clone,
         ensures of_this { NamesAtMost result.polled.0 (cell_owned self.now) }
     {
         self.shared.get_weak().with()
@@ -159,7 +165,8 @@ impl<T: Drop> Owner<T> {
 }
 
 impl Owner<()> {
-    /// Returns a future that waits for `notify`.
+    /// Returns a future that waits for `notify`. It takes the value, so each `notify` ends at most one
+    /// `wait`: where several tasks wait, use `get`.
     pub fn wait(&self) -> With<Take<&AsyncCell<()>>>
         ensures of_this { result.polled.0.now ≡ cell_owned self.now }
     {

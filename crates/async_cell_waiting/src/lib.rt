@@ -1,5 +1,6 @@
 //! The one text for waiting: what lends a core for a step, how a step ends, and the polls and calls
-//! that are made of steps. For the crates that build on this one: may change without notice.
+//! that are made of steps. Internal, but for what the crates of the cells re-export: it may change
+//! without notice.
 #![tactic(auto)]
 
 mod cell_core;

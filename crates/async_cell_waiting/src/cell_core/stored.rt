@@ -102,7 +102,8 @@ impl<M: Stores<Core = CellCore<T, W>>, T: Drop, W: Wakes> StoredCore<M> {
 
     /// Calls the closure on the content and stores what it returns, all in one step. Wakes all
     /// waiters if that puts a value into an empty cell. Fails with `Closed` on a closed cell,
-    /// without calling the closure. A closure that was not called is dropped after the step.
+    /// without calling the closure. What the closure owns is dropped under the lock. A closure that
+    /// was not called is dropped after the step.
     pub fn update<'a, F, R: Opens<'a, M>>(&'a self, change: F, rt: &R) -> Result<(), Refusal>
     where
         F: FnOnce(Option<T>) -> Option<T> + Drop,
@@ -123,7 +124,8 @@ impl<M: Stores<Core = CellCore<T, W>>, T: Drop, W: Wakes> StoredCore<M> {
     }
 
     /// `update`, of a value: the closure is not called if there is none. Fails with `Closed` on a
-    /// closed cell. A closure that was not called is dropped after the step.
+    /// closed cell. What the closure owns is dropped under the lock. A closure that was not called is
+    /// dropped after the step.
     pub fn update_some<'a, F, R: Opens<'a, M>>(&'a self, change: F, rt: &R) -> Result<(), Refusal>
     where
         F: FnOnce(T) -> T + Drop,
