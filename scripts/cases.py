@@ -92,7 +92,7 @@ def shown(line, random_text):
 
 def main(words):
     reader = argparse.ArgumentParser(description=__doc__.split("\n\n", maxsplit=1)[0])
-    reader.add_argument("--random", type=int, default=40, help="how many of each sort")
+    reader.add_argument("--random", type=int, default=60, help="how many of each sort")
     reader.add_argument("--seed", type=int, default=0, help="the first seed")
     reader.add_argument("files", nargs="*", help="files of tests/cases")
     asked = reader.parse_args(words)
