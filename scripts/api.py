@@ -15,86 +15,71 @@ import glob
 import html
 import os
 import re
-import subprocess
 import sys
+import textwrap
 
 from lay_out import TOP, read, write
+from try_kit import KIT
 
 # The comments of crates.txt, and the libraries that it lists.
 LISTED = re.compile(r"^# (.*)|^(async_cell(?!\w*_(?:callers|uses):)\w*):", re.M)
-ITEM = re.compile(r"(pub )?(fn|struct|enum|trait|type|mod|impl|use|const|ghost)\b ?(\w*)")
+# An item as `rt fmt` lays it out: docstring and attributes, head, and body.
+ITEM = (
+    r"((?:^PAD(?:///|#\[)[^\n]*\n)*)^PAD((pub )?(fn|struct|enum|trait|type|mod|impl|use|const"
+    r"|ghost)\b ?(\w*).*?)(?:;|\{\}|\{\n(.*?)^PAD\};?)$"
+)
+# The generics of an impl, and a private field of a struct.
+GENERICS = re.compile(r"^impl<(?:[^<>]|<(?:[^<>]|<[^<>]*>)*>)*>")
+PRIVATE = re.compile(r"(?:^ *(?:///|#\[).*\n)*^    (?!pub |///|#\[)\S.*\n", re.M)
 USE = re.compile(r"pub use ([\w:]+?)(?:::\{(.*)\})?(?: as (\w+))?$", re.S)
 WORD = re.compile(r"//.*|\b[A-Za-z]\w+(?:::\w+)?\b")
+FRAME = """<!doctype html>
+<html lang="en"><meta charset="utf-8"><meta name="viewport" content="width=device-width">
+<title>{0}</title><link rel="stylesheet" href="api.css">
+<nav><p><a href="index.html"><strong>The libraries</strong></a></p>{1}</nav>
+<main><h1>{0}</h1>{2}</main></html>
+"""
 KEYWORDS = "pub fn struct enum trait type impl for where mut requires ensures ghost".split()
 
 
 class Item:
-    """A declaration, with its docstring, its contract, and the items inside."""
+    """An item, with the items inside it."""
 
-    def __init__(self, file, line, docs, attributes, lines):
-        self.file, self.line, self.docs, self.attributes = file, line, "\n".join(docs), attributes
-        self.is_public, self.kind, self.name = ITEM.match(lines[0]).groups()
-        self.head, self.clauses, end = [], [], 0
-        while end < len(lines):
-            text, end = lines[end], end + 1
-            if re.match(r" +(requires|ensures)\b", text):
-                self.clauses.append(text.strip())
-            elif self.clauses and text.startswith(" "):
-                self.clauses[-1] += "\n" + text
-            elif not re.match(r"\{|$", text):
-                self.head.append(re.sub(r" \{\}?$", "", text))
-            if re.match(r"\{|\S.*\{$", text):
-                break
-        last = self.clauses or self.head
-        last[-1] = re.sub(r"[;,]$", "", last[-1])
-        self.body = [it[4:] for it in lines[end:-1]]
-        has_items = self.kind in ("impl", "trait")
-        self.inside = list(items(file, self.body, line + end)) if has_items else []
-        self.is_of_trait = self.kind == "impl" and " for " in " ".join(self.head)
-        self.is_hidden = "#[doc(hidden)]" in attributes or self.docs.startswith("Internal")
+    def __init__(self, file, found, pad):
+        marks, head, self.is_public, self.kind, self.name, body = found.groups("")
+        self.file, self.line = file, found.string.count("\n", 0, found.start(2)) + 1
+        marks = [it.strip() for it in marks.split("\n")]
+        self.docs = "\n".join(it[4:] for it in marks if it.startswith("///"))
+        self.is_hidden = "#[doc(hidden)]" in marks or self.docs.startswith("Internal")
+        head = textwrap.dedent(pad + head)
+        self.head = re.split(r"\n\s*(?=(?:requires|ensures)\b)", head)[0].rstrip()
+        self.contract = textwrap.dedent(head[len(self.head) :].strip("\n")).rstrip()
+        derives = [it for it in marks if "derive" in it]
+        self.declaration = re.sub(r"#\[.*?\] |pub\(crate\) ", "", "\n".join([*derives, self.head]))
+        if body and self.kind in ("struct", "enum"):
+            body = PRIVATE.sub("", body) if self.kind == "struct" else body
+            body = body or "    // private fields\n"
+            self.declaration += f" {{\n{body}}}"
+        self.inside, self.names, self.is_of_trait = [], [], False
+        if self.kind in ("impl", "trait"):
+            self.inside = list(items(file, found.string, pad + "    ", *found.span(6)))
+            text = re.split(r"\swhere\b", GENERICS.sub("", head.replace("->", "")))[0]
+            self.is_of_trait = self.kind == "impl" and " for " in text
+            names = re.findall(r"\b[A-Z]\w+", text)
+            self.names = names if self.is_of_trait else names[:1]
+            told = [it for it in self.inside if it.kind == "ghost" and it.name != "use"]
+            told += [it for it in self.inside if it.contract] if self.is_of_trait else []
+            self.contract = "\n\n".join(it.told() for it in told)
 
-    def declaration(self):
-        """Returns the declaration as its users see it: without private fields."""
-        lines = [it for it in self.attributes if "derive(" in it]
-        lines += [re.sub(r"#\[.*?\] |pub\(crate\) ", "", it) for it in self.head]
-        if self.kind in ("struct", "enum") and self.body:
-            shown, docs = [], []
-            for it in self.body:
-                docs.append(it)
-                if not it.startswith(("///", "#[")):
-                    shown += docs if self.kind == "enum" or it.startswith("pub ") else []
-                    docs = []
-            shown = [it for it in shown if not it.startswith("#[")] or ["// private fields"]
-            lines = [*lines[:-1], lines[-1] + " {", *(f"    {it}" for it in shown), "}"]
-        return "\n".join(lines)
-
-    def names(self):
-        """Returns the names in the head of an impl, without bounds; the first alone of no trait."""
-        text, depth = " ".join(self.head).split(" where ")[0], 0
-        for at, sign in enumerate(text):
-            depth += (sign == "<") - (sign == ">" and text[at - 1] != "-")
-            if depth == 0 and at >= 4 and sign in " >":
-                names = re.findall(r"\b[A-Z]\w+", text[at:])
-                return names if " for " in text[at:] else names[:1]
+    def told(self):
+        docs = "".join(f"/// {line}\n" for line in self.docs.split("\n") if line)
+        return f"{docs}{self.head}\n{textwrap.indent(self.contract, '    ')}".rstrip()
 
 
-def items(file, lines, first):
-    """Yields the items that begin in the first column of these lines."""
-    docs, attributes, start, is_open = [], [], None, False
-    for at, line in enumerate(lines):
-        if start is None and ITEM.match(line):
-            start, is_open = at, False
-        if start is None:
-            docs = docs + [line[4:]] if line.startswith("///") else docs * bool(line)
-            attributes = attributes + [line] if line.startswith("#[") else attributes * bool(line)
-            continue
-        is_own = re.match(r"\S", line)
-        count = "".join(lines[start : at + 1]).count if not is_open else None
-        ends = line.endswith(";") and count and count("{") == count("}")
-        if ends or line.endswith((";", "}")) and is_own:
-            yield Item(file, first + start, docs, attributes, lines[start : at + 1])
-            docs, attributes, start = [], [], None
-        is_open = is_open or is_own and line.endswith("{")
+def items(file, text, pad="", *span):
+    """Yields the items of a text whose lines begin so."""
+    for found in re.compile(ITEM.replace("PAD", pad), re.M | re.S).finditer(text, *span):
+        yield Item(file, found, pad)
 
 
 class Crate:
@@ -103,39 +88,37 @@ class Crate:
     def __init__(self, folder):
         self.folder, self.name = folder, os.path.basename(folder)
         files = sorted(glob.glob(f"{folder}/src/**/*.rt", recursive=True))
-        self.items = [it for file in files for it in items(file, read(file).split("\n"), 1)]
+        self.items = [it for file in files for it in items(file, read(file))]
         declared = [it for it in self.items if it.is_public and it.kind not in ("use", "mod")]
         self.named = {it.name: it for it in declared}
-        self.structs = {it.name for it in declared if it.kind == "struct"}
         self.modules = [it.name for it in self.items if it.kind == "mod" and it.is_public]
-
-    def docs(self):
-        lines = read(f"{self.folder}/src/lib.rt").split("\n")
-        return "\n".join(it[4:] for it in lines if it.startswith("//!"))
+        self.docs = "\n".join(re.findall(r"(?m)^//! ?(.*)", read(f"{folder}/src/lib.rt")))
 
     def exports(self):
-        """Yields the name of each export, the crate that it is from, and its item if it is none."""
+        """Yields for each export its name, the crate that declares it, and its item."""
         for it in self.items:
             path = os.path.relpath(it.file, f"{self.folder}/src")[:-3].split("/")
-            is_export = it.is_public and not it.is_hidden and path[0] in ("lib", *self.modules)
-            if is_export and it.kind == "use":
-                first, group, other = USE.match("\n".join(it.head)).groups()
+            if not it.is_public or it.is_hidden or path[0] not in ("lib", *self.modules):
+                continue
+            if it.kind == "use":
+                first, group, other = USE.match(it.head).groups()
                 for name in re.findall(r"\w+", group) if group else [first.split("::")[-1]]:
                     yield other or name, *self.find(first.split("::")[0], name)
-            elif is_export and it.kind != "mod":
+            elif it.kind != "mod":
                 yield "::".join([it for it in path if it != "lib"] + [it.name]), self, it
 
     def find(self, first, name):
-        """Returns the crate that declares the name, and its item."""
+        """Returns the crate that declares the name, and its item; a whole crate has none."""
         other = self if os.path.isfile(f"{self.folder}/src/{first}.rt") else crate(first)
-        if other is None or name == first and other != self or name in other.named:
-            return other, other and other.named.get(name)
-        found = [(of, it) for export, of, it in other.exports() if export == name]
-        return found[0] if found else (None, None)
+        if other in (self, None) or name == first or name in other.named:
+            found = other and other.named.get(name)
+            return (None if other == self and not found else other), found
+        found = [(of, it) for exported, of, it in other.exports() if exported == name]
+        return (found or [(None, None)])[0]
 
     def impls(self, item):
-        """Returns the impls of a type or a trait, those of its file first, its own before all."""
-        found = [it for it in self.items if it.kind == "impl" and item.name in it.names()]
+        """Returns the impls of a type or a trait: its own first, and those of its file."""
+        found = [it for it in self.items if it.kind == "impl" and item.name in it.names]
         found.sort(key=lambda it: (it.is_of_trait, it.file != item.file))
         return [item] * (item.kind == "trait") + found
 
@@ -143,36 +126,37 @@ class Crate:
 @functools.cache
 def crate(name):
     """Returns the crate of this name, of this repository or of the kit, if there is one."""
-    folder = f"{TOP}/crates/{name}"
-    if not os.path.isdir(folder):
-        kit = subprocess.run(["rt", "doc"], capture_output=True, text=True).stdout
-        folder = f"{os.path.dirname(kit)}/rattle/{name}"
-    return Crate(folder) if os.path.isfile(f"{folder}/src/lib.rt") else None
+    for folder in (f"{TOP}/crates/{name}", f"{KIT}/rattle/{name}"):
+        if os.path.isfile(f"{folder}/src/lib.rt"):
+            return Crate(folder)
 
 
-def aliased(home, item):
-    """Returns the crate and the item that a type alias stands for, or these themselves."""
-    name = re.search(r"= (?:\w+::)*(\w+)", "".join(item.head)) if item.kind == "type" else None
-    of = [it for it in [home, *libraries()] if name and name[1] in it.structs]
-    return (of[0], of[0].named[name[1]]) if of else (home, item)
+@functools.cache
+def libraries():
+    return [crate(it) for _, it in LISTED.findall(read(f"{TOP}/crates.txt")) if it]
 
 
-def functions(home, item):
-    """Yields the functions of a type or a trait, each with the impl that it is from."""
-    for it in home.impls(item):
-        for inner in it.inside if not it.is_of_trait else []:
-            if not inner.is_hidden and (inner.is_public or it.kind == "trait"):
-                yield it, inner
+def members(home, item):
+    """Returns the crate and the item that a type alias stands for, or these, and its functions."""
+    if item.kind == "type":
+        name = re.search(r"= (?:\w+::)*(\w+)", item.head)[1]
+        all_named = [(of, of.named[name]) for of in [home, *libraries()] if name in of.named]
+        structs = [(of, it) for of, it in all_named if it.kind == "struct"]
+        home, item = structs[0] if structs else (home, item)
+    functions = [(it, f) for it in home.impls(item) if not it.is_of_trait for f in it.inside]
+    shown = [(it, f) for it, f in functions if f.is_public or it.kind == "trait" != f.kind]
+    return home, item, [(it, f) for it, f in shown if f.kind != "ghost" and not f.is_hidden]
 
 
 class Page:
     """The page of a crate, with the links to what stands on it."""
 
     def __init__(self, of):
-        self.crate, self.links, self.exports = of, {}, list(of.exports())
+        self.crate, self.links = of, {}
+        self.exports = sorted(of.exports(), key=lambda it: (it[1] != of, "::" in it[0]))
         for name, home, item in self.exports:
             self.links[name] = f"#{name}" if item else f"{home.name}.html"
-            for _, it in functions(*aliased(home, item)) if item else []:
+            for _, it in members(home, item)[2] if item else []:
                 self.links[f"{name}::{it.name}"] = f"#{name}.{it.name}"
 
     def code(self, text, of=""):
@@ -191,119 +175,95 @@ class Page:
     def prose(self, docs, of=""):
         """Returns a docstring as HTML: paragraphs, lists, code, and bold words."""
         parts = []
-        for at, part in enumerate(re.split(r"```\w*\n(.*?)\n```", docs, flags=re.S)):
-            if at % 2:
-                parts.append(f"<pre>{self.code(part, of)}</pre>")
-            for text in re.split(r"\n\n+", part.strip()) if at % 2 == 0 else []:
-                bits = re.split("`(.+?)`", text.replace("\n", " ") if text[:2] != "- " else text)
-                bits[1::2] = [f"<code>{self.code(it, of)}</code>" for it in bits[1::2]]
-                bits[::2] = [html.escape(it) for it in bits[::2]]
-                text = re.sub(r"\*\*(.+?)\*\*", r"<strong>\1</strong>", "".join(bits))
-                items = "".join(f"<li>{it}" for it in re.split(r"(?m)^- ", text)[1:])
-                parts.append(f"<ul>{items}</ul>" if items else f"<p>{text}</p>" * bool(text))
+        for code, block in re.findall(r"(?s)```\w*\n(.*?)\n```|((?:(?!\n\n|```).)+)", docs):
+            parts += [f"<pre>{self.code(code, of)}</pre>"] * bool(code)
+            bits = re.split("`(.+?)`", block, flags=re.S)
+            bits[1::2] = [f"<code>{self.code(it, of)}</code>" for it in bits[1::2]]
+            bits[::2] = [html.escape(it) for it in bits[::2]]
+            said = re.sub(r"(?s)\*\*(.+?)\*\*", r"<strong>\1</strong>", "".join(bits))
+            said = re.sub(r"(?m)^- ", "<li>", said)
+            said = f"<ul>{said}</ul>" if "<li>" in said else f"<p>{said}</p>"
+            parts += [said] * bool(block.strip())
         return "".join(parts)
 
-    def one(self, item, of=""):
-        """Returns the declaration of an item, its docstring, and its contract."""
-        labels = [re.match(r"\w+ (\w*)", it)[1] or it.split()[0] for it in item.clauses]
-        fold = f"<details><summary>Contract: {', '.join(labels)}</summary><pre>"
-        fold += self.code("\n".join(item.clauses), of) + "</pre></details>"
-        declared = f"<pre>{self.code(item.declaration(), of)}</pre>"
-        return declared + self.prose(item.docs, of) + fold * bool(labels)
-
-    def members(self, name, home, item):
-        """Yields the functions of a type, under the impls that they are from, and its traits."""
-        last = item
-        for of, it in functions(home, item):
-            if of not in (item, last):
-                yield f"<h4>{self.code(' '.join(of.head), name)}</h4>"
-            last = of
-            yield f'<section id="{name}.{it.name}">{self.one(it, name)}</section>'
-        for it in home.impls(item):
-            if it.is_of_trait:
-                said = self.prose(it.docs, name)
-                for inner in it.inside:
-                    if inner.clauses or inner.kind == "ghost" and inner.name != "use":
-                        said += self.one(inner, name)
-                head = f"<code>{self.code(' '.join(it.head), name)}</code>"
-                fold = f"<details><summary>{head}</summary>{said}</details>"
-                yield fold if said else f"<p><small>{head}</small></p>"
+    def one(self, item, of):
+        """Returns the docstring of an item, and its contract, folded away under the labels."""
+        labels = re.findall(r"(?m)^(?:    )?(?:requires|ensures|ghost) (\w+)", item.contract)
+        label = ": ".join(["Contract", ", ".join(dict.fromkeys(labels))]).rstrip(": ")
+        fold = f"<pre>{self.code(item.contract, of)}</pre>"
+        fold = f"<details><summary>{label}</summary>{fold}</details>" * bool(item.contract)
+        return self.prose(item.docs, of) + fold
 
     def section(self, name, home, item):
-        """Returns the section of an export; its members are folded away if it is from below."""
+        """Returns the section of an export; its functions are folded away if it is from below."""
         if not item:
-            whole = f'<a href="{home.name}.html">{home.name}</a>'
-            return f"<section><h2>{name}</h2><p>All of {whole}.</p></section>"
-        of = f" <small>of {home.name}</small>" if home != self.crate else ""
-        members = "".join(self.members(name, *aliased(home, item)))
-        if members and (of or item.kind == "type"):
-            names = ", ".join(it.name for _, it in functions(*aliased(home, item)))
-            members = f"<details><summary>It has {names or 'these traits'}</summary>{members}</details>"
-        head = f'<section id="{name}"><h2>{name}{of}</h2>'
-        return head + self.one(item, name) + members + "</section>"
+            link = f'<a href="{home.name}.html">{home.name}</a>'
+            return f"<section><h2>{name}</h2><p>All of {link}.</p></section>"
+        its_home, its_own, functions = members(home, item)
+        inner, last = "", its_own
+        for of, it in functions:
+            inner += f"<h4>{self.code(of.head, name)}</h4>" * (of not in (last, its_own))
+            inner += f'<section id="{name}.{it.name}"><pre>{self.code(it.head, name)}</pre>'
+            inner += f"{self.one(it, name)}</section>"
+            last = of
+        for it in its_home.impls(its_own):
+            inner += f"<h4>{self.code(it.head, name)}</h4>{self.one(it, name)}" * it.is_of_trait
+        below = f" <small>of {home.name}</small>" * (home != self.crate)
+        if inner and (below or its_own != item):
+            names = ", ".join(it.name for _, it in functions) or "traits"
+            inner = f"<details><summary>{names}</summary>{inner}</details>"
+        declared = f"<pre>{self.code(item.declaration, name)}</pre>{self.one(item, name)}"
+        return f'<section id="{name}"><h2>{name}{below}</h2>{declared}{inner}</section>'
 
     def text(self):
-        listed = []
+        listed = ""
         for name, home, item in self.exports:
-            inner = [it.name for _, it in functions(home, item)] if home == self.crate and item else []
-            links = "".join(f'<a href="#{name}.{it}">{it}</a>' for it in inner)
-            listed.append(f'<a href="{self.links[name]}">{name}</a><div>{links}</div>')
+            own = members(home, item)[2] if item and home == self.crate else []
+            links = "".join(f'<a href="#{name}.{it.name}">{it.name}</a>' for _, it in own)
+            listed += f'<a href="{self.links[name]}">{name}</a><div>{links}</div>'
         body = "".join(self.section(*it) for it in self.exports)
-        return framed(self.crate.name, "".join(listed), self.prose(self.crate.docs()) + body)
-
-
-def framed(title, listed, body):
-    head = f'<!doctype html><html lang="en"><meta charset="utf-8"><title>{title}</title>'
-    head += f'<meta name="viewport" content="width=device-width"><link rel="stylesheet" href="api.css">'
-    top = f'<nav><p><a href="index.html"><strong>The libraries</strong></a></p>{listed}</nav>'
-    return f"{head}{top}<main><h1>{title}</h1>{body}</main></html>\n"
-
-
-@functools.cache
-def libraries():
-    return [crate(it) for _, it in LISTED.findall(read(f"{TOP}/crates.txt")) if it]
+        return FRAME.format(self.crate.name, listed, self.prose(self.crate.docs) + body)
 
 
 def make(folder):
     """Writes the pages, and the one that lists them under the comments of crates.txt."""
-    title, listed, body = "", [], []
+    title, listed, body = "", "", ""
     for comment, name in LISTED.findall(read(f"{TOP}/crates.txt")):
-        title = comment or title
+        title = comment.split(". ")[-1].rstrip(".") or title
         if name:
             page = Page(crate(name))
             write(f"{folder}/{name}.html", page.text())
             names = ", ".join(f'<a href="{name}.html#{it}">{it}</a>' for it, _, _ in page.exports)
             link = f'<a href="{name}.html">{name}</a>'
-            body.append(f"<h2>{title}</h2>" * bool(title) + f"<h3>{link}</h3>")
-            body.append(page.prose(page.crate.docs()) + f"<p><small>{names}</small></p>")
-            listed.append(link)
-            title = ""
-    write(f"{folder}/index.html", framed("The libraries", "".join(listed), "".join(body)))
+            body += f"<h2>{title}</h2>" * bool(title) + f"<h3>{link}</h3>"
+            body += page.prose(page.crate.docs) + f"<p><small>{names}</small></p>"
+            title, listed = "", listed + link
+    write(f"{folder}/index.html", FRAME.format("The libraries", listed, body))
     write(f"{folder}/api.css", read(f"{TOP}/scripts/api.css"))
 
 
 def public_items(found):
-    """Yields the public items among these and inside of them, also those of a public trait."""
+    """Yields the public items among these and inside of them: of a public trait all."""
     for it in found:
         if it.is_public and it.kind not in ("use", "mod"):
-            yield it
-        inside = public_items(it.inside) if it.kind == "impl" else it.inside
-        yield from inside if it.kind == "impl" or it.is_public else []
+            yield from [it, *it.inside]
+        elif it.kind == "impl":
+            yield from public_items(it.inside)
 
 
 def main(folder):
     count, faults = 0, []
     for of in libraries():
-        for it in public_items(of.items):
-            count += 1
-            faults += [f"{it.file}:{it.line}: {it.name} has no docstring"] * (not it.docs)
-        faults += [f"{of.folder}/src/lib.rt: no docstring"] * (not of.docs())
-        for name, home, _ in of.exports():
-            faults += [f"{of.folder}/src/lib.rt: {name} is not found"] * (not home)
-    if folder != "--check":
-        make(folder)
+        public = list(public_items(of.items))
+        count += len(public)
+        bare = [it for it in public if not it.docs]
+        faults += [f"{it.file}:{it.line}: {it.name} has no docstring" for it in bare]
+        lost = [name for name, home, _ in of.exports() if not home]
+        faults += [f"{of.folder}/src/lib.rt: {name} is not found" for name in lost]
     for it in faults:
         print(os.path.relpath(it, TOP))
+    if folder != "--check" and not faults:
+        make(folder)
     print(f"api: {count} public items, {len(faults)} faults")
     return 1 if faults or not count else 0
 

@@ -73,6 +73,12 @@ impl<T: Drop, W: Wakes> Core<T, W> {
 
     /// Sets the value and drops the old one. Returns all waiting wakers, to be woken by the caller.
     /// Fails if the cell is closed; the value is returned in the error.
+    ///
+    /// ```rust
+    /// let mut core = Core::<u32, Named>::new(rt.alloc());
+    /// println!(rt; "{:?}", core.poll_take(&Named(1))?)?; // prints Pending
+    /// println!(rt; "{:?}", core.set(7).map(|woken| woken.len()))?; // prints Ok(1)
+    /// ```
     pub fn set(&mut self, value: T) -> Result<Wakers<W>, T>
         ensures model { IsStep W.Wakes self.old (Kept.Set value) (set_answer result) self.new }
 

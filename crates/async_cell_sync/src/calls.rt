@@ -114,6 +114,12 @@ impl AsyncCell<()> {
 
 impl<T: Drop, R: Wait + Drop> Owner<T, R> {
     /// Sets the value and drops the old one. Wakes all waiters.
+    ///
+    /// ```rust
+    /// let cell = Owner::new_with(rt.alloc(), 6, rt)?;
+    /// cell.set(7);
+    /// println!(rt; "{:?}", cell.try_take())?; // prints Some(7)
+    /// ```
     pub fn set(&self, value: T) {
         self.shared.cell.core.put(value, &self.rt);
     }
@@ -138,6 +144,12 @@ impl<T: Drop, R: Wait + Drop> Owner<T, R> {
     /// Stores what the closure makes of the content. Wakes all waiters if an empty cell gets a
     /// value. The closure runs under the lock, and what it owns is dropped there: one that calls its
     /// own cell, or owns an `Owner` of it, waits forever (see `AsyncCell`).
+    ///
+    /// ```rust
+    /// let sum = Owner::new(rt.alloc(), rt)?;
+    /// sum.update(|content| Some(content.unwrap_or(0u32).saturating_add(7)));
+    /// println!(rt; "{:?}", sum.try_take())?; // prints Some(7)
+    /// ```
     pub fn update<F: FnOnce(Option<T>) -> Option<T> + Drop>(&self, change: F)
         requires { F.IsAlwaysCallable change }
     {
@@ -158,6 +170,12 @@ impl<T: Drop, R: Wait + Drop> Owner<T, R> {
     }
 
     /// Takes the value, if there is one. The waiters stay registered.
+    ///
+    /// ```rust
+    /// let cell = Owner::new_with(rt.alloc(), 7, rt)?;
+    /// println!(rt; "{:?}", cell.try_take())?; // prints Some(7)
+    /// println!(rt; "{:?}", cell.try_take())?; // prints None
+    /// ```
     pub fn try_take(&self) -> Option<T> {
         self.shared.cell.try_take(&self.rt)
     }

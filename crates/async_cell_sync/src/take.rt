@@ -39,6 +39,11 @@ impl<C: CellRef> Take<C> {
 impl<C: CellRef + Drop> Take<C> {
     /// Returns the future, which keeps `rt`: a poll of `futures` is passed no right to wait. A
     /// `Take` of a `Shared` must be consumed, so it has none: poll it by `poll_shared`.
+    ///
+    /// ```rust
+    /// let cell = AsyncCell::new_with(rt.alloc(), 7);
+    /// println!(rt; "{}", block_on(&rt, cell.take().with(&rt))??)?; // prints 7
+    /// ```
     pub fn with<R: Wait>(self, rt: R) -> With<Self, R>
         ensures polls { result.polled ≡ self }
     {

@@ -45,6 +45,13 @@ impl<T: Drop> Owner<T> {
     /// Makes a cell without a value, and its first owner. Fails with `Memory`.
     ///
     /// For a cell that you have already, call `AsyncCell::into_owner`.
+    ///
+    /// ```rust
+    /// let slot = Owner::new(rt.alloc())?;
+    /// let reply = slot.take_shared()?;
+    /// slot.set(7);
+    /// println!(rt; "{}", block_on(&rt, reply)??)?; // prints 7
+    /// ```
     pub fn new(alloc: Global) -> Result<Self, Refusal>
         ensures refused { FailsWithMemory result }
     {

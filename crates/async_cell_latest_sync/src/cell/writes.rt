@@ -56,6 +56,12 @@ impl<T: Drop, R: Wait + Drop> Owner<T, R> {
     /// so a closure that calls its own state, or drops a value that does, waits forever.
     ///
     /// Fails with `Closed` if the state takes no further write; the closure is then not called.
+    ///
+    /// ```rust
+    /// let setting = Owner::new(rt.alloc(), 1u32, rt)?;
+    /// setting.modify(|value| *value = value.saturating_mul(2))?;
+    /// println!(rt; "{}", setting.read()?)?; // prints 2
+    /// ```
     pub fn modify<A, F: FnOnce(&mut T) -> A + Drop>(&self, change: F) -> Result<A, Refusal>
         requires { F.IsAlwaysCallable change }
         ensures called { IfOk result (λ answer. (old new : T)
