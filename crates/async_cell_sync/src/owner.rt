@@ -194,6 +194,23 @@ impl<T: Drop, R: Wait + Copy> Owner<T, R> {
         self.cell().guard(cancel).with(self.rt)
     }
 
+    /// Makes this owner a guard: its drop sets this value, if the cell holds none, and ends the owner.
+    /// Needs no memory.
+    ///
+    /// ```rust
+    /// let slot = Owner::new(rt.alloc(), rt)?;
+    /// let reply = slot.take_shared()?;
+    /// drop(slot.into_guard(42));
+    /// println!(rt; "the reply is {}", block_on(&rt, reply)??)?;
+    /// ```
+    pub fn into_guard(self, cancel: T) -> Guard<T, Self, R>
+        ensures of_this { result.guarded.pointer ≡ self }
+        ensures keeps { result.guarded.cancel ≡ cancel }
+    {
+        let rt = self.rt;
+        GuardedCell::new(self, cancel).with(rt)
+    }
+
     /// Returns a guard that is a new owner. Fails as `another` does, and then gives the value back.
     pub fn guard_shared(&self, cancel: T) -> Result<Guard<T, Self, R>, (Refusal, T)>
         ensures of_this { IfOk result (λ guard.

@@ -148,6 +148,22 @@ impl<T: Drop> Owner<T> {
         self.shared.get_weak().with()
     }
 
+    /// Makes this owner a guard: its drop sets this value, if the cell holds none, and ends the owner.
+    /// Needs no memory.
+    ///
+    /// ```rust
+    /// let slot = Owner::new(rt.alloc())?;
+    /// let reply = slot.take_shared()?;
+    /// drop(slot.into_guard(42));
+    /// println!(rt; "the reply is {}", block_on(&rt, reply)??)?;
+    /// ```
+    pub fn into_guard(self, cancel: T) -> Guard<T, Self>
+        ensures of_this { result.pointer ≡ self }
+        ensures keeps { result.cancel ≡ Some cancel }
+    {
+        GuardedCell::new(self, cancel)
+    }
+
     /// Returns a guard that is a new owner. Fails as `another` does, and then gives the value back.
     pub fn guard_shared(&self, cancel: T) -> Result<Guard<T, Self>, (Refusal, T)>
         ensures of_this { IfOk result (λ guard. cell_owned guard.pointer ≡ cell_owned self.now) }
