@@ -118,8 +118,8 @@ impl<M: Stores<Core = CellCore<T, W>>, T: Drop, W: Wakes> StoredCore<M> {
     }
 
     /// `update`, of a value: the closure is not called if there is none. Fails with `Closed` on a
-    /// closed cell. What the closure owns is dropped under the lock. A closure that was not called is
-    /// dropped after the step.
+    /// closed cell. What the closure owns is dropped under the lock. A closure that was not called
+    /// is dropped after the step.
     pub fn update_some<'a, F, R: Opens<'a, M>>(&'a self, change: F, rt: &R) -> Result<(), Refusal>
     where
         F: FnOnce(T) -> T + Drop,
