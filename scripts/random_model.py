@@ -170,7 +170,6 @@ class Cell:
             "is_set": self.content is not None,
             "is_closed": not self.owners,
             "waiting": len(self.wait.tasks),
-            "owners": self.owners,
         }
         return str(replies[word]).lower() if word in replies else getattr(self, word)()
 
@@ -178,34 +177,3 @@ class Cell:
         if self.content is not None:
             return f"AsyncCell::Full({self.content})"
         return "AsyncCell::Pending" if any(self.wait.tasks) else "AsyncCell::Empty"
-
-
-def would_wake(waker, other):
-    return waker % 2 == 0 if waker >= 100 else waker == other
-
-
-class Core(Cell):
-    """A core: a waker that any waiting one would wake is not added."""
-
-    def wake_all(self):
-        self.happen("woke", *self.wait.tasks)
-        self.wait.tasks = []
-
-    def poll_by(self, takes, waker):
-        if not self.owners:
-            return "closed"
-        if self.content is not None:
-            return self.taken("ready") if takes else self.cloned("ready")
-        if not any(would_wake(it, waker) for it in self.wait.tasks):
-            self.wait.tasks.append(waker)
-        return "pending"
-
-    def close(self):
-        """Ends an owner: the reply of a core."""
-        if not self.owners:
-            return "closed"
-        self.owners -= 1
-        if self.owners:
-            return "none"
-        self.wake_all()
-        return self.taken("inner")

@@ -21,8 +21,8 @@ use std::marker::Model;
 use std::mem;
 
 /// A cell with an optional value, counted owners and the wait list of the wakers that wait for a
-/// value. It wakes nobody but by its drop: wake what a call returns by `wake_all`. `Wakers` that are
-/// dropped wake nobody.
+/// value. It wakes nobody but by its drop: wake what a call returns by `wake_all`. `Wakers` that
+/// are dropped wake nobody.
 pub struct Core<T, W: Wakes> {
     value: Option<T>,
     /// 0 once the cell is closed.
@@ -243,8 +243,8 @@ impl<T: Drop, W: Wakes> Core<T, W> {
     }
 }
 
-/// Dropping a `Core` drops its value, or wakes all waiting wakers, in order: while it holds a value,
-/// nobody waits.
+/// Dropping a `Core` drops its value, or wakes all waiting wakers, in order: while it holds a
+/// value, nobody waits.
 impl<T: Drop, W: Wakes> Drop for Core<T, W> {
     #[inline(always)]
     fn drop(self) {

@@ -17,14 +17,14 @@ use std::sync::Wait;
 ///
 /// Dropping a cell takes no lock, and wakes all waiters.
 ///
-/// **What runs under the lock:** closures, clones of the value, and its `Debug`. What a closure owns
-/// is dropped there too. Code that then calls the same cell waits forever. So does code that then
-/// drops an `Owner`, a `Guard`, a waiting future or a stream of it. Wakers are woken and values are
-/// dropped after the lock is released: what runs then may call the cell.
+/// **What runs under the lock:** closures, clones of the value, and its `Debug`. What a closure
+/// owns is dropped there too. Code that then calls the same cell waits forever. So does code that
+/// then drops an `Owner`, a `Guard`, a waiting future or a stream of it. Wakers are woken and
+/// values are dropped after the lock is released: what runs then may call the cell.
 ///
 /// A future made by `with` holds one place in the wait list while it waits (see `With`), so the
 /// list is no longer than the number of such futures that were alive at once. Each `poll_shared`
-/// that waits may add one waker, which stays until the next fill or close.
+/// that waits adds one waker, which stays until the next write or close.
 pub struct AsyncCell<T> {
     pub(crate) core: LockedCore<T, TaskWaker>,
     /// The source that waiting tasks register with.
@@ -130,8 +130,8 @@ impl<T: Drop> AsyncCell<T> {
 }
 
 impl AsyncCell<()> {
-    /// Returns a future that waits for `notify`. It takes the value, so each `notify` ends at most one
-    /// `wait`: where several tasks wait, use `get`.
+    /// Returns a future that waits for `notify`. It takes the value, so each `notify` ends at most
+    /// one `wait`: where several tasks wait, use `get`.
     pub fn wait(&self) -> Take<&AsyncCell<()>>
         ensures of_this { result.0.now ≡ self.now }
     {

@@ -128,7 +128,8 @@ impl<T: Drop, R: Wait + Copy> Owner<T, R> {
         self.cell().get().with(self.rt)
     }
 
-    /// Returns a future that takes the value and is a new owner. Fails as `another` does.
+    /// Returns a future that takes the value and is a new owner: while it waits the cell stays
+    /// open, so it waits forever if nobody sets a value. Fails as `another` does.
     ///
     /// ```rust
     /// let slot = Owner::new(rt.alloc(), rt)?;
@@ -144,7 +145,8 @@ impl<T: Drop, R: Wait + Copy> Owner<T, R> {
         Ok(Take(self.another()?).with(self.rt))
     }
 
-    /// Returns a future that clones the value and is a new owner. Fails as `another` does.
+    /// Returns a future that clones the value and is a new owner: while it waits the cell stays
+    /// open, so it waits forever if nobody sets a value. Fails as `another` does.
     pub fn get_shared(&self) -> Result<With<Get<Self>, R>, Refusal>
     where
         T: Clone,
@@ -155,7 +157,8 @@ impl<T: Drop, R: Wait + Copy> Owner<T, R> {
         Ok(Get(self.another()?).with(self.rt))
     }
 
-    /// Returns a future that takes the value and is not an owner.
+    /// Returns a future that takes the value and is not an owner. It is `None` once the last owner
+    /// has ended: a value that was not taken by then is lost.
     ///
     /// ```rust
     /// let slot = Owner::new_with(rt.alloc(), 7, rt)?;
@@ -170,7 +173,8 @@ impl<T: Drop, R: Wait + Copy> Owner<T, R> {
         self.shared.take_weak().with(self.rt)
     }
 
-    /// Returns a future that clones the value, leaves it, and is not an owner.
+    /// Returns a future that clones the value, leaves it, and is not an owner. It is `None` once
+    /// the last owner has ended.
     ///
     /// ```rust
     /// let running: Owner<(), _> = Owner::new(rt.alloc(), rt)?;
@@ -192,6 +196,23 @@ impl<T: Drop, R: Wait + Copy> Owner<T, R> {
         ensures keeps { result.guarded.cancel ≡ cancel }
     {
         self.cell().guard(cancel).with(self.rt)
+    }
+
+    /// Makes this owner a guard: its drop sets this value, if the cell holds none, and ends the owner.
+    /// Needs no memory.
+    ///
+    /// ```rust
+    /// let slot = Owner::new(rt.alloc(), rt)?;
+    /// let reply = slot.take_shared()?;
+    /// drop(slot.into_guard(42));
+    /// println!(rt; "the reply is {}", block_on(&rt, reply)??)?;
+    /// ```
+    pub fn into_guard(self, cancel: T) -> Guard<T, Self, R>
+        ensures of_this { result.guarded.pointer ≡ self }
+        ensures keeps { result.guarded.cancel ≡ cancel }
+    {
+        let rt = self.rt;
+        GuardedCell::new(self, cancel).with(rt)
     }
 
     /// Returns a guard that is a new owner. Fails as `another` does, and then gives the value back.
@@ -227,8 +248,8 @@ impl<T: Drop, R: Wait + Copy> Owner<T, R> {
 }
 
 impl<R: Wait + Copy> Owner<(), R> {
-    /// Returns a future that waits for `notify`. It takes the value, so each `notify` ends at most one
-    /// `wait`: where several tasks wait, use `get`.
+    /// Returns a future that waits for `notify`. It takes the value, so each `notify` ends at most
+    /// one `wait`: where several tasks wait, use `get`.
     pub fn wait(&self) -> With<Take<&AsyncCell<()>>, R>
         ensures of_this { result.polled.0.now ≡ cell_owned self.now }
     {

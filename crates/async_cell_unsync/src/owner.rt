@@ -114,7 +114,8 @@ impl<T: Drop> Owner<T> {
         self.cell().get().with()
     }
 
-    /// Returns a future that takes the value and is a new owner. Fails as `another` does.
+    /// Returns a future that takes the value and is a new owner: while it waits the cell stays
+    /// open, so it waits forever if nobody sets a value. Fails as `another` does.
     pub fn take_shared(&self) -> Result<With<Take<Self>>, Refusal>
         ensures of_this { IfOk result (λ made. cell_owned made.polled.0 ≡ cell_owned self.now) }
         ensures refused { IfErr result IsOwnerRefusal }
@@ -122,7 +123,8 @@ impl<T: Drop> Owner<T> {
         Ok(Take(self.another()?).with())
     }
 
-    /// Returns a future that clones the value and is a new owner. Fails as `another` does.
+    /// Returns a future that clones the value and is a new owner: while it waits the cell stays
+    /// open, so it waits forever if nobody sets a value. Fails as `another` does.
     pub fn get_shared(&self) -> Result<With<Get<Self>>, Refusal>
     where
         T: Clone,
@@ -132,20 +134,38 @@ impl<T: Drop> Owner<T> {
         Ok(Get(self.another()?).with())
     }
 
-    /// Returns a future that takes the value and is not an owner.
+    /// Returns a future that takes the value and is not an owner. It is `None` once the last owner
+    /// has ended: a value that was not taken by then is lost.
     pub fn take_weak(&self) -> With<TakeWeak<T>>
         ensures of_this { NamesAtMost result.polled.0 (cell_owned self.now) }
     {
         self.shared.take_weak().with()
     }
 
-    /// Returns a future that clones the value, leaves it, and is not an owner.
+    /// Returns a future that clones the value, leaves it, and is not an owner. It is `None` once
+    /// the last owner has ended.
     pub fn get_weak(&self) -> With<GetWeak<T>>
     where
         T: Clone,
         ensures of_this { NamesAtMost result.polled.0 (cell_owned self.now) }
     {
         self.shared.get_weak().with()
+    }
+
+    /// Makes this owner a guard: its drop sets this value, if the cell holds none, and ends the owner.
+    /// Needs no memory.
+    ///
+    /// ```rust
+    /// let slot = Owner::new(rt.alloc())?;
+    /// let reply = slot.take_shared()?;
+    /// drop(slot.into_guard(42));
+    /// println!(rt; "the reply is {}", block_on(&rt, reply)??)?;
+    /// ```
+    pub fn into_guard(self, cancel: T) -> Guard<T, Self>
+        ensures of_this { result.pointer ≡ self }
+        ensures keeps { result.cancel ≡ Some cancel }
+    {
+        GuardedCell::new(self, cancel)
     }
 
     /// Returns a guard that is a new owner. Fails as `another` does, and then gives the value back.
@@ -172,8 +192,8 @@ impl<T: Drop> Owner<T> {
 }
 
 impl Owner<()> {
-    /// Returns a future that waits for `notify`. It takes the value, so each `notify` ends at most one
-    /// `wait`: where several tasks wait, use `get`.
+    /// Returns a future that waits for `notify`. It takes the value, so each `notify` ends at most
+    /// one `wait`: where several tasks wait, use `get`.
     pub fn wait(&self) -> With<Take<&AsyncCell<()>>>
         ensures of_this { result.polled.0.now ≡ cell_owned self.now }
     {

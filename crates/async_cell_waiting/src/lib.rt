@@ -13,7 +13,7 @@ mod store;
 mod with;
 
 pub use cell_core::{CellCore, Cloning, Taking};
-pub use ended::{Held, end, end_and_wake, end_and_wake_one, open_holding};
+pub use ended::{Held, Writes, end, end_and_wake, end_and_wake_one, open_holding, put_held};
 pub use polls::poll;
 pub use query::Query;
 pub use room::Room;

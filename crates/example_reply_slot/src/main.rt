@@ -2,15 +2,14 @@
 #![tactic(auto)]
 
 use anyhow::Result;
-use async_cell_sync::Owner;
+use async_cell_sync::reply_slot;
 use futures::executor::block_on;
 use std::thread;
 
 fn main(rt: HostRuntime) -> Result<()> {
-    let slot = Owner::new(rt.alloc(), rt)?;
-    let reply = slot.take_shared()?;
-    let worker = thread::spawn(&rt, move || slot.set(6 * 7))?;
+    let (replier, reply) = reply_slot(rt.alloc(), rt)?;
+    let worker = thread::spawn(&rt, move || replier.set(6 * 7))?;
     println!(rt; "the reply is {}", block_on(&rt, reply)??)?;
-    worker.join(&rt);
+    let _ = worker.join(&rt); // `Err(42)`, if the reply had been dropped
     Ok(())
 }

@@ -1,8 +1,9 @@
-//! A server squares numbers until it is told to stop. Each message brings the slot for its reply.
+//! A server squares numbers until it is told to stop. Each message brings the side that replies. It
+//! is dropped if a square is too large, and then the side that waits fails.
 #![tactic(auto)]
 
 use anyhow::Result;
-use async_cell_sync::Owner;
+use async_cell_sync::{Owner, Replier, reply_slot};
 use futures::channel::mpsc;
 use futures::executor::block_on;
 use futures::future::ready;
@@ -17,17 +18,21 @@ fn main(rt: HostRuntime) -> Result<()> {
         let messages = inbox.take_until(stopped);
         block_on(
             &rt,
-            messages.fold(0u64, |served, (number, slot): (u32, Owner<u64, _>)| {
-                slot.set(u64::from(number) * u64::from(number));
+            messages.fold(0u64, |served, (number, replier): (u32, Replier<u32, _>)| {
+                if let Some(square) = number.checked_mul(number) {
+                    let _ = replier.set(square); // it comes back if nobody waits any more
+                }
                 ready(served.wrapping_add(1))
             }),
         )
     })?;
-    for number in 1..=3u32 {
-        let slot = Owner::new(rt.alloc(), rt)?;
-        let reply = slot.take_shared()?;
-        block_on(&rt, (&mut outbox).send((number, slot)))??;
-        println!(rt; "{number} squared is {}", block_on(&rt, reply)??)?;
+    for number in [2, 3, 70_000] {
+        let (replier, reply) = reply_slot(rt.alloc(), rt)?;
+        block_on(&rt, (&mut outbox).send((number, replier)))??;
+        match block_on(&rt, reply)? {
+            Ok(square) => println!(rt; "{number} squared is {square}")?,
+            Err(why) => println!(rt; "{number} was not squared: {why}")?,
+        }
     }
     drop(running);
     println!(rt; "served {}", server.join(&rt)?)?;

@@ -22,8 +22,8 @@ pub trait Takes<R>: Polled<R, Output = Result<Option<Self::Value>, Refusal>> {
 /// last owner has ended. It is no owner.
 ///
 /// **Several takers do not take turns.** Each value goes to the first that is polled, and a write
-/// wakes them in the order in which they began to wait. So of several streams, or of takes in loops,
-/// the first may get every value on one executor: it is the first again when it polls again.
+/// wakes them in the order in which they began to wait. So of several streams, or of takes in
+/// loops, the first may get every value on one executor: it is the first again when it polls again.
 ///
 /// **The last value may be lost**: the end of the last owner drops a value that was not yet taken.
 /// An item is an error (`Memory`) if a poll was refused; the stream may be polled on.

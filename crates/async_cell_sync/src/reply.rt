@@ -1,0 +1,143 @@
+ghost use Rattle.std.specs.Prelude.{◌≡◌, None, Err, IfOk, IfErr, IsSomeAnd};
+ghost use Rattle.std.specs.Arc.{arc_value};
+ghost use Rattle.futures.specs.Poll.{IfReady, OnPending};
+ghost use Rattle.futures.specs.Task.{Covers, Keeps};
+ghost use Rattle.async_cell_model.specs.Refusal.{FailsWithMemory, FailsWithMemoryOrClosed};
+ghost use Rattle.async_cell_model.specs.declared.refusal.Refusal.TheVariants.{Closed};
+ghost use Rattle.async_cell_sync.specs.Source.{source_of};
+
+use crate::async_cell::AsyncCell;
+use async_cell_core::{Place, Refusal};
+use async_cell_waiting::{Taking, poll};
+use futures::future::Future;
+use futures::task::{Context, Poll};
+use std::alloc::Global;
+use std::sync::{Arc, Wait};
+
+/// The side of a reply slot that replies, once, by `set`. If it is dropped without that, as at `?`
+/// or an early `return`, the slot is closed, and the `Reply` is ready with `Closed`.
+///
+/// **Dropping it may wait for the lock**, as its calls may.
+#[derive_where(Debug)]
+pub struct Replier<T: Drop, R: Wait + Drop> {
+    #[derive_where(skip)]
+    cell: Arc<AsyncCell<T>>,
+    #[derive_where(skip)]
+    rt: R,
+}
+
+/// The side of a reply slot that waits: a future of the value. It fails with `Closed` if the
+/// `Replier` was dropped without a `set`, and at each poll after it was ready. It fails with
+/// `Memory` if there is no memory to wait, and may then be polled again.
+///
+/// If it is dropped before it was ready, the slot is closed: a value that was set is dropped, and
+/// one that is set later comes back. **That may wait for the lock**, and wakes the task that polled
+/// it last.
+#[derive_where(Debug)]
+pub struct Reply<T: Drop, R: Wait + Drop> {
+    /// `None` once it was ready.
+    #[derive_where(skip)]
+    cell: Option<Arc<AsyncCell<T>>>,
+    #[derive_where(skip)]
+    rt: R,
+    #[derive_where(skip)]
+    place: Place,
+}
+
+/// Makes a reply slot: the side that replies, and the side that waits. Fails with `Memory`.
+///
+/// ```rust
+/// let (replier, reply) = reply_slot(rt.alloc(), rt)?;
+/// let worker = thread::spawn(&rt, move || replier.set(42))?;
+/// println!(rt; "the reply is {}", block_on(&rt, reply)??)?;
+/// let _ = worker.join(&rt);
+/// ```
+pub fn reply_slot<T: Drop, R: Wait + Copy>(
+    alloc: Global,
+    rt: R,
+) -> Result<(Replier<T, R>, Reply<T, R>), Refusal>
+    ensures of_one { IfOk result (λ sides. IsSomeAnd sides.1.cell (λ cell.
+        arc_value cell ≡ arc_value sides.0.cell)) }
+    ensures refused { FailsWithMemory result }
+{
+    let Ok(cell) = Arc::new(alloc, AsyncCell::new(alloc)) else {
+        return Err(Refusal::Memory);
+    };
+    let reply = Reply {
+        cell: Some(Arc::try_clone(&cell)?),
+        rt,
+        place: Place::new(),
+    };
+    Ok((Replier { cell, rt }, reply))
+}
+
+impl<T: Drop, R: Wait + Drop> Replier<T, R> {
+    /// Sets the value, and wakes the task that waits for it. The value stays until the `Reply`
+    /// takes it or is dropped. If the `Reply` was dropped before, the value comes back.
+    ///
+    /// ```rust
+    /// let (replier, reply) = reply_slot(rt.alloc(), rt)?;
+    /// drop(reply);
+    /// println!(rt; "nobody waits: {:?}", replier.set(42))?; // Err(42)
+    /// ```
+    pub fn set(self, value: T) -> Result<(), T>
+        ensures comes_back { IfErr result (λ back. back ≡ value) }
+    {
+        let Replier { cell, rt } = self; // Without the drop, which closes.
+        cell.core.set(value, &rt)
+    }
+
+    /// Returns whether the `Reply` was dropped, so that a value would come back.
+    pub fn is_closed(&self) -> bool {
+        self.cell.is_closed(&self.rt)
+    }
+}
+
+/// Closes the slot. May wait for the lock.
+impl<T: Drop, R: Wait + Drop> Drop for Replier<T, R> {
+    fn drop(self) {
+        let Replier { cell, rt } = self;
+        let _ = cell.core.end_owner(&rt); // The cell has one owner: both sides together.
+    }
+}
+
+impl<T: Drop, R: Wait + Drop> Future for Reply<T, R> {
+    type Output = Result<T, Refusal>;
+
+    ghost needs = { λ reply s. IsSomeAnd reply.cell (λ cell. s ≡ source_of cell.value) };
+
+    ghost gives = { λ reply given. FailsWithMemoryOrClosed given
+        × (reply.cell ≡ None → given ≡ Err Closed) };
+
+    fn poll(&mut self, cx: &mut Context<'_>) -> Poll<Self::Output>
+        ensures closed { self.old.cell ≡ None → result ≡ Poll.Ready (Err Refusal.Closed) }
+        ensures over { IfReady result (λ given.
+            ¬ (given ≡ Err Refusal.Memory) → self.new.cell ≡ None) }
+        ensures stays { OnPending result (self.new.cell ≡ self.old.cell) }
+        ensures registered { OnPending result (Covers cx.new (λ s. IsSomeAnd self.new.cell (λ cell.
+            s ≡ source_of cell.value))) }
+        ensures kept { Keeps cx.old cx.new }
+        ensures refused { IfReady result FailsWithMemoryOrClosed }
+    {
+        let Some(cell) = &self.cell else {
+            return Poll::Ready(Err(Refusal::Closed));
+        };
+        let place = Some(&mut self.place);
+        let polled = poll(&cell.core, &cell.source, Taking, place, cx, &self.rt);
+        match polled {
+            Poll::Pending | Poll::Ready(Err(Refusal::Memory)) => {}
+            Poll::Ready(_) => self.cell = None,
+        }
+        polled
+    }
+}
+
+/// Closes the slot, unless it was ready. May wait for the lock.
+impl<T: Drop, R: Wait + Drop> Drop for Reply<T, R> {
+    fn drop(self) {
+        let Reply { cell, rt, place: _ } = self;
+        if let Some(cell) = cell {
+            let _ = cell.core.end_owner(&rt);
+        }
+    }
+}
