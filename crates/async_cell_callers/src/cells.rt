@@ -12,8 +12,8 @@ macro_rules! content {
     }};
 }
 
-/// Futures over each pointer to a cell, weak ones that become owners, a stream, and guards. Each
-/// future is ready.
+/// Futures over each pointer to a cell, weak ones that become owners, a stream, guards, and a reply
+/// slot. Each future is ready.
 macro_rules! waits {
     ($rt:ident $(, $right:ident)?) => {{
         let owner = Owner::new_with($rt.alloc(), 1u32 $(, $right)?)?;
@@ -29,6 +29,9 @@ macro_rules! waits {
         drop(owner);
         let _ = block_on(&$rt, values.next());
         values.cancel();
+        let (replier, reply) = reply_slot($rt.alloc() $(, $right)?)?;
+        let _ = replier.set(1u32);
+        let _ = block_on(&$rt, reply);
         Ok(())
     }};
 }

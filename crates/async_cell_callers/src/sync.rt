@@ -2,7 +2,7 @@
 use crate::cells::{content, waits};
 use crate::{Host, half};
 use async_cell::Refusal;
-use async_cell::sync::{AsyncCell, Owner};
+use async_cell::sync::{AsyncCell, Owner, reply_slot};
 use async_cell_core::{Core, Named};
 use async_cell_sync::LockedCore;
 use futures::StreamExt;

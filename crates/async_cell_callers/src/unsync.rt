@@ -2,7 +2,7 @@
 use crate::cells::{content, waits};
 use crate::{Host, half};
 use async_cell::Refusal;
-use async_cell::unsync::{AsyncCell, Owner};
+use async_cell::unsync::{AsyncCell, Owner, reply_slot};
 use futures::StreamExt;
 use futures::executor::block_on;
 
