@@ -1,5 +1,5 @@
 #!/usr/bin/env python3
-"""Runs each Rust snippet of README.md, docs/GUIDE.md, the CALLING.md pages and the docstrings.
+"""Runs each Rust snippet of README.md, docs/, the CALLING.md pages and the docstrings.
 
     python3 scripts/snippets.py [PAGE..]
 
@@ -146,8 +146,8 @@ def run(work, snippets):
 
 
 def main(pages):
-    calling = [os.path.relpath(it, TOP) for it in sorted(glob.glob(f"{TOP}/crates/*/CALLING.md"))]
-    asked = pages or ["README.md", "docs/GUIDE.md", *calling]
+    theirs = sorted([*glob.glob(f"{TOP}/docs/*.md"), *glob.glob(f"{TOP}/crates/*/CALLING.md")])
+    asked = pages or ["README.md", *[os.path.relpath(it, TOP) for it in theirs]]
     snippets = [it for page in asked for it in snippets_of(page)]
     snippets += [] if pages else [it for of in libraries() for it in examples_of(of)]
     for it in snippets:
