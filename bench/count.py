@@ -31,7 +31,10 @@ ROWS = {
     "unsync Owner": ("unsync_owner", ALL),
     "sync": ("cells", ALL[:4]),
     "sync Owner": ("owner", ALL),
+    "unsync pair": ("pair", ALL[:1]),
+    "sync pair": ("pair", ALL[:1]),
     "latest_sync": ("latest", ("watch", "fan", "again")),
+    "oneshot of the kit": ("pair", ALL[:1]),
 }
 # The columns: title, operation, and how many wait at once.
 COLUMNS = [

@@ -14,9 +14,9 @@ PAGE, PICTURE = f"{counts.FOLDER}/README.md", f"{counts.FOLDER}/counts.svg"
 TABLE = re.compile(r"(<!-- made by page\.py -->\n).*?(?=<!-- end -->\n)", re.S)
 # What the picture has: a panel a column, and in it the rows of ours and of others.
 PANELS = ["reply slot", "watcher", "fan-out 64"]
-OURS = ["unsync Owner", "sync Owner", "latest_sync"]
+OURS = ["unsync pair", "sync pair", "unsync Owner", "sync Owner", "latest_sync"]
 PEERS = ["Rust unsync by `Rc`", "Rust unsync", "Rust sync by `Arc`", "Rust sync",
-         "oneshot of tokio", "watch of tokio"]
+         "oneshot of the kit", "oneshot of tokio", "watch of tokio"]
 WHAT = "Instructions for an operation, in a fan-out for each waiter; less is better"
 WIDTH, BAR, STEP, LABELS, TOP = 310, 12, 18, 150, 40
 STYLE = """<style>

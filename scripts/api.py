@@ -197,8 +197,7 @@ class Page:
     def section(self, name, home, item):
         """Returns the section of an export; its functions are folded away if it is from below."""
         if not item:
-            link = f'<a href="{home.name}.html">{home.name}</a>'
-            return f"<section><h2>{name}</h2><p>All of {link}.</p></section>"
+            return "<section><h2>{}</h2><p>All of {}:</p>{}</section>".format(name, *linked(home))
         its_home, its_own, functions = members(home, item)
         inner, last = "", its_own
         for of, it in functions:
@@ -225,6 +224,13 @@ class Page:
         return FRAME.format(self.crate.name, listed, self.prose(self.crate.docs) + body)
 
 
+def linked(of):
+    """Returns the name of a crate, and those of its exports, as links to its page."""
+    names = ["", *(f"#{name}" for name, _, _ in of.exports())]
+    links = [f'<a href="{of.name}.html{it}">{it[1:] or of.name}</a>' for it in names]
+    return links[0], f"<p><small>{', '.join(links[1:])}</small></p>"
+
+
 def make(folder):
     """Writes the pages, and the one that lists them under the comments of crates.txt."""
     title, listed, body = "", "", ""
@@ -233,10 +239,9 @@ def make(folder):
         if name:
             page = Page(crate(name))
             write(f"{folder}/{name}.html", page.text())
-            names = ", ".join(f'<a href="{name}.html#{it}">{it}</a>' for it, _, _ in page.exports)
-            link = f'<a href="{name}.html">{name}</a>'
-            body += f"<h2>{title}</h2>" * bool(title) + f"<h3>{link}</h3>"
-            body += page.prose(page.crate.docs) + f"<p><small>{names}</small></p>"
+            link, names = linked(page.crate)
+            body += f"<h2>{title}</h2>" * bool(title)
+            body += f"<h3>{link}</h3>{page.prose(page.crate.docs)}{names}"
             title, listed = "", listed + link
     write(f"{folder}/index.html", FRAME.format("The libraries", listed, body))
     write(f"{folder}/api.css", read(f"{TOP}/scripts/api.css"))

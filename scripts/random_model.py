@@ -3,6 +3,7 @@
 It is written from docs/DEFINITIONS.md and docs/GUIDE.md: what each call replies, what happens in it,
 and in which order.
 """
+from itertools import takewhile
 
 
 def once(tasks):
@@ -58,7 +59,9 @@ class Cell:
         self.content, self.owners, self.wait, self.events = None, 1, Wait(), []
 
     def happen(self, word, *numbers):
-        self.events += [(word, it) for it in numbers]
+        """Notes what happens. A task that was just woken is not woken again."""
+        just = [*takewhile(lambda it: it[0] == word == "woke", reversed(self.events))]
+        self.events += [(word, it) for it in numbers if (word, it) not in just]
 
     def fill(self, value):
         """Puts a value in, and returns the old one."""

@@ -7,5 +7,5 @@ mod kind;
 mod workloads;
 
 pub use asked::{Asked, Hidden};
-pub use kind::{Kind, value_of};
-pub use workloads::run;
+pub use kind::{Kind, Slot, value_of};
+pub use workloads::{run, run_slots};

@@ -1,6 +1,6 @@
 //! The workloads. What each returns tells that it did its work.
 use crate::asked::{Asked, Hidden};
-use crate::kind::Kind;
+use crate::kind::{Kind, Slot};
 use futures::task::Context;
 use futures::test::MockTask;
 use std::alloc::{AllocGlobal, Global};
@@ -17,6 +17,33 @@ pub fn run<K: Kind<R>, R: Wait + RandomSource + AllocGlobal>(
     let task = MockTask::new(rt)?;
     let hidden = Hidden::make(alloc)?;
     Ok(task.enter(|cx| run_in::<K, R>(alloc, asked, cx, hidden, rt)))
+}
+
+/// Runs so many reply slots, and returns what it counted.
+pub fn run_slots<S: Slot<R>, R: Wait + RandomSource + AllocGlobal>(
+    asked: &Asked,
+    rt: &R,
+) -> io::Result<u64> {
+    let (alloc, task) = (rt.alloc(), MockTask::new(rt)?);
+    let hidden = Hidden::make(alloc)?;
+    Ok(task.enter(|cx| slots::<S, R>(alloc, asked.rounds(), cx, hidden, rt)))
+}
+
+/// Each slot waits, and takes the value that is replied.
+#[inline(never)]
+fn slots<S: Slot<R>, R: Wait>(
+    alloc: Global,
+    rounds: u64,
+    cx: &mut Context<'_>,
+    hidden: &Hidden,
+    rt: &R,
+) -> u64 {
+    let mut sum = 0u64;
+    for i in 0..rounds {
+        let taken = S::reply(alloc, cx, hidden.number(i), rt);
+        sum = sum.wrapping_add(taken.unwrap_or(0));
+    }
+    sum
 }
 
 /// Runs the workload.
