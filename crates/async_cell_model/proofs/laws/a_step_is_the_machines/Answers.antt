@@ -1,0 +1,8 @@
+use Rattle.async_cell_model.proofs.Machine.{machine_of, model_of}
+use Rattle.async_cell_model.proofs.laws.a_step_is_the_machines.Goals as goal
+
+pub returns : goal.returns
+returns g c = record {
+  machine = λ will_wake sure from to call answer woken leads. machine_of will_wake sure from to call answer woken leads;
+  model = λ will_wake sure from to call answer woken does. model_of will_wake sure from to call answer woken does;
+}
