@@ -3,7 +3,9 @@ use Rattle.std.specs.Prelude.{◌≡◌, ◌≤◌, ◌-◌, ◌⊎◌, Bool, tr
 use Rattle.async_cell_model.specs.declared.entry.Entry.{Entry}
 use Rattle.async_cell_model.specs.declared.refusal.Refusal.TheVariants as why
 use Rattle.async_cell_model.specs.declared.reply.Reply.TheVariants.{Refused}
+use Rattle.async_cell_model.specs.declared.reply.Reply.{Reply}
 use Rattle.async_cell_model.specs.Cell.{ends_waiting}
+use Rattle.async_cell_model.specs.Clones.{UpToClones}
 use Rattle.async_cell_model.specs.Step.{reply, next, FitsUpdate}
 use Rattle.async_cell_model.specs.WaitList.{with_one_more}
 use Rattle.async_cell_model.specs.History.{State, IsSound, pending_waker}
@@ -26,3 +28,8 @@ module _ {T W : Type 0} (will_wake : W → W → Bool) (sure : Bool) where
     pub room_is_left : (if ends_waiting s.cell t.cell then 0
         else s.room - (length t.waiting - length s.waiting)) ≤ t.room
     pub woken_are : woken ≡ (if ends_waiting s.cell t.cell then s.waiting else [])
+
+  -- The same up to clones: where the machine gives a value, a get may return a clone of it.
+  abbrev pub DoesUpTo : (T → T → Type 0) → State T W → Entry T W → List W → State T W → Type 0
+  DoesUpTo is_clone s e woken t = (own : Reply T) × Does s (record { call = e.call; reply = own }) woken t
+      × UpToClones is_clone e.call own e.reply

@@ -9,8 +9,8 @@ ghost use Rattle.async_cell_model.specs.declared.reply.Reply.{Reply};
 ghost use Rattle.async_cell_model.specs.Cell.{is_vacant, content, ends_waiting};
 ghost use Rattle.async_cell_model.specs.Clones.{IsExact, copies};
 ghost use Rattle.async_cell_model.specs.History.{State, History, IsSound, cell_after, waiting, room, after, has_fill_or_close, pending_waker};
-ghost use Rattle.async_cell_model.specs.Legal.{IsLegal, IsLegalUpTo, Runs, RunsUpTo, Steps};
-ghost use Rattle.async_cell_model.specs.Machine.{Does};
+ghost use Rattle.async_cell_model.specs.Legal.{IsLegal, IsLegalUpTo, Runs, RunsUpTo, StepsUpTo};
+ghost use Rattle.async_cell_model.specs.Machine.{DoesUpTo};
 ghost use Rattle.async_cell_model.specs.Step.{next, is_refused};
 ghost use Rattle.async_cell_model.specs.WaitList.{IsCovered, wait_list, skips};
 ghost use Rattle.async_cell_model.specs.Taken.{IsDistinct, IsSubsequence, has_update, brought, given};
@@ -200,13 +200,15 @@ pub fn with_exact_clones_a_history_is_exact<T: Clone, W>()
 
 /// The machine is the model: a step that is read off a history of one entry is what the machine
 /// does, and the other way round.
-pub fn a_step_is_the_machines<T, W>()
+pub fn a_step_is_the_machines<T: Clone, W>()
     ensures machine { (will_wake : W → W → Bool) (sure : Bool) (from to : State T W)
         (call : Kept T W) (answer : Reply T) (woken : List W)
-        → Steps will_wake sure from call answer woken to
-        → Does will_wake sure from (record { call = call; reply = answer }) woken to }
+        → StepsUpTo will_wake sure T.is_clone from call answer woken to
+        → DoesUpTo will_wake sure T.is_clone
+        from (record { call = call; reply = answer }) woken to }
     ensures model { (will_wake : W → W → Bool) (sure : Bool) (from to : State T W)
         (call : Kept T W) (answer : Reply T) (woken : List W)
-        → Does will_wake sure from (record { call = call; reply = answer }) woken to
-        → Steps will_wake sure from call answer woken to }
+        → DoesUpTo will_wake sure T.is_clone
+        from (record { call = call; reply = answer }) woken to
+        → StepsUpTo will_wake sure T.is_clone from call answer woken to }
 {}
