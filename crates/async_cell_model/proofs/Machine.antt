@@ -117,6 +117,10 @@ module _ {T W : Type 0} (is_clone : T → T → Type 0) where
   waker_same : (call : Kept T W) (own answer : Reply T) → Alike own answer → pending_waker (record { call = call; reply = own }) ≡ pending_waker (record { call = call; reply = answer })
   waker_same call own answer like = ap (λ (b : Bool). if b then waker_of call else None) like.same_wait
 
+  -- what the machine does, it does up to clones
+  pub does_up_to : (will_wake : W → W → Bool) (sure : Bool) (from to : State T W) (e : Entry T W) (woken : List W) → Does will_wake sure from e woken to → DoesUpTo will_wake sure is_clone from e woken to
+  does_up_to will_wake sure from to e woken does = (e.reply, does, inl refl)
+
   module _ (will_wake : W → W → Bool) (sure : Bool) where
     listed : (s t : State T W) → Option W → Type 0
     listed s t o = t.waiting ≡ (if ends_waiting s.cell t.cell then [] else fold (with_one_more will_wake) s.waiting (option_to_list o))

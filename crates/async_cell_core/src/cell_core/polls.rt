@@ -123,7 +123,7 @@ impl<T: Clone, W: Wakes> Core<T, W> {
     ///
     /// The reply is the model's up to clones. It is exactly the model's if the type's clones are
     /// exact or there is no value.
-    #[tactic(auto, using(crate::proofs::UpTo::poll_cloned, async_cell_model::proofs::UpTo::up_to_clones))]
+    #[tactic(auto, using(crate::proofs::UpTo::poll_cloned, async_cell_model::proofs::Machine::does_up_to))]
     pub fn poll_get(&mut self, waker: &W) -> Result<Poll<Option<T>>, Refusal>
         ensures up_to_clones { IsStepUpTo T.is_clone W.Wakes
             self.old (Kept.PollGet waker.now) (poll_answer result) self.new }
