@@ -118,8 +118,9 @@ module _ {T W : Type 0} (is_clone : T → T → Type 0) where
   waker_same call own answer like = ap (λ (b : Bool). if b then waker_of call else None) like.same_wait
 
   -- what the machine does, it does up to clones
-  pub does_up_to : (will_wake : W → W → Bool) (sure : Bool) (from to : State T W) (e : Entry T W) (woken : List W) → Does will_wake sure from e woken to → DoesUpTo will_wake sure is_clone from e woken to
-  does_up_to will_wake sure from to e woken does = (e.reply, does, inl refl)
+  pub does_up_to : (will_wake : W → W → Bool) (sure : Bool) (from to : State T W) (call : Kept T W) (answer : Reply T) (woken : List W) → Does will_wake sure from (record { call = call; reply = answer }) woken to
+      → DoesUpTo will_wake sure is_clone from (record { call = call; reply = answer }) woken to
+  does_up_to will_wake sure from to call answer woken does = (answer, does, inl refl)
 
   module _ (will_wake : W → W → Bool) (sure : Bool) where
     listed : (s t : State T W) → Option W → Type 0

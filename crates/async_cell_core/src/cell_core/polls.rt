@@ -93,7 +93,7 @@ impl<T: Clone, W: Wakes> Core<T, W> {
     /// Returns a clone of the value, if there is one. Fails with `Memory` if there is no memory for
     /// the clone. The reply is the model's up to clones, and exactly the model's if the type's
     /// clones are exact.
-    #[tactic(auto, using(crate::proofs::UpTo::get_cloned))]
+    #[tactic(auto, using(crate::proofs::UpTo::get_cloned, async_cell_model::proofs::Machine::does_up_to))]
     pub fn try_get(&self) -> Result<Option<T>, Refusal>
         ensures up_to_clones { IsStepUpTo T.is_clone W.Wakes
             self.now Kept.TryGet (get_answer result) self.now }
