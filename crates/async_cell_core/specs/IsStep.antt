@@ -1,4 +1,4 @@
--- One call of a core as a step of the model, and the answer that stands for the result of a call.
+-- One call of a core as a step of the machine, and the answer that stands for the result of a call.
 use Rattle.std.specs.Prelude.{Bool, Option, Some, None, Result, Ok, Err, List, [], if◌then◌else◌}
 use Rattle.async_cell_model.specs.declared.cell.Cell.{Cell}
 use Rattle.async_cell_model.specs.declared.entry.Kept.{Kept}
@@ -8,7 +8,7 @@ use Rattle.async_cell_model.specs.declared.reply.Reply.{Reply}
 use Rattle.async_cell_model.specs.declared.reply.Reply.TheVariants as reply
 use Rattle.async_cell_model.specs.Cell.{is_closed}
 use Rattle.async_cell_model.specs.History.{State}
-use Rattle.async_cell_model.specs.Legal.{Steps, StepsUpTo}
+use Rattle.async_cell_model.specs.Machine.{Does, DoesUpTo}
 use Rattle.async_cell_core.specs.declared.call.Answer.{Answer}
 use Rattle.async_cell_core.specs.Polled.{poll_reply}
 use Rattle.futures.specs.declared.task.Poll.{Poll}
@@ -24,16 +24,18 @@ WakerRules W =
     }
 
 module _ {T W : Type 0} where
-  -- the call is a step of the model: in the state `old` it gives this answer, and it leaves `new`
+  -- the machine does this: in the state `old` the call gives this answer, and it leaves `new`
   abbrev pub IsStep : WakerRules W → State T W → Kept T W → Answer T W → State T W → Type 0
   IsStep wakes old call answer new =
-      Steps wakes.will_wake wakes.SURE_CLONE old call answer.reply answer.woken new
+      Does wakes.will_wake wakes.SURE_CLONE old (record { call = call; reply = answer.reply })
+      answer.woken new
 
   -- the same up to clones: a get may answer a clone of the value
   abbrev pub IsStepUpTo : (T → T → Type 0) → WakerRules W → State T W → Kept T W → Answer T W
       → State T W → Type 0
   IsStepUpTo is_clone wakes old call answer new =
-      StepsUpTo wakes.will_wake wakes.SURE_CLONE is_clone old call answer.reply answer.woken new
+      DoesUpTo wakes.will_wake wakes.SURE_CLONE is_clone old
+      (record { call = call; reply = answer.reply }) answer.woken new
 
   -- a reply, and no wakers
   abbrev pub replies : Reply T → Answer T W

@@ -73,7 +73,7 @@ fn step_no_get<T: Drop, W: Wakes, E: Edit<T> + Drop>(
 ///
 /// The reply is the model's up to clones: a get of a full cell may return a clone of the value. It
 /// is exactly the model's if the call is no get or the type's clones are exact.
-#[tactic(auto, using(async_cell_model::proofs::UpTo::up_to_clones))]
+#[tactic(auto, using(async_cell_model::proofs::Machine::does_up_to))]
 pub fn step<T: Clone, W: Wakes, E: Edit<T> + Drop>(
     core: &mut Core<T, W>,
     call: Call<T, W, E>,

@@ -15,8 +15,9 @@ use Rattle.async_cell_model.specs.Cell.{ends_waiting, is_vacant, is_full, is_clo
 use Rattle.async_cell_model.specs.Step.{next, reply as model_reply}
 use Rattle.async_cell_model.specs.WaitList.{wait_list}
 use Rattle.async_cell_model.specs.History.{State, IsSound, is_pending, pending_waker, waiting}
-use Rattle.async_cell_model.specs.Legal.{wakes, Steps}
-use Rattle.async_cell_model.proofs.Whole.{after-nil}
+use Rattle.async_cell_model.specs.Legal.{wakes}
+use Rattle.async_cell_model.specs.Machine.{Does}
+use Rattle.async_cell_model.proofs.Machine.{model_of}
 use Rattle.async_cell_model.proofs.OneEntry.{Runs-sound}
 use Rattle.async_cell_model.proofs.UpTo.{up_to_clones}
 use Rattle.async_cell_driver.specs.declared.task.Mark.{Mark}
@@ -32,9 +33,6 @@ use Rattle.async_cell_driver.specs.Drives.{Drives, FitsTold}
 use Rattle.async_cell_wakers.specs.Named.{same_name}
 use Rattle.async_cell_driver.proofs.ReadyNow.{awake, ready_now, started_now}
 use Rattle.async_cell_driver.proofs.WokenTasks.{mark-wake_each, woken_if, kinds-wake_each, results-wake_each, named-wait_list, named-append}
-
-head_is : {A : Type 0} (x y : A) (xs ys : List A) → x ∷ xs ≡ y ∷ ys → x ≡ y
-head_is x y xs ys same = cc
 
 done_woken : (named : Bool) (m : Option Mark) → is_done_mark (woken_if named m) ≡ is_done_mark m
 done_woken false m = refl
@@ -97,41 +95,39 @@ named_handed false l names i same unnamed named = refl
 
 module _ {T : Type 0} where
   -- the names are those that the entry wakes
-  pub names_are : (from to : State T Named) (call : Kept T Named) (r : Reply T) (names : List Named) → Steps same_name true from call r names to
+  pub names_are : (from to : State T Named) (call : Kept T Named) (r : Reply T) (names : List Named) → Does same_name true from (record { call = call; reply = r }) names to
       → names ≡ wakes from (record { call = call; reply = r })
-  names_are from to call r names answers =
-      let e : Entry T Named = record { call = call; reply = r } in
-      head_is names _ [] [] answers.wakes_are ∙ ap (λ (at : State T Named). wakes at e) (after-nil (λ (x y : T). y ≡ x) same_name true from answers.sound.kept)
+  names_are from to call r names answers = answers.woken_are ∙ ap (λ (c : Cell T). if ends_waiting from.cell c then from.waiting else []) answers.cell_is
 
   -- where a history leads another begins
-  pub begins_there : (from to : State T Named) (call : Kept T Named) (r : Reply T) (names : List Named) → Steps same_name true from call r names to → IsSound same_name to
+  pub begins_there : (from to : State T Named) (call : Kept T Named) (r : Reply T) (names : List Named) → Does same_name true from (record { call = call; reply = r }) names to → IsSound same_name to
   begins_there from to call r names answers =
       let h : List (Entry T Named) = record { call = call; reply = r } ∷ [] in
       Runs-sound (λ (x y : T). y ≡ x) same_name true from to h (names ∷ [])
-      (up_to_clones (λ (x y : T). y ≡ x) same_name true from to h (names ∷ []) answers)
+      (up_to_clones (λ (x y : T). y ≡ x) same_name true from to h (names ∷ []) (model_of same_name true from to call r names answers))
 
   -- each waiting name still stands in the waiting list, or was woken
-  named_after : (from to : State T Named) (call : Kept T Named) (r : Reply T) (names : List Named) (tasks : List (Task T)) → Steps same_name true from call r names to
+  named_after : (from to : State T Named) (call : Kept T Named) (r : Reply T) (names : List Named) (tasks : List (Task T)) → Does same_name true from (record { call = call; reply = r }) names to
       → AllNamed (record { core = from; tasks = tasks }) → AllNamed (record { core = to; tasks = wake_each names tasks })
   named_after from to call r names tasks answers covered i stands =
       let e : Entry T Named = record { call = call; reply = r } in
       let before = not_woken (is_named i names) (mark_at tasks i) (sym (mark-wake_each names tasks i) ∙ stands) in
       let named = covered i before.1 in
       let ends : ends_waiting from.cell (next from.cell e) ≡ false = named_handed (ends_waiting from.cell (next from.cell e)) from.waiting names i (names_are from to call r names answers) before.0 named in
-      ap (is_named i) answers.waiting_is ∙ kept_named (ends_waiting from.cell (next from.cell e)) from.waiting _ i ends named
+      ap (is_named i) (model_of same_name true from to call r names answers).waiting_is ∙ kept_named (ends_waiting from.cell (next from.cell e)) from.waiting _ i ends named
 
   -- Where a line leads that is one call of the core, and neither a start nor a poll.
   pub called : (is_clone : T → T → Type 0) (from : DriverState T) (core : State T Named) (line : Line T) (call : Kept T Named) (r : Reply T)
       → history from (line ∷ []) ≡ record { call = call; reply = r } ∷ [] → handed_out from (line ∷ []) ≡ line.names ∷ []
       → FitsTold (length (kinds from [])) (is_ready from []) line.event line.told line.names
       → ((i : ℕ) → is_poll_of i line.event line.told ≡ false) → started line.event line.told ≡ []
-      → IsCovered from → Steps same_name true from.core call r line.names core
+      → IsCovered from → Does same_name true from.core (record { call = call; reply = r }) line.names core
       → Drives is_clone from (line ∷ []) (record { core = core; tasks = wake_each line.names from.tasks })
   called is_clone from core line call r is_history is_handed fits no_poll no_start covered answers =
       let kinds_stay = kinds-wake_each line.names from.tasks in
       record {
         legal = (fits, tt);
-        core_leads = up_to_clones is_clone same_name true from.core core (history from (line ∷ [])) (handed_out from (line ∷ [])) (rw (is_history, is_handed) answers);
+        core_leads = up_to_clones is_clone same_name true from.core core (history from (line ∷ [])) (handed_out from (line ∷ [])) (rw (is_history, is_handed) (model_of same_name true from.core core call r line.names answers));
         kinds_are = kinds_stay ∙ (sym (append-nil (map (λ task. task.kind) from.tasks)) ∙ ap (λ new. map (λ task. task.kind) from.tasks ++ new) (sym no_start));
         done_is = λ i. rw (no_poll i) (ap is_done_mark (mark-wake_each line.names from.tasks i) ∙ done_woken (is_named i line.names) (mark_at from.tasks i));
         waits_is = λ i. rw (no_poll i) (ap waits_mark (mark-wake_each line.names from.tasks i) ∙ waits_woken (is_named i line.names) (mark_at from.tasks i));
@@ -150,7 +146,7 @@ module _ {T : Type 0} where
       (event : Event T (Option T → Option T)) (told : Told T) (call : Kept T Named) (r : Reply T)
       → call_of (map (λ task. task.kind) from.tasks) from.core.cell event ≡ Some call → reply_of told ≡ Some r
       → ((i : ℕ) → is_poll_of i event told ≡ false) → started event told ≡ [] → ((count : ℕ) (ready : ℕ → Bool) (names : List Named) → FitsTold count ready event told names)
-      → IsCovered from → Steps same_name true from.core call r names core → tasks ≡ wake_each names from.tasks
+      → IsCovered from → Does same_name true from.core (record { call = call; reply = r }) names core → tasks ≡ wake_each names from.tasks
       → Drives is_clone old (line_of old event told ∷ []) (record { core = core; tasks = tasks })
   call_drives is_clone from old same core tasks names event told call r is_call is_reply no_poll no_start fits covered answers tasks_are =
       let e : Entry T Named = record { call = call; reply = r } in
@@ -169,25 +165,25 @@ module _ {T : Type 0} where
 
   -- a call that does not wait adds no name, and each that stays in the list is that of a task that
   -- is not woken
-  waiting_after : (from to : State T Named) (call : Kept T Named) (r : Reply T) (names : List Named) (tasks : List (Task T)) → is_pending r ≡ false → Steps same_name true from call r names to
+  waiting_after : (from to : State T Named) (call : Kept T Named) (r : Reply T) (names : List Named) (tasks : List (Task T)) → is_pending r ≡ false → Does same_name true from (record { call = call; reply = r }) names to
       → AllWaiting (record { core = from; tasks = tasks }) → AllWaiting (record { core = to; tasks = wake_each names tasks })
   waiting_after from to call r names tasks silent answers waiting_all i named =
       let e : Entry T Named = record { call = call; reply = r } in
-      let there : is_named i (waiting same_name from (e ∷ [])) ≡ true = ap (is_named i) (sym answers.waiting_is) ∙ named in
+      let there : is_named i (waiting same_name from (e ∷ [])) ≡ true = ap (is_named i) (sym (model_of same_name true from to call r names answers).waiting_is) ∙ named in
       let before = named_before (ends_waiting from.cell (next from.cell e)) from.waiting e i (silent_entry call r silent) there in
       let unnamed : is_named i names ≡ false = unnamed_by (ends_waiting from.cell (next from.cell e)) from.waiting names i (names_are from to call r names answers) before.0 in
       mark-wake_each names tasks i ∙ (ap (λ (woken : Bool). woken_if woken (mark_at tasks i)) unnamed ∙ waiting_all i before.1)
 
   pub covered_called : (from : DriverState T) (core : State T Named) (tasks : List (Task T)) (names : List Named) (call : Kept T Named) (r : Reply T) → is_pending r ≡ false → IsCovered from
-      → Steps same_name true from.core call r names core → tasks ≡ wake_each names from.tasks → IsCovered (record { core = core; tasks = tasks })
+      → Does same_name true from.core (record { call = call; reply = r }) names core → tasks ≡ wake_each names from.tasks → IsCovered (record { core = core; tasks = tasks })
   covered_called from core tasks names call r silent covered answers tasks_are =
       subst (λ (ts : List (Task T)). IsCovered (record { core = core; tasks = ts })) (sym tasks_are)
       (named_after from.core core call r names from.tasks answers covered.0, waiting_after from.core core call r names from.tasks silent answers covered.1)
 
   -- a reply that gives a value is the model's
-  pub value_is : (from to : State T Named) (call : Kept T Named) (value : Option T) (names : List Named) → Steps same_name true from call (reply.Value value) names to → reply.Value value ≡ model_reply from.cell call
+  pub value_is : (from to : State T Named) (call : Kept T Named) (value : Option T) (names : List Named) → Does same_name true from (record { call = call; reply = reply.Value value }) names to → reply.Value value ≡ model_reply from.cell call
   value_is from to call value names answers =
-      elim answers.legal.0.replied [ inl is ↦ is | inr refused ↦ let no = refused.0 in cc ]
+      elim answers.replied [ inl is ↦ is | inr refused ↦ let no = refused.0 in cc ]
 
   held_vacant : (c : Cell T) (value : T) (unused : Option T) → is_vacant c ≡ true
       → content (next {W = Named} c (record { call = kept.OrSet value; reply = reply.Value unused })) ≡ Some value
@@ -197,7 +193,7 @@ module _ {T : Type 0} where
 
   -- a value that is offered to a vacant cell is held
   pub offer_holds : (from to : State T Named) (value : T) (unused : Option T) (names : List Named)
-      → Steps same_name true from (kept.OrSet value) (reply.Value unused) names to → is_vacant from.cell ≡ true → content to.cell ≡ Some value
+      → Does same_name true from (record { call = kept.OrSet value; reply = reply.Value unused }) names to → is_vacant from.cell ≡ true → content to.cell ≡ Some value
   offer_holds from to value unused names answers vacant = ap content answers.cell_is ∙ held_vacant from.cell value unused vacant
 
   left_full : (c : Cell T) (value : T) (unused : Option T) → is_full c ≡ true
@@ -208,7 +204,7 @@ module _ {T : Type 0} where
 
   -- a value that is offered to a full cell leaves it as it was
   pub offer_leaves : (from to : State T Named) (value : T) (unused : Option T) (names : List Named)
-      → Steps same_name true from (kept.OrSet value) (reply.Value unused) names to → is_full from.cell ≡ true → to.cell ≡ from.cell
+      → Does same_name true from (record { call = kept.OrSet value; reply = reply.Value unused }) names to → is_full from.cell ≡ true → to.cell ≡ from.cell
   offer_leaves from to value unused names answers full = answers.cell_is ∙ left_full from.cell value unused full
 
   sole_closes : (c : Cell T) (value : Option T) → owners_of c ≡ 1 → is_closed (next {W = Named} c (record { call = kept.EndOwner; reply = reply.Value value })) ≡ true
@@ -225,5 +221,5 @@ module _ {T : Type 0} where
   update_refused_is (Open value owners) d edit not_open same = absurd (not_open refl)
 
   -- the last end closes the cell
-  pub last_closes : (from to : State T Named) (value : Option T) (names : List Named) → Steps same_name true from kept.EndOwner (reply.Value value) names to → owners_of from.cell ≡ 1 → is_closed to.cell ≡ true
+  pub last_closes : (from to : State T Named) (value : Option T) (names : List Named) → Does same_name true from (record { call = kept.EndOwner; reply = reply.Value value }) names to → owners_of from.cell ≡ 1 → is_closed to.cell ≡ true
   last_closes from to value names answers sole = ap is_closed answers.cell_is ∙ sole_closes from.cell value sole

@@ -1,6 +1,7 @@
 ghost use Rattle.std.specs.Prelude.{◌≡◌, ◌≢◌, ◌≤◌, ℕ, [], length, true, false, Some, None, Ok, ◌↔◌, IsTrue, IsOk, IfOk, IfErr, OnOk, OnErr, MatchOption};
 ghost use Rattle.async_cell_model.specs.Cell.{content, is_closed, is_vacant};
-ghost use Rattle.async_cell_model.specs.Legal.{StepsUpTo, may_refuse};
+ghost use Rattle.async_cell_model.specs.Legal.{may_refuse};
+ghost use Rattle.async_cell_model.specs.Machine.{DoesUpTo};
 ghost use Rattle.async_cell_model.specs.Refusal.{FailsWithMemory};
 ghost use Rattle.async_cell_core.specs.Polled.{IsCloneOf, IsReadyWith, poll_reply};
 ghost use Rattle.async_cell_driver.specs.DriverState.{is_named, kind_at};
@@ -173,15 +174,15 @@ impl<T: Clone> Driver<T> {
 
 /// Polls the core for a task of this kind, whose name does not wait. So a poll that has to wait
 /// adds it without a look at those that do.
-#[tactic(auto, using(crate::proofs::PolledTask::sure_anyway, async_cell_model::proofs::UpTo::up_to_clones))]
+#[tactic(auto, using(crate::proofs::PolledTask::sure_anyway, async_cell_model::proofs::Machine::does_up_to))]
 fn ask<T: Clone>(
     core: &mut Core<T, Named>,
     kind: Kind,
     name: Named,
 ) -> Result<Poll<Option<T>>, Refusal>
     requires { is_named name.0 core.old.waiting ≡ false }
-    ensures model { StepsUpTo same_name true T.is_clone core.old
-        (poll_of (Some kind) name.0) (poll_reply result) [] core.new }
+    ensures model { DoesUpTo same_name true T.is_clone core.old
+        (record { call = poll_of (Some kind) name.0; reply = poll_reply result }) [] core.new }
     ensures refused { IfErr result (λ why. (why ≡ Refusal.Memory)
         × (core.new.cell ≡ core.old.cell) × (core.new.waiting ≡ core.old.waiting)) }
     ensures waiting { IfOk result (λ polled.

@@ -1,3 +1,4 @@
+pub mod Added
 pub mod ClosedState
 pub mod CoveredWakers
 pub mod JoinedHistories

@@ -8,7 +8,7 @@ use Rattle.async_cell_latest.specs.Step.{PollChanged, Pending, Shown, Ended, rep
 use Rattle.async_cell_latest.specs.History.{Runs}
 use Rattle.futures.specs.declared.task.Poll.TheVariants as poll
 
-same_version : (n : ℕ) → nat_eq n n ≡ true
+pub same_version : (n : ℕ) → nat_eq n n ≡ true
 same_version n = grind (arith, nat_tests)
 
 -- what is ready need not wait

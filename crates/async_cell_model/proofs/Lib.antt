@@ -2,6 +2,7 @@ pub mod Exact
 pub mod JoinedHistory
 pub mod LegalHistories
 pub mod Once
+pub mod Machine
 pub mod OneEntry
 pub mod OneMoreEntry
 pub mod OneMoreWaker

@@ -2,6 +2,7 @@ pub mod Cell
 pub mod Clones
 pub mod History
 pub mod Legal
+pub mod Machine
 pub mod Refusal
 pub mod Step
 pub mod Taken

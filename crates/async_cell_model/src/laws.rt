@@ -4,10 +4,13 @@
 ghost use Rattle.std.specs.Prelude.{◌≡◌, ◌↔◌, ◌<◌, ◌≤◌, ◌-◌, ◌++◌, ◌∷◌, [], List, length, Bool, Some, true, false, not, filter, option_to_list, if◌then◌else◌};
 ghost use Rattle.std.specs.List.{list_any};
 ghost use Rattle.async_cell_model.specs.declared.entry.Entry.{Entry};
+ghost use Rattle.async_cell_model.specs.declared.entry.Kept.{Kept};
+ghost use Rattle.async_cell_model.specs.declared.reply.Reply.{Reply};
 ghost use Rattle.async_cell_model.specs.Cell.{is_vacant, content, ends_waiting};
 ghost use Rattle.async_cell_model.specs.Clones.{IsExact, copies};
 ghost use Rattle.async_cell_model.specs.History.{State, History, IsSound, cell_after, waiting, room, after, has_fill_or_close, pending_waker};
-ghost use Rattle.async_cell_model.specs.Legal.{IsLegal, IsLegalUpTo, Runs, RunsUpTo};
+ghost use Rattle.async_cell_model.specs.Legal.{IsLegal, IsLegalUpTo, Runs, RunsUpTo, StepsUpTo};
+ghost use Rattle.async_cell_model.specs.Machine.{DoesUpTo};
 ghost use Rattle.async_cell_model.specs.Step.{next, is_refused};
 ghost use Rattle.async_cell_model.specs.WaitList.{IsCovered, wait_list, skips};
 ghost use Rattle.async_cell_model.specs.Taken.{IsDistinct, IsSubsequence, has_update, brought, given};
@@ -193,4 +196,19 @@ pub fn with_exact_clones_a_history_is_exact<T: Clone, W>()
     ensures legal_up_to_clones { (will_wake : W → W → Bool) (sure : Bool)
         (b : State T W) (h : History T W)
         → IsLegal will_wake sure b h → IsLegalUpTo will_wake sure T.is_clone b h }
+{}
+
+/// The machine is the model: a step that is read off a history of one entry is what the machine
+/// does, and the other way round.
+pub fn a_step_is_the_machines<T: Clone, W>()
+    ensures machine { (will_wake : W → W → Bool) (sure : Bool) (from to : State T W)
+        (call : Kept T W) (answer : Reply T) (woken : List W)
+        → StepsUpTo will_wake sure T.is_clone from call answer woken to
+        → DoesUpTo will_wake sure T.is_clone
+        from (record { call = call; reply = answer }) woken to }
+    ensures model { (will_wake : W → W → Bool) (sure : Bool) (from to : State T W)
+        (call : Kept T W) (answer : Reply T) (woken : List W)
+        → DoesUpTo will_wake sure T.is_clone
+        from (record { call = call; reply = answer }) woken to
+        → StepsUpTo will_wake sure T.is_clone from call answer woken to }
 {}

@@ -1,5 +1,5 @@
 -- What one call on a core says of the entry that is kept of it.
-use Rattle.std.proofs.Common.{◌≡◌, inl, inr, Bool, true, false, List, [], ◌∷◌, Option, Some, None, refl, ap, ◌∙◌, append-nil}
+use Rattle.std.proofs.Common.{◌≡◌, inl, inr, Bool, true, false, List, [], ◌∷◌, Option, Some, None, refl, ap, ◌∙◌}
 use Rattle.async_cell_model.specs.declared.cell.Cell.{Cell}
 use Rattle.async_cell_model.specs.declared.cell.Cell.TheVariants.{Closed, Open}
 use Rattle.async_cell_model.specs.declared.entry.Entry.{Entry}
@@ -9,9 +9,8 @@ use Rattle.async_cell_model.specs.declared.reply.Reply.{Reply}
 use Rattle.async_cell_model.specs.declared.reply.Reply.TheVariants as replied
 use Rattle.async_cell_model.specs.Cell.{content, ends_waiting}
 use Rattle.async_cell_model.specs.Step.{is_memory, reply, next}
-use Rattle.async_cell_model.specs.WaitList.{wait_list}
-use Rattle.async_cell_model.specs.History.{State, is_pending, waiting}
-use Rattle.async_cell_model.specs.Legal.{Steps}
+use Rattle.async_cell_model.specs.History.{State, is_pending}
+use Rattle.async_cell_model.specs.Machine.{Does}
 use Rattle.async_cell_core.specs.declared.call.Call.{Call}
 use Rattle.async_cell_core.specs.declared.call.Call.TheVariants.{Set, OrSet, Replace, Update, UpdateSome, TryTake, TryGet, IsSet, PollTake, PollGet, AddOwner, EndOwner, TakeInner}
 use Rattle.async_cell_core.specs.Kept.{kept_call}
@@ -37,8 +36,8 @@ module _ {T : Type 0} where
 
 module _ {T W : Type 0} where
   -- a copy that was got is the content
-  pub got_content : (will_wake : W → W → Bool) (sure : Bool) (at to : State T W) (v : Option T) (woken : List W) → Steps will_wake sure at kept.TryGet (replied.Value v) woken to → v ≡ content at.cell
-  got_content will_wake sure at to v woken one = elim one.legal.0.replied [
+  pub got_content : (will_wake : W → W → Bool) (sure : Bool) (at to : State T W) (v : Option T) (woken : List W) → Does will_wake sure at (record { call = kept.TryGet; reply = replied.Value v }) woken to → v ≡ content at.cell
+  got_content will_wake sure at to v woken one = elim one.replied [
     | inl same ↦ got_at W at.cell v same
     | inr refused ↦ let no = refused.0 in cc
   ]
@@ -47,15 +46,12 @@ module _ {T W : Type 0} where
   stays Closed e memory = refl
   stays (Open value owners) e memory = rw memory refl
 
-  same_wait : (will_wake : W → W → Bool) (at : State T W) (e : Entry T W) → wait_list will_wake at.waiting ≡ at.waiting → is_memory e.reply ≡ true → waiting will_wake at (e ∷ []) ≡ at.waiting
-  same_wait will_wake at e kept memory = rw (stays at.cell e memory, no_end at.cell, not_pending e.reply memory, append-nil) kept
-
   -- a call that found no memory leaves the cell, and those that wait, as they were
-  pub refused_unchanged : (will_wake : W → W → Bool) (sure : Bool) (at to : State T W) (call : Kept T W) (r : Reply T) (woken : List W) → is_memory r ≡ true → Steps will_wake sure at call r woken to
+  pub refused_unchanged : (will_wake : W → W → Bool) (sure : Bool) (at to : State T W) (call : Kept T W) (r : Reply T) (woken : List W) → is_memory r ≡ true → Does will_wake sure at (record { call = call; reply = r }) woken to
       → (to.cell ≡ at.cell) × (to.waiting ≡ at.waiting)
   refused_unchanged will_wake sure at to call r woken memory one =
       let e : Entry T W = record { call = call; reply = r } in
-      (one.cell_is ∙ stays at.cell e memory, one.waiting_is ∙ same_wait will_wake at e one.sound.kept memory)
+      (one.cell_is ∙ stays at.cell e memory, one.waiting_is ∙ (rw (one.cell_is, stays at.cell e memory, no_end at.cell, not_pending r memory) refl))
 
 module _ {T W E : Type 0} (edit : E → Option T → Option T) (edit_some : E → T → T) where
   abbrev after_call : Cell T → Call T W E → Reply T → Cell T
@@ -83,5 +79,5 @@ module _ {T W E : Type 0} (edit : E → Option T → Option T) (edit_some : E �
 
   -- so the entry is that of the call
   pub kept_made : (will_wake : W → W → Bool) (sure : Bool) (at to : State T W) (call : Call T W E) (r : Reply T) (woken : List W) → is_memory r ≡ false
-      → Steps will_wake sure at (kept_call edit edit_some at.cell call) r woken to → kept_after (kept_before call (content at.cell)) (content to.cell) ≡ kept_call edit edit_some at.cell call
+      → Does will_wake sure at (record { call = kept_call edit edit_some at.cell call; reply = r }) woken to → kept_after (kept_before call (content at.cell)) (content to.cell) ≡ kept_call edit edit_some at.cell call
   kept_made will_wake sure at to call r woken found one = ap (λ (c : Cell T). kept_after (kept_before call (content at.cell)) (content c)) one.cell_is ∙ kept_same at.cell call r found

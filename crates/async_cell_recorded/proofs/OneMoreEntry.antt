@@ -8,9 +8,11 @@ use Rattle.async_cell_model.specs.declared.cell.Cell.{Cell}
 use Rattle.async_cell_model.specs.declared.entry.Entry as model
 use Rattle.async_cell_model.specs.Step.{is_memory, reply}
 use Rattle.async_cell_model.specs.History.{State, History, IsSound, has_fill_or_close, after}
-use Rattle.async_cell_model.specs.Legal.{IsLegal, wakes, wakes_after, Runs, Steps}
+use Rattle.async_cell_model.specs.Legal.{IsLegal, wakes, wakes_after, Runs}
+use Rattle.async_cell_model.specs.Cell.{ends_waiting}
+use Rattle.async_cell_model.specs.Machine.{Does}
 use Rattle.async_cell_model.proofs.LegalHistories.{Runs-join}
-use Rattle.async_cell_model.proofs.Whole.{after-nil}
+use Rattle.async_cell_model.proofs.Machine.{model_of}
 use Rattle.async_cell_recorded.specs.declared.entry.Entry.{Entry}
 use Rattle.async_cell_recorded.specs.Recording.{Recording, IsRecorded, plain_entry, made_by, start, state}
 use Rattle.async_cell_wakers.specs.Named.{same_name}
@@ -62,12 +64,11 @@ module _ {T : Type 0} where
     handed : woken ≡ wakes (state r) (plain_entry e)
 
   more : (r : Recording T) (core core' : State T Named) (e : Entry T) (woken : List Named) → IsRecorded r → core.cell ≡ (state r).cell → core.waiting ≡ (state r).waiting
-      → is_memory e.reply ≡ false → IsNext r e → Steps same_name true core e.call e.reply woken core' → More r core' e woken
+      → is_memory e.reply ≡ false → IsNext r e → Does same_name true core (record { call = e.call; reply = e.reply }) woken core' → More r core' e woken
   more r core core' e woken recorded cell_is waiting_is found next one =
-      let both = Runs-join same_name true (start r.begin) core core' (map plain_entry r.entries) (plain_entry e ∷ []) _ (woken ∷ []) (leads r core recorded cell_is waiting_is) one in
+      let both = Runs-join same_name true (start r.begin) core core' (map plain_entry r.entries) (plain_entry e ∷ []) _ (woken ∷ []) (leads r core recorded cell_is waiting_is) (model_of same_name true core core' e.call e.reply woken one) in
       let grown : map plain_entry r.entries ++ plain_entry e ∷ [] ≡ map plain_entry (r.entries ++ e ∷ []) = sym (plain-snoc r.entries e) in
-      let first : woken ≡ wakes (after same_name core []) (plain_entry e) = let handed = one.wakes_are in cc in
-      let same : after same_name core [] ≡ core = after-nil (λ (a b : T). a ≡ b) same_name true core one.sound.kept in
+      let first : woken ≡ wakes core (plain_entry e) = one.woken_are ∙ ap (λ (c : Cell T). if ends_waiting core.cell c then core.waiting else []) one.cell_is in
       record {
         recorded = record {
           owned = recorded.owned;
@@ -78,7 +79,7 @@ module _ {T : Type 0} where
         };
         cell_is = both.cell_is ∙ ap (λ (h : History T Named). (after same_name (start r.begin) h).cell) grown;
         waiting_is = both.waiting_is ∙ ap (λ (h : History T Named). (after same_name (start r.begin) h).waiting) grown;
-        handed = first ∙ (ap (λ (at : State T Named). wakes at (plain_entry e)) same ∙ wakes_same core (state r) (plain_entry e) cell_is waiting_is);
+        handed = first ∙ wakes_same core (state r) (plain_entry e) cell_is waiting_is;
       }
 
 module _ {T : Type 0} (test : Test T) where
@@ -91,7 +92,7 @@ module _ {T : Type 0} (test : Test T) where
 
   -- the history is longer by an entry, and passes the test once more where the answer does
   pub journal_more : (r : Recording T) (core core' : State T Named) (counted : Totals) (e : Entry T) (woken : List Named) → IsJournal test r core counted → is_memory e.reply ≡ false → IsNext r e
-      → Steps same_name true core e.call e.reply woken core'
+      → Does same_name true core (record { call = e.call; reply = e.reply }) woken core'
       → IsJournal test (longer r e) core' (record { calls = counted.calls + 1; picked = counted.picked + from_bool (test e woken); next_serials = slice_set counted.next_serials e.share (e.serial + 1) })
   journal_more r core core' counted e woken journal found next one =
       let m = more r core core' e woken journal.recorded journal.cell_is journal.waiting_is found next one in
@@ -121,8 +122,8 @@ module _ {T : Type 0} (test : Test T) where
 
 -- the reply is the model's
 pub step_replies : {T : Type 0} (test : Test T) (r : Recording T) (core core' : State T Named) (counted : Totals) (e : Entry T) (woken : List Named) → IsJournal test r core counted → is_memory e.reply ≡ false
-    → Steps same_name true core e.call e.reply woken core' → e.reply ≡ reply (state r).cell e.call
-step_replies {T} test r core core' counted e woken journal found one = elim one.legal.0.replied [
+    → Does same_name true core (record { call = e.call; reply = e.reply }) woken core' → e.reply ≡ reply (state r).cell e.call
+step_replies {T} test r core core' counted e woken journal found one = elim one.replied [
   | inl same ↦ same ∙ ap (λ (c : Cell T). reply c e.call) journal.cell_is
   | inr refused ↦ let memory : is_memory e.reply ≡ true = rw refused.0 refl in cc
 ]

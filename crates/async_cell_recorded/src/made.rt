@@ -2,7 +2,7 @@
 ghost use Rattle.std.specs.Prelude.{◌≡◌, true, false, IfOk, OnErr};
 ghost use Rattle.async_cell_model.specs.Cell.{content};
 ghost use Rattle.async_cell_model.specs.Step.{is_memory};
-ghost use Rattle.async_cell_model.specs.Legal.{Steps};
+ghost use Rattle.async_cell_model.specs.Machine.{Does};
 ghost use Rattle.async_cell_core.specs.Kept.{kept_call};
 ghost use Rattle.async_cell_wakers.specs.Named.{same_name};
 ghost use Rattle.async_cell_recorded.specs.Keeping.{kept_before, kept_after};
@@ -61,7 +61,8 @@ pub(crate) fn make<T: Copy, E: Edit<T> + Drop>(
     ensures kept { IfOk result (λ made.
         made.0.call ≡ kept_call E.edit E.edit_some core.old.cell call) }
     ensures model { IfOk result (λ made.
-        Steps same_name true core.old made.0.call made.0.reply made.1 core.new) }
+        Does same_name true core.old (record { call = made.0.call; reply = made.0.reply })
+        made.1 core.new) }
     ensures answered { IfOk result (λ made. is_memory made.0.reply ≡ false) }
     ensures unchanged { OnErr result
         ((core.new.cell ≡ core.old.cell) × (core.new.waiting ≡ core.old.waiting)) }

@@ -10,10 +10,11 @@ use Rattle.async_cell_wakers.specs.declared.named.Named.{Named}
 use Rattle.async_cell_model.specs.declared.entry.Entry.{Entry}
 use Rattle.async_cell_model.specs.declared.entry.Kept.{Kept}
 use Rattle.async_cell_model.specs.declared.reply.Reply.{Reply}
+use Rattle.async_cell_model.specs.Cell.{ends_waiting}
 use Rattle.async_cell_model.specs.WaitList.{wait_list, skips}
 use Rattle.async_cell_model.proofs.OneMoreWaker.{wait_list-one}
-use Rattle.async_cell_model.specs.History.{State, IsSound, has_fill_or_close, is_pending, waker_of, pending_waker}
-use Rattle.async_cell_model.specs.Legal.{Steps}
+use Rattle.async_cell_model.specs.History.{State, IsSound, is_pending, waker_of, pending_waker}
+use Rattle.async_cell_model.specs.Machine.{Does}
 use Rattle.cellrun.specs.Names.{KnowsNames}
 
 -- where nobody waits, any names will do
@@ -69,11 +70,6 @@ pub polled : (from : State ℤ Named) (after : List Named) (names : BTreeSet ℕ
 polled from after names all name known sound has is =
     polled_by (skips same_name from.waiting (record { 0 = name })) from.waiting after names all name known has (is ∙ wait_list-one same_name from.waiting (record { 0 = name }) sound.kept)
 
-waiting_by : (ends : Bool) (waiting : List Named) (e : Entry ℤ Named) → pending_waker e ≡ None → wait_list same_name waiting ≡ waiting
-    → wait_list same_name ((if ends then [] else waiting) ++ filter_map pending_waker (if ends then [] else e ∷ [])) ≡ (if ends then [] else waiting)
-waiting_by true waiting e none kept = refl
-waiting_by false waiting e none kept = rw (none, append-nil waiting) kept
-
 kept_by : (ends : Bool) (waiting after : List Named) (names : BTreeSet ℕ) (all : Bool) → after ≡ (if ends then [] else waiting) → KnowsNames waiting names all → KnowsNames after names all
 kept_by true waiting after names all is known = nobody after names all is
 kept_by false waiting after names all is known = rw is known
@@ -84,19 +80,17 @@ none_by false waker none = refl
 
 -- a call that adds nobody
 nobody_added : (from to : State ℤ Named) (call : Kept ℤ Named) (reply : Reply ℤ) (woken : List Named) (names : BTreeSet ℕ) (all : Bool)
-    → Steps same_name true from call reply woken to → pending_waker (record { call = call; reply = reply }) ≡ None
+    → Does same_name true from (record { call = call; reply = reply }) woken to → pending_waker (record { call = call; reply = reply }) ≡ None
     → KnowsNames from.waiting names all → KnowsNames to.waiting names all
 nobody_added from to call reply woken names all steps none known =
-    let e : Entry ℤ Named = record { call = call; reply = reply } in
-    let ends = has_fill_or_close from.cell (e ∷ []) in
-    kept_by ends from.waiting to.waiting names all (steps.waiting_is ∙ waiting_by ends from.waiting e none steps.sound.kept) known
+    kept_by (ends_waiting from.cell to.cell) from.waiting to.waiting names all (rw none at steps.waiting_is) known
 
 -- a call that is no poll
 pub no_poll : (from to : State ℤ Named) (call : Kept ℤ Named) (reply : Reply ℤ) (woken : List Named) (names : BTreeSet ℕ) (all : Bool)
-    → KnowsNames from.waiting names all → Steps same_name true from call reply woken to → waker_of call ≡ None → KnowsNames to.waiting names all
+    → KnowsNames from.waiting names all → Does same_name true from (record { call = call; reply = reply }) woken to → waker_of call ≡ None → KnowsNames to.waiting names all
 no_poll from to call reply woken names all known steps none = nobody_added from to call reply woken names all steps (none_by (is_pending reply) (waker_of call) none) known
 
 -- a poll that did not have to wait
 pub not_pending : (from to : State ℤ Named) (call : Kept ℤ Named) (reply : Reply ℤ) (woken : List Named) (names : BTreeSet ℕ) (all : Bool)
-    → KnowsNames from.waiting names all → Steps same_name true from call reply woken to → is_pending reply ≡ false → KnowsNames to.waiting names all
+    → KnowsNames from.waiting names all → Does same_name true from (record { call = call; reply = reply }) woken to → is_pending reply ≡ false → KnowsNames to.waiting names all
 not_pending from to call reply woken names all known steps none = nobody_added from to call reply woken names all steps (rw none refl) known

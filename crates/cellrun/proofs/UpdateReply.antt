@@ -13,7 +13,7 @@ use Rattle.async_cell_model.specs.declared.refusal.Refusal.TheVariants as refusa
 use Rattle.async_cell_model.specs.Cell.{content, is_closed, owners_of}
 use Rattle.async_cell_model.specs.Step.{reply}
 use Rattle.async_cell_model.specs.History.{State}
-use Rattle.async_cell_model.specs.Legal.{Steps}
+use Rattle.async_cell_model.specs.Machine.{Does}
 use Rattle.async_cell_core.specs.IsStep.{update_answer}
 use Rattle.cellrun.specs.CallPrints.{kept_update, kept_update_some, reply_text, refusal_text, end_text, done_text}
 use Rattle.async_cell_wakers.specs.Named.{same_name}
@@ -41,9 +41,9 @@ own_reply Closed call saw put why h is e =
 own_reply (Open value owners) call saw put why h is e = absurd (h refl)
 
 -- an update is refused because the cell is closed
-pub refused_closed : (from to : State ℤ Named) (why : Refusal) → (is_closed from.cell ≡ false → ⊥) → Steps same_name true from (kept.Update (content from.cell) (content to.cell)) (Refused why None) [] to → why ≡ refusal.Closed
+pub refused_closed : (from to : State ℤ Named) (why : Refusal) → (is_closed from.cell ≡ false → ⊥) → Does same_name true from (record { call = kept.Update (content from.cell) (content to.cell); reply = Refused why None }) [] to → why ≡ refusal.Closed
 refused_closed from to why h steps =
-    elim steps.legal.0.replied [
+    elim steps.replied [
       | inl own ↦ own_reply from.cell (kept.Update (content from.cell) (content to.cell)) (content from.cell) (content to.cell) why h refl own
       | inr none ↦ let no = none.1 in absurd (cc no)
     ]
@@ -52,17 +52,17 @@ refused_closed from to why h steps =
 pub put_prints : (call : Command) (from to : State ℤ Named) (put : Option ℤ) (result : Result (List Named) Refusal) (woke : Option (List Named)) (before line : List ℕ)
     → ((owners : ℕ) → reply_text call Done owners ≡ codes "done")
     → ((why : Refusal) (owners : ℕ) → reply_text call (Refused why None) owners ≡ refusal_text why)
-    → Steps same_name true from (kept.Update (content from.cell) (content to.cell)) (update_answer {T = ℤ} result).reply (update_answer {T = ℤ} result).woken to
+    → Does same_name true from (record { call = kept.Update (content from.cell) (content to.cell); reply = (update_answer {T = ℤ} result).reply }) (update_answer {T = ℤ} result).woken to
     → OnOk result (content to.cell ≡ put)
     → OnErr result (to ≡ from)
     → (IsOk result ↔ (is_closed from.cell ≡ false))
     → woke ≡ result_ok result → before ≡ [] → line ≡ before ++ done_text woke
-    → (reply : Reply ℤ) × (woken : List Named) × Steps same_name true from (kept_update from.cell put) reply woken to × (line ≡ reply_text call reply (owners_of to.cell) ++ end_text woken)
+    → (reply : Reply ℤ) × (woken : List Named) × Does same_name true from (record { call = kept_update from.cell put; reply = reply }) woken to × (line ≡ reply_text call reply (owners_of to.cell) ++ end_text woken)
 put_prints call from to put (Ok woken) woke before line says refuses model called same opened is empty text =
     let h : is_closed from.cell ≡ false = opened.0 refl in (
       Done,
       woken,
-      subst (λ k. Steps same_name true from k Done woken to) (ap (λ p. kept.Update (content from.cell) p) called ∙ sym (updated from.cell put h)) model,
+      subst (λ k. Does same_name true from (record { call = k; reply = Done }) woken to) (ap (λ p. kept.Update (content from.cell) p) called ∙ sym (updated from.cell put h)) model,
       rw (text, is, empty, says (owners_of to.cell)) refl,
     )
 put_prints call from to put (Err why) woke before line says refuses model called same opened is empty text =
@@ -70,6 +70,6 @@ put_prints call from to put (Err why) woke before line says refuses model called
     let closed = refused_closed from to why h model in (
       Refused why None,
       [],
-      subst (λ k. Steps same_name true from k (Refused why None) [] to) (sym (not_updated from.cell to.cell put h (ap (λ s. s.cell) same))) model,
+      subst (λ k. Does same_name true from (record { call = k; reply = Refused why None }) [] to) (sym (not_updated from.cell to.cell put h (ap (λ s. s.cell) same))) model,
       rw (text, is, empty, refuses why (owners_of to.cell), closed) refl,
     )

@@ -14,7 +14,7 @@ use Rattle.async_cell_model.specs.declared.refusal.Refusal.{Refusal}
 use Rattle.async_cell_model.specs.declared.refusal.Refusal.TheVariants as why
 use Rattle.async_cell_model.specs.Cell.{content, is_closed, owners_of}
 use Rattle.async_cell_model.specs.History.{State}
-use Rattle.async_cell_model.specs.Legal.{Steps}
+use Rattle.async_cell_model.specs.Machine.{Does}
 use Rattle.futures.specs.declared.task.Poll.{Poll}
 use Rattle.futures.specs.declared.task.Poll.TheVariants as poll
 use Rattle.cellrun.specs.declared.command.Command.{Command}
@@ -113,10 +113,10 @@ reply_text call Pending owners = codes "pending"
 reply_text call (Ready value) owners = ready_text value
 reply_text call (Refused why back) owners = refusal_text why
 
--- The call is a step of the model between these two cells, and the line is its reply and the wakers
+-- The machine does the call between these two cells, and the line is its reply and the wakers
 -- that it wakes. Of `debug` this says only that the cell stays as it was.
 abbrev pub CallPrints : State ℤ Named → Command → List ℕ → State ℤ Named → Type 0
 CallPrints from Debug line to = to ≡ from
 CallPrints from call line to = (reply : Reply ℤ) × (woken : List Named)
-    × Steps same_name true from (kept_call from.cell call) reply woken to
+    × Does same_name true from (record { call = kept_call from.cell call; reply = reply }) woken to
     × (line ≡ reply_text call reply (owners_of to.cell) ++ end_text woken)

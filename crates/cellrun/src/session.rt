@@ -2,7 +2,7 @@
 ghost use Rattle.std.specs.Prelude.{◌≡◌, [], true, false, OnOk};
 ghost use Rattle.std.specs.Ordering.{nat_cmp};
 ghost use Rattle.std.specs.BTreeSet.{contains};
-ghost use Rattle.async_cell_model.specs.Legal.{Steps};
+ghost use Rattle.async_cell_model.specs.Machine.{Does};
 ghost use Rattle.async_cell_model.specs.WaitList.{skips};
 ghost use Rattle.async_cell_wakers.specs.Named.{same_name};
 ghost use Rattle.async_cell_core.specs.Polled.{poll_reply};
@@ -109,8 +109,9 @@ impl Session {
     /// Polls for the value, to take it.
     #[tactic(auto, using(crate::proofs::Names::one_more, crate::proofs::Names::polled, crate::proofs::Names::not_pending))]
     fn poll_take(&mut self, name: u64) -> Result<Poll<Option<i64>>, Refusal>
-        ensures { Steps same_name true self.old.core
-            (Kept.PollTake (record { 0 = name })) (poll_reply result) [] self.new.core }
+        ensures { Does same_name true self.old.core
+            (record { call = Kept.PollTake (record { 0 = name }); reply = poll_reply result })
+            [] self.new.core }
     {
         if self.core.is_vacant() && self.is_new(name) {
             self.core.add_unique(&Named(name))?;
@@ -122,8 +123,9 @@ impl Session {
     /// Polls for a copy of the value.
     #[tactic(auto, using(crate::proofs::Names::one_more, crate::proofs::Names::polled))]
     fn poll_get(&mut self, name: u64) -> Result<Poll<Option<i64>>, Refusal>
-        ensures { Steps same_name true self.old.core
-            (Kept.PollGet (record { 0 = name })) (poll_reply result) [] self.new.core }
+        ensures { Does same_name true self.old.core
+            (record { call = Kept.PollGet (record { 0 = name }); reply = poll_reply result })
+            [] self.new.core }
     {
         if self.core.is_vacant() && self.is_new(name) {
             self.core.add_unique(&Named(name))?;

@@ -1,5 +1,5 @@
 //! The owners of a cell, and its end.
-ghost use Rattle.std.specs.Prelude.{◌≡◌, ◌↔◌, [], ◌+◌, ◌-◌, None, Err, true, false, IsOk, IfOk, OnOk, OnErr};
+ghost use Rattle.std.specs.Prelude.{◌≡◌, ◌↔◌, ◌⊎◌, [], ◌+◌, ◌-◌, None, Err, true, false, IsOk, IfOk, IfErr, OnOk, OnErr};
 ghost use Rattle.async_cell_model.specs.Cell.{content, owners_of, owners_limit, is_closed};
 ghost use Rattle.async_cell_core.specs.IsStep.{IsStep, done_answer, end_answer};
 
@@ -16,6 +16,8 @@ impl<T: Drop, W: Wakes> Core<T, W> {
         ensures if_closed { (result ≡ Err Refusal.Closed) ↔ (is_closed self.old.cell ≡ true) }
         ensures if_full { (result ≡ Err Refusal.OwnersFull)
             ↔ (owners_of self.old.cell ≡ owners_limit) }
+        ensures refused { IfErr result (λ why.
+            (why ≡ Refusal.Closed) ⊎ (why ≡ Refusal.OwnersFull)) }
         ensures counted { OnOk result (owners_of self.new.cell ≡ owners_of self.old.cell + 1) }
         ensures unchanged { OnErr result (self.new ≡ self.old) }
     {

@@ -1,7 +1,8 @@
 //! The places of waiting futures, and wakers that are never
 //! skipped.
-ghost use Rattle.std.specs.Prelude.{◌≡◌, ◌<◌, [], ◌∷◌, ◌++◌, true, false, IsOk, IfOk, IfErr, OnOk, OnErr, MatchOption};
+ghost use Rattle.std.specs.Prelude.{◌≡◌, ◌<◌, ◌≤◌, ◌-◌, [], ◌∷◌, ◌++◌, true, false, IsOk, IfOk, IfNone, IfErr, OnOk, OnErr, MatchOption};
 ghost use Rattle.async_cell_model.specs.Cell.{is_vacant};
+ghost use Rattle.async_cell_wakers.specs.Place.{displaced};
 ghost use Rattle.async_cell_core.specs.IsStep.{IsStep, wait_answer};
 
 use super::Core;
@@ -42,11 +43,20 @@ impl<T: Drop> Core<T, TaskWaker> {
     /// `add`, at a place: that of the waker from then on.
     #[doc(hidden)]
     #[inline(always)]
-    #[tactic(auto, using(async_cell_model::proofs::OneMoreWaker::keep_added, async_cell_model::proofs::OneMoreWaker::never_skipped))]
+    #[tactic(auto, using(async_cell_model::proofs::OneMoreWaker::keep_added, async_cell_model::proofs::OneMoreWaker::never_skipped, crate::proofs::Added::take_added, crate::proofs::Added::get_added))]
     pub fn store_new(&mut self, place: &mut Place, waker: TaskWaker) -> Result<(), TaskWaker>
         requires vacant { is_vacant self.old.cell ≡ true }
+        ensures take { IsStep ⟦<TaskWaker as Wakes>⟧
+            self.old (Kept.PollTake waker) (wait_answer result) self.new }
+        ensures get { IsStep ⟦<TaskWaker as Wakes>⟧
+            self.old (Kept.PollGet waker) (wait_answer result) self.new }
+
         ensures cell_stays { self.new.cell ≡ self.old.cell }
         ensures stored { OnOk result (self.new.waiting ≡ self.old.waiting ++ waker ∷ []) }
+        ensures takes_room { OnOk result (self.old.room - 1 ≤ self.new.room) }
+        ensures first_waits { self.old.waiting ≡ [] → IsOk result }
+        ensures room_suffices { 0 < self.old.room → IsOk result }
+        ensures place_stays { OnErr result (place.new ≡ place.old) }
         ensures unchanged { OnErr result (self.new ≡ self.old) }
     {
         self.waiting.store_new(place, waker)
@@ -74,10 +84,19 @@ impl<T: Drop> Core<T, TaskWaker> {
         waker: TaskWaker,
     ) -> Result<Option<TaskWaker>, TaskWaker>
         requires vacant { is_vacant self.old.cell ≡ true }
+        ensures take { IfNone (displaced result) (IsStep ⟦<TaskWaker as Wakes>⟧
+            self.old (Kept.PollTake waker) (wait_answer result) self.new) }
+        ensures get { IfNone (displaced result) (IsStep ⟦<TaskWaker as Wakes>⟧
+            self.old (Kept.PollGet waker) (wait_answer result) self.new) }
+
         ensures cell_stays { self.new.cell ≡ self.old.cell }
         ensures stored { IfOk result (λ before. MatchOption before
             (self.new.waiting ≡ self.old.waiting ++ waker ∷ [])
             (λ _. (self.new ≡ self.old) × (self.old.waiting ≡ [] → ⊥))) }
+        ensures takes_room { OnOk result (self.old.room - 1 ≤ self.new.room) }
+        ensures first_waits { self.old.waiting ≡ [] → IsOk result }
+        ensures room_suffices { 0 < self.old.room → IsOk result }
+        ensures place_stays { OnErr result (place.new ≡ place.old) }
         ensures unchanged { OnErr result (self.new ≡ self.old) }
     {
         self.waiting.store(place, waker)

@@ -99,7 +99,7 @@ impl<T: Clone, W: Wakes> Core<T, W> {
     /// Returns a clone of the value, if there is one. Fails with `Memory` if there is no memory for
     /// the clone. The reply is the model's up to clones, and exactly the model's if the type's
     /// clones are exact.
-    #[tactic(auto, using(crate::proofs::UpTo::get_cloned))]
+    #[tactic(auto, using(crate::proofs::UpTo::get_cloned, async_cell_model::proofs::Machine::does_up_to))]
     pub fn try_get(&self) -> Result<Option<T>, Refusal>
         ensures up_to_clones { IsStepUpTo T.is_clone W.Wakes
             self.now Kept.TryGet (get_answer result) self.now }
@@ -129,7 +129,7 @@ impl<T: Clone, W: Wakes> Core<T, W> {
     ///
     /// The reply is the model's up to clones. It is exactly the model's if the type's clones are
     /// exact or there is no value.
-    #[tactic(auto, using(crate::proofs::UpTo::poll_cloned, async_cell_model::proofs::UpTo::up_to_clones))]
+    #[tactic(auto, using(crate::proofs::UpTo::poll_cloned, async_cell_model::proofs::Machine::does_up_to))]
     pub fn poll_get(&mut self, waker: &W) -> Result<Poll<Option<T>>, Refusal>
         ensures up_to_clones { IsStepUpTo T.is_clone W.Wakes
             self.old (Kept.PollGet waker.now) (poll_answer result) self.new }

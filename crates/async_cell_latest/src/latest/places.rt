@@ -1,5 +1,6 @@
 //! Wakers by value, and the places of waiting futures.
-ghost use Rattle.std.specs.Prelude.{◌≡◌, ◌<◌, [], ◌∷◌, ◌++◌, true, false, IsOk, IfOk, IfErr, OnOk, OnErr, MatchOption};
+ghost use Rattle.std.specs.Prelude.{◌≡◌, ◌<◌, ◌≤◌, ◌-◌, [], ◌∷◌, ◌++◌, true, false, IsOk, IfOk, IfNone, IfErr, OnOk, OnErr, MatchOption};
+ghost use Rattle.async_cell_wakers.specs.Place.{displaced};
 ghost use Rattle.async_cell_latest.specs.State.{Stays, is_closed};
 ghost use Rattle.async_cell_latest.specs.Step.{PollChanged};
 ghost use Rattle.async_cell_latest.specs.IsStep.{IsStep, wait_answer};
@@ -43,11 +44,18 @@ impl<T: Drop> Latest<T, TaskWaker> {
     /// `add`, at a place: that of the waker from then on.
     #[doc(hidden)]
     #[inline(always)]
-    #[tactic(auto, using(async_cell_model::proofs::OneMoreWaker::keep_added, async_cell_model::proofs::OneMoreWaker::never_skipped))]
+    #[tactic(auto, using(async_cell_model::proofs::OneMoreWaker::keep_added, async_cell_model::proofs::OneMoreWaker::never_skipped, crate::proofs::Added::added))]
     pub fn store_new(&mut self, place: &mut Place, waker: TaskWaker) -> Result<(), TaskWaker>
         requires open { is_closed self.old ≡ false }
+        ensures model { IsStep ⟦<TaskWaker as Wakes>⟧ self.old
+            (PollChanged self.old.version waker) (wait_answer result) self.new }
+
         ensures state_stays { Stays self.old self.new }
         ensures stored { OnOk result (self.new.waiting ≡ self.old.waiting ++ waker ∷ []) }
+        ensures takes_room { OnOk result (self.old.room - 1 ≤ self.new.room) }
+        ensures first_waits { self.old.waiting ≡ [] → IsOk result }
+        ensures room_suffices { 0 < self.old.room → IsOk result }
+        ensures place_stays { OnErr result (place.new ≡ place.old) }
         ensures unchanged { OnErr result (self.new ≡ self.old) }
     {
         self.waiting.store_new(place, waker)
@@ -75,10 +83,17 @@ impl<T: Drop> Latest<T, TaskWaker> {
         waker: TaskWaker,
     ) -> Result<Option<TaskWaker>, TaskWaker>
         requires open { is_closed self.old ≡ false }
+        ensures model { IfNone (displaced result) (IsStep ⟦<TaskWaker as Wakes>⟧ self.old
+            (PollChanged self.old.version waker) (wait_answer result) self.new) }
+
         ensures state_stays { Stays self.old self.new }
         ensures stored { IfOk result (λ before. MatchOption before
             (self.new.waiting ≡ self.old.waiting ++ waker ∷ [])
             (λ _. (self.new ≡ self.old) × (self.old.waiting ≡ [] → ⊥))) }
+        ensures takes_room { OnOk result (self.old.room - 1 ≤ self.new.room) }
+        ensures first_waits { self.old.waiting ≡ [] → IsOk result }
+        ensures room_suffices { 0 < self.old.room → IsOk result }
+        ensures place_stays { OnErr result (place.new ≡ place.old) }
         ensures unchanged { OnErr result (self.new ≡ self.old) }
     {
         self.waiting.store(place, waker)

@@ -1,9 +1,12 @@
 //! The laws of exact histories, in which each reply is the model's own: values need no `Clone`.
 ghost use Rattle.std.specs.Prelude.{◌≡◌, ◌<◌, ◌++◌, ◌∷◌, [], List, Bool, Some, true, false, option_to_list, if◌then◌else◌};
 ghost use Rattle.async_cell_model.specs.declared.entry.Entry.{Entry};
+ghost use Rattle.async_cell_model.specs.declared.entry.Kept.{Kept};
+ghost use Rattle.async_cell_model.specs.declared.reply.Reply.{Reply};
 ghost use Rattle.async_cell_model.specs.Cell.{is_vacant, content, ends_waiting};
 ghost use Rattle.async_cell_model.specs.History.{State, History, IsSound, cell_after, waiting, room, after, has_fill_or_close, pending_waker};
-ghost use Rattle.async_cell_model.specs.Legal.{IsLegal, Runs};
+ghost use Rattle.async_cell_model.specs.Legal.{IsLegal, Runs, Steps};
+ghost use Rattle.async_cell_model.specs.Machine.{Does};
 ghost use Rattle.async_cell_model.specs.Step.{next, is_refused};
 ghost use Rattle.async_cell_model.specs.WaitList.{IsCovered, wait_list, skips};
 ghost use Rattle.async_cell_model.specs.Taken.{IsDistinct, IsSubsequence, has_update, brought, given};
@@ -124,4 +127,17 @@ pub fn a_fill_or_close_ends_all_waiting<T, W>()
         → Runs will_wake sure from (e ∷ []) woken to
         → ends_waiting from.cell (next from.cell e) ≡ false
         → woken ≡ [] ∷ [] }
+{}
+
+/// The machine is the model: a step that is read off a history of one entry is what the machine
+/// does, and the other way round.
+pub fn a_step_is_the_machines<T, W>()
+    ensures machine { (will_wake : W → W → Bool) (sure : Bool) (from to : State T W)
+        (call : Kept T W) (answer : Reply T) (woken : List W)
+        → Steps will_wake sure from call answer woken to
+        → Does will_wake sure from (record { call = call; reply = answer }) woken to }
+    ensures model { (will_wake : W → W → Bool) (sure : Bool) (from to : State T W)
+        (call : Kept T W) (answer : Reply T) (woken : List W)
+        → Does will_wake sure from (record { call = call; reply = answer }) woken to
+        → Steps will_wake sure from call answer woken to }
 {}

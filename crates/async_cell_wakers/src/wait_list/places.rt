@@ -1,7 +1,7 @@
 //! The places of futures in a wait list. A future takes its waker back from its place, and stores
 //! it again; one that is dropped leaves its place free, with the waker in it. The free places form
 //! a list: each has the number of the next one, counted from 1, beside its waker.
-ghost use Rattle.std.specs.Prelude.{◌≡◌, ◌<◌, ◌↔◌, [], ◌∷◌, ◌++◌, length, false, IsSome, IsOk, IfSome, IfOk, OnSome, OnOk, OnErr, IfNone, MatchOption};
+ghost use Rattle.std.specs.Prelude.{◌≡◌, ◌<◌, ◌≤◌, ◌-◌, ◌↔◌, [], ◌∷◌, ◌++◌, length, false, IsSome, IsOk, IfSome, IfOk, OnSome, OnOk, OnErr, IfNone, MatchOption};
 ghost use Rattle.async_cell_wakers.specs.Place.{Holds};
 
 use super::WaitList;
@@ -26,6 +26,9 @@ impl WaitList<TaskWaker> {
         ensures stored { OnOk result (self.new.wakers ≡ self.old.wakers ++ waker ∷ []) }
         ensures held { OnOk result (Holds self.new place.new) }
         ensures last { OnOk result (place.new.index ≡ length self.old.wakers) }
+        ensures takes_room { OnOk result (self.old.room - 1 ≤ self.new.room) }
+        ensures first_is_added { self.old.wakers ≡ [] → IsOk result }
+        ensures room_suffices { 0 < self.old.room → IsOk result }
         ensures places_stay { self.new.round ≡ self.old.round }
         ensures place_stays { OnErr result (place.new ≡ place.old) }
         ensures unchanged { OnErr result (self.new ≡ self.old) }
@@ -63,7 +66,11 @@ impl WaitList<TaskWaker> {
             (λ _. (self.new ≡ self.old) × (self.old.wakers ≡ [] → ⊥))) }
         ensures held { OnOk result (Holds self.new place.new) }
         ensures kept { Holds self.old place.old → IsOk result × (place.new ≡ place.old) }
+        ensures takes_room { OnOk result (self.old.room - 1 ≤ self.new.room) }
+        ensures first_is_added { self.old.wakers ≡ [] → IsOk result }
+        ensures room_suffices { 0 < self.old.room → IsOk result }
         ensures places_stay { self.new.round ≡ self.old.round }
+        ensures place_stays { OnErr result (place.new ≡ place.old) }
         ensures unchanged { OnErr result (self.new ≡ self.old) }
     {
         match self.claim(place) {

@@ -2,6 +2,7 @@ use Rattle.std.proofs.Common.{◌≡◌, [], arith, sym, ◌∙◌, append_assoc
 use Rattle.std.proofs.lemmas.List.{nil_from_length}
 use Rattle.std.specs.Vec.Iter.{into_iter_items}
 use Rattle.async_cell_model.specs.Legal.{UpToClones}
+use Rattle.async_cell_model.proofs.Machine.{model_up_to}
 use Rattle.async_cell_model.proofs.UpTo.{exact_told}
 use Rattle.async_cell_core.proofs.LongerRuns.{run_more, copied_more, copies_are}
 use Rattle.async_cell_core.proofs.runs.run.Goals as goal
@@ -13,7 +14,7 @@ loop-call-preserved g c =
       made = rw length-append (omega (arith, here.made, c.push_reserved.ensures.len));
       left = rw (append_assoc, ← step.0) here.left;
       space = omega (arith, here.space, step.1, c.push_reserved.ensures.len, c.push_reserved.ensures.capacity);
-      model = rw c.push_reserved.ensures.items (run_more g.E.Edit.edit g.E.Edit.edit_some (UpToClones g.T.Clone.is_clone) g.W.Wakes.will_wake g.W.Wakes.SURE_CLONE (λ a. a.reply) (λ a. a.woken) c.args.core.now c.loop-call.core c.step.new.core c.loop-call.yielded c.loop-call.answers.items c.in-Some.call c.step.result (omega (arith, here.made, c.loop-call.answers.ok.0)) here.model c.step.ensures.up_to_clones);
+      model = rw c.push_reserved.ensures.items (run_more g.E.Edit.edit g.E.Edit.edit_some (UpToClones g.T.Clone.is_clone) g.W.Wakes.will_wake g.W.Wakes.SURE_CLONE (λ a. a.reply) (λ a. a.woken) c.args.core.now c.loop-call.core c.step.new.core c.loop-call.yielded c.loop-call.answers.items c.in-Some.call c.step.result (omega (arith, here.made, c.loop-call.answers.ok.0)) here.model (model_up_to g.T.Clone.is_clone g.W.Wakes.will_wake g.W.Wakes.SURE_CLONE c.loop-call.core c.step.new.core _ _ _ c.step.ensures.up_to_clones));
       copied = rw c.push_reserved.ensures.items (copied_more g.E.Edit.edit g.E.Edit.edit_some g.T.Clone.is_clone g.T.Clone.is_infallible (λ a. a.reply) c.args.core.now.cell c.loop-call.core.cell c.loop-call.yielded c.loop-call.answers.items c.in-Some.call c.step.result (omega (arith, here.made, c.loop-call.answers.ok.0)) here.model.cell_is here.copied c.step.ensures.copies);
     }
 

@@ -1,4 +1,6 @@
-use Rattle.std.proofs.Common.{◌≡◌, [], false, refl, sym, ap, ◌∙◌}
+use Rattle.std.proofs.Common.{◌≡◌, [], true, false, refl, sym, ap, ◌∙◌}
+use Rattle.async_cell_model.proofs.Machine.{model_up_to}
+use Rattle.async_cell_wakers.specs.Named.{same_name}
 use Rattle.async_cell_driver.specs.Mark.{is_ready_mark}
 use Rattle.async_cell_driver.specs.DriverState.{DriverState, mark_at}
 use Rattle.async_cell_driver.specs.Log.{is_ready}
@@ -34,7 +36,7 @@ returns-clause-drives g c =
     let E = g.T.Clone.is_clone in
     poll_drives_as E at c.args.self.now c.self.view_is c.ask-asked.new.core c.set_mark.new.self c.args.i c.in-Some.kind c.ask-asked.result c.polled.result
     c.soundness-2.ensures c.self.invariant ready.0 ready.1
-    asked.model asked.refused asked.waiting (rw c.mark_of.ensures at c.set_mark.ensures) c.polled.ensures
+    (model_up_to E same_name true _ _ _ _ _ asked.model) asked.refused asked.waiting (rw c.mark_of.ensures at c.set_mark.ensures) c.polled.ensures
 
 pub returns-clause-results_stay : goal.returns-clause-results_stay
 returns-clause-results_stay g c j = rw (← c.self.view_is, c.set_mark.ensures) (results-marked c.mark_of.result c.args.i j c.self.inside.tasks)

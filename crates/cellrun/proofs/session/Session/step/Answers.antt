@@ -1,6 +1,6 @@
 use Rattle.std.proofs.Common.{◌≡◌, true, [], Some, None, OnOk, rules, refl, sym, ap, subst}
 use Rattle.async_cell_model.specs.Cell.{content}
-use Rattle.async_cell_model.specs.Legal.{Steps}
+use Rattle.async_cell_model.specs.Machine.{Does}
 use Rattle.async_cell_model.specs.declared.reply.Reply.TheVariants.{Refused}
 use Rattle.async_cell_wakers.specs.Named.{same_name}
 use Rattle.cellrun.specs.declared.command.Command.TheVariants.{UpdatePut, UpdateNone, UpdateKeep}
@@ -41,7 +41,7 @@ returns-in-Err c =
     (λ text. (
       Refused c.in-Err.why None,
       [],
-      subst (λ k. Steps same_name true c.args.self.now.core k (Refused c.in-Err.why None) [] c.update_some.new.self)
+      subst (λ k. Does same_name true c.args.self.now.core (record { call = k; reply = Refused c.in-Err.why None }) [] c.update_some.new.self)
           (sym (not_changed c.args.self.now.core.cell c.update_some.new.self.cell _ (λ k. cc (c.in-Err.ensures.if_open.1 k)) (ap (λ s. s.cell) c.in-Err.ensures.unchanged))) c.in-Err.ensures.model,
       rw (text, c.requires) refl,
     )))
