@@ -34,7 +34,6 @@ ROWS = {
     "unsync pair": ("pair", ALL[:1]),
     "sync pair": ("pair", ALL[:1]),
     "latest_sync": ("latest", ("watch", "fan", "again")),
-    "bare": ("cells", ALL[:4]),
     "oneshot of the kit": ("pair", ALL[:1]),
 }
 # The columns: title, operation, and how many wait at once.

@@ -74,9 +74,9 @@ def panel(column, bars, left):
     for at, (figure, row, whose) in enumerate(bars):
         y = TOP + 26 + at * STEP
         width = max(round(figure * (WIDTH - LABELS - 52) / bars[-1][0]), 1)
-        lines.append(text(left + LABELS, y + BAR - 1, row.replace("`", ""), "label"))
-        lines.append(rectangle(left + LABELS + 4, y, width, BAR, whose))
-        lines.append(text(left + LABELS + width + 8, y + BAR - 1, f"{figure:,}"))
+        lines.append(text(left + LABELS, y + BAR - 1, row.replace("`", ""), "label")
+                     + rectangle(left + LABELS + 4, y, width, BAR, whose)
+                     + text(left + LABELS + width + 8, y + BAR - 1, f"{figure:,}"))
     return lines
 
 

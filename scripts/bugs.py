@@ -1,9 +1,12 @@
 #!/usr/bin/env python3
 """Has the prover refuse the deliberate bugs of crates/NAME/bugs.txt.
 
+    bugs.py [CRATE..]   tries those of these crates, or of all
+    bugs.py --list      looks alone whether each can be applied, and each edit of must-fail/, which
+                        `rt ci` tries
+
 A bug is a line 'FILE: what it does', with the file below src/, and after it pairs of lines '- OLD'
-and '+ NEW': a text that stands in the file once, and what comes in its place. --list only looks
-whether each can be applied, and each edit of must-fail/, which `rt ci` tries.
+and '+ NEW': a text that stands in the file once, and what comes in its place.
 
 It works on a copy, with what `rt` has kept in out/: `rt all check` proves the crates there, and
 `rt check` tries them with bugs. A bug changes the body of one function and no contract, so bugs of
@@ -12,17 +15,13 @@ bug is refused if the prover complains of its function, at a line of it or in a 
 One of which a check says nothing, or that changes more than a body, is tried alone, where any
 complaint is about it. Prints a line for each bug, and last 'N passed, M failed'.
 """
-import argparse
 import glob
-import itertools
 import os
 import re
 import shutil
 import subprocess
 import sys
 import tempfile
-import threading
-import time
 from concurrent.futures import ThreadPoolExecutor
 
 from lay_out import READ, TOP, read, write
@@ -89,14 +88,22 @@ class Bug:
         return self.file != other.file or not self.functions & other.functions
 
     def is_at(self, told):
-        """Returns whether the prover names a line of a function of it."""
+        """Returns whether this names a line of a function of it."""
         spans = [it for it in self.functions if it and told["file"] == self.file]
         return any(first <= int(told["line"]) <= last for _, first, last in spans)
 
+    def judge(self, why, told=()):
+        """Prints why it is not refused, or what the prover has told of it. Returns whether it is
+        refused."""
+        said = f"FAILED: {why}" if why else f"refused: {told[0][0]}"
+        # (the text and its line feed at once: other threads print too)
+        print(f"{self.crate}: {self.name}: {said[:160]}\n", end="", flush=True)
+        return not why
+
 
 def bugs_of(crate, has_edits):
-    """Returns the bugs of a crate, perhaps those of must-fail/ too, and why some are none."""
-    found, faults = [], []
+    """Returns the bugs of a crate, perhaps those of must-fail/ too, and how many are none."""
+    found, faults = [], 0
     edits = sorted(glob.glob(f"crates/{crate}/must-fail/*.edit")) if has_edits else []
     for path in [*glob.glob(f"crates/{crate}/bugs.txt"), *edits]:
         text, form = read(path), EDIT if path in edits else BUG
@@ -104,22 +111,22 @@ def bugs_of(crate, has_edits):
             name = os.path.basename(path) if path in edits else it["name"]
             found.append(Bug(crate, name, it["file"], PAIR.findall(it["pairs"])))
         rest = [it for it in form.sub("", text).split("\n") if it.strip()]
-        faults += [f"{path}: FAILED: this line is of no bug: {it}" for it in rest[:1]]
+        print("".join(f"{path}: FAILED: this line is of no bug: {it}\n" for it in rest[:1]), end="")
+        faults += bool(rest)
     names = [it.name for it in found]
     for it in found:
         it.fault = it.fault or (names.count(it.name) > 1 and "another has its name")
-    bad = [it for it in found if it.fault]
-    faults += [f"{crate}: {it.name}: FAILED: it cannot be applied: {it.fault}" for it in bad]
+        faults += not it.judge(f"it cannot be applied: {it.fault}") if it.fault else 0
     return [it for it in found if not it.fault], faults
 
 
 def groups_of(bugs):
-    """Returns the bugs of each check."""
+    """Returns the bugs of each check, most first."""
     groups = []
     for bug in bugs:
         group = next((it for it in groups if all(map(bug.is_beside, it))), None)
         group.append(bug) if group else groups.append([bug])
-    return groups
+    return sorted(groups, key=len, reverse=True)
 
 
 def with_below(names):
@@ -150,102 +157,74 @@ def run_rt(folder, *words):
     return ran.returncode, ran.stdout
 
 
-class Tries:
-    """The tries of bugs, over a copy of their crates that is proved."""
+def checked(proved, bugs):
+    """Checks a crate with these bugs, over the copy that is proved. Returns whether it is proved
+    too, what is told of functions (nothing if it came to no verdict), and what cannot be read."""
+    crate = bugs[0].crate
+    with tempfile.TemporaryDirectory(dir=os.path.dirname(proved)) as room:
+        lay(room, proved, with_below([crate]), [crate])
+        for it in bugs:
+            it.apply(f"{room}/crates/{crate}")
+        status, said = run_rt(f"{room}/crates/{crate}", "check", "--jobs", "1")
+    unread = [*UNREAD.finditer(said)]
+    is_judged = status == 1 and "\nlogic=not-proved" in said and not unread
+    return not status, [*TOLD.finditer(said)] if is_judged else [], unread
 
-    def __init__(self, room):
-        self.room, self.judged = room, []
 
-    def judge(self, bug, why, told):
-        """Prints and keeps why a bug is not refused, or what the prover has told of it."""
-        self.judged.append(not why)
-        said = f"FAILED: {why}" if why else f"refused: {told[0][0]}"
-        # (the text and its line feed at once: other threads print too)
-        print(f"{bug.crate}: {bug.name}: {said[:160]}\n", end="", flush=True)
+def refused_alone(proved, bug):
+    """Tries a bug alone, and returns whether it is refused."""
+    is_proved, told, unread = checked(proved, [bug])
+    why = "the crate is still proved with it" if is_proved else None
+    why = why or unread and f"it does not compile: {unread[0][0]}"
+    return bug.judge(why or not told and "the check came to no complaint about a contract", told)
 
-    def checked(self, bugs):
-        """Checks a crate with these bugs. Returns whether it is still proved, what is told of
-        functions (nothing if it came to no verdict), and the lines that cannot be read."""
-        crate = bugs[0].crate
-        with tempfile.TemporaryDirectory(dir=self.room) as room:
-            lay(room, f"{self.room}/proved", with_below([crate]), [crate])
-            for it in bugs:
-                it.apply(f"{room}/crates/{crate}")
-            status, said = run_rt(f"{room}/crates/{crate}", "check", "--jobs", "1")
-        unread = [*UNREAD.finditer(said)]
-        is_judged = status == 1 and "\nlogic=not-proved" in said and not unread
-        return not status, [*TOLD.finditer(said)] if is_judged else [], unread
 
-    def try_group(self, bugs):
-        """Tries bugs in one check, and returns those that are to be tried alone."""
-        _, told, unread = self.checked(bugs) if len(bugs) > 1 else (False, [], [])
-        bad = [it for it in bugs if any(map(it.is_at, unread))]
-        if bad:
-            return bad + self.try_group([it for it in bugs if it not in bad])
-        left, names = [], [it[0] for bug in bugs for it in bug.functions if it]
-        for bug in bugs:
-            own = {it[0] for it in bug.functions if it and names.count(it[0]) == 1}
-            lines = [it for it in told if bug.is_at(it) or {it["of"], it["loop"]} & own]
-            self.judge(bug, None, lines) if lines else left.append(bug)
-        return left
+def refused(proved, bugs):
+    """Tries bugs in one check, and alone those of which it says nothing. Returns how many are
+    refused."""
+    _, told, unread = checked(proved, bugs) if len(bugs) > 1 else (False, [], [])
+    if bad := [it for it in bugs if any(map(it.is_at, unread))]:
+        rest = [it for it in bugs if it not in bad]
+        return sum(refused_alone(proved, it) for it in bad) + (refused(proved, rest) if rest else 0)
+    count, names = 0, [it[0] for bug in bugs for it in bug.functions if it]
+    for bug in bugs:
+        own = {it[0] for it in bug.functions if it and names.count(it[0]) == 1}
+        lines = [it for it in told if bug.is_at(it) or {it["of"], it["loop"]} & own]
+        count += bug.judge(None, lines) if lines else refused_alone(proved, bug)
+    return count
 
-    def try_alone(self, bug):
-        is_proved, told, unread = self.checked([bug])
-        why = "the crate is still proved with it" if is_proved else None
-        why = why or unread and f"it does not compile: {unread[0][0]}"
-        why = why or not told and "the check came to no complaint about a contract"
-        self.judge(bug, why, told)
 
-    def tick(self, total):
-        """Says each minute how many bugs are judged."""
-        for minutes in itertools.count(1):
-            time.sleep(60)
-            if len(self.judged) < total:
-                print(f"bugs: {minutes} min, {len(self.judged)} of {total} tried", flush=True)
-
-    def try_all(self, bugs, jobs):
-        """Proves the crates of these bugs, and tries the bugs, so many checks at a time."""
-        threading.Thread(target=self.tick, args=[len(bugs)], daemon=True).start()
-        crates = with_below({it.crate for it in bugs})
-        lay(f"{self.room}/proved", ".", crates, crates)
+def try_all(bugs):
+    """Proves the crates of these bugs, and tries the bugs, as many checks at a time as there are
+    processors. Returns how many are refused."""
+    crates, jobs = with_below({it.crate for it in bugs}), len(os.sched_getaffinity(0))
+    with tempfile.TemporaryDirectory(prefix="bugs-") as room, ThreadPoolExecutor(jobs) as pool:
+        lay(f"{room}/proved", ".", crates, crates)
         words = ["--jobs", str(jobs)] if len({it.crate for it in bugs}) > 1 else []
-        status, said = run_rt(f"{self.room}/proved", "all", "check", *words)
+        status, said = run_rt(f"{room}/proved", "all", "check", *words)
         if status:
             print(f"{said[-3000:]}\nthe crates are not proved without a bug", flush=True)
-            return
-        with ThreadPoolExecutor(jobs) as pool:
-            groups = sorted(groups_of(bugs), key=len, reverse=True)
-            alone = [pool.map(self.try_alone, it) for it in pool.map(self.try_group, groups)]
-            for it in alone:
-                list(it)
+            return 0
+        return sum(pool.map(lambda it: refused(f"{room}/proved", it), groups_of(bugs)))
 
 
-def main():
+def main(words):
     os.chdir(TOP)
-    reader = argparse.ArgumentParser(description=__doc__.split("\n\n", maxsplit=1)[0])
-    reader.add_argument("--list", action="store_true", help="only look whether each can be applied")
-    reader.add_argument("crates", nargs="*", help="crates whose bugs are tried; none: all")
-    asked = reader.parse_args()
-    for it in asked.crates:
+    is_list = words == ["--list"]
+    crates = [] if is_list else words
+    for it in crates:
         if not os.path.isfile(f"crates/{it}/bugs.txt"):
             sys.exit(f"bugs.py: there is no crates/{it}/bugs.txt")
-    bugs, faults = [], []
-    for it in asked.crates or sorted(os.listdir("crates")):
-        for found, more in zip((bugs, faults), bugs_of(it, asked.list)):
-            found += more
-    for it in faults:
-        print(it[:160])
-    if asked.list:
-        total = len(bugs) + len(faults)
-        print(f"{total} deliberate bugs, {len(faults)} of which cannot be applied")
+    found = [bugs_of(it, is_list) for it in crates or sorted(os.listdir("crates"))]
+    bugs, faults = [bug for it, _ in found for bug in it], sum(it for _, it in found)
+    if is_list:
+        print(f"{len(bugs) + faults} deliberate bugs, {faults} of which cannot be applied")
         return 1 if faults or not bugs else 0
-    with tempfile.TemporaryDirectory(prefix="bugs-") as room:
-        tries = Tries(room)
-        tries.try_all(bugs, len(os.sched_getaffinity(0)))
-    passed, failed = sum(tries.judged), len(faults) + len(bugs) - sum(tries.judged)
+    passed = try_all(bugs)
+    failed = faults + len(bugs) - passed
     print(f"{passed} passed, {failed} failed")
     return 1 if failed or not passed else 0
 
 
 if __name__ == "__main__":
-    sys.exit(main())
+    sys.exit(main(sys.argv[1:]))

@@ -58,8 +58,6 @@ def cases(chosen):
             sys.exit(f"cases.py: tests/cases has no file {name}; it has {' '.join(known)}")
         of_file, wrong = read_cases.cases_of(name, read(f"{TOP}/tests/cases/{name}"))
         found, faults = found + of_file, faults + wrong
-    if not chosen:
-        faults += [f"no case has the word `{it}`" for it in read_cases.unused(found)]
     return found, faults
 
 
@@ -94,7 +92,7 @@ def shown(line, random_text):
 
 def main(words):
     reader = argparse.ArgumentParser(description=__doc__.split("\n\n", maxsplit=1)[0])
-    reader.add_argument("--random", type=int, default=40, help="how many of each sort")
+    reader.add_argument("--random", type=int, default=60, help="how many of each sort")
     reader.add_argument("--seed", type=int, default=0, help="the first seed")
     reader.add_argument("files", nargs="*", help="files of tests/cases")
     asked = reader.parse_args(words)
@@ -102,6 +100,8 @@ def main(words):
     made = "" if asked.files else random_cases.cases(asked.random, asked.seed)
     few = random_cases.cases(-(-asked.random // 10), asked.seed) if made else ""
     (random, wrong), (refused, _) = (read_cases.cases_of("random", it) for it in (made, few))
+    unused = read_cases.unused(by_hand + random) if made else []
+    wrong += [f"no case has the word `{it}`" for it in unused]
     print("".join(f"{it}\n" for it in faults + wrong), end="", flush=True)
     with tempfile.TemporaryDirectory(prefix="cases-") as folder:
         lay_player(f"{folder}/project")

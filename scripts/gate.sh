@@ -1,13 +1,14 @@
 #!/usr/bin/env bash
-# The whole gate, which CI runs too: a look at the deliberate bugs and at the pages, all tests without
-# a proof, `rt ci`, the check of the script that tries deliberate bugs, those of bugs.txt, the built
-# program, also with each request for memory refused, the cases of misuse that must not
-# compile, the first program in a repository of its own, the snippets of the pages, and, where there
-# is valgrind, what the calls cost. Prints a line at least every minute, at the end a line for each
-# step with what it has shown and how long it took, and last 'N passed, M failed', with the totals of
-# the tests, of `rt ci` and of the deliberate bugs. A step fails if its status is not 0, or if its
-# last line is not as it has to be. The first one that fails ends the gate, whose status is then not
-# 0. A failure of a step that is not among the totals counts as one.
+# The whole gate, which CI runs too: a look at the deliberate bugs, the pages and the docstrings,
+# all tests without a proof, `rt ci`, the check of the script that tries deliberate bugs, those of
+# bugs.txt, the built program, also with each request for memory refused, the cases of misuse that
+# must not compile, the first program in a repository of its own, the snippets of the pages and
+# docstrings, and, where there is valgrind, what the calls cost. Prints a line at least every
+# minute, at the end a line for each step with what it has shown and how long it took, and last 'N
+# passed, M failed', with the totals of the tests, of `rt ci` and of the deliberate bugs. A step
+# fails if its status is not 0, or if its last line is not as it has to be. The first one that fails
+# ends the gate, whose status is then not 0. A failure of a step that is not among the totals counts
+# as one.
 set -u
 cd "$(dirname "$0")/.." || exit 1
 work=$(mktemp -d)
@@ -80,15 +81,17 @@ count() {
     finish 1
 }
 
-# The last line of a step that counts, and those of four that do not.
+# The last line of a step that counts, and those of five that do not.
 counts='^([a-z]+: )?[1-9][0-9]* passed, 0 failed$'
 applied='^[1-9][0-9]* deliberate bugs, 0 of which cannot be applied$'
 read='^pages: [1-9][0-9]* read, 0 faults; '
+documented='^api: [1-9][0-9]* public items, 0 faults$'
 vendored='^vendor_check: .* runs in a repository of its own: .'
 counted='^count: [1-9][0-9]* counted, 0 rose '
 
 show 'the deliberate bugs can be applied' "$applied" python3 scripts/bugs.py --list
 show 'the pages (scripts/pages.py)' "$read" python3 scripts/pages.py
+show 'the docstrings (scripts/api.py)' "$documented" python3 scripts/api.py --check
 count 'all tests, without a proof (scripts/tests.sh)' bash scripts/tests.sh
 count 'proofs, programs, and the bugs of must-fail/ (rt ci)' rt ci
 show 'what tries deliberate bugs (scripts/bugs_check.py)' "$counts" python3 scripts/bugs_check.py

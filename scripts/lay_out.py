@@ -8,9 +8,6 @@ The texts of tests/code are no .rt files, so that no check of the repository rea
 tried and not proved. In the project they are the modules of one crate, `tests`, beside copies of
 the crates that they test: all modules, if none is named. `rt try --test` in FOLDER/crates/tests
 then runs them.
-
-The crate cellrun is a program, which no other crate can name. So a copy of its modules is a module
-of the tests, and its own tests are laid into that.
 """
 import os
 import re
@@ -21,7 +18,6 @@ import tempfile
 
 TOP = os.path.dirname(os.path.dirname(os.path.abspath(__file__)))
 CODE = f"{TOP}/tests/code"
-PROGRAM = "cellrun"
 # How a program is run of which all that it says is read.
 READ = {"stdin": subprocess.DEVNULL, "stdout": subprocess.PIPE, "stderr": subprocess.STDOUT}
 READ["text"] = True
@@ -70,22 +66,6 @@ def with_used(modules):
     return sorted(found)
 
 
-def lay_program(folder):
-    """Lays the modules of the program into the crate `tests`, as modules of one that has its name,
-    and declares in each the tests that lie there already."""
-    source, to = f"{folder}/crates/{PROGRAM}/src", f"{folder}/crates/tests/src/{PROGRAM}"
-    tests = [it.split("/") for it in texts_of(PROGRAM)]
-    for at, _, names in os.walk(source):
-        for it in (os.path.relpath(f"{at}/{name}", source) for name in names):
-            # (its proofs are named as those of the crate, whatever that is)
-            text = read(f"{source}/{it}")
-            text = re.sub(r"\bcrate::(?!proofs::|specs::)", f"crate::{PROGRAM}::", text)
-            inside = [name for _, *module, name in tests if f"{'/'.join(module)}.rt" == it]
-            mods = [f"\nmod {name.removesuffix('.rt.txt')};\n" for name in inside]
-            write(f"{to}/{it}", text + "".join(mods))
-    os.rename(f"{to}/main.rt", f"{to}.rt")
-
-
 def lay_out(folder, modules=None):
     """Makes the project in a new folder, with these modules of the tests and what they use, or with
     all."""
@@ -94,8 +74,6 @@ def lay_out(folder, modules=None):
     lay_crate(folder, "tests", CODE, [text for it in chosen for text in texts_of(it)])
     declared = "".join(f"#[cfg(test)]\nmod {it};\n" for it in chosen)
     write(f"{folder}/crates/tests/src/lib.rt", f"//! Tests.\n#![tactic(auto)]\n\n{declared}")
-    if PROGRAM in chosen:
-        lay_program(folder)
 
 
 def formatted():

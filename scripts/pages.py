@@ -23,14 +23,14 @@ CODE = re.compile(r"`([^`\n]+)`")
 # Paths of the repository begin so; what stands for any name is no path.
 PATH = re.compile(r"(?:crates|docs|scripts|tests|bench|misuse|reentry|examples)/[\w./*-]+")
 # Names of crates begin so.
-CRATE = re.compile(r"(?:async_cell|example)_\w+|cellrun")
+CRATE = re.compile(r"(?:async_cell|bench|example)_\w+|cellrun|ghost_log")
 # Pages that may have figures: the table's own, and what each choice saved when it was made.
 WITH_FIGURES = ("bench/README.md", "docs/DECISIONS.md", "CHANGELOG.md")
 # What stands around the libraries, the sources of these, and how much there may be of the first for
-# each line of the second. It only falls: one for one is wanted.
-MOST = 1.1
+# each line of the second. It only falls.
+MOST = 1.0
 AROUND = re.compile(r"(?:tests|scripts|bench|misuse|crates/bench_\w+)/")
-SOURCES = re.compile(r"crates/(?:async_cell(?!\w*_(?:callers|uses|lines)/)\w*|cellrun)/src/")
+SOURCES = re.compile(r"crates/(?:async_cell(?!\w*_(?:callers|uses|lines)/)\w*|cellrun|ghost_log)/src/")
 # What a page says of a project of its reader's.
 THEIRS = ("crates/my_program", "crates/railyarrow")
 

@@ -10,6 +10,7 @@ and last 'N passed, M failed'; the status is 0 if none failed.
 import fcntl
 import glob
 import os
+import pty
 import re
 import signal
 import socket
@@ -218,6 +219,9 @@ def reads_by_parts():
     os.set_blocking(read, False)
     os.write(write, b"own\nen")
     same("a read that fails", ended(start(stdin=read)), (b"owners 2\n", b"", 1))
+    ours, theirs = pty.openpty()
+    os.write(ours, b"own\x04\x04own\n")
+    same("the end of a terminal", ended(start(stdin=theirs)), (b"owners 2\n", b"", 0))
 
 
 def memory():

@@ -1,12 +1,11 @@
 """Makes random cases for the player, with what scripts/random_model.py says must come back.
 
-A case is a list of calls on a cell, on all that an owner makes, on a core with wakers that are
-numbers, or on a latest state. Each is made from a seed, which its title has, so a case that fails
-can be made again, or pasted into tests/cases.
+A case is a list of calls on a cell, on all that an owner makes, or on a latest state. Each is made
+from a seed, which its title has, so a case that fails can be made again, or pasted into tests/cases.
 """
 import random
 
-from random_model import Cell, Core
+from random_model import Cell
 
 TASKS = range(1, 8)
 LENGTH = 40
@@ -14,7 +13,6 @@ WRITES = ["set", "or_set", "try_set", "replace", "update", "update_some", "guard
 MAKES = ["own", "guard", "take_shared", "get_shared", "take_weak", "get_weak", "values"]
 MARKS = ["mark_unchanged", "mark_changed", "read_and_update", "peek_and_update"]
 LOOKS = ["try_take", "try_get", "is_set", "waiting", "debug", "purge"]
-LOOKS_OF_A_CORE = ["try_take", "try_get", "is_set", "is_closed", "waiting", "owners"]
 LOOKS_OF_A_STATE = ["read", "peek", "has_changed", "is_closed", *MARKS]
 
 
@@ -184,46 +182,6 @@ class Owners(Maker):
             self.poll(self.some(self.made))
 
 
-class Cores(Maker):
-    """A core with wakers that are numbers. Where a lock drops what it gives back, it replies ok."""
-
-    def __init__(self, seed):
-        super().__init__(seed, "core locked", Core())
-        self.line("new")
-
-    def put(self, value):
-        cell = self.cell
-        if not cell.owners:
-            return self.line(f"{self.some(['set', 'or_set', 'replace'])} {value}", f"back {value}")
-        word = self.some(["set", "replace", "update"])
-        if word != "update":
-            return self.line(f"{word} {value}", getattr(cell, word)(value))
-        how = self.some(["none", "keep", ""])
-        return self.line(f"update {how or value}", cell.update(how, value))
-
-    def step(self):
-        cell, value, chosen = self.cell, self.value(), self.random.randrange(10)
-        if chosen < 4:
-            takes, waker = chosen < 2, self.some([1, 2, 3, 100, 101])
-            self.line(f"{'take' if takes else 'get'} by {waker}", cell.poll_by(takes, waker))
-        elif chosen == 4:
-            reply = "ok" if cell.owners else "closed"
-            cell.owners += bool(cell.owners)
-            self.line("add_owner", reply)
-        elif chosen == 5 and cell.owners > 1:
-            self.line("take_inner", "shared")
-        elif chosen == 5 and not self.random.randrange(3):
-            self.line("take_inner", cell.close())
-        elif chosen == 6 and cell.owners > 1:
-            cell.owners -= 1
-            self.line("end_owner", "none; on locked -> ok")
-        elif chosen == 7:
-            word = self.some(LOOKS_OF_A_CORE)
-            self.line(word, cell.look(word))
-        else:
-            self.put(value)
-
-
 class States(Maker):
     """Owners and followers of a latest state. A follower lends itself to one future at a time."""
 
@@ -352,7 +310,7 @@ class States(Maker):
 def cases(count, first=0):
     """Returns the text of so many cases of each sort."""
     seeds = range(first, first + count)
-    made = [sort(seed) for sort in (Cells, Cores, Owners, States) for seed in seeds]
+    made = [sort(seed) for sort in (Cells, Owners, States) for seed in seeds]
     for it in made:
         for _ in range(LENGTH):
             it.step()

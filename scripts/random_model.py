@@ -3,6 +3,7 @@
 It is written from docs/DEFINITIONS.md and docs/GUIDE.md: what each call replies, what happens in it,
 and in which order.
 """
+from itertools import takewhile
 
 
 def once(tasks):
@@ -58,7 +59,9 @@ class Cell:
         self.content, self.owners, self.wait, self.events = None, 1, Wait(), []
 
     def happen(self, word, *numbers):
-        self.events += [(word, it) for it in numbers]
+        """Notes what happens. A task that was just woken is not woken again."""
+        just = [*takewhile(lambda it: it[0] == word == "woke", reversed(self.events))]
+        self.events += [(word, it) for it in numbers if (word, it) not in just]
 
     def fill(self, value):
         """Puts a value in, and returns the old one."""
@@ -170,7 +173,6 @@ class Cell:
             "is_set": self.content is not None,
             "is_closed": not self.owners,
             "waiting": len(self.wait.tasks),
-            "owners": self.owners,
         }
         return str(replies[word]).lower() if word in replies else getattr(self, word)()
 
@@ -178,34 +180,3 @@ class Cell:
         if self.content is not None:
             return f"AsyncCell::Full({self.content})"
         return "AsyncCell::Pending" if any(self.wait.tasks) else "AsyncCell::Empty"
-
-
-def would_wake(waker, other):
-    return waker % 2 == 0 if waker >= 100 else waker == other
-
-
-class Core(Cell):
-    """A core: a waker that any waiting one would wake is not added."""
-
-    def wake_all(self):
-        self.happen("woke", *self.wait.tasks)
-        self.wait.tasks = []
-
-    def poll_by(self, takes, waker):
-        if not self.owners:
-            return "closed"
-        if self.content is not None:
-            return self.taken("ready") if takes else self.cloned("ready")
-        if not any(would_wake(it, waker) for it in self.wait.tasks):
-            self.wait.tasks.append(waker)
-        return "pending"
-
-    def close(self):
-        """Ends an owner: the reply of a core."""
-        if not self.owners:
-            return "closed"
-        self.owners -= 1
-        if self.owners:
-            return "none"
-        self.wake_all()
-        return self.taken("inner")

@@ -6,14 +6,14 @@ import itertools
 import re
 from collections import namedtuple
 
-KINDS = ["core", "locked", "sync", "unsync", "sync_owner", "unsync_owner", "shared"]
+KINDS = ["locked", "sync", "unsync", "sync_owner", "unsync_owner", "shared"]
 KINDS += ["sync_closed", "unsync_closed", "states"]
 GROUPS = {
     "cells": ("sync", "unsync"),
     "owners": ("sync_owner", "unsync_owner"),
     "closed": ("sync_closed", "unsync_closed"),
 }
-REPLIES = "ok pending ready some back old unused item inner none true false memory closed full"
+REPLIES = "ok pending ready some back old item inner none true false memory closed full"
 REPLIES = f"{REPLIES} shared end woke dropped cloned saw".split()
 PLACES = "drop clone debug closure wake".split()
 # What a call takes, in this order. What ends in `?` may be left out. NAME is a thing that has a
@@ -103,17 +103,10 @@ def line_of(at, text, kinds):
 
 
 def add_note(line, at, text):
-    """Reads what stands below a call: where it is not made, or what is called inside."""
-    if text.startswith("not on "):
-        replies = set(line.replies.values())
-        for it in kinds_of(text.removeprefix("not on "), line.replies):
-            line.replies.pop(it, None)
-        if set(line.replies.values()) != replies:
-            raise Wrong("for each reply a kind on which the call is made")
-        return
+    """Reads what stands below a call: what is called inside."""
     found = INSIDE.match(text)
     if not found:
-        raise Wrong("`not on KINDS`, or `in PLACE of VALUE: CALL`")
+        raise Wrong("`in PLACE of VALUE: CALL`")
     place, number, said = found.groups()
     call, reply = pair(said)
     line.inside.append(Inside(at, words_of(call), reply, place, number or ""))
@@ -158,7 +151,7 @@ def cases_of(file, text):
 def written(case, kind):
     """Returns the lines by which the player plays a case on a kind."""
     said = [("case", case.at, kind, case.file)]
-    for line in (it for it in case.lines if kind in it.replies):
+    for line in case.lines:
         for number in range(1, line.times + 1):
             call = line.call.replace("#", str(number), 1)
             said.append((line.word, line.at, call, line.replies[kind]))

@@ -1,14 +1,15 @@
 #!/usr/bin/env python3
-"""Runs each Rust snippet of README.md, docs/GUIDE.md and the CALLING.md pages.
+"""Runs each Rust snippet of README.md, docs/, the CALLING.md pages and the docstrings.
 
     python3 scripts/snippets.py [PAGE..]
 
-A snippet is whole: with its `use` lines it is a program, or the body of its `main`, or items alone,
-which only have to compile. All are modules of one program in a temporary project beside copies of
-the crates that they use, which `rt try` builds and runs, and proves nothing. What one prints has to
-be what its comments `// prints TEXT` say, or the text block after it that `It prints` introduces. A
-comment before a snippet may say that it is a copy of lines of a file, in their order, which the gate
-compiles and proves, and then no more is looked at:
+A snippet of a page is whole: with its `use` lines it is a program, or the body of its `main`, or
+items alone, which only have to compile. An example in a docstring is the body of a `main`, and has
+the exports of its crate and IMPORTS. All are modules of one program in a temporary project beside
+copies of the crates that they use, which `rt try` builds and runs, and proves nothing. What one
+prints has to be what its comments `// prints TEXT` say, or the text block after it that `It prints`
+introduces. A comment before a snippet may say that it is a copy of lines of a file, in their order,
+which the gate compiles and proves, and then no more is looked at:
 
     <!-- snippet of crates/NAME/src/FILE.rt -->
 
@@ -22,11 +23,18 @@ import subprocess
 import sys
 import tempfile
 
-TOP = os.path.dirname(os.path.dirname(os.path.abspath(__file__)))
+from api import libraries
+from lay_out import TOP, read
+
 SNIPPET = re.compile(
     r"(?:<!-- snippet of (\S+) -->\n)?```rust\n(.*?)\n```\n(?:\nIt prints:?\n\n```text\n(.*?)\n```)?",
     re.S,
 )
+EXAMPLE = re.compile(r"^ */// ```rust\n((?: *///.*\n)+?) */// ```$", re.M)
+# What the examples in docstrings name, where it is from.
+IMPORTS = {"next": "futures::StreamExt", "block_on": "futures::executor::block_on"}
+IMPORTS |= {it: f"futures::future::{it}" for it in ("pending", "ready")}
+IMPORTS |= {"thread": "std::thread", "Duration": "std::time::Duration"}
 # What `rt` may do in a module, where HostRuntime has no rights of its own.
 RIGHTS = (
     "std::sync::Wait + std::thread::Threads + std::net::Net + std::time::Clock + std::io::Print"
@@ -39,10 +47,8 @@ BODY = f"{RUN} -> anyhow::Result<()> {{"
 class Snippet:
     """A snippet, with the page and the line at which it begins."""
 
-    def __init__(self, page, found, text):
-        self.copied, self.text, printed = found.groups()
-        line = text.count("\n", 0, found.start(2)) + 1
-        self.where = f"{page}:{line}"
+    def __init__(self, where, text, copied=None, printed=None):
+        self.where, self.text, self.copied = where, text, copied
         said = re.findall(r"// prints (.*)", self.text)
         self.printed = printed or "\n".join(said)
         self.name = re.sub(r"\W", "_", self.where).lower()
@@ -67,16 +73,31 @@ class Snippet:
     def compare_with_file(self):
         """Whether the lines of the snippet stand in the file that it names, in their order."""
         path = os.path.join(TOP, self.copied)
-        theirs = iter(open(path).read().splitlines() if os.path.isfile(path) else [])
+        theirs = iter(read(path).splitlines() if os.path.isfile(path) else [])
         for line in self.text.splitlines():
             if line.strip() and line not in theirs:
                 self.failure = f"{self.copied} has not this line there: {line}"
                 return
 
 
+def line_of(found):
+    return found.string.count("\n", 0, found.start()) + 1
+
+
 def snippets_of(page):
-    text = open(os.path.join(TOP, page)).read()
-    return [Snippet(page, it, text) for it in SNIPPET.finditer(text)]
+    for it in SNIPPET.finditer(read(os.path.join(TOP, page))):
+        yield Snippet(f"{page}:{line_of(it)}", it[2], it[1], it[3])
+
+
+def examples_of(crate):
+    """Yields the examples in the docstrings of a crate."""
+    names = {**IMPORTS, **{name: f"{crate.name}::{name}" for name, _, _ in crate.exports()}}
+    for file in sorted({it.file for it in crate.items}):
+        for it in EXAMPLE.finditer(read(file)):
+            text = re.sub(r"(?m)^ */// ?", "", it[1])
+            uses = [f"use {names[word]};\n" for word in set(re.findall(r"\w+", text)) & {*names}]
+            where = f"{os.path.relpath(file, TOP)}:{line_of(it)}"
+            yield Snippet(where, "".join(uses) + "\n" + text)
 
 
 def lay_out(work, snippets):
@@ -125,9 +146,10 @@ def run(work, snippets):
 
 
 def main(pages):
-    calling = [os.path.relpath(it, TOP) for it in sorted(glob.glob(f"{TOP}/crates/*/CALLING.md"))]
-    pages = pages or ["README.md", "docs/GUIDE.md", *calling]
-    snippets = [it for page in pages for it in snippets_of(page)]
+    theirs = sorted([*glob.glob(f"{TOP}/docs/*.md"), *glob.glob(f"{TOP}/crates/*/CALLING.md")])
+    asked = pages or ["README.md", *[os.path.relpath(it, TOP) for it in theirs]]
+    snippets = [it for page in asked for it in snippets_of(page)]
+    snippets += [] if pages else [it for of in libraries() for it in examples_of(of)]
     for it in snippets:
         if it.copied:
             it.compare_with_file()

@@ -12,7 +12,6 @@ import resource
 import subprocess
 import sys
 import tempfile
-import threading
 import time
 from concurrent.futures import ThreadPoolExecutor
 
@@ -36,22 +35,13 @@ SECONDS_OF_PROCESSORS = 60
 
 
 class Told:
-    """What is printed, a line at least every half minute, and how many tests passed and failed."""
+    """What is printed, with the seconds that it took, and how many tests passed and failed."""
 
     def __init__(self):
-        self.begun = self.last = time.monotonic()
-        self.doing, self.passed, self.failed = "", 0, 0
-        threading.Thread(target=self.tick, daemon=True).start()
+        self.begun, self.passed, self.failed = time.monotonic(), 0, 0
 
     def say(self, text):
-        self.last = time.monotonic()
-        print(f"{self.last - self.begun:4.0f} s  {text}", flush=True)
-
-    def tick(self):
-        while True:
-            time.sleep(1)
-            if time.monotonic() - self.last > 25:
-                self.say(f"{self.doing} ..")
+        print(f"{time.monotonic() - self.begun:4.0f} s  {text}", flush=True)
 
     def count(self, name, complaint):
         """Counts a test, and prints it if there is a complaint."""
@@ -114,8 +104,7 @@ def build(told, room, words):
     words by which the program is called, or None, and what the compiler said."""
     named = [it for it in (word.split("::")[0] for word in words) if lay_out.texts_of(it)]
     lay_out.lay_out(f"{room}/project", [*named, "checks"] if named else None)
-    told.doing = "compiling, some two minutes"
-    told.say(told.doing)
+    told.say("compiling, some two minutes")
     refuses = try_kit.compiled(f"{TOP}/scripts/refuse.c", f"{room}/refuse.o")
     return try_kit.built(f"{room}/project", "tests", [refuses], f"{room}/built")
 
@@ -141,14 +130,12 @@ def run(program, runs, told):
         for group, tests in itertools.groupby(begun, key=lambda it: it[0]):
             passed, failed = told.passed, told.failed
             for _, test, way, ended in tests:
-                told.doing = f"running {test}"
                 told.count(test if way == "once" else f"{test}, {way}", ended.result())
             told.say(f"{group}: {told.passed - passed} passed, {told.failed - failed} failed")
 
 
 def read_cases(played, told):
     """Waits until the cases are played, counts them, and prints what did not come out right."""
-    told.doing = "playing the cases"
     said = played.communicate()[0]
     found = re.search(r"^(\d+) passed, (\d+) failed\n\Z", said, re.M)
     passed, failed = (int(it) for it in found.groups()) if found else (0, 1)

@@ -6,10 +6,10 @@
 #     bash scripts/vendor.sh --program NAME FOLDER   makes a program there, a copy of the reply slot
 #
 # FOLDER is the project's `crates`. Crates come as the last commit here has them, with those that
-# they stand on, without deliberate bugs; FOLDER/railyarrow/VERSION names the commit. Each call
-# brings all of it up to date, and finishes one that was cut off. If a file of it was changed there,
-# it tells which, and writes nothing. The project's crates.txt, HANDLES and .gitignore are written,
-# or the lines printed that they have yet to get.
+# they stand on, without deliberate bugs. FOLDER/railyarrow/VERSION names release and commit.
+# Each call brings all of it up to date, and finishes one that was cut off. If a file of it was
+# changed there, it tells which, and writes nothing. The project's crates.txt, HANDLES and
+# .gitignore are written, or the lines printed that they have yet to get.
 set -euo pipefail
 top=$(cd "$(dirname "$(readlink -f "$0")")/.." && pwd)
 work=$(mktemp -d)
@@ -29,14 +29,15 @@ lines_of() {
 # Lays out in $work what a copy of these crates has: NAME COMMIT CRATE.. Links of its pages that
 # lead elsewhere than to the guide and the definitions become plain words.
 lay_out() {
-    local to=$work/$1 all=$work/$1.all
+    local it to=$work/$1 all=$work/$1.all
     mkdir -p "$to/railyarrow" "$all"
     git archive "$2" | tar -x -C "$all" 2>/dev/null
     lines_of "$all/crates.txt" "${@:3}" | sort -u >"$to.lines"
     cut -d : -f 1 "$to.lines" | (cd "$all/crates" && xargs -r cp -rt "$to")
     rm -rf "$to"/*/{bugs*,must-fail}
     cp "$all/LICENSE" "$all"/docs/{GUIDE,DEFINITIONS}.md "$to/railyarrow/"
-    printf 'commit %s\ncrates %s\n' "$2" "${*:3}" >"$to/railyarrow/VERSION"
+    for it in NOTICE VERSION; do [ ! -e "$all/$it" ] || cp "$all/$it" "$to/railyarrow/"; done
+    printf 'commit %s\ncrates %s\n' "$2" "${*:3}" >>"$to/railyarrow/VERSION"
     sed -zEi 's,\]\((../../docs/)?((GUIDE|DEFINITIONS).md),](../railyarrow/\2,g
         s,\[([^]]*)\]\((../[^r]|[A-Z])[^)]*\),\1,g' "$to"/*/*.md
 }

@@ -1,6 +1,7 @@
-//! Callers of `async_cell_latest_sync`.
+//! Callers of `async_cell_latest_sync`, under the name of the facade.
 use crate::{Host, half};
-use async_cell_latest_sync::{Owner, Refusal};
+use async_cell::Refusal;
+use async_cell::latest::Owner;
 use futures::StreamExt;
 use futures::executor::block_on;
 use std::mem;

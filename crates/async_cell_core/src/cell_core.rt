@@ -21,7 +21,8 @@ use std::marker::Model;
 use std::mem;
 
 /// A cell with an optional value, counted owners and the wait list of the wakers that wait for a
-/// value.
+/// value. It wakes nobody but by its drop: wake what a call returns by `wake_all`. `Wakers` that
+/// are dropped wake nobody.
 pub struct Core<T, W: Wakes> {
     value: Option<T>,
     /// 0 once the cell is closed.
@@ -72,6 +73,12 @@ impl<T: Drop, W: Wakes> Core<T, W> {
 
     /// Sets the value and drops the old one. Returns all waiting wakers, to be woken by the caller.
     /// Fails if the cell is closed; the value is returned in the error.
+    ///
+    /// ```rust
+    /// let mut core = Core::<u32, Named>::new(rt.alloc());
+    /// println!(rt; "{:?}", core.poll_take(&Named(1))?)?; // prints Pending
+    /// println!(rt; "{:?}", core.set(7).map(|woken| woken.len()))?; // prints Ok(1)
+    /// ```
     pub fn set(&mut self, value: T) -> Result<Wakers<W>, T>
         ensures model { IsStep W.Wakes self.old (Kept.Set value) (set_answer result) self.new }
 
@@ -236,7 +243,8 @@ impl<T: Drop, W: Wakes> Core<T, W> {
     }
 }
 
-/// Dropping a `Core` drops its value, and wakes all waiting wakers, in order.
+/// Dropping a `Core` drops its value, or wakes all waiting wakers, in order: while it holds a
+/// value, nobody waits.
 impl<T: Drop, W: Wakes> Drop for Core<T, W> {
     #[inline(always)]
     fn drop(self) {

@@ -1,6 +1,7 @@
 //! The cell as a pure state machine: each call returns its reply and the wakers to be woken.
 //!
-//! What is `doc(hidden)` is for the crates that build on this one, and may change without notice.
+//! What is `doc(hidden)` is internal: for the crates that build on this one. It may change without
+//! notice.
 #![tactic(auto)]
 
 mod call;
@@ -11,10 +12,13 @@ pub mod laws;
 mod runs;
 
 pub use async_cell_model::{Refusal, Reply};
-pub use async_cell_wakers::{Named, Place, TaskWaker, Wakers, Wakes};
+#[doc(hidden)]
+pub use async_cell_wakers::Place;
+pub use async_cell_wakers::{Named, TaskWaker, Wakers, Wakes};
 pub use call::{Answer, Call};
 pub use cell_core::Core;
 pub use edit::Edit;
 pub use futures::task::Poll;
+#[doc(hidden)]
 pub use guard::end_guard;
 pub use runs::{run, step, step_copied};

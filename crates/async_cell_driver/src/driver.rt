@@ -24,6 +24,13 @@ use std::marker::Model;
 
 /// Numbered tasks that wait for the value of one cell. The driver owns the cell, and knows of each
 /// task whether it is ready to be polled.
+///
+/// ```rust
+/// let mut driver = Driver::new(rt.alloc(), Some(7));
+/// let task = driver.start(Kind::Take)?;
+/// println!(rt; "{} poll", driver.settle()?)?; // prints 1 poll
+/// println!(rt; "{:?}", driver.result(task))?; // prints Some(Some(7))
+/// ```
 #[derive(Drop)]
 pub struct Driver<T> {
     core: Core<T, Named>,

@@ -1,12 +1,15 @@
 //! A state that any number of followers follow, as a pure state machine. Each write replaces the
 //! value and moves its version on, and returns the wakers of the followers that wait. The last
-//! state stays when the last writer ends. What is `doc(hidden)` may change without notice.
+//! state stays when the last writer ends. What is `doc(hidden)` is internal, and may change
+//! without notice.
 #![tactic(auto)]
 
 mod latest;
 pub mod laws;
 
 pub use async_cell_model::Refusal;
-pub use async_cell_wakers::{Named, Place, TaskWaker, Wakers, Wakes};
+#[doc(hidden)]
+pub use async_cell_wakers::Place;
+pub use async_cell_wakers::{Named, TaskWaker, Wakers, Wakes};
 pub use futures::task::Poll;
 pub use latest::Latest;

@@ -43,6 +43,14 @@ impl<T: Drop, R: Wait + Drop> Follower<T, R> {
     /// Returns a future that is ready once there is a state that this follower has not seen, which
     /// is then marked as seen. It fails with `Closed` once the last owner has ended and the last
     /// state was seen, and with `Memory` if it has to wait and there is no memory for that.
+    ///
+    /// ```rust
+    /// let setting = Owner::new(rt.alloc(), 1, rt)?;
+    /// let mut follower = setting.follow()?;
+    /// thread::spawn(&rt, move || setting.set(2))?.join(&rt);
+    /// println!(rt; "{:?}", block_on(&rt, follower.changed())?)?; // prints Ok(())
+    /// println!(rt; "{:?}", block_on(&rt, follower.changed())?)?; // prints Err(Closed)
+    /// ```
     pub fn changed(&mut self) -> Changed<'_, T, R>
         ensures of_this { result.follower.now ≡ self.old }
     {
@@ -60,6 +68,14 @@ impl<T: Drop, R: Wait + Drop> Follower<T, R> {
     /// The future fails with `Closed` once the last owner has ended and the last state was looked
     /// at, and with `Memory` if there is no memory for the clone or to wait: then that state is not
     /// marked, and the next poll looks at it again.
+    ///
+    /// ```rust
+    /// let setting = Owner::new(rt.alloc(), 1, rt)?;
+    /// let mut follower = setting.follow()?;
+    /// thread::spawn(&rt, move || setting.set(2))?;
+    /// let found = block_on(&rt, follower.wait_for(|value: &u32| *value > 1))?;
+    /// println!(rt; "{found:?}")?; // prints Ok(2)
+    /// ```
     pub fn wait_for<F: FnMut(&T) -> bool + Drop>(&mut self, predicate: F) -> WaitFor<'_, T, R, F>
         ensures of_this { result.follower.now ≡ self.old }
         ensures looks { result.predicate ≡ predicate }
@@ -73,6 +89,14 @@ impl<T: Drop, R: Wait + Drop> Follower<T, R> {
     }
 
     /// Returns the stream of unseen states, as clones. Once closed, it ends after the last state.
+    ///
+    /// ```rust
+    /// let setting = Owner::new(rt.alloc(), 1, rt)?;
+    /// let mut states = setting.follow()?.states();
+    /// thread::spawn(&rt, move || setting.set(2))?;
+    /// println!(rt; "{:?}", block_on(&rt, states.next())?)?; // prints Some(Ok(2))
+    /// println!(rt; "{:?}", block_on(&rt, states.next())?)?; // prints None
+    /// ```
     pub fn states(self) -> States<T, R>
         ensures of_this { result.follower ≡ self }
     {

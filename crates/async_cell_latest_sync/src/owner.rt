@@ -30,6 +30,12 @@ pub struct Owner<T: Drop, R: Wait + Drop> {
 
 impl<T: Drop, R: Wait + Copy> Owner<T, R> {
     /// Makes a state of this value, and its first owner. Fails with `Memory`, and drops the value.
+    ///
+    /// ```rust
+    /// let setting = Owner::new(rt.alloc(), 1, rt)?;
+    /// setting.set(2);
+    /// println!(rt; "{}", setting.read()?)?; // prints 2
+    /// ```
     pub fn new(alloc: Global, value: T, rt: R) -> Result<Self, Refusal>
         ensures refused { FailsWithMemory result }
     {
@@ -41,6 +47,14 @@ impl<T: Drop, R: Wait + Copy> Owner<T, R> {
 
     /// Returns a follower that has seen the current state: call `mark_changed` for it to begin with
     /// that one. Fails with `Memory` if the pointer cannot be counted.
+    ///
+    /// ```rust
+    /// let setting = Owner::new(rt.alloc(), 1, rt)?;
+    /// let mut follower = setting.follow()?;
+    /// println!(rt; "{}", follower.has_changed())?; // prints false
+    /// setting.set(2);
+    /// println!(rt; "{}", follower.read_and_update()?)?; // prints 2
+    /// ```
     pub fn follow(&self) -> Result<Follower<T, R>, Refusal>
         ensures of_this { IfOk result (λ follower. cell_followed follower ≡ cell_owned self.now) }
         ensures refused { FailsWithMemory result }
@@ -63,6 +77,11 @@ impl<T: Drop, R: Wait + Drop> Owner<T, R> {
 
     /// Calls the closure on the value, and returns what it returns. The lock is held meanwhile: a
     /// closure that calls its own state waits forever.
+    ///
+    /// ```rust
+    /// let name = Owner::new(rt.alloc(), "Ada".to_string(rt.alloc())?, rt)?;
+    /// println!(rt; "{}", name.peek(|text| text.len()))?; // prints 3
+    /// ```
     pub fn peek<A, F: FnOnce(&T) -> A>(&self, look: F) -> A
         requires { F.IsAlwaysCallable look }
         ensures called { (seen : T) × FnOnceReturnsAt F.FnOnce look seen result }

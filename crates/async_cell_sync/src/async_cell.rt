@@ -15,13 +15,16 @@ use std::sync::Wait;
 
 /// A cell that threads share. It holds an optional value, and futures wait on it for a value.
 ///
-/// Wakers are woken and values are dropped after the lock is released, so whatever runs then may
-/// call the cell. Closures, clones of the value and its printing run while the lock is held: one
-/// that calls its own cell waits forever. Dropping a cell takes no lock, and wakes all waiters.
+/// Dropping a cell takes no lock, and wakes all waiters.
+///
+/// **What runs under the lock:** closures, clones of the value, and its `Debug`. What a closure
+/// owns is dropped there too. Code that then calls the same cell waits forever. So does code that
+/// then drops an `Owner`, a `Guard`, a waiting future or a stream of it. Wakers are woken and
+/// values are dropped after the lock is released: what runs then may call the cell.
 ///
 /// A future made by `with` holds one place in the wait list while it waits (see `With`), so the
 /// list is no longer than the number of such futures that were alive at once. Each `poll_shared`
-/// that waits may add one waker, which stays until the next fill or close.
+/// that waits adds one waker, which stays until the next write or close.
 pub struct AsyncCell<T> {
     pub(crate) core: LockedCore<T, TaskWaker>,
     /// The source that waiting tasks register with.
@@ -86,6 +89,7 @@ impl<T: Drop> AsyncCell<T> {
     }
 
     /// Returns the number of places in the wait list.
+    #[doc(hidden)]
     pub fn waiting<R: Wait>(&self, rt: &R) -> usize {
         self.core.waiting(rt)
     }
@@ -100,7 +104,7 @@ impl<T: Drop> AsyncCell<T> {
         core.into_inner()
     }
 
-    /// Returns a future that takes the value.
+    /// Returns a future that takes the value (`try_take` takes it at once).
     pub fn take(&self) -> Take<&Self>
         ensures of_this { result.0.now ≡ self.now }
     {
@@ -109,6 +113,8 @@ impl<T: Drop> AsyncCell<T> {
 
     /// Returns a future that clones the value and leaves it.
     pub fn get(&self) -> Get<&Self>
+    where
+        T: Clone,
         ensures of_this { result.0.now ≡ self.now }
     {
         Get(self)
@@ -124,7 +130,8 @@ impl<T: Drop> AsyncCell<T> {
 }
 
 impl AsyncCell<()> {
-    /// Returns a future that waits for `notify`.
+    /// Returns a future that waits for `notify`. It takes the value, so each `notify` ends at most
+    /// one `wait`: where several tasks wait, use `get`.
     pub fn wait(&self) -> Take<&AsyncCell<()>>
         ensures of_this { result.0.now ≡ self.now }
     {

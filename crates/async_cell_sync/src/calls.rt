@@ -34,14 +34,16 @@ impl<T: Drop> AsyncCell<T> {
     }
 
     /// Stores what the closure makes of the content. Wakes all waiters if an empty cell gets a
-    /// value. The lock is held meanwhile: a closure that calls its own cell waits forever.
+    /// value. The closure runs under the lock, and what it owns is dropped there: one that calls
+    /// its own cell, or owns an `Owner` of it, waits forever (see `AsyncCell`).
     pub fn update<F: FnOnce(Option<T>) -> Option<T> + Drop, R: Wait>(&self, change: F, rt: &R)
         requires { F.IsAlwaysCallable change }
     {
         let _ = self.core.update(change, rt);
     }
 
-    /// `update`, of a value: the closure is not called if there is none.
+    /// `update`, of a value: the closure is not called if there is none. It runs, and what it owns
+    /// is dropped, under the lock (see `AsyncCell`).
     pub fn update_some<F: FnOnce(T) -> T + Drop, R: Wait>(&self, change: F, rt: &R)
         requires { F.IsAlwaysCallable change }
     {
@@ -63,8 +65,8 @@ impl<T: Drop> AsyncCell<T> {
         self.core.try_get(rt)
     }
 
-    /// Calls the closure on the value, if there is one, and returns what it returns. The lock is
-    /// held meanwhile: a closure that calls its own cell waits forever.
+    /// Calls the closure on the value, if there is one, and returns what it returns. The closure
+    /// runs under the lock: one that calls its own cell waits forever (see `AsyncCell`).
     pub fn peek<A, F: FnOnce(&T) -> A + Drop, R: Wait>(&self, look: F, rt: &R) -> Option<A>
         requires { F.IsAlwaysCallable look }
         ensures called { IfSome result (λ answer. (seen : T)
@@ -103,7 +105,8 @@ impl<T: Drop> AsyncCell<T> {
 }
 
 impl AsyncCell<()> {
-    /// Wakes all waiters: the next `take` or `get` is ready.
+    /// Sets the value and wakes all waiters. One `wait` is ready: the first that is polled takes
+    /// the value, and the others wait on. A `get` leaves it, so every `get` is ready.
     pub fn notify<R: Wait>(&self, rt: &R) {
         self.set((), rt);
     }
@@ -111,6 +114,12 @@ impl AsyncCell<()> {
 
 impl<T: Drop, R: Wait + Drop> Owner<T, R> {
     /// Sets the value and drops the old one. Wakes all waiters.
+    ///
+    /// ```rust
+    /// let cell = Owner::new_with(rt.alloc(), 6, rt)?;
+    /// cell.set(7);
+    /// println!(rt; "{:?}", cell.try_take())?; // prints Some(7)
+    /// ```
     pub fn set(&self, value: T) {
         self.shared.cell.core.put(value, &self.rt);
     }
@@ -133,14 +142,22 @@ impl<T: Drop, R: Wait + Drop> Owner<T, R> {
     }
 
     /// Stores what the closure makes of the content. Wakes all waiters if an empty cell gets a
-    /// value. The lock is held meanwhile: a closure that calls its own cell waits forever.
+    /// value. The closure runs under the lock, and what it owns is dropped there: one that calls
+    /// its own cell, or owns an `Owner` of it, waits forever (see `AsyncCell`).
+    ///
+    /// ```rust
+    /// let sum = Owner::new(rt.alloc(), rt)?;
+    /// sum.update(|content| Some(content.unwrap_or(0u32).saturating_add(7)));
+    /// println!(rt; "{:?}", sum.try_take())?; // prints Some(7)
+    /// ```
     pub fn update<F: FnOnce(Option<T>) -> Option<T> + Drop>(&self, change: F)
         requires { F.IsAlwaysCallable change }
     {
         self.shared.cell.update(change, &self.rt);
     }
 
-    /// `update`, of a value: the closure is not called if there is none.
+    /// `update`, of a value: the closure is not called if there is none. It runs, and what it owns
+    /// is dropped, under the lock (see `AsyncCell`).
     pub fn update_some<F: FnOnce(T) -> T + Drop>(&self, change: F)
         requires { F.IsAlwaysCallable change }
     {
@@ -153,6 +170,12 @@ impl<T: Drop, R: Wait + Drop> Owner<T, R> {
     }
 
     /// Takes the value, if there is one. The waiters stay registered.
+    ///
+    /// ```rust
+    /// let cell = Owner::new_with(rt.alloc(), 7, rt)?;
+    /// println!(rt; "{:?}", cell.try_take())?; // prints Some(7)
+    /// println!(rt; "{:?}", cell.try_take())?; // prints None
+    /// ```
     pub fn try_take(&self) -> Option<T> {
         self.shared.cell.try_take(&self.rt)
     }
@@ -167,8 +190,8 @@ impl<T: Drop, R: Wait + Drop> Owner<T, R> {
         self.shared.cell.try_get(&self.rt)
     }
 
-    /// Calls the closure on the value, if there is one, and returns what it returns. The lock is
-    /// held meanwhile: a closure that calls its own cell waits forever.
+    /// Calls the closure on the value, if there is one, and returns what it returns. The closure
+    /// runs under the lock: one that calls its own cell waits forever (see `AsyncCell`).
     pub fn peek<A, F: FnOnce(&T) -> A + Drop>(&self, look: F) -> Option<A>
         requires { F.IsAlwaysCallable look }
         ensures called { IfSome result (λ answer. (seen : T)
@@ -205,7 +228,8 @@ impl<T: Drop, R: Wait + Drop> Owner<T, R> {
 }
 
 impl<R: Wait + Drop> Owner<(), R> {
-    /// Wakes all waiters: the next `take` or `get` is ready.
+    /// Sets the value and wakes all waiters. One `wait` is ready: the first that is polled takes
+    /// the value, and the others wait on. A `get` leaves it, so every `get` is ready.
     pub fn notify(&self) {
         self.set(());
     }

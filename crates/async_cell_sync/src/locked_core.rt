@@ -1,7 +1,10 @@
 use async_cell_waiting::{CellCore, Lock};
 
 /// A core behind a lock. Each call makes one call of the core while the lock is held, for which it
-/// is passed `rt`, the right to wait. Wakers are woken, and old values, unused values and the value
-/// of a closed cell are dropped, after the lock is released. Only closures, and clones of values
-/// and wakers, run while the lock is held: one that calls its own cell waits forever.
+/// is passed `rt`, the right to wait.
+///
+/// **What runs under the lock:** closures, and the drop of what they own; clones of values and
+/// wakers; `will_wake` of wakers; `Debug` of values. Code that then calls the same cell waits
+/// forever. Wakers are woken, and old values, unused values and the value of a closed cell are
+/// dropped, after the lock is released.
 pub type LockedCore<T, W> = Lock<CellCore<T, W>>;

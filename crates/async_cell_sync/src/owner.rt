@@ -47,6 +47,13 @@ impl<T: Drop, R: Wait + Copy> Owner<T, R> {
     /// Makes a cell without a value, and its first owner. Fails with `Memory`.
     ///
     /// For a cell that you have already, call `AsyncCell::into_owner`.
+    ///
+    /// ```rust
+    /// let slot = Owner::new(rt.alloc(), rt)?;
+    /// let another = slot.another()?;
+    /// thread::spawn(&rt, move || another.set(7))?.join(&rt);
+    /// println!(rt; "{:?}", slot.try_take())?; // prints Some(7)
+    /// ```
     pub fn new(alloc: Global, rt: R) -> Result<Self, Refusal>
         ensures refused { FailsWithMemory result }
     {
@@ -93,7 +100,13 @@ impl<T: Drop, R: Wait + Copy> Owner<T, R> {
         ended.map_err(|shared| Owner { shared, rt })
     }
 
-    /// Returns a future that takes the value.
+    /// Returns a future that takes the value (`try_take` takes it at once).
+    ///
+    /// ```rust
+    /// let slot = Owner::new_with(rt.alloc(), 7, rt)?;
+    /// println!(rt; "{}", block_on(&rt, slot.take())??)?; // prints 7
+    /// println!(rt; "{}", slot.is_set())?; // prints false
+    /// ```
     pub fn take(&self) -> With<Take<&AsyncCell<T>>, R>
         ensures of_this { result.polled.0.now ≡ cell_owned self.now }
     {
@@ -101,13 +114,29 @@ impl<T: Drop, R: Wait + Copy> Owner<T, R> {
     }
 
     /// Returns a future that clones the value and leaves it.
+    ///
+    /// ```rust
+    /// let setting = Owner::new_with(rt.alloc(), 7, rt)?;
+    /// println!(rt; "{}", block_on(&rt, setting.get())??)?; // prints 7
+    /// println!(rt; "{}", setting.is_set())?; // prints true
+    /// ```
     pub fn get(&self) -> With<Get<&AsyncCell<T>>, R>
+    where
+        T: Clone,
         ensures of_this { result.polled.0.now ≡ cell_owned self.now }
     {
         self.cell().get().with(self.rt)
     }
 
-    /// Returns a future that takes the value and is a new owner. Fails as `another` does.
+    /// Returns a future that takes the value and is a new owner: while it waits the cell stays
+    /// open, so it waits forever if nobody sets a value. Fails as `another` does.
+    ///
+    /// ```rust
+    /// let slot = Owner::new(rt.alloc(), rt)?;
+    /// let reply = slot.take_shared()?;
+    /// thread::spawn(&rt, move || slot.set(7))?;
+    /// println!(rt; "{}", block_on(&rt, reply)??)?; // prints 7
+    /// ```
     pub fn take_shared(&self) -> Result<With<Take<Self>, R>, Refusal>
         ensures of_this { IfOk result (λ future.
             cell_owned future.polled.0 ≡ cell_owned self.now) }
@@ -116,8 +145,11 @@ impl<T: Drop, R: Wait + Copy> Owner<T, R> {
         Ok(Take(self.another()?).with(self.rt))
     }
 
-    /// Returns a future that clones the value and is a new owner. Fails as `another` does.
+    /// Returns a future that clones the value and is a new owner: while it waits the cell stays
+    /// open, so it waits forever if nobody sets a value. Fails as `another` does.
     pub fn get_shared(&self) -> Result<With<Get<Self>, R>, Refusal>
+    where
+        T: Clone,
         ensures of_this { IfOk result (λ future.
             cell_owned future.polled.0 ≡ cell_owned self.now) }
         ensures refused { IfErr result IsOwnerRefusal }
@@ -125,15 +157,34 @@ impl<T: Drop, R: Wait + Copy> Owner<T, R> {
         Ok(Get(self.another()?).with(self.rt))
     }
 
-    /// Returns a future that takes the value and is not an owner.
+    /// Returns a future that takes the value and is not an owner. It is `None` once the last owner
+    /// has ended: a value that was not taken by then is lost.
+    ///
+    /// ```rust
+    /// let slot = Owner::new_with(rt.alloc(), 7, rt)?;
+    /// println!(rt; "{:?}", block_on(&rt, slot.take_weak())??)?; // prints Some(7)
+    /// let late = slot.take_weak();
+    /// drop(slot);
+    /// println!(rt; "{:?}", block_on(&rt, late)??)?; // prints None
+    /// ```
     pub fn take_weak(&self) -> With<TakeWeak<T>, R>
         ensures of_this { NamesAtMost result.polled.0 (cell_owned self.now) }
     {
         self.shared.take_weak().with(self.rt)
     }
 
-    /// Returns a future that clones the value, leaves it, and is not an owner.
+    /// Returns a future that clones the value, leaves it, and is not an owner. It is `None` once
+    /// the last owner has ended.
+    ///
+    /// ```rust
+    /// let running: Owner<(), _> = Owner::new(rt.alloc(), rt)?;
+    /// let stopped = running.get_weak();
+    /// drop(running);
+    /// println!(rt; "{:?}", block_on(&rt, stopped)??)?; // prints None
+    /// ```
     pub fn get_weak(&self) -> With<GetWeak<T>, R>
+    where
+        T: Clone,
         ensures of_this { NamesAtMost result.polled.0 (cell_owned self.now) }
     {
         self.shared.get_weak().with(self.rt)
@@ -179,6 +230,13 @@ impl<T: Drop, R: Wait + Copy> Owner<T, R> {
     }
 
     /// As `guard_shared`, but drops the value if it fails, so that `?` serves.
+    ///
+    /// ```rust
+    /// let slot = Owner::new(rt.alloc(), rt)?;
+    /// let guard = slot.guard_shared_or_drop(0)?;
+    /// drop(guard); // Its worker gave up. Else it is `guard.set(7)`.
+    /// println!(rt; "{:?}", slot.try_take())?; // prints Some(0)
+    /// ```
     pub fn guard_shared_or_drop(&self, cancel: T) -> Result<Guard<T, Self, R>, Refusal>
         ensures of_this { IfOk result (λ guard.
             cell_owned guard.guarded.pointer ≡ cell_owned self.now) }
@@ -190,7 +248,8 @@ impl<T: Drop, R: Wait + Copy> Owner<T, R> {
 }
 
 impl<R: Wait + Copy> Owner<(), R> {
-    /// Returns a future that waits for `notify`.
+    /// Returns a future that waits for `notify`. It takes the value, so each `notify` ends at most
+    /// one `wait`: where several tasks wait, use `get`.
     pub fn wait(&self) -> With<Take<&AsyncCell<()>>, R>
         ensures of_this { result.polled.0.now ≡ cell_owned self.now }
     {

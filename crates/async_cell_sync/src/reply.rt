@@ -49,7 +49,7 @@ pub struct Reply<T: Drop, R: Wait + Drop> {
 /// ```rust
 /// let (replier, reply) = reply_slot(rt.alloc(), rt)?;
 /// let worker = thread::spawn(&rt, move || replier.set(42))?;
-/// println!(rt; "the reply is {}", block_on(&rt, reply)??)?;
+/// println!(rt; "the reply is {}", block_on(&rt, reply)??)?; // prints the reply is 42
 /// let _ = worker.join(&rt);
 /// ```
 pub fn reply_slot<T: Drop, R: Wait + Copy>(
@@ -78,7 +78,7 @@ impl<T: Drop, R: Wait + Drop> Replier<T, R> {
     /// ```rust
     /// let (replier, reply) = reply_slot(rt.alloc(), rt)?;
     /// drop(reply);
-    /// println!(rt; "nobody waits: {:?}", replier.set(42))?; // Err(42)
+    /// println!(rt; "nobody waits: {:?}", replier.set(42))?; // prints nobody waits: Err(42)
     /// ```
     pub fn set(self, value: T) -> Result<(), T>
         ensures comes_back { IfErr result (λ back. back ≡ value) }

@@ -11,7 +11,8 @@ use futures::task::{Context, Poll};
 use std::sync::Wait;
 
 /// Takes the value of a cell. Make the future by `with`. It may be polled again once ready, for
-/// further values. For the waker that `poll_shared` may add, see `AsyncCell`.
+/// further values (of several that do so one may get them all: see `Values`). For the waker that
+/// `poll_shared` may add, see `AsyncCell`.
 ///
 /// A `Take` of a `Shared` must be consumed, as its owner must: by `.0.end(rt)`.
 #[derive(Clone, Copy, Drop)]
@@ -38,6 +39,11 @@ impl<C: CellRef> Take<C> {
 impl<C: CellRef + Drop> Take<C> {
     /// Returns the future, which keeps `rt`: a poll of `futures` is passed no right to wait. A
     /// `Take` of a `Shared` must be consumed, so it has none: poll it by `poll_shared`.
+    ///
+    /// ```rust
+    /// let cell = AsyncCell::new_with(rt.alloc(), 7);
+    /// println!(rt; "{}", block_on(&rt, cell.take().with(&rt))??)?; // prints 7
+    /// ```
     pub fn with<R: Wait>(self, rt: R) -> With<Self, R>
         ensures polls { result.polled ≡ self }
     {

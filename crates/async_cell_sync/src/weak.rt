@@ -24,9 +24,18 @@ use futures::task::{Context, Poll};
 use std::alloc::AllocError;
 use std::sync::{Arc, Wait};
 
-/// The stream of the values of a cell, which `values` of a future of a `TakeWeak` makes.
+/// The stream of the values of a cell, which `values` of a future of a `TakeWeak` makes. **Several
+/// streams of a cell do not take turns**: one may get every value.
 ///
 /// **Dropping it may wait for the lock**, as dropping the future does that it polls (see `With`).
+///
+/// ```rust
+/// let states = Owner::new_with(rt.alloc(), 7, rt)?;
+/// let mut values = states.take_weak().values();
+/// println!(rt; "{:?}", block_on(&rt, values.next())?)?; // prints Some(Ok(7))
+/// drop(states);
+/// println!(rt; "{:?}", block_on(&rt, values.next())?)?; // prints None
+/// ```
 pub type Values<T, R> = async_cell_waiting::Values<TakeWeak<T>, R>;
 
 /// A weak pointer to a cell, which does not count as an owner. `Shared::downgrade` makes one.

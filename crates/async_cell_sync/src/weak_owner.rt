@@ -25,6 +25,14 @@ pub struct WeakOwner<T, R> {
 
 impl<T: Drop, R: Wait + Copy> WeakOwner<T, R> {
     /// Makes an owner; `None` if closed. Fails with `Memory` (checked first) or `OwnersFull`.
+    ///
+    /// ```rust
+    /// let slot = Owner::new_with(rt.alloc(), 7, rt)?;
+    /// let weak = slot.downgrade();
+    /// println!(rt; "{}", weak.upgrade()?.is_some())?; // prints true
+    /// drop(slot);
+    /// println!(rt; "{}", weak.upgrade()?.is_some())?; // prints false
+    /// ```
     pub fn upgrade(&self) -> Result<Option<Owner<T, R>>, Refusal>
         ensures of_this { IfOk result (λ found. IfSome found (λ owner.
             Names self.now.weak (cell_owned owner))) }
@@ -46,6 +54,8 @@ impl<T: Drop, R: Wait + Copy> WeakOwner<T, R> {
     /// Returns a future that clones the value and is no owner: `None` once the last owner has
     /// ended. If the pointer cannot be counted, it fails with `Memory`.
     pub fn get(&self) -> With<GetWeak<T>, R>
+    where
+        T: Clone,
         ensures of_this { NameAtMostTheSame self.now.weak result.polled.0 }
     {
         GetWeak(self.weak.again()).with(self.rt)

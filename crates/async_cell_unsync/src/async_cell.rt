@@ -17,13 +17,16 @@ use std::fmt;
 /// A cell of one thread. It holds an optional value, and futures wait on it for a value.
 ///
 /// Wakers are woken and values are dropped when the cell is consistent again, so whatever runs then
-/// may call it. While a closure, a clone or a value's printing runs, only the value is taken out:
-/// calls from inside see an empty cell, and owners made or ended inside are counted. Then the value
-/// is stored over whatever came meanwhile. No call waits. Dropping a cell wakes all waiters.
+/// may call it. No call waits. Dropping a cell wakes all waiters.
+///
+/// **While a closure, a clone or a value's `Debug` runs, the value is taken out.** Calls from
+/// inside see an empty cell, and owners made or ended inside are counted. What `update` and
+/// `update_some` make, and the value that `try_get`, a get or `Debug` took out, is then stored over
+/// whatever came meanwhile. What `peek` took out is put back only if the cell is still empty.
 ///
 /// A future made by `with` holds one place in the wait list while it waits (see `With`), so the
 /// list is no longer than the number of such futures that were alive at once. Each poll of any
-/// other future that waits may add a waker. It outlives that future, until the next fill or close.
+/// other future that waits adds a waker. It outlives that future, until the next write or close.
 pub struct AsyncCell<T> {
     pub(crate) core: Lender<CellCore<T, TaskWaker>>,
     /// The source that waiting tasks register with.
@@ -135,6 +138,7 @@ impl<T: Drop> AsyncCell<T> {
     }
 
     /// Returns a clone of the value, if there is one. If that fails with `Memory`, the value stays.
+    /// What the clone itself writes into the cell is overwritten (see `AsyncCell`).
     pub fn try_get(&self) -> Result<Option<T>, Refusal>
     where
         T: Clone,
@@ -148,7 +152,8 @@ impl<T: Drop> AsyncCell<T> {
     }
 
     /// Calls the closure on the value, if there is one, and returns what it returns. The value is
-    /// taken out meanwhile, and then stored over whatever calls made from inside have left.
+    /// taken out meanwhile. If the closure sets another one, or closes the cell, that stays, and
+    /// the value taken out is dropped.
     pub fn peek<A, F: FnOnce(&T) -> A + Drop>(&self, look: F) -> Option<A>
         requires { F.IsAlwaysCallable look }
         ensures called { IfSome result (λ answer. (seen : T)
@@ -156,7 +161,7 @@ impl<T: Drop> AsyncCell<T> {
     {
         let value = self.try_take()?;
         let answer = look(&value);
-        self.put_back(Some(value));
+        let _ = self.core.or_set(value, &OneThread);
         Some(answer)
     }
 
@@ -188,6 +193,7 @@ impl<T: Drop> AsyncCell<T> {
     }
 
     /// Returns the number of places in the wait list.
+    #[doc(hidden)]
     pub fn waiting(&self) -> usize {
         self.core.waiting(&OneThread)
     }
@@ -203,6 +209,7 @@ impl<T: Drop> AsyncCell<T> {
     }
 
     /// Returns the core. Ensures what holds of every core.
+    #[doc(hidden)]
     pub fn into_core(self) -> Core<T, TaskWaker>
         ensures { IsSound ⟦<TaskWaker as Wakes>⟧.will_wake result }
     {
@@ -214,7 +221,7 @@ impl<T: Drop> AsyncCell<T> {
         core.into_core()
     }
 
-    /// Returns a future that takes the value.
+    /// Returns a future that takes the value (`try_take` takes it at once).
     pub fn take(&self) -> Take<&Self>
         ensures of_this { result.0.now ≡ self.now }
     {
@@ -223,6 +230,8 @@ impl<T: Drop> AsyncCell<T> {
 
     /// Returns a future that clones the value and leaves it.
     pub fn get(&self) -> Get<&Self>
+    where
+        T: Clone,
         ensures of_this { result.0.now ≡ self.now }
     {
         Get(self)
@@ -259,12 +268,14 @@ impl<T: Drop> AsyncCell<T> {
 }
 
 impl AsyncCell<()> {
-    /// Wakes all waiters: the next `take` or `get` is ready.
+    /// Sets the value and wakes all waiters. One `wait` is ready: the first that is polled takes
+    /// the value, and the others wait on. A `get` leaves it, so every `get` is ready.
     pub fn notify(&self) {
         self.set(());
     }
 
-    /// Returns a future that waits for `notify`.
+    /// Returns a future that waits for `notify`. It takes the value, so each `notify` ends at most
+    /// one `wait`: where several tasks wait, use `get`.
     pub fn wait(&self) -> Take<&AsyncCell<()>>
         ensures of_this { result.0.now ≡ self.now }
     {
@@ -284,7 +295,8 @@ impl<T: Drop> Places<OneThread> for AsyncCell<T> {
 }
 
 /// Prints `AsyncCell::Empty`, `AsyncCell::Pending` if a task waits, `AsyncCell::Full(..)` with the
-/// value's own text, or `AsyncCell::Closed`. The value is taken out while it prints.
+/// value's own text, or `AsyncCell::Closed`. The value is taken out while it prints, and then
+/// stored over whatever calls made from inside have left.
 impl<T: fmt::Debug + Drop> fmt::Debug for AsyncCell<T> {
     fn fmt<F: fmt::Write>(&self, f: &mut fmt::Formatter<F>) -> fmt::Result {
         let Some(value) = self.try_take() else {

@@ -12,7 +12,9 @@ use futures::future::Future;
 use futures::task::{Context, Poll};
 
 /// A future that clones the value of a cell. It may be polled again once ready, for further values.
-/// Each poll that waits may add a waker: `with` makes a future that does not.
+///
+/// **Each poll that waits adds a waker**, which stays until the next write or close. The future of
+/// `with`, or of an `Owner`, keeps one, and renews it.
 #[derive(Clone, Copy, Drop)]
 #[derive_where(Debug)]
 pub struct Get<C>(#[derive_where(skip)] pub C);

@@ -45,6 +45,13 @@ impl<T: Drop> Owner<T> {
     /// Makes a cell without a value, and its first owner. Fails with `Memory`.
     ///
     /// For a cell that you have already, call `AsyncCell::into_owner`.
+    ///
+    /// ```rust
+    /// let slot = Owner::new(rt.alloc())?;
+    /// let reply = slot.take_shared()?;
+    /// slot.set(7);
+    /// println!(rt; "{}", block_on(&rt, reply)??)?; // prints 7
+    /// ```
     pub fn new(alloc: Global) -> Result<Self, Refusal>
         ensures refused { FailsWithMemory result }
     {
@@ -91,7 +98,7 @@ impl<T: Drop> Owner<T> {
         self.shared.cell()
     }
 
-    /// Returns a future that takes the value.
+    /// Returns a future that takes the value (`try_take` takes it at once).
     pub fn take(&self) -> With<Take<&AsyncCell<T>>>
         ensures of_this { result.polled.0.now ≡ cell_owned self.now }
     {
@@ -100,12 +107,15 @@ impl<T: Drop> Owner<T> {
 
     /// Returns a future that clones the value and leaves it.
     pub fn get(&self) -> With<Get<&AsyncCell<T>>>
+    where
+        T: Clone,
         ensures of_this { result.polled.0.now ≡ cell_owned self.now }
     {
         self.cell().get().with()
     }
 
-    /// Returns a future that takes the value and is a new owner. Fails as `another` does.
+    /// Returns a future that takes the value and is a new owner: while it waits the cell stays
+    /// open, so it waits forever if nobody sets a value. Fails as `another` does.
     pub fn take_shared(&self) -> Result<With<Take<Self>>, Refusal>
         ensures of_this { IfOk result (λ made. cell_owned made.polled.0 ≡ cell_owned self.now) }
         ensures refused { IfErr result IsOwnerRefusal }
@@ -113,23 +123,30 @@ impl<T: Drop> Owner<T> {
         Ok(Take(self.another()?).with())
     }
 
-    /// Returns a future that clones the value and is a new owner. Fails as `another` does.
+    /// Returns a future that clones the value and is a new owner: while it waits the cell stays
+    /// open, so it waits forever if nobody sets a value. Fails as `another` does.
     pub fn get_shared(&self) -> Result<With<Get<Self>>, Refusal>
+    where
+        T: Clone,
         ensures of_this { IfOk result (λ made. cell_owned made.polled.0 ≡ cell_owned self.now) }
         ensures refused { IfErr result IsOwnerRefusal }
     {
         Ok(Get(self.another()?).with())
     }
 
-    /// Returns a future that takes the value and is not an owner.
+    /// Returns a future that takes the value and is not an owner. It is `None` once the last owner
+    /// has ended: a value that was not taken by then is lost.
     pub fn take_weak(&self) -> With<TakeWeak<T>>
         ensures of_this { NamesAtMost result.polled.0 (cell_owned self.now) }
     {
         self.shared.take_weak().with()
     }
 
-    /// Returns a future that clones the value, leaves it, and is not an owner.
+    /// Returns a future that clones the value, leaves it, and is not an owner. It is `None` once
+    /// the last owner has ended.
     pub fn get_weak(&self) -> With<GetWeak<T>>
+    where
+        T: Clone,
         ensures of_this { NamesAtMost result.polled.0 (cell_owned self.now) }
     {
         self.shared.get_weak().with()
@@ -175,7 +192,8 @@ impl<T: Drop> Owner<T> {
 }
 
 impl Owner<()> {
-    /// Returns a future that waits for `notify`.
+    /// Returns a future that waits for `notify`. It takes the value, so each `notify` ends at most
+    /// one `wait`: where several tasks wait, use `get`.
     pub fn wait(&self) -> With<Take<&AsyncCell<()>>>
         ensures of_this { result.polled.0.now ≡ cell_owned self.now }
     {

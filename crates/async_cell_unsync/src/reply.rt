@@ -42,7 +42,7 @@ pub struct Reply<T: Drop> {
 /// ```rust
 /// let (replier, reply) = reply_slot(rt.alloc())?;
 /// let _ = replier.set(42);
-/// println!(rt; "the reply is {}", block_on(&rt, reply)??)?;
+/// println!(rt; "the reply is {}", block_on(&rt, reply)??)?; // prints the reply is 42
 /// ```
 pub fn reply_slot<T: Drop>(alloc: Global) -> Result<(Replier<T>, Reply<T>), Refusal>
     ensures of_one { IfOk result (λ sides. IsSomeAnd sides.1.cell (λ cell.
@@ -66,7 +66,7 @@ impl<T: Drop> Replier<T> {
     /// ```rust
     /// let (replier, reply) = reply_slot(rt.alloc())?;
     /// drop(reply);
-    /// println!(rt; "nobody waits: {:?}", replier.set(42))?; // Err(42)
+    /// println!(rt; "nobody waits: {:?}", replier.set(42))?; // prints nobody waits: Err(42)
     /// ```
     pub fn set(self, value: T) -> Result<(), T>
         ensures comes_back { IfErr result (λ back. back ≡ value) }

@@ -75,6 +75,8 @@ impl<T: Drop> Shared<T> {
 
     /// Returns a `Get` that is a new owner. Fails as `another` does.
     pub fn get_shared(&self) -> Result<Get<Self>, Refusal>
+    where
+        T: Clone,
         ensures of_this { IfOk result (λ polled. cell_of polled.0 ≡ cell_of self.now) }
         ensures refused { IfErr result IsOwnerRefusal }
     {
@@ -119,6 +121,8 @@ impl<T: Drop> Shared<T> {
 
     /// Returns a future that clones the value, leaves it, and is not an owner.
     pub fn get_weak(&self) -> GetWeak<T>
+    where
+        T: Clone,
         ensures of_this { NamesAtMost result.0 (cell_of self.now) }
     {
         GetWeak(Weak::of(&self.cell))

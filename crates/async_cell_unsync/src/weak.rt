@@ -93,7 +93,7 @@ impl<T: Drop> Clone for Weak<T> {
 }
 
 /// A future that takes the value of a cell and is no owner of it. It may be polled again once
-/// ready. Each poll that waits may add a waker: `with` makes a future that does not.
+/// ready. **Each poll that waits adds a waker**: the future of `with` keeps one (see `Take`).
 #[derive(Drop)]
 #[derive_where(Clone; T: Drop)]
 #[derive_where(Debug)]
@@ -182,7 +182,7 @@ impl<T: Drop> Future for TakeWeak<T> {
 }
 
 /// A future that clones the value of a cell and is no owner of it. It may be polled again once
-/// ready. Each poll that waits may add a waker: `with` makes a future that does not.
+/// ready. **Each poll that waits adds a waker**: the future of `with` keeps one (see `Take`).
 #[derive(Drop)]
 #[derive_where(Clone; T: Drop)]
 #[derive_where(Debug)]

@@ -40,6 +40,8 @@ impl<T: Drop> WeakOwner<T> {
     /// Returns a future that clones the value and is no owner: `None` once the last owner has
     /// ended. If the pointer cannot be counted, it fails with `Memory`.
     pub fn get(&self) -> With<GetWeak<T>>
+    where
+        T: Clone,
         ensures of_this { NameAtMostTheSame self.now.weak result.polled.0 }
     {
         GetWeak(self.weak.again()).with()

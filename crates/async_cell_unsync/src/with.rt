@@ -6,5 +6,6 @@ use async_cell_waiting::OneThread;
 /// wait list. Their `with` makes it, as do the calls of an `Owner` and a `WeakOwner`.
 pub type With<P> = async_cell_waiting::With<P, OneThread>;
 
-/// The stream of the values of a cell, which `values` of a future of a `TakeWeak` makes.
+/// The stream of the values of a cell, which `values` of a future of a `TakeWeak` makes. **Several
+/// streams of a cell do not take turns**: one may get every value.
 pub type Values<T> = async_cell_waiting::Values<TakeWeak<T>, OneThread>;

@@ -9,6 +9,7 @@ pub mod calls;
 pub mod executor;
 pub mod follower;
 pub mod laws;
+pub mod logs;
 pub mod notice;
 pub mod put;
 pub mod reply_slot;

@@ -1,9 +1,11 @@
 //! The end of a step, and what comes out of a core meanwhile. The core is released, then wakers are
 //! woken, and then the caller gets what it may drop. A step that ends otherwise does not compile.
 ghost use Rattle.std.specs.Prelude.{◌≡◌, Err, IfErr};
+ghost use Rattle.async_cell_model.specs.Refusal.{FailsWithClosed, FailsWithMemory, FailsWithMemoryOrClosed};
 
 use crate::room::Room;
 use crate::store::{Opens, Step, StoredCore, Stores};
+use async_cell_model::Refusal;
 use async_cell_wakers::{Place, TaskWaker, Wakers, Wakes};
 use futures::task::Waker;
 
@@ -80,6 +82,67 @@ impl<X> Held<X> {
         let beside = answer;
         let Held { answer, woken: _ } = self;
         Held::of((answer, beside))
+    }
+}
+
+/// A core that a value can be written to.
+pub trait Writes<T> {
+    /// What a write replaces.
+    type Old;
+    /// Whom a write wakes.
+    type Waker: Wakes;
+
+    /// Writes the value, and holds the old one. If that is refused, the value comes back.
+    fn write(&mut self, value: T) -> Held<Result<Self::Old, T>, Option<Wakers<Self::Waker>>>
+        ensures comes_back { IfErr result.answer (λ back. back ≡ value) };
+}
+
+/// Writes a value that came back during the step, and ends it. Apart from the calls, which pay for
+/// it only where it is called.
+#[inline(never)]
+pub fn write_held<C: Writes<T>, G: Step<Core = C>, T>(
+    mut step: G,
+    value: Held<T>,
+) -> Result<C::Old, T>
+    ensures comes_back { IfErr result (λ back. back ≡ value.answer) }
+{
+    let Held { answer, woken: _ } = value;
+    let written = step.lend().write(answer);
+    end_and_wake(step, written)
+}
+
+/// `write_held`, whose old value is dropped.
+#[inline(never)]
+pub fn put_held<C: Writes<T>, G: Step<Core = C>, T: Drop>(step: G, value: Held<T>)
+where
+    C::Old: Drop,
+{
+    let _ = write_held(step, value);
+}
+
+impl<X> Held<Option<X>> {
+    /// Holds what there is: `Closed` if there is none.
+    #[inline(always)]
+    pub(crate) fn or_closed(self) -> Held<Result<X, Refusal>>
+        ensures refused { FailsWithClosed result.answer }
+    {
+        let Held { answer, woken: _ } = self;
+        Held::of(answer.ok_or(Refusal::Closed))
+    }
+}
+
+impl<X> Held<Result<Option<X>, Refusal>> {
+    /// Holds what there is, or the error: `Closed` if there is neither.
+    #[inline(always)]
+    pub(crate) fn or_closed(self) -> Held<Result<X, Refusal>>
+        requires { FailsWithMemory self.answer }
+        ensures refused { FailsWithMemoryOrClosed result.answer }
+    {
+        let Held { answer, woken: _ } = self;
+        match answer {
+            Ok(found) => Held::of(found.ok_or(Refusal::Closed)),
+            Err(why) => Held::of(Err(why)),
+        }
     }
 }
 

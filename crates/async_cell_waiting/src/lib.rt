@@ -1,5 +1,6 @@
 //! The one text for waiting: what lends a core for a step, how a step ends, and the polls and calls
-//! that are made of steps. For the crates that build on this one: may change without notice.
+//! that are made of steps. Internal, but for what the crates of the cells re-export: it may change
+//! without notice.
 #![tactic(auto)]
 
 mod cell_core;
@@ -12,7 +13,7 @@ mod store;
 mod with;
 
 pub use cell_core::{CellCore, Cloning, Taking};
-pub use ended::{Held, end, end_and_wake, end_and_wake_one, open_holding};
+pub use ended::{Held, Writes, end, end_and_wake, end_and_wake_one, open_holding, put_held};
 pub use polls::poll;
 pub use query::Query;
 pub use room::Room;

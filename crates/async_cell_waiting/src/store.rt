@@ -1,5 +1,5 @@
 //! What lends a core for one step at a time: a lock, or a `RefCell`.
-ghost use Rattle.std.specs.Prelude.{◌≡◌};
+ghost use Rattle.std.specs.Prelude.{◌≡◌, Bool, IsSome, IsTrue};
 
 mod lent;
 mod locked;
@@ -42,15 +42,20 @@ pub trait Opens<'a, M: Stores> {
     /// The core while it is lent.
     type Open: Step<Core = M::Core>;
 
+    /// Each step waits for its turn: none finds the core lent already.
+    ghost always: { Bool };
+
     /// Lends the core. Returns `None` during another step of a store that cannot wait for its end,
     /// which no caller ever sees: a step calls nothing that could call the cell.
-    fn open(&self, store: &'a StoredCore<M>) -> Option<Self::Open>;
+    fn open(&self, store: &'a StoredCore<M>) -> Option<Self::Open>
+        ensures lent { IsTrue always → IsSome result };
 
     /// `open`, if no other step runs.
     fn try_open(&self, store: &'a StoredCore<M>) -> Option<Self::Open>;
 
     /// `open`, for where `try_open` found another step: never inlined.
-    fn wait_open(&self, store: &'a StoredCore<M>) -> Option<Self::Open>;
+    fn wait_open(&self, store: &'a StoredCore<M>) -> Option<Self::Open>
+        ensures lent { IsTrue always → IsSome result };
 }
 
 /// Lends the core, or else does what is said. It is `open` for the calls that are made most: what

@@ -75,9 +75,9 @@ pub trait Upgrade<R>: Request<R> {
 ///
 /// While it waits it holds one place in the cell's wait list, and each poll renews the waker there:
 /// the task that polled it last is woken. **Dropping it may wait for the lock**, and wakes nobody.
-/// The place is then free for the next such future, and the task that polled the
-/// dropped one may be woken once more. So keep a future that you poll again: two tasks that each
-/// make, poll and drop one within every poll wake each other each time.
+/// The place is then free for the next such future, and the task that polled the dropped one may be
+/// woken once more. **So keep a future and poll it again.** Two tasks that each make a new one for
+/// every poll wake each other forever.
 #[derive_where(Debug)]
 pub struct With<P: Request<R>, R> {
     #[derive_where(skip)]

@@ -1,8 +1,8 @@
 //! The trait of wakers, the wait list of a cell with the places of waiting futures, and the list of
 //! the wakers to wake.
 //!
-//! `WaitList` is for the crates that build on this one. The others are re-exported by
-//! `async_cell_core`.
+//! What is `doc(hidden)` is internal: for the crates that build on this one. The others are
+//! re-exported by `async_cell_core`.
 #![tactic(auto)]
 
 mod named;
@@ -13,8 +13,10 @@ mod wakers;
 mod wakes;
 
 pub use named::Named;
+#[doc(hidden)]
 pub use place::Place;
 pub use task_waker::TaskWaker;
+#[doc(hidden)]
 pub use wait_list::WaitList;
 pub use wakers::Wakers;
 pub use wakes::Wakes;

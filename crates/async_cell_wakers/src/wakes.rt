@@ -7,6 +7,7 @@ pub trait Wakes: Clone {
     /// Whether waking the first also wakes what the second would wake.
     ghost will_wake: { Self → Self → Bool };
 
+    /// `SURE_CLONE`, as contracts name it.
     ghost SURE_CLONE: { Bool };
 
     /// Whether the clone of a waker of this type never fails.

@@ -25,6 +25,12 @@ use std::time::{Clock, Duration, Instant};
 /// seen that much late. `block_on`, which has no limit, sleeps until it is woken.
 ///
 /// Fails if there is no memory, no random name for the task that polls, or no clock.
+///
+/// ```rust
+/// let limit = Duration::from_millis(9);
+/// println!(rt; "{:?}", within(&rt, &mut ready(7), limit)?)?; // prints Some(7)
+/// println!(rt; "{:?}", within(&rt, &mut pending::<u32>(), limit)?)?; // prints None
+/// ```
 pub fn within<R, F>(rt: &R, future: &mut F, limit: Duration) -> io::Result<Option<F::Output>>
 where
     R: Clock + RandomSource + AllocGlobal,

@@ -43,10 +43,6 @@ impl<R: Wait> Kind<R> for Lent {
         value_of(self.cell.get().poll_shared(cx))
     }
 
-    fn waits(&self, getter: &mut (), cx: &mut Context<'_>, rt: &R) -> bool {
-        self.get(getter, cx, rt).is_none()
-    }
-
     fn settle(&self, _: &mut Vec<()>, _: &mut Context<'_>, _: &R) {
         let _ = self.cell.try_take();
     }

@@ -55,28 +55,10 @@ impl<R: Wait + Copy> Kind<R> for Followed<R> {
         look(states, cx)
     }
 
-    fn waits(&self, states: &mut Self::Getter, cx: &mut Context<'_>, _: &R) -> bool {
-        look(states, cx).is_none()
-    }
-
     fn settle(&self, all: &mut Vec<Self::Getter>, cx: &mut Context<'_>, _: &R) {
         for states in all {
             let _ = look(states, cx);
         }
-    }
-
-    fn poll_again(&self, cx: &mut Context<'_>, rounds: u64, _: &R) -> u64 {
-        let mut pending = 0u64;
-        let Ok(follower) = self.owner.follow() else {
-            return pending;
-        };
-        let mut states = follower.states();
-        for _ in 0..rounds {
-            if look(&mut states, cx).is_none() {
-                pending = pending.wrapping_add(1);
-            }
-        }
-        pending
     }
 }
 

@@ -47,26 +47,8 @@ impl<R: Wait + Copy> Kind<R> for Owned<R> {
         value_of(getter.poll(cx))
     }
 
-    fn waits(&self, getter: &mut Self::Getter, cx: &mut Context<'_>, _: &R) -> bool {
-        getter.poll(cx).is_pending()
-    }
-
     fn settle(&self, _: &mut Vec<Self::Getter>, _: &mut Context<'_>, _: &R) {
         let _ = self.owner.try_take();
-    }
-
-    #[inline(never)]
-    fn poll_again(&self, cx: &mut Context<'_>, rounds: u64, rt: &R) -> u64 {
-        let mut pending = 0u64;
-        let Some(mut getter) = self.getter(rt) else {
-            return pending;
-        };
-        for _ in 0..rounds {
-            if self.waits(&mut getter, cx, rt) {
-                pending = pending.wrapping_add(1);
-            }
-        }
-        pending
     }
 }
 

@@ -26,14 +26,23 @@ pub trait Kind<R: Wait>: Drop {
     /// Polls a getter. Returns the value that it gets, if any.
     fn get(&self, getter: &mut Self::Getter, cx: &mut Context<'_>, rt: &R) -> Option<u64>;
 
-    /// Polls a getter. Returns whether it waits.
-    fn waits(&self, getter: &mut Self::Getter, cx: &mut Context<'_>, rt: &R) -> bool;
-
     /// Ends a round in which all waited: empties the cell, or shows each follower the state.
     fn settle(&self, getters: &mut Vec<Self::Getter>, cx: &mut Context<'_>, rt: &R);
 
     /// Polls one future so many times, and returns how often it waits.
-    fn poll_again(&self, cx: &mut Context<'_>, rounds: u64, rt: &R) -> u64;
+    #[inline(never)]
+    fn poll_again(&self, cx: &mut Context<'_>, rounds: u64, rt: &R) -> u64 {
+        let mut pending = 0u64;
+        let Some(mut getter) = self.getter(rt) else {
+            return pending;
+        };
+        for _ in 0..rounds {
+            if self.get(&mut getter, cx, rt).is_none() {
+                pending = pending.wrapping_add(1);
+            }
+        }
+        pending
+    }
 }
 
 /// A kind of reply slot that is no cell: a side that replies, and one that waits.

@@ -203,10 +203,10 @@ fn serve<K: Kind<R>, R: Wait>(
         return sum;
     };
     for i in 0..rounds {
-        if running.waits(signal, cx, rt) && messages.take(&mut taker, cx, rt).is_none() {
+        if running.get(signal, cx, rt).is_none() && messages.take(&mut taker, cx, rt).is_none() {
             messages.set(hidden.number(i), rt);
         }
-        if running.waits(signal, cx, rt) {
+        if running.get(signal, cx, rt).is_none() {
             if let Some(message) = messages.take(&mut taker, cx, rt) {
                 sum = sum.wrapping_add(message);
             }

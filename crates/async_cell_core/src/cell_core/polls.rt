@@ -19,6 +19,12 @@ impl<T: Drop, W: Wakes> Core<T, W> {
     /// it is added as the last, unless it is skipped (see `WaitList::skips`). Returns `Ready(None)`
     /// if the cell is closed. Fails with `Memory` if there is no memory for the clone or to grow
     /// the wait list.
+    ///
+    /// ```rust
+    /// let mut core = Core::new_with(rt.alloc(), 7);
+    /// println!(rt; "{:?}", core.poll_take(&Named(1))?)?; // prints Ready(Some(7))
+    /// println!(rt; "{:?}", core.poll_take(&Named(1))?)?; // prints Pending
+    /// ```
     pub fn poll_take(&mut self, waker: &W) -> Result<Poll<Option<T>>, Refusal>
         ensures model { IsStep W.Wakes
             self.old (Kept.PollTake waker.now) (poll_answer result) self.new }

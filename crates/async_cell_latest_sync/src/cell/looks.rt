@@ -20,7 +20,7 @@ impl<T: Drop> LatestCell<T> {
             FnOnceReturnsAt F.FnOnce look s.value result.1) }
     {
         let step = self.core.lock(rt);
-        let (version, value) = step.shown().state.read();
+        let (version, value) = step.shown().read();
         let answer = look(value);
         end(step, Held::of((version, answer)))
     }
@@ -35,7 +35,7 @@ impl<T: Drop> LatestCell<T> {
         ensures refused { FailsWithMemory result }
     {
         let step = self.core.lock(rt);
-        let copy = Held::of(step.shown().state.get());
+        let copy = step.shown().get();
         end(step, copy)
     }
 
@@ -58,7 +58,7 @@ impl<T: Drop> LatestCell<T> {
         ensures refused { IfSome result (λ tested. FailsWithMemory tested.1) }
     {
         let step = self.core.lock(rt);
-        let (version, value) = step.shown().state.read();
+        let (version, value) = step.shown().read();
         if version == seen {
             end(step, Held::of(()));
             return None;
@@ -77,7 +77,7 @@ impl<T: Drop> LatestCell<T> {
     /// Returns whether the last owner has ended.
     pub(crate) fn is_closed<R: Wait>(&self, rt: &R) -> bool {
         let step = self.core.lock(rt);
-        let is_closed = step.shown().state.is_closed();
+        let is_closed = step.shown().is_closed();
         end(step, Held::of(is_closed))
     }
 }

@@ -1,59 +1,7 @@
-//! The wait list of a state, and what polls ask it.
+//! What polls ask a state.
 use super::LatestCore;
-use async_cell_latest::{Place, Refusal, TaskWaker};
-use async_cell_waiting::{Held, Query, Room};
-use futures::task::Waker;
-
-impl<T: Drop> Room for LatestCore<T> {
-    ghost use Rattle.std.specs.Prelude.{◌≡◌, false};
-    ghost use Rattle.async_cell_latest.specs.State.{is_closed};
-
-    ghost vacant = { λ core. is_closed core.state ≡ false };
-
-    #[inline(always)]
-    fn add(&mut self, waker: TaskWaker) -> Held<Result<(), TaskWaker>> {
-        Held::of(self.state.add(waker))
-    }
-
-    #[inline(always)]
-    fn is_new(&self, place: &Place) -> bool {
-        self.state.is_new(place)
-    }
-
-    #[inline(always)]
-    fn store_new(&mut self, place: &mut Place, waker: TaskWaker) -> Held<Result<(), TaskWaker>> {
-        Held::of(self.state.store_new(place, waker))
-    }
-
-    #[inline(always)]
-    fn take_back(&mut self, place: &mut Place) -> Held<Option<Waker>> {
-        Held::of(self.state.take_back(place))
-    }
-
-    #[inline(always)]
-    fn store(
-        &mut self,
-        place: &mut Place,
-        waker: TaskWaker,
-    ) -> Held<Result<Option<TaskWaker>, TaskWaker>> {
-        Held::of(self.state.store(place, waker))
-    }
-
-    #[inline(always)]
-    fn vacate(&mut self, place: Place) -> Option<usize> {
-        self.state.vacate(place)
-    }
-
-    #[inline(always)]
-    fn take_left(&mut self, index: usize) -> Held<Option<Waker>> {
-        Held::of(self.state.take_left(index))
-    }
-
-    #[inline(always)]
-    fn places(&self) -> usize {
-        self.state.waiting()
-    }
-}
+use async_cell_latest::Refusal;
+use async_cell_waiting::{Held, Query};
 
 /// Asks a state for its version, if it is another one than this.
 #[derive(Clone, Copy, Drop)]
@@ -73,13 +21,13 @@ impl<T: Drop> Query<LatestCore<T>> for Unseen {
 
     #[inline(always)]
     fn must_wait(self, core: &LatestCore<T>) -> bool {
-        !core.state.is_unseen(self.0) && !core.state.is_closed()
+        !core.is_unseen(self.0) && !core.is_closed()
     }
 
     #[inline(always)]
     fn answer(self, core: &mut LatestCore<T>) -> Held<Result<u64, Refusal>> {
-        match core.state.is_unseen(self.0) {
-            true => Held::of(Ok(core.state.version())),
+        match core.is_unseen(self.0) {
+            true => Held::of(Ok(core.version())),
             false => Held::of(Err(Refusal::Closed)),
         }
     }
@@ -101,8 +49,8 @@ impl<T: Clone> Query<LatestCore<T>> for UnseenState {
 
     #[inline(always)]
     fn answer(self, core: &mut LatestCore<T>) -> Held<Result<(u64, T), Refusal>> {
-        match core.state.is_unseen(self.0) {
-            true => Held::of(core.state.get()),
+        match core.is_unseen(self.0) {
+            true => core.get(),
             false => Held::of(Err(Refusal::Closed)),
         }
     }

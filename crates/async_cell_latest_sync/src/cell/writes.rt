@@ -5,10 +5,10 @@ ghost use Rattle.std.specs.Fn.{FnOnceReturnsAt, FnOnceReturnsAtMut};
 ghost use Rattle.async_cell_model.specs.Refusal.{FailsWithClosed, IsOwnerRefusal};
 ghost use Rattle.async_cell_latest_sync.specs.Names.{cell_owned};
 
-use super::{LatestCell, LatestCore};
+use super::LatestCell;
 use crate::owner::Owner;
 use async_cell_latest::Refusal;
-use async_cell_waiting::{Held, Opens, Step, end, end_and_wake, end_and_wake_one};
+use async_cell_waiting::{Opens, Step, Writes, end, end_and_wake, end_and_wake_one, put_held};
 use std::sync::{Arc, Wait};
 
 impl<T: Drop, R: Wait + Drop> Owner<T, R> {
@@ -17,9 +17,9 @@ impl<T: Drop, R: Wait + Drop> Owner<T, R> {
         let Some(mut step) = self.rt.try_open(&self.cell.core) else {
             return self.set_in_turn(value);
         };
-        match step.lend().state.write_first(value) {
-            Ok((old, first)) => drop(end_and_wake_one(step, Held::waking(old, first))),
-            Err(value) => write(step, value),
+        match step.lend().write_first(value) {
+            Ok(written) => drop(end_and_wake_one(step, written)),
+            Err(value) => put_held(step, value),
         }
     }
 
@@ -35,7 +35,7 @@ impl<T: Drop, R: Wait + Drop> Owner<T, R> {
         ensures comes_back { IfErr result (λ back. back ≡ value) }
     {
         let mut step = self.cell.core.lock(&self.rt);
-        let written = Held::of_result(step.lend().state.write(value));
+        let written = step.lend().write(value);
         end_and_wake(step, written)
     }
 
@@ -47,7 +47,7 @@ impl<T: Drop, R: Wait + Drop> Owner<T, R> {
         ensures called { (old new : T) × FnOnceReturnsAt F.FnOnce change old new }
     {
         let mut step = self.cell.core.lock(&self.rt);
-        let written = Held::of_result(step.lend().state.update(change));
+        let written = step.lend().update(change);
         let _ = end_and_wake(step, written);
     }
 
@@ -56,6 +56,12 @@ impl<T: Drop, R: Wait + Drop> Owner<T, R> {
     /// so a closure that calls its own state, or drops a value that does, waits forever.
     ///
     /// Fails with `Closed` if the state takes no further write; the closure is then not called.
+    ///
+    /// ```rust
+    /// let setting = Owner::new(rt.alloc(), 1u32, rt)?;
+    /// setting.modify(|value| *value = value.saturating_mul(2))?;
+    /// println!(rt; "{}", setting.read()?)?; // prints 2
+    /// ```
     pub fn modify<A, F: FnOnce(&mut T) -> A + Drop>(&self, change: F) -> Result<A, Refusal>
         requires { F.IsAlwaysCallable change }
         ensures called { IfOk result (λ answer. (old new : T)
@@ -63,10 +69,7 @@ impl<T: Drop, R: Wait + Drop> Owner<T, R> {
         ensures refused { FailsWithClosed result }
     {
         let mut step = self.cell.core.lock(&self.rt);
-        let modified = match step.lend().state.modify(change) {
-            Ok((answer, woken)) => Held::waking(Ok(answer), Some(woken)),
-            Err(why) => Held::waking(Err(why), None),
-        };
+        let modified = step.lend().modify(change);
         end_and_wake(step, modified)
     }
 
@@ -81,11 +84,7 @@ impl<T: Drop, R: Wait + Drop> Owner<T, R> {
         ensures refused { FailsWithClosed result }
     {
         let mut step = self.cell.core.lock(&self.rt);
-        let modified = match step.lend().state.modify_if(change) {
-            Ok(Some(woken)) => Held::waking(Ok(true), Some(woken)),
-            Ok(None) => Held::waking(Ok(false), None),
-            Err(why) => Held::waking(Err(why), None),
-        };
+        let modified = step.lend().modify_if(change);
         end_and_wake(step, modified)
     }
 }
@@ -99,7 +98,7 @@ impl<T: Drop, R: Wait + Copy> Owner<T, R> {
     {
         let cell = Arc::try_clone(&self.cell)?;
         let mut step = cell.core.lock(&self.rt);
-        let added = Held::of(step.lend().state.add_writer());
+        let added = step.lend().add_writer();
         end(step, added)?;
         Ok(Owner { cell, rt: self.rt })
     }
@@ -109,14 +108,7 @@ impl<T: Drop> LatestCell<T> {
     /// Ends one owner. The last one closes the state, which stays, and wakes all waiters.
     pub(crate) fn end_owner<R: Wait>(&self, rt: &R) {
         let mut step = self.core.lock(rt);
-        let woken = step.lend().state.end_writer().ok();
-        end_and_wake(step, Held::waking((), woken));
+        let ended = step.lend().end_writer();
+        end_and_wake(step, ended);
     }
-}
-
-/// `set`, of a core that is lent: apart from it, which is then small where at most one waits.
-#[inline(never)]
-fn write<T: Drop, G: Step<Core = LatestCore<T>>>(mut step: G, value: T) {
-    let written = Held::of_result(step.lend().state.write(value));
-    let _ = end_and_wake(step, written);
 }

@@ -12,13 +12,14 @@ use std::alloc::Global;
 use std::fmt;
 
 impl<M: Stores<Core = CellCore<T, W>>, T: Drop, W: Wakes> StoredCore<M> {
-    /// Lends the core for a look. Ensures what holds of every core, whatever other steps did.
+    /// Lends the core for a look, which `end` of `async_cell_waiting` ends. Ensures what holds of
+    /// the core whenever it is lent, whatever other steps did: its state is sound.
     #[inline(always)]
-    fn look<'a, R: Opens<'a, M>>(&'a self, rt: &R) -> Option<R::Open>
-        ensures kept { IfSome result (λ step. IsSound W.will_wake (R.Open.shows step).inner) }
+    pub fn look<'a, R: Opens<'a, M>>(&'a self, rt: &R) -> Option<R::Open>
+        ensures sound { IfSome result (λ step. IsSound W.will_wake (R.Open.shows step).inner) }
     {
         let step = rt.open(self)?;
-        step.shown().inner.soundness();
+        step.shown().soundness();
         Some(step)
     }
 
@@ -32,7 +33,7 @@ impl<M: Stores<Core = CellCore<T, W>>, T: Drop, W: Wakes> StoredCore<M> {
         let Some(step) = self.look(rt) else {
             return Ok(None);
         };
-        let copied = Held::of(step.shown().inner.try_get());
+        let copied = step.shown().try_get();
         end(step, copied)
     }
 
@@ -47,7 +48,7 @@ impl<M: Stores<Core = CellCore<T, W>>, T: Drop, W: Wakes> StoredCore<M> {
             × FnOnceReturnsAt F.FnOnce look seen answer) }
     {
         let step = self.look(rt)?;
-        let looked = Held::of(step.shown().inner.peek(look));
+        let looked = step.shown().peek(look);
         match end(step, looked) {
             Ok(answer) => Some(answer),
             Err(_not_called) => None,
@@ -60,7 +61,7 @@ impl<M: Stores<Core = CellCore<T, W>>, T: Drop, W: Wakes> StoredCore<M> {
         let Some(step) = self.look(rt) else {
             return false;
         };
-        let is_set = step.shown().inner.is_set();
+        let is_set = step.shown().is_set();
         end(step, Held::of(is_set))
     }
 
@@ -74,7 +75,7 @@ impl<M: Stores<Core = CellCore<T, W>>, T: Drop, W: Wakes> StoredCore<M> {
         let Some(step) = self.look(rt) else {
             return 0;
         };
-        let owners = step.shown().inner.owners();
+        let owners = step.shown().owners();
         end(step, Held::of(owners))
     }
 
@@ -83,7 +84,7 @@ impl<M: Stores<Core = CellCore<T, W>>, T: Drop, W: Wakes> StoredCore<M> {
         let Some(step) = self.look(rt) else {
             return 0;
         };
-        let waiting = step.shown().inner.waiting();
+        let waiting = step.shown().waiting();
         end(step, Held::of(waiting))
     }
 
@@ -91,8 +92,8 @@ impl<M: Stores<Core = CellCore<T, W>>, T: Drop, W: Wakes> StoredCore<M> {
     #[doc(hidden)]
     pub fn is_pending<'a, R: Opens<'a, M>>(&'a self, rt: &R) -> Option<bool> {
         let step = self.look(rt)?;
-        let waits = match step.shown().inner.is_vacant() {
-            true => Some(!step.shown().inner.wakes_nobody()),
+        let waits = match step.shown().is_vacant() {
+            true => Some(!step.shown().wakes_nobody()),
             false => None,
         };
         end(step, Held::of(waits))
@@ -110,10 +111,7 @@ impl<M: Stores<Core = CellCore<T, W>>, T: Drop, W: Wakes> StoredCore<M> {
         ensures refused { FailsWithMemory result }
     {
         let step = self.look(rt).ok_or(Refusal::Memory)?;
-        let text = match format!(in alloc; "{:?}", &step.shown().inner) {
-            Ok(text) => Ok(text),
-            Err(why) => Err(why.into()),
-        };
-        end(step, Held::of(text))
+        let text = step.shown().debug_text(alloc);
+        end(step, text)
     }
 }

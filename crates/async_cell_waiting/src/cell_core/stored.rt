@@ -4,9 +4,9 @@ ghost use Rattle.async_cell_model.specs.History.{IsSound};
 ghost use Rattle.async_cell_model.specs.Refusal.{FailsWithClosed, FailsWithMemory};
 
 use super::CellCore;
-use crate::ended::{Held, end, end_and_wake, end_and_wake_one};
+use crate::ended::{Held, end, end_and_wake, end_and_wake_one, put_held, write_held};
 use crate::store::{Opens, Step, StoredCore, Stores, opened};
-use async_cell_core::{Core, Poll, Refusal, Wakes, end_guard};
+use async_cell_core::{Core, Poll, Refusal, Wakes};
 
 impl<M: Stores<Core = CellCore<T, W>>, T: Drop, W: Wakes> StoredCore<M> {
     /// Stores the core, whatever its state.
@@ -42,14 +42,14 @@ impl<M: Stores<Core = CellCore<T, W>>, T: Drop, W: Wakes> StoredCore<M> {
     #[inline]
     pub fn put<'a, R: Opens<'a, M>>(&'a self, value: T, rt: &R) {
         let mut step = opened!(rt, self, else return);
-        if step.shown().inner.is_set() {
-            let old = Held::of(step.lend().inner.overwrite(value)); // Nobody waits on a full cell.
+        if step.shown().is_set() {
+            let old = step.lend().overwrite(value); // Nobody waits on a full cell.
             let _ = end(step, old);
             return;
         }
-        match step.lend().inner.fill_first(value) {
-            Ok(first) => end_and_wake_one(step, Held::waking((), first)),
-            Err(value) => put_over(step, value),
+        match step.lend().fill_first(value) {
+            Ok(filled) => end_and_wake_one(step, filled),
+            Err(value) => put_held(step, value),
         }
     }
 
@@ -59,16 +59,16 @@ impl<M: Stores<Core = CellCore<T, W>>, T: Drop, W: Wakes> StoredCore<M> {
         ensures comes_back { IfErr result (λ back. back ≡ value) }
     {
         let mut step = opened!(rt, self, else return Err(value));
-        if step.shown().inner.is_set() {
-            let old = Held::of(step.lend().inner.overwrite(value)); // Nobody waits on a full cell.
+        if step.shown().is_set() {
+            let old = step.lend().overwrite(value); // Nobody waits on a full cell.
             return Ok(Some(end(step, old)?));
         }
-        match step.lend().inner.fill_first(value) {
-            Ok(first) => {
-                end_and_wake_one(step, Held::waking((), first));
+        match step.lend().fill_first(value) {
+            Ok(filled) => {
+                end_and_wake_one(step, filled);
                 Ok(None)
             }
-            Err(value) => write(step, value),
+            Err(value) => write_held(step, value),
         }
     }
 
@@ -80,7 +80,7 @@ impl<M: Stores<Core = CellCore<T, W>>, T: Drop, W: Wakes> StoredCore<M> {
         let Some(mut step) = rt.open(self) else {
             return Err(value);
         };
-        let written = Held::of_result(step.lend().inner.or_set(value));
+        let written = step.lend().or_set(value);
         let unused = end_and_wake(step, written)?;
         drop(unused);
         Ok(())
@@ -93,16 +93,14 @@ impl<M: Stores<Core = CellCore<T, W>>, T: Drop, W: Wakes> StoredCore<M> {
         let Some(mut step) = rt.open(self) else {
             return Err(value);
         };
-        let written = match step.lend().inner.or_set(value) {
-            Ok((unused, woken)) => Held::waking(unused.map_or(Ok(()), Err), Some(woken)),
-            Err(value) => Held::waking(Err(value), None),
-        };
-        end_and_wake(step, written)
+        let written = step.lend().or_set(value);
+        end_and_wake(step, written)?.map_or(Ok(()), Err)
     }
 
     /// Calls the closure on the content and stores what it returns, all in one step. Wakes all
     /// waiters if that puts a value into an empty cell. Fails with `Closed` on a closed cell,
-    /// without calling the closure. A closure that was not called is dropped after the step.
+    /// without calling the closure. What the closure owns is dropped under the lock. A closure that
+    /// was not called is dropped after the step.
     pub fn update<'a, F, R: Opens<'a, M>>(&'a self, change: F, rt: &R) -> Result<(), Refusal>
     where
         F: FnOnce(Option<T>) -> Option<T> + Drop,
@@ -111,19 +109,17 @@ impl<M: Stores<Core = CellCore<T, W>>, T: Drop, W: Wakes> StoredCore<M> {
         ensures refused { FailsWithClosed result }
     {
         let mut step = rt.open(self).ok_or(Refusal::Closed)?;
-        if step.shown().inner.is_closed() {
+        if step.shown().is_closed() {
             let _not_called = end(step, Held::of(change));
             return Err(Refusal::Closed);
         }
-        let updated = match step.lend().inner.update(change) {
-            Ok(woken) => Held::waking(Ok(()), Some(woken)),
-            Err(why) => Held::waking(Err(why), None),
-        };
+        let updated = step.lend().update(change);
         end_and_wake(step, updated)
     }
 
     /// `update`, of a value: the closure is not called if there is none. Fails with `Closed` on a
-    /// closed cell. A closure that was not called is dropped after the step.
+    /// closed cell. What the closure owns is dropped under the lock. A closure that was not called
+    /// is dropped after the step.
     pub fn update_some<'a, F, R: Opens<'a, M>>(&'a self, change: F, rt: &R) -> Result<(), Refusal>
     where
         F: FnOnce(T) -> T + Drop,
@@ -131,11 +127,11 @@ impl<M: Stores<Core = CellCore<T, W>>, T: Drop, W: Wakes> StoredCore<M> {
         ensures refused { FailsWithClosed result }
     {
         let mut step = rt.open(self).ok_or(Refusal::Closed)?;
-        if step.shown().inner.is_set() {
-            let updated = Held::of(step.lend().inner.update_some(change));
+        if step.shown().is_set() {
+            let updated = step.lend().update_some(change);
             return end(step, updated);
         }
-        let is_closed = step.shown().inner.is_closed();
+        let is_closed = step.shown().is_closed();
         let _not_called = end(step, Held::of(change));
         match is_closed {
             true => Err(Refusal::Closed),
@@ -147,9 +143,9 @@ impl<M: Stores<Core = CellCore<T, W>>, T: Drop, W: Wakes> StoredCore<M> {
     #[doc(hidden)]
     pub fn put_back<'a, R: Opens<'a, M>>(&'a self, value: T, rt: &R) {
         let mut step = opened!(rt, self, else return);
-        match step.lend().inner.put_quiet(value) {
+        match step.lend().put_quiet(value) {
             Ok(()) => end(step, Held::of(())),
-            Err(value) => put_over(step, value),
+            Err(value) => put_held(step, value),
         }
     }
 
@@ -157,7 +153,7 @@ impl<M: Stores<Core = CellCore<T, W>>, T: Drop, W: Wakes> StoredCore<M> {
     #[inline]
     pub fn try_take<'a, R: Opens<'a, M>>(&'a self, rt: &R) -> Option<T> {
         let mut step = opened!(rt, self, else return None);
-        let taken = Held::of(step.lend().inner.try_take());
+        let taken = step.lend().try_take();
         end(step, taken)
     }
 
@@ -165,11 +161,11 @@ impl<M: Stores<Core = CellCore<T, W>>, T: Drop, W: Wakes> StoredCore<M> {
     #[doc(hidden)]
     pub fn take_out<'a, R: Opens<'a, M>>(&'a self, rt: &R) -> Option<Option<T>> {
         let mut step = rt.open(self)?;
-        if step.shown().inner.is_closed() {
+        if step.shown().is_closed() {
             return end(step, Held::of(None));
         }
-        let content = Held::of(Some(step.lend().inner.try_take()));
-        end(step, content)
+        let content = step.lend().try_take();
+        Some(end(step, content))
     }
 
     /// Takes the value, or waits: registers the waker (see `WaitList::skips`). `Ready(None)` on a
@@ -182,7 +178,7 @@ impl<M: Stores<Core = CellCore<T, W>>, T: Drop, W: Wakes> StoredCore<M> {
         ensures refused { FailsWithMemory result }
     {
         let mut step = rt.open(self).ok_or(Refusal::Memory)?;
-        let polled = Held::of(step.lend().inner.poll_take(waker));
+        let polled = step.lend().poll_take(waker);
         end(step, polled)
     }
 
@@ -197,7 +193,7 @@ impl<M: Stores<Core = CellCore<T, W>>, T: Drop, W: Wakes> StoredCore<M> {
         ensures refused { FailsWithMemory result }
     {
         let mut step = rt.open(self).ok_or(Refusal::Memory)?;
-        let polled = Held::of(step.lend().inner.poll_get(waker));
+        let polled = step.lend().poll_get(waker);
         end(step, polled)
     }
 
@@ -207,7 +203,7 @@ impl<M: Stores<Core = CellCore<T, W>>, T: Drop, W: Wakes> StoredCore<M> {
         ensures refused { FailsWithMemory result }
     {
         let mut step = rt.open(self).ok_or(Refusal::Memory)?;
-        let reserved = Held::of(step.lend().inner.reserve(additional));
+        let reserved = step.lend().reserve(additional);
         end(step, reserved)
     }
 
@@ -215,8 +211,8 @@ impl<M: Stores<Core = CellCore<T, W>>, T: Drop, W: Wakes> StoredCore<M> {
     #[doc(hidden)]
     pub fn end_guard<'a, R: Opens<'a, M>>(&'a self, cancel: Option<T>, rt: &R) {
         if let Some(mut step) = rt.open(self) {
-            let (unused, woken) = end_guard(&mut step.lend().inner, cancel);
-            drop(end_and_wake(step, Held::waking(unused, Some(woken))));
+            let ended = step.lend().end_guard(cancel);
+            drop(end_and_wake(step, ended));
         }
     }
 
@@ -226,7 +222,7 @@ impl<M: Stores<Core = CellCore<T, W>>, T: Drop, W: Wakes> StoredCore<M> {
             (why ≡ Refusal.Closed) ⊎ (why ≡ Refusal.OwnersFull)) }
     {
         let mut step = opened!(rt, self, else return Err(Refusal::Closed));
-        let added = Held::of(step.lend().inner.add_owner());
+        let added = step.lend().add_owner();
         end(step, added)
     }
 
@@ -236,13 +232,13 @@ impl<M: Stores<Core = CellCore<T, W>>, T: Drop, W: Wakes> StoredCore<M> {
         ensures refused { FailsWithClosed result }
     {
         let mut step = opened!(rt, self, else return Err(Refusal::Closed));
-        if step.lend().inner.end_other() {
+        if step.lend().end_other() {
             end(step, Held::of(()));
             return Ok(());
         }
-        match step.lend().inner.close_first() {
-            Some((value, first)) => {
-                drop(end_and_wake_one(step, Held::waking(value, first)));
+        match step.lend().close_first() {
+            Some(closed) => {
+                drop(end_and_wake_one(step, closed));
                 Ok(())
             }
             None => end_last(step),
@@ -256,27 +252,9 @@ impl<M: Stores<Core = CellCore<T, W>>, T: Drop, W: Wakes> StoredCore<M> {
             (why ≡ Refusal.Closed) ⊎ (why ≡ Refusal.StillShared)) }
     {
         let mut step = rt.open(self).ok_or(Refusal::Closed)?;
-        let closed = Held::of_result(step.lend().inner.take_inner());
+        let closed = step.lend().take_inner();
         end_and_wake(step, closed)
     }
-}
-
-/// `replace`, of a core that is lent: apart, so that `replace` pays for it only where it is called.
-#[inline(never)]
-fn write<G: Step<Core = CellCore<T, W>>, T: Drop, W: Wakes>(
-    mut step: G,
-    value: T,
-) -> Result<Option<T>, T>
-    ensures comes_back { IfErr result (λ back. back ≡ value) }
-{
-    let replaced = Held::of_result(step.lend().inner.replace(value));
-    end_and_wake(step, replaced)
-}
-
-/// `write`, whose old value is dropped.
-#[inline(never)]
-fn put_over<G: Step<Core = CellCore<T, W>>, T: Drop, W: Wakes>(step: G, value: T) {
-    let _ = write(step, value);
 }
 
 /// Ends the last owner, of a core that is lent.
@@ -284,7 +262,7 @@ fn put_over<G: Step<Core = CellCore<T, W>>, T: Drop, W: Wakes>(step: G, value: T
 fn end_last<G: Step<Core = CellCore<T, W>>, T: Drop, W: Wakes>(mut step: G) -> Result<(), Refusal>
     ensures refused { FailsWithClosed result }
 {
-    let ended = Held::of_result(step.lend().inner.end_owner());
+    let ended = step.lend().end_owner();
     drop(end_and_wake(step, ended)?);
     Ok(())
 }

@@ -20,7 +20,11 @@ impl<C> Stores for RefCell<C> {
 }
 
 impl<'a, C: 'a> Opens<'a, RefCell<C>> for OneThread {
+    ghost use Rattle.std.specs.Prelude.{false};
+
     type Open = Lent<'a, C>;
+
+    ghost always = { false };
 
     #[inline(always)]
     fn open(&self, store: &'a Lender<C>) -> Option<Lent<'a, C>> {

@@ -40,7 +40,11 @@ impl<C> Stores for Mutex<C> {
 }
 
 impl<'a, C: 'a, R: Wait> Opens<'a, Mutex<C>> for R {
+    ghost use Rattle.std.specs.Prelude.{true};
+
     type Open = Locked<'a, C>;
+
+    ghost always = { true };
 
     #[inline(always)]
     fn open(&self, store: &'a Lock<C>) -> Option<Locked<'a, C>> {

@@ -19,7 +19,11 @@ pub trait Takes<R>: Polled<R, Output = Result<Option<Self::Value>, Refusal>> {
 }
 
 /// The values of a cell, as a stream: it takes each value that it is in time for, and ends when the
-/// last owner has ended. It is no owner. Two such streams of a cell share its values.
+/// last owner has ended. It is no owner.
+///
+/// **Several takers do not take turns.** Each value goes to the first that is polled, and a write
+/// wakes them in the order in which they began to wait. So of several streams, or of takes in
+/// loops, the first may get every value on one executor: it is the first again when it polls again.
 ///
 /// **The last value may be lost**: the end of the last owner drops a value that was not yet taken.
 /// An item is an error (`Memory`) if a poll was refused; the stream may be polled on.
@@ -31,7 +35,8 @@ pub struct Values<P: Takes<R>, R: Drop> {
 }
 
 impl<P: Takes<R>, R: Drop> With<P, R> {
-    /// Returns the stream of the values that this future would take, one after another.
+    /// Returns the stream of the values that this future would take, one after another. Of several
+    /// such streams of a cell one may get every value (see `Values`).
     pub fn values(self) -> Values<P, R>
         ensures takes { result.taker ≡ self }
     {

@@ -1,4 +1,4 @@
-use Rattle.std.proofs.Common.{IfOk, sym, subst, ◌∙◌}
+use Rattle.std.proofs.Common.{IfOk, sym, subst}
 use Rattle.async_cell_latest_sync.specs.OneState.{OfOneState}
 use Rattle.async_cell_latest_sync.proofs.OneState.{shown}
 use Rattle.async_cell_latest_sync.proofs.cell.LatestCell.get.Goals as goal
@@ -6,6 +6,6 @@ use Rattle.async_cell_latest_sync.proofs.cell.LatestCell.get.Goals as goal
 -- what was held is what is returned
 pub returns-clause-of_one_state : goal.returns-clause-of_one_state
 returns-clause-of_one_state g c =
-    let copy = c.get.ensures in
-    subst (λ found. IfOk found (λ it. OfOneState it.0 (λ s. g.T.Clone.is_clone s.value it.1))) (sym (c.end.ensures.answers ∙ c.of-copy.ensures))
-    (shown g.T.Clone.is_clone c.shown.result.now.state c.get.result copy.version copy.clones)
+    let copy = c.get-copy.ensures in
+    subst (λ found. IfOk found (λ it. OfOneState it.0 (λ s. g.T.Clone.is_clone s.value it.1))) (sym c.end.ensures.answers)
+    (shown g.T.Clone.is_clone c.shown.result.now.state c.get-copy.result.answer copy.version copy.clones)

@@ -16,5 +16,5 @@ pub returns-in-Ok : goal.returns-in-Ok
 returns-in-Ok g c = record {
   called =
       of_found (FnOnceReturnsAt g.F.FnOnce c.args.look) _ _ c.in-Ok.answer
-      (sym c.of-looked.ensures ∙ sym c.end.ensures.answers ∙ c.in-Ok.is) c.peek.ensures.called;
+      (sym c.end.ensures.answers ∙ c.in-Ok.is) c.peek-looked.ensures.called;
 }

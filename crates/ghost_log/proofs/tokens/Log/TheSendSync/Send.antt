@@ -1,0 +1,8 @@
+use base.Fraction.{full_share}
+use denote.RattleType.{RattleType}
+use denote.Param.Send.{IsSend}
+use Rattle.ghost_log.specs.contracts.tokens.Log.{the_row}
+use Rattle.ghost_log.proofs.Steps.{log_keyless}
+
+pub send : (E : RattleType) → IsSend (the_row E)
+send E = record { owned = λ d vs. ((λ vss. (tt, ((λ uss. (tt, tt)), tt))), log_keyless E.coded.code d.name d.list full_share); leaving = λ k f vs. tt }
