@@ -205,7 +205,7 @@ impl<T: Drop, R: Wait + Copy> Owner<T, R> {
     /// let slot = Owner::new(rt.alloc(), rt)?;
     /// let reply = slot.take_shared()?;
     /// drop(slot.into_guard(42));
-    /// println!(rt; "the reply is {}", block_on(&rt, reply)??)?;
+    /// println!(rt; "{}", block_on(&rt, reply)??)?; // prints 42
     /// ```
     pub fn into_guard(self, cancel: T) -> Guard<T, Self, R>
         ensures of_this { result.guarded.pointer ≡ self }

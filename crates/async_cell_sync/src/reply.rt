@@ -33,6 +33,12 @@ pub struct Replier<T: Drop, R: Wait + Drop> {
 /// If it is dropped before it was ready, the slot is closed: a value that was set is dropped, and
 /// one that is set later comes back. **That may wait for the lock**, and wakes the task that polled
 /// it last.
+///
+/// ```rust
+/// let (replier, reply) = reply_slot::<u32, _>(rt.alloc(), rt)?;
+/// drop(replier);
+/// println!(rt; "{:?}", block_on(&rt, reply)?)?; // prints Err(Closed)
+/// ```
 #[derive_where(Debug)]
 pub struct Reply<T: Drop, R: Wait + Drop> {
     /// `None` once it was ready.

@@ -159,7 +159,7 @@ impl<T: Drop> Owner<T> {
     /// let slot = Owner::new(rt.alloc())?;
     /// let reply = slot.take_shared()?;
     /// drop(slot.into_guard(42));
-    /// println!(rt; "the reply is {}", block_on(&rt, reply)??)?;
+    /// println!(rt; "{}", block_on(&rt, reply)??)?; // prints 42
     /// ```
     pub fn into_guard(self, cancel: T) -> Guard<T, Self>
         ensures of_this { result.pointer ≡ self }

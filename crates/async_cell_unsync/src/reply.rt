@@ -28,6 +28,12 @@ pub struct Replier<T: Drop> {
 ///
 /// If it is dropped before it was ready, the slot is closed: a value that was set is dropped, and
 /// one that is set later comes back. That wakes the task that polled it last.
+///
+/// ```rust
+/// let (replier, reply) = reply_slot::<u32>(rt.alloc())?;
+/// drop(replier);
+/// println!(rt; "{:?}", block_on(&rt, reply)?)?; // prints Err(Closed)
+/// ```
 #[derive_where(Debug)]
 pub struct Reply<T: Drop> {
     /// `None` once it was ready.
