@@ -1,4 +1,5 @@
-ghost use Rattle.std.specs.Prelude.{◌≡◌};
+ghost use Rattle.std.specs.Prelude.{◌≡◌, ◌<◌, ℕ, List, [], ◌∷◌, ◌++◌, IsOk, IfOk, OnOk, OnErr, MatchOption};
+ghost use Rattle.async_cell_wakers.specs.declared.task_waker.TaskWaker.{TaskWaker};
 
 use crate::ended::Held;
 use async_cell_wakers::{Place, TaskWaker};
@@ -10,16 +11,28 @@ pub trait Room {
     /// A waker can be stored: a poll has to wait.
     ghost vacant: { Self → Type 0 };
 
+    /// The wakers that wait, in order.
+    ghost waiting: { Self → List TaskWaker };
+
+    /// How many more can be added without memory.
+    ghost room: { Self → ℕ };
+
     /// Adds a waker as the last. If there is no memory to grow the list, it comes back.
     fn add(&mut self, waker: TaskWaker) -> Held<Result<(), TaskWaker>>
-        requires { vacant self.old };
+        requires { vacant self.old }
+        ensures first_waits { waiting self.old ≡ [] → IsOk result.answer }
+        ensures room_suffices { 0 < room self.old → IsOk result.answer }
+        ensures unchanged { OnErr result.answer (self.new ≡ self.old) };
 
     /// Returns whether a future with this place has to be added: it has none, and none is free.
     fn is_new(&self, place: &Place) -> bool;
 
     /// `add`, at a place: that of the waker from then on.
     fn store_new(&mut self, place: &mut Place, waker: TaskWaker) -> Held<Result<(), TaskWaker>>
-        requires { vacant self.old };
+        requires { vacant self.old }
+        ensures stored { OnOk result.answer
+            (waiting self.new ≡ waiting self.old ++ waker ∷ []) }
+        ensures unchanged { OnErr result.answer (self.new ≡ self.old) };
 
     /// Takes the waker out of the place, or out of a free place that is taken over. Holds `None` if
     /// there is neither. The waker may be another task's.
@@ -33,7 +46,11 @@ pub trait Room {
         place: &mut Place,
         waker: TaskWaker,
     ) -> Held<Result<Option<TaskWaker>, TaskWaker>>
-        requires { vacant self.old };
+        requires { vacant self.old }
+        ensures stored { IfOk result.answer (λ before. MatchOption before
+            (waiting self.new ≡ waiting self.old ++ waker ∷ [])
+            (λ _. (self.new ≡ self.old) × (waiting self.old ≡ [] → ⊥))) }
+        ensures unchanged { OnErr result.answer (self.new ≡ self.old) };
 
     /// Leaves the place free, with its waker. Returns its index, unless the place was given up.
     fn vacate(&mut self, place: Place) -> Option<usize>;

@@ -142,6 +142,10 @@ impl<T: Drop> Room for LatestCore<T> {
 
     ghost vacant = { λ core. is_closed core.state ≡ false };
 
+    ghost waiting = { λ core. core.state.waiting };
+
+    ghost room = { λ core. core.state.room };
+
     #[inline(always)]
     fn add(&mut self, waker: TaskWaker) -> Held<Result<(), TaskWaker>> {
         Held::of(self.state.add(waker))

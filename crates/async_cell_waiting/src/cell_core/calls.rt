@@ -248,6 +248,10 @@ impl<T: Drop> Room for CellCore<T, TaskWaker> {
 
     ghost vacant = { λ cell. is_vacant cell.inner.cell ≡ true };
 
+    ghost waiting = { λ cell. cell.inner.waiting };
+
+    ghost room = { λ cell. cell.inner.room };
+
     #[inline(always)]
     fn add(&mut self, waker: TaskWaker) -> Held<Result<(), TaskWaker>> {
         Held::of(self.inner.add(waker))
