@@ -45,19 +45,15 @@ module _ {T W : Type 0} where
   abbrev pub refuses : Refusal → Answer T W
   refuses why = replies (reply.Refused why None)
 
-  -- a closed cell gives the value back
-  abbrev pub gives_back : T → Answer T W
-  gives_back value = replies (reply.Refused why.Closed (Some value))
-
   -- the answer of `set`
   abbrev pub set_answer : Result (List W) T → Answer T W
   set_answer (Ok woken) = record { reply = reply.Done; woken = woken }
-  set_answer (Err back) = gives_back back
+  set_answer (Err back) = record { reply = reply.Refused why.Closed (Some back); woken = [] }
 
   -- the answer of `replace` and `or_set`
   abbrev pub replace_answer : Result (Option T × List W) T → Answer T W
   replace_answer (Ok (old, woken)) = record { reply = reply.Value old; woken = woken }
-  replace_answer (Err back) = gives_back back
+  replace_answer (Err back) = record { reply = reply.Refused why.Closed (Some back); woken = [] }
 
   -- the answer of `update`
   abbrev pub update_answer : Result (List W) Refusal → Answer T W
