@@ -26,15 +26,15 @@ WakerRules W =
 module _ {T W : Type 0} where
   -- the machine does this: in the state `old` the call gives this answer, and it leaves `new`
   abbrev pub IsStep : WakerRules W → State T W → Kept T W → Answer T W → State T W → Type 0
-  IsStep wakes old call answer new =
-      Does wakes.will_wake wakes.SURE_CLONE old (record { call = call; reply = answer.reply })
+  IsStep rules old call answer new =
+      Does rules.will_wake rules.SURE_CLONE old (record { call = call; reply = answer.reply })
       answer.woken new
 
   -- the same up to clones: a get may answer a clone of the value
   abbrev pub IsStepUpTo : (T → T → Type 0) → WakerRules W → State T W → Kept T W → Answer T W
       → State T W → Type 0
-  IsStepUpTo is_clone wakes old call answer new =
-      DoesUpTo wakes.will_wake wakes.SURE_CLONE is_clone old
+  IsStepUpTo is_clone rules old call answer new =
+      DoesUpTo rules.will_wake rules.SURE_CLONE is_clone old
       (record { call = call; reply = answer.reply }) answer.woken new
 
   -- a reply, and no wakers
