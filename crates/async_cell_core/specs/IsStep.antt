@@ -26,15 +26,15 @@ WakerRules W =
 module _ {T W : Type 0} where
   -- the machine does this: in the state `old` the call gives this answer, and it leaves `new`
   abbrev pub IsStep : WakerRules W → State T W → Kept T W → Answer T W → State T W → Type 0
-  IsStep wakes old call answer new =
-      Does wakes.will_wake wakes.SURE_CLONE old (record { call = call; reply = answer.reply })
+  IsStep rules old call answer new =
+      Does rules.will_wake rules.SURE_CLONE old (record { call = call; reply = answer.reply })
       answer.woken new
 
   -- the same up to clones: a get may answer a clone of the value
   abbrev pub IsStepUpTo : (T → T → Type 0) → WakerRules W → State T W → Kept T W → Answer T W
       → State T W → Type 0
-  IsStepUpTo is_clone wakes old call answer new =
-      DoesUpTo wakes.will_wake wakes.SURE_CLONE is_clone old
+  IsStepUpTo is_clone rules old call answer new =
+      DoesUpTo rules.will_wake rules.SURE_CLONE is_clone old
       (record { call = call; reply = answer.reply }) answer.woken new
 
   -- a reply, and no wakers
@@ -45,19 +45,15 @@ module _ {T W : Type 0} where
   abbrev pub refuses : Refusal → Answer T W
   refuses why = replies (reply.Refused why None)
 
-  -- a closed cell gives the value back
-  abbrev pub gives_back : T → Answer T W
-  gives_back value = replies (reply.Refused why.Closed (Some value))
-
   -- the answer of `set`
   abbrev pub set_answer : Result (List W) T → Answer T W
   set_answer (Ok woken) = record { reply = reply.Done; woken = woken }
-  set_answer (Err back) = gives_back back
+  set_answer (Err back) = record { reply = reply.Refused why.Closed (Some back); woken = [] }
 
   -- the answer of `replace` and `or_set`
   abbrev pub replace_answer : Result (Option T × List W) T → Answer T W
   replace_answer (Ok (old, woken)) = record { reply = reply.Value old; woken = woken }
-  replace_answer (Err back) = gives_back back
+  replace_answer (Err back) = record { reply = reply.Refused why.Closed (Some back); woken = [] }
 
   -- the answer of `update`
   abbrev pub update_answer : Result (List W) Refusal → Answer T W

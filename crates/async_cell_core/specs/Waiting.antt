@@ -8,9 +8,9 @@ module _ {T W : Type 0} where
   -- A poll by w that has to wait needs no memory: w is skipped, or its clone cannot fail and w is
   -- the first to wait or finds room.
   abbrev pub NeedsNoMemory : WakerRules W → State T W → W → Type 0
-  NeedsNoMemory wakes at w =
-      (skips wakes.will_wake at.waiting w ≡ true)
-      ⊎ (wakes.is_infallible w × ((at.waiting ≡ []) ⊎ (0 < at.room)))
+  NeedsNoMemory rules at w =
+      (skips rules.will_wake at.waiting w ≡ true)
+      ⊎ (rules.is_infallible w × ((at.waiting ≡ []) ⊎ (0 < at.room)))
 
   -- the cell and the wait list stay, and there is no less room
   pub record OnlyRoomGrows (old new : State T W) : Type 0 where

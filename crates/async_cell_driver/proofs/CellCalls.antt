@@ -15,7 +15,7 @@ use Rattle.async_cell_model.specs.Cell.{ends_waiting, is_vacant, is_full, is_clo
 use Rattle.async_cell_model.specs.Step.{next, reply as model_reply}
 use Rattle.async_cell_model.specs.WaitList.{wait_list}
 use Rattle.async_cell_model.specs.History.{State, IsSound, is_pending, pending_waker, waiting}
-use Rattle.async_cell_model.specs.Legal.{wakes}
+use Rattle.async_cell_model.specs.Legal.{woken_by}
 use Rattle.async_cell_model.specs.Machine.{Does}
 use Rattle.async_cell_model.proofs.Machine.{model_of}
 use Rattle.async_cell_model.proofs.OneEntry.{Runs-sound}
@@ -96,7 +96,7 @@ named_handed false l names i same unnamed named = refl
 module _ {T : Type 0} where
   -- the names are those that the entry wakes
   pub names_are : (from to : State T Named) (call : Kept T Named) (r : Reply T) (names : List Named) → Does same_name true from (record { call = call; reply = r }) names to
-      → names ≡ wakes from (record { call = call; reply = r })
+      → names ≡ woken_by from (record { call = call; reply = r })
   names_are from to call r names answers = answers.woken_are ∙ ap (λ (c : Cell T). if ends_waiting from.cell c then from.waiting else []) answers.cell_is
 
   -- where a history leads another begins

@@ -16,7 +16,7 @@ use Rattle.async_cell_model.specs.declared.refusal.Refusal.TheVariants.{Memory}
 use Rattle.async_cell_model.specs.Cell.{content, ends_waiting, is_vacant}
 use Rattle.async_cell_model.specs.Step.{next, is_memory}
 use Rattle.async_cell_model.specs.History.{State, IsSound}
-use Rattle.async_cell_model.specs.Legal.{wakes}
+use Rattle.async_cell_model.specs.Legal.{woken_by}
 use Rattle.async_cell_core.specs.Polled.{poll_reply, IsReadyWith}
 use Rattle.async_cell_model.specs.Legal.{RunsUpTo, StepsUpTo}
 use Rattle.async_cell_driver.specs.declared.task.Kind.{Kind}
@@ -54,7 +54,7 @@ module _ {T : Type 0} where
   poll_ends_none (Open value owners) (Some Get) i r = ends_none value value owners (is_memory r) (λ none. none)
 
   -- a poll wakes none
-  pub poll_hands_none : (core : State T Named) (kind : Option Kind) (i : ℕ) (r : Reply T) → wakes core (record { call = poll_of kind i; reply = r }) ≡ []
+  pub poll_hands_none : (core : State T Named) (kind : Option Kind) (i : ℕ) (r : Reply T) → woken_by core (record { call = poll_of kind i; reply = r }) ≡ []
   poll_hands_none core kind i r = ap (λ (ends : Bool). if ends then core.waiting else []) (poll_ends_none core.cell kind i r)
 
 -- the mark of a task that is marked if it is polled

@@ -11,7 +11,7 @@ use Rattle.async_cell_model.specs.declared.refusal.Refusal.{Refusal}
 use Rattle.async_cell_model.specs.declared.reply.Reply.{Reply}
 use Rattle.async_cell_model.specs.declared.reply.Reply.TheVariants as reply
 use Rattle.async_cell_model.specs.History.{State, History, cell_after}
-use Rattle.async_cell_model.specs.Legal.{wakes}
+use Rattle.async_cell_model.specs.Legal.{woken_by}
 use Rattle.async_cell_model.specs.Step.{reply as model_reply}
 use Rattle.async_cell_driver.specs.declared.task.Kind.{Kind}
 use Rattle.async_cell_driver.specs.declared.task.Kind.TheVariants.{Get}
@@ -85,7 +85,7 @@ module _ {T : Type 0} where
   -- the names that an entry wakes, if there is one
   abbrev pub names_by : State T Named → Option (Entry T Named) → List Named
   names_by core None = []
-  names_by core (Some e) = wakes core e
+  names_by core (Some e) = woken_by core e
 
   -- the line of an event with this outcome
   abbrev pub line_of : DriverState T → Event T (Option T → Option T) → Told T → Line T

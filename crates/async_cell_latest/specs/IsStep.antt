@@ -26,8 +26,8 @@ pub record Answer (T W : Type 0) : Type 0 where
 module _ {T W : Type 0} where
   -- the call is a step of the model: in the state `old` it gives this answer, and it leaves `new`
   abbrev pub IsStep : WakerRules W → State T W → Call T W → Answer T W → State T W → Type 0
-  IsStep wakes old call answer new =
-      Runs wakes.will_wake wakes.SURE_CLONE old
+  IsStep rules old call answer new =
+      Runs rules.will_wake rules.SURE_CLONE old
       (record { call = call; reply = answer.reply } ∷ []) (answer.woken ∷ []) new
 
   -- a reply, and no wakers

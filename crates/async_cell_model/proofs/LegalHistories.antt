@@ -9,7 +9,7 @@ use Rattle.async_cell_model.specs.declared.entry.Kept.TheVariants.{TryGet, PollT
 use Rattle.async_cell_model.specs.Cell.{is_full, is_vacant}
 use Rattle.async_cell_model.specs.WaitList.{wait_list, skips, is_empty}
 use Rattle.async_cell_model.specs.History.{State, History, IsSound, has_fill_or_close, room, after}
-use Rattle.async_cell_model.specs.Legal.{Exactly, MayFollowBy, IsLegalAfterBy, RunsBy, wakes, wakes_after, may_refuse, Runs}
+use Rattle.async_cell_model.specs.Legal.{Exactly, MayFollowBy, IsLegalAfterBy, RunsBy, woken_by, wakes_after, may_refuse, Runs}
 use Rattle.async_cell_model.specs.declared.reply.Reply.{Reply}
 use Rattle.async_cell_model.proofs.JoinedHistory.{after-append}
 
@@ -23,7 +23,7 @@ module _ {T W : Type 0} (MayReply : Kept T W → Reply T → Reply T → Type 0)
   pub wakes_after-append : (b : State T W) (h xs ys : History T W) → wakes_after will_wake b h (xs ++ ys) ≡ wakes_after will_wake b h xs ++ wakes_after will_wake b (h ++ xs) ys
   wakes_after-append b h [] ys = ap (λ (g : History T W). wakes_after will_wake b g ys) (sym (append-nil h))
   wakes_after-append b h (e ∷ xs) ys =
-      ap (λ (l : List (List W)). wakes (after will_wake b h) e ∷ l)
+      ap (λ (l : List (List W)). woken_by (after will_wake b h) e ∷ l)
       (wakes_after-append b (h ++ e ∷ []) xs ys ∙ ap (λ (g : History T W). wakes_after will_wake b (h ++ e ∷ []) xs ++ wakes_after will_wake b g ys) (append_assoc h (e ∷ []) xs))
 
   -- what is legal in the state where a history ends is legal after it
@@ -37,7 +37,7 @@ module _ {T W : Type 0} (MayReply : Kept T W → Reply T → Reply T → Type 0)
   pub wakes_after-begun : (b : State T W) (g h rest : History T W) → wait_list will_wake b.waiting ≡ b.waiting → wakes_after will_wake b (g ++ h) rest ≡ wakes_after will_wake (after will_wake b g) h rest
   wakes_after-begun b g h [] kept = refl
   wakes_after-begun b g h (e ∷ rest) kept =
-      let head = ap (λ (at : State T W). wakes at e) (after-append will_wake b g h kept) in
+      let head = ap (λ (at : State T W). woken_by at e) (after-append will_wake b g h kept) in
       let tail = ap (λ (l : History T W). wakes_after will_wake b l rest) (append_assoc g h (e ∷ [])) ∙ wakes_after-begun b g (h ++ e ∷ []) rest kept in
       λ i. head i ∷ tail i
 
@@ -82,7 +82,7 @@ module _ {T W : Type 0} (MayReply : Kept T W → Reply T → Reply T → Type 0)
 
   wakes_after-room : (b : State T W) (r : ℕ) (h rest : History T W) → wakes_after will_wake (record b { room = r }) h rest ≡ wakes_after will_wake b h rest
   wakes_after-room b r h [] = refl
-  wakes_after-room b r h (e ∷ rest) = ap (λ (l : List (List W)). wakes (after will_wake b h) e ∷ l) (wakes_after-room b r (h ++ e ∷ []) rest)
+  wakes_after-room b r h (e ∷ rest) = ap (λ (l : List (List W)). woken_by (after will_wake b h) e ∷ l) (wakes_after-room b r (h ++ e ∷ []) rest)
 
   joined_room : (b : State T W) (r : ℕ) (to : State T W) (g h : History T W) → wait_list will_wake b.waiting ≡ b.waiting → room will_wake b g ≤ r → room will_wake (record (after will_wake b g) { room = r }) h ≤ to.room → room will_wake b (g ++ h) ≤ to.room
   joined_room b r to g h kept more left =

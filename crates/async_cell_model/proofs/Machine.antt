@@ -14,7 +14,7 @@ use Rattle.async_cell_model.specs.Clones.{Exactly, IsCloned, UpToClones}
 use Rattle.async_cell_model.specs.Step.{next, reply, is_memory}
 use Rattle.async_cell_model.specs.WaitList.{wait_list, with_one_more}
 use Rattle.async_cell_model.specs.History.{State, IsSound, waiting, room, after, is_pending, waker_of, pending_waker}
-use Rattle.async_cell_model.specs.Legal.{RunsBy, MayFollowBy, Steps, StepsUpTo, wakes}
+use Rattle.async_cell_model.specs.Legal.{RunsBy, MayFollowBy, Steps, StepsUpTo, woken_by}
 use Rattle.async_cell_model.specs.Machine.{Does, DoesUpTo}
 use Rattle.async_cell_model.proofs.OneMoreWaker.{wait_list-one}
 use Rattle.async_cell_model.proofs.Whole.{after-nil}
@@ -70,7 +70,7 @@ module _ {T W : Type 0} (MayReply : Kept T W → Reply T → Reply T → Type 0)
         cell_is = leads.cell_is;
         waiting_is = leads.waiting_is ∙ (list_is from e kept _ refl ∙ left from to e _ _ leads.cell_is);
         room_is_left = subst (λ (n : ℕ). n ≤ to.room) (room_in from to e leads.cell_is leads.waiting_is) leads.room_is_left;
-        woken_are = ap first_of leads.wakes_are ∙ (ap (λ (at : State T W). wakes at e) (here from kept) ∙ left from to e _ _ leads.cell_is);
+        woken_are = ap first_of leads.wakes_are ∙ (ap (λ (at : State T W). woken_by at e) (here from kept) ∙ left from to e _ _ leads.cell_is);
       }
 
   runs_of : (from to : State T W) (e : Entry T W) (woken : List W) → One from e woken to → RunsBy MayReply will_wake sure from (e ∷ []) (woken ∷ []) to
@@ -82,7 +82,7 @@ module _ {T W : Type 0} (MayReply : Kept T W → Reply T → Reply T → Type 0)
         cell_is = does.cell_is;
         waiting_is = list;
         room_is_left = subst (λ (n : ℕ). n ≤ to.room) (sym (room_in from to e does.cell_is list)) does.room_is_left;
-        wakes_are = ap (λ (l : List W). l ∷ []) (does.woken_are ∙ sym (ap (λ (at : State T W). wakes at e) (here from kept) ∙ left from to e _ _ does.cell_is));
+        wakes_are = ap (λ (l : List W). l ∷ []) (does.woken_are ∙ sym (ap (λ (at : State T W). woken_by at e) (here from kept) ∙ left from to e _ _ does.cell_is));
       }
 
 module _ {T W : Type 0} (will_wake : W → W → Bool) (sure : Bool) where

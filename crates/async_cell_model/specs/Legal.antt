@@ -13,14 +13,14 @@ pub use Rattle.async_cell_model.specs.Clones.{copies, is_copy, Exactly, IsCloned
 use Rattle.async_cell_model.specs.History.{State, History, IsSound, cell_after, waiting, room, after}
 
 -- the wakers that an entry wakes: the whole wait list if it fills or closes the cell, else none
-abbrev pub wakes : {T W : Type 0} → State T W → Entry T W → List W
-wakes at e = if ends_waiting at.cell (next at.cell e) then at.waiting else []
+abbrev pub woken_by : {T W : Type 0} → State T W → Entry T W → List W
+woken_by at e = if ends_waiting at.cell (next at.cell e) then at.waiting else []
 
 module _ {T W : Type 0} (will_wake : W → W → Bool) where
   -- the wakers that each of these entries wakes, if the entries h come first
   abbrev pub wakes_after : State T W → History T W → History T W → List (List W)
   wakes_after b h [] = []
-  wakes_after b h (e ∷ rest) = wakes (after will_wake b h) e ∷ wakes_after b (h ++ e ∷ []) rest
+  wakes_after b h (e ∷ rest) = woken_by (after will_wake b h) e ∷ wakes_after b (h ++ e ∷ []) rest
 
 -- `sure` says whether cloning a waker never fails
 module _ {T W : Type 0} (will_wake : W → W → Bool) (sure : Bool) where

@@ -137,7 +137,7 @@ pub fn the_room_goes_by_one<T, W>()
 {}
 
 /// A history ends in a sound state, so another history can start from there.
-pub fn a_history_leads_to_a_beginning<T: Clone, W>()
+pub fn a_history_ends_in_a_sound_state<T: Clone, W>()
     ensures { (will_wake : W → W → Bool) (sure : Bool)
         (from to : State T W) (h : History T W) (woken : List (List W))
         → RunsUpTo will_wake sure T.is_clone from h woken to → IsSound will_wake to }

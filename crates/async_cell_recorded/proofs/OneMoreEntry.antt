@@ -8,7 +8,7 @@ use Rattle.async_cell_model.specs.declared.cell.Cell.{Cell}
 use Rattle.async_cell_model.specs.declared.entry.Entry as model
 use Rattle.async_cell_model.specs.Step.{is_memory, reply}
 use Rattle.async_cell_model.specs.History.{State, History, IsSound, has_fill_or_close, after}
-use Rattle.async_cell_model.specs.Legal.{IsLegal, wakes, wakes_after, Runs}
+use Rattle.async_cell_model.specs.Legal.{IsLegal, woken_by, wakes_after, Runs}
 use Rattle.async_cell_model.specs.Cell.{ends_waiting}
 use Rattle.async_cell_model.specs.Machine.{Does}
 use Rattle.async_cell_model.proofs.LegalHistories.{Runs-join}
@@ -48,8 +48,8 @@ module _ {T : Type 0} where
     wakes_are = refl;
   }
 
-  wakes_same : (a b : State T Named) (e : model.Entry T Named) → a.cell ≡ b.cell → a.waiting ≡ b.waiting → wakes a e ≡ wakes b e
-  wakes_same a b e cells lists = λ i. wakes (record { cell = cells i; waiting = lists i; room = a.room }) e
+  wakes_same : (a b : State T Named) (e : model.Entry T Named) → a.cell ≡ b.cell → a.waiting ≡ b.waiting → woken_by a e ≡ woken_by b e
+  wakes_same a b e cells lists = λ i. woken_by (record { cell = cells i; waiting = lists i; room = a.room }) e
 
   -- the entry is of a share, and has its next serial
   pub record IsNext (r : Recording T) (e : Entry T) : Type 0 where
@@ -61,14 +61,14 @@ module _ {T : Type 0} where
     recorded : IsRecorded (longer r e)
     cell_is : core'.cell ≡ (state (longer r e)).cell
     waiting_is : core'.waiting ≡ (state (longer r e)).waiting
-    handed : woken ≡ wakes (state r) (plain_entry e)
+    handed : woken ≡ woken_by (state r) (plain_entry e)
 
   more : (r : Recording T) (core core' : State T Named) (e : Entry T) (woken : List Named) → IsRecorded r → core.cell ≡ (state r).cell → core.waiting ≡ (state r).waiting
       → is_memory e.reply ≡ false → IsNext r e → Does same_name true core (record { call = e.call; reply = e.reply }) woken core' → More r core' e woken
   more r core core' e woken recorded cell_is waiting_is found next one =
       let both = Runs-join same_name true (start r.begin) core core' (map plain_entry r.entries) (plain_entry e ∷ []) _ (woken ∷ []) (leads r core recorded cell_is waiting_is) (model_of same_name true core core' e.call e.reply woken one) in
       let grown : map plain_entry r.entries ++ plain_entry e ∷ [] ≡ map plain_entry (r.entries ++ e ∷ []) = sym (plain-snoc r.entries e) in
-      let first : woken ≡ wakes core (plain_entry e) = one.woken_are ∙ ap (λ (c : Cell T). if ends_waiting core.cell c then core.waiting else []) one.cell_is in
+      let first : woken ≡ woken_by core (plain_entry e) = one.woken_are ∙ ap (λ (c : Cell T). if ends_waiting core.cell c then core.waiting else []) one.cell_is in
       record {
         recorded = record {
           owned = recorded.owned;
@@ -97,7 +97,7 @@ module _ {T : Type 0} (test : Test T) where
   journal_more r core core' counted e woken journal found next one =
       let m = more r core core' e woken journal.recorded journal.cell_is journal.waiting_is found next one in
       let grown = picked_after-append (start r.begin) [] r.entries (e ∷ []) in
-      let picks : from_bool (test e woken) ≡ from_bool (test e (wakes (state r) (plain_entry e))) = ap (λ (l : List Named). from_bool (test e l)) m.handed in
+      let picks : from_bool (test e woken) ≡ from_bool (test e (woken_by (state r) (plain_entry e))) = ap (λ (l : List Named). from_bool (test e l)) m.handed in
       record {
         recorded = m.recorded;
         cell_is = m.cell_is;

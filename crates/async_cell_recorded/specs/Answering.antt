@@ -5,7 +5,7 @@ use Rattle.async_cell_model.specs.declared.cell.Cell.{Cell}
 use Rattle.async_cell_model.specs.declared.entry.Kept.{Kept}
 use Rattle.async_cell_model.specs.declared.refusal.Refusal.{Refusal}
 use Rattle.async_cell_model.specs.declared.refusal.Refusal.TheVariants.{Memory, OutOfTurn}
-use Rattle.async_cell_model.specs.Legal.{wakes}
+use Rattle.async_cell_model.specs.Legal.{woken_by}
 use Rattle.async_cell_model.specs.Step.{reply}
 use Rattle.async_cell_recorded.specs.declared.entry.Entry.{Entry}
 use Rattle.async_cell_recorded.specs.Counting.{ShareState, Test, share_after}
@@ -19,7 +19,7 @@ module _ {T : Type 0} where
     pub recorded : IsRecorded (record before { entries = before.entries ++ entry ∷ [] })
     pub called : entry.call ≡ call (state before).cell
     pub replied : entry.reply ≡ reply (state before).cell entry.call
-    pub woken : names ≡ wakes (state before) (plain_entry entry)
+    pub woken : names ≡ woken_by (state before) (plain_entry entry)
 
   -- What a call with a share returns: an entry of that share with its next serial, which comes
   -- after some recorded history. The share counts the call, and whether its result was picked.

@@ -2,7 +2,7 @@
 use Rattle.std.specs.Prelude.{◌≡◌, ◌+◌, ◌<◌, ℕ, suc, zero, Bool, List, [], ◌∷◌, ◌++◌, length, map, slice_index, if◌then◌else◌}
 use Rattle.async_cell_wakers.specs.declared.named.Named.{Named}
 use Rattle.async_cell_model.specs.History.{State, after}
-use Rattle.async_cell_model.specs.Legal.{wakes}
+use Rattle.async_cell_model.specs.Legal.{woken_by}
 use Rattle.async_cell_recorded.specs.declared.entry.Entry.{Entry}
 use Rattle.async_cell_recorded.specs.Recording.{Recording, plain_entry, start, state, made_by, IsRecorded}
 use Rattle.async_cell_wakers.specs.Named.{same_name}
@@ -47,7 +47,7 @@ module _ {T : Type 0} (test : Test T) where
   abbrev pub picked_after : State T Named → List (Entry T) → List (Entry T) → ℕ
   picked_after b h [] = 0
   picked_after b h (e ∷ rest) =
-      from_bool (test e (wakes (after same_name b (map plain_entry h)) (plain_entry e)))
+      from_bool (test e (woken_by (after same_name b (map plain_entry h)) (plain_entry e)))
       + picked_after b (h ++ e ∷ []) rest
 
   -- how many entries of a recorded history pass the test, each with the names that it wakes

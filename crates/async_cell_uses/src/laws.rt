@@ -15,7 +15,7 @@ pub fn of_histories() {
     laws::a_history_can_begin_anew::<String, u64>();
     laws::two_histories_are_one::<String, u64>();
     laws::one_more_waker_is_last_or_skipped::<String, u64>();
-    laws::a_history_leads_to_a_beginning::<String, u64>();
+    laws::a_history_ends_in_a_sound_state::<String, u64>();
     laws::a_refused_call_changes_nothing::<String, u64>();
     laws::a_fill_or_close_ends_all_waiting::<String, u64>();
     laws::with_exact_clones_a_history_is_exact::<i64, u64>();
@@ -29,7 +29,7 @@ pub fn of_exact_histories() {
     exact::a_history_can_begin_anew::<Uncloned, u64>();
     exact::two_histories_are_one::<Uncloned, u64>();
     exact::one_more_waker_is_last_or_skipped::<Uncloned, u64>();
-    exact::a_history_leads_to_a_beginning::<Uncloned, u64>();
+    exact::a_history_ends_in_a_sound_state::<Uncloned, u64>();
     exact::a_refused_call_changes_nothing::<Uncloned, u64>();
     exact::a_fill_or_close_ends_all_waiting::<Uncloned, u64>();
 }

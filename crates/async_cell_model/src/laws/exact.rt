@@ -88,7 +88,7 @@ pub fn one_more_waker_is_last_or_skipped<T, W>()
 {}
 
 /// A history ends in a sound state, so another history can start from there.
-pub fn a_history_leads_to_a_beginning<T, W>()
+pub fn a_history_ends_in_a_sound_state<T, W>()
     ensures { (will_wake : W → W → Bool) (sure : Bool)
         (from to : State T W) (h : History T W) (woken : List (List W))
         → Runs will_wake sure from h woken to → IsSound will_wake to }

@@ -1,6 +1,6 @@
 use Rattle.async_cell_model.proofs.Exact.{NoClone, leads_of_exact}
 use Rattle.async_cell_model.proofs.OneEntry.{Runs-sound}
-use Rattle.async_cell_model.proofs.laws.exact.a_history_leads_to_a_beginning.Goals as goal
+use Rattle.async_cell_model.proofs.laws.exact.a_history_ends_in_a_sound_state.Goals as goal
 
 pub returns : goal.returns
 returns ctx c = λ will_wake sure from to h woken leads.
