@@ -219,7 +219,8 @@ class Page:
         for name, home, item in self.exports:
             own = members(home, item)[2] if item and home == self.crate else []
             links = "".join(f'<a href="#{name}.{it.name}">{it.name}</a>' for _, it in own)
-            listed += f'<a href="{self.links[name]}">{name}</a><div>{links}</div>'
+            shown = name.replace("_", "_<wbr>")
+            listed += f'<a href="{self.links[name]}">{shown}</a><div>{links}</div>'
         body = "".join(self.section(*it) for it in self.exports)
         return FRAME.format(self.crate.name, listed, self.prose(self.crate.docs) + body)
 
@@ -274,4 +275,4 @@ def main(folder):
 
 
 if __name__ == "__main__":
-    sys.exit(main(sys.argv[1]))
+    sys.exit(main(sys.argv[1]) if len(sys.argv) == 2 else __doc__)
