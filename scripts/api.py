@@ -7,8 +7,8 @@
 A page has the public items of a crate, also those that it exports from crates below it: each with
 its declaration, its docstring, and its contract, folded away under the labels. What is
 `doc(hidden)`, or has a docstring that begins with "Internal", is left out. A public item without a
-docstring is a fault, and so is an export of what is not found. Prints a line for each fault; the
-last line is 'api: N public items, M faults', and the status is 0 if there is no fault.
+docstring is a fault, also a variant or a field, and so is an export of what is not found. Prints a
+line for each; the last line is 'api: N public items, M faults', and the status is 0 if M is.
 """
 import functools
 import glob
@@ -31,6 +31,8 @@ ITEM = (
 # The generics of an impl, and a private field of a struct.
 GENERICS = re.compile(r"^impl<(?:[^<>]|<(?:[^<>]|<[^<>]*>)*>)*>")
 PRIVATE = re.compile(r"(?:^ *(?:///|#\[).*\n)*^    (?!pub |///|#\[)\S.*\n", re.M)
+# A variant or a field without a docstring.
+BARE = re.compile(r"^(?! *(?:///|#\[)).*\n    (?:pub )?\w", re.M)
 USE = re.compile(r"pub use ([\w:]+?)(?:::\{(.*)\})?(?: as (\w+))?$", re.S)
 WORD = re.compile(r"//.*|\b[A-Za-z]\w+(?:::\w+)?\b")
 FRAME = """<!doctype html>
@@ -262,8 +264,12 @@ def main(folder):
     for of in libraries():
         public = list(public_items(of.items))
         count += len(public)
+        types = [it for it in public if it.kind in ("struct", "enum")]
         bare = [it for it in public if not it.docs]
-        faults += [f"{it.file}:{it.line}: {it.name} has no docstring" for it in bare]
+        bare += [it for it in types if BARE.search(it.declaration)]
+        why = "has no docstring, or a part of it has none"
+        faults += [f"{it.file}:{it.line}: {it.name} {why}" for it in bare]
+        faults += [f"{of.folder}/src/lib.rt: the crate has no docstring"] * (not of.docs)
         lost = [name for name, home, _ in of.exports() if not home]
         faults += [f"{of.folder}/src/lib.rt: {name} is not found" for name in lost]
     for it in faults:
