@@ -1,6 +1,6 @@
 //! The end of a step, and what comes out of a core meanwhile. The core is released, then wakers are
 //! woken, and then the caller gets what it may drop. A step that ends otherwise does not compile.
-ghost use Rattle.std.specs.Prelude.{◌≡◌, Err, IfErr};
+ghost use Rattle.std.specs.Prelude.{◌≡◌, Err, IfErr, IsSome, IsTrue};
 ghost use Rattle.async_cell_model.specs.Refusal.{FailsWithClosed, FailsWithMemory, FailsWithMemoryOrClosed};
 
 use crate::room::Room;
@@ -59,7 +59,9 @@ pub fn open_holding<'a, M: Stores, X: Drop, R: Opens<'a, M>>(
     store: &'a StoredCore<M>,
     held: X,
     rt: &R,
-) -> Option<(R::Open, Held<X>)> {
+) -> Option<(R::Open, Held<X>)>
+    ensures lent { IsTrue R.always → IsSome result }
+{
     let step = rt.open(store)?;
     Some((step, Held::of(held)))
 }

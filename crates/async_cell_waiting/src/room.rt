@@ -1,4 +1,4 @@
-ghost use Rattle.std.specs.Prelude.{◌≡◌, ◌<◌, ℕ, List, [], ◌∷◌, ◌++◌, IsOk, IfOk, OnOk, OnErr, MatchOption};
+ghost use Rattle.std.specs.Prelude.{◌≡◌, ◌<◌, ◌≤◌, ◌-◌, ℕ, List, [], ◌∷◌, ◌++◌, IsOk, IfOk, OnOk, OnErr, MatchOption};
 ghost use Rattle.async_cell_wakers.specs.declared.task_waker.TaskWaker.{TaskWaker};
 
 use crate::ended::Held;
@@ -32,6 +32,10 @@ pub trait Room {
         requires { vacant self.old }
         ensures stored { OnOk result.answer
             (waiting self.new ≡ waiting self.old ++ waker ∷ []) }
+        ensures takes_room { OnOk result.answer (room self.old - 1 ≤ room self.new) }
+        ensures first_waits { waiting self.old ≡ [] → IsOk result.answer }
+        ensures room_suffices { 0 < room self.old → IsOk result.answer }
+        ensures place_stays { OnErr result.answer (place.new ≡ place.old) }
         ensures unchanged { OnErr result.answer (self.new ≡ self.old) };
 
     /// Takes the waker out of the place, or out of a free place that is taken over. Holds `None` if
@@ -50,6 +54,10 @@ pub trait Room {
         ensures stored { IfOk result.answer (λ before. MatchOption before
             (waiting self.new ≡ waiting self.old ++ waker ∷ [])
             (λ _. (self.new ≡ self.old) × (waiting self.old ≡ [] → ⊥))) }
+        ensures takes_room { OnOk result.answer (room self.old - 1 ≤ room self.new) }
+        ensures first_waits { waiting self.old ≡ [] → IsOk result.answer }
+        ensures room_suffices { 0 < room self.old → IsOk result.answer }
+        ensures place_stays { OnErr result.answer (place.new ≡ place.old) }
         ensures unchanged { OnErr result.answer (self.new ≡ self.old) };
 
     /// Leaves the place free, with its waker. Returns its index, unless the place was given up.

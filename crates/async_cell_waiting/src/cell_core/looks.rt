@@ -1,5 +1,5 @@
 //! The calls that change nothing.
-ghost use Rattle.std.specs.Prelude.{IsOk, IfSome};
+ghost use Rattle.std.specs.Prelude.{IsOk, IsSome, IsTrue, IfSome};
 ghost use Rattle.std.specs.Fn.{FnOnceReturnsAt};
 ghost use Rattle.async_cell_model.specs.History.{IsSound};
 ghost use Rattle.async_cell_model.specs.Refusal.{FailsWithMemory};
@@ -16,6 +16,7 @@ impl<M: Stores<Core = CellCore<T, W>>, T: Drop, W: Wakes> StoredCore<M> {
     /// the core whenever it is lent, whatever other steps did: its state is sound.
     #[inline(always)]
     pub fn look<'a, R: Opens<'a, M>>(&'a self, rt: &R) -> Option<R::Open>
+        ensures lent { IsTrue R.always → IsSome result }
         ensures sound { IfSome result (λ step. IsSound W.will_wake (R.Open.shows step).inner) }
     {
         let step = rt.open(self)?;
