@@ -15,7 +15,8 @@ use std::sync::{Arc, Wait};
 ///
 /// Wakers are woken and old values are dropped after the lock is released, so whatever runs then
 /// may call the state. Closures, and clones of the value, run while the lock is held: one that
-/// calls its own state, or drops an owner or a waiting future of it, waits forever.
+/// calls its own state, or drops an owner or a waiting future of it, waits forever. What a closure
+/// owns is dropped there too.
 ///
 /// A state takes 18,446,744,073,709,551,614 writes, and no further one.
 ///

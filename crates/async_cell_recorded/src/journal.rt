@@ -2,7 +2,7 @@ ghost use Rattle.std.specs.Prelude.{◌≡◌, ◌≢◌, ◌↔◌, ◌⊎◌, 
 ghost use Rattle.std.specs.Prelude.{IfOk, IfErr, OnErr};
 ghost use Rattle.std.specs.List.{sum_by};
 ghost use Rattle.async_cell_model.specs.Step.{reply};
-ghost use Rattle.async_cell_model.specs.Legal.{wakes};
+ghost use Rattle.async_cell_model.specs.Legal.{woken_by};
 ghost use Rattle.async_cell_model.specs.Refusal.{FailsWithMemory};
 ghost use Rattle.async_cell_core.specs.Kept.{kept_call};
 ghost use Rattle.async_cell_recorded.specs.Recording.{IsRecorded, state, plain_entry, made_by};
@@ -89,7 +89,7 @@ impl<T: Copy, M: Pick<T>> Journal<T, M> {
         ensures appended { IfOk result (λ answer.
             self.new ≡ record self.old { entries = self.old.entries ++ answer.0 ∷ [] }) }
         ensures hands_out { IfOk result (λ answer.
-            answer.1 ≡ wakes (state self.old) (plain_entry answer.0)) }
+            answer.1 ≡ woken_by (state self.old) (plain_entry answer.0)) }
         ensures counted { IfOk result (λ answer.
             share.new ≡ share_after M.pick share.old answer.0 answer.1) }
         ensures recorded { IsRecorded self.new }
