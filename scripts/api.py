@@ -138,16 +138,11 @@ def libraries():
     return [crate(it) for _, it in LISTED.findall(read(f"{TOP}/crates.txt")) if it]
 
 
-def members(home, item):
-    """Returns the crate and the item that a type alias stands for, or these, and its functions."""
-    if item.kind == "type":
-        name = re.search(r"= (?:\w+::)*(\w+)", item.head)[1]
-        all_named = [(of, of.named[name]) for of in [home, *libraries()] if name in of.named]
-        structs = [(of, it) for of, it in all_named if it.kind == "struct"]
-        home, item = structs[0] if structs else (home, item)
-    functions = [(it, f) for it in home.impls(item) if not it.is_of_trait for f in it.inside]
-    shown = [(it, f) for it, f in functions if f.is_public or it.kind == "trait" != f.kind]
-    return home, item, [(it, f) for it, f in shown if f.kind != "ghost" and not f.is_hidden]
+def functions(home, item):
+    """Returns what an impl or a trait has to call, each with that impl or trait."""
+    inner = [(it, f) for it in home.impls(item) if not it.is_of_trait for f in it.inside]
+    shown = [(it, f) for it, f in inner if f.is_public or it.kind == "trait"]
+    return [(it, f) for it, f in shown if f.kind != "ghost" and not f.is_hidden]
 
 
 class Page:
@@ -157,8 +152,8 @@ class Page:
         self.crate, self.links = of, {}
         self.exports = sorted(of.exports(), key=lambda it: (it[1] != of, "::" in it[0]))
         for name, home, item in self.exports:
-            self.links[name] = f"#{name}" if item else f"{home.name}.html"
-            for _, it in members(home, item)[2] if item else []:
+            self.links[name] = f"#{name}"
+            for _, it in functions(home, item) if item else []:
                 self.links[f"{name}::{it.name}"] = f"#{name}.{it.name}"
 
     def code(self, text, of=""):
@@ -168,6 +163,8 @@ class Page:
             word, link = found[0], self.links.get(f"{of}::{found[0]}") or self.links.get(found[0])
             if word.startswith("//"):
                 return f"<i>{word}</i>"
+            if re.match(r"async_cell\w*::", word):
+                link = word.replace("::", ".html#")
             if link and word != of:
                 return f'<a href="{link}">{word}</a>'
             return f"<b>{word}</b>" if word in KEYWORDS else word
@@ -199,19 +196,19 @@ class Page:
     def section(self, name, home, item):
         """Returns the section of an export; its functions are folded away if it is from below."""
         if not item:
-            return "<section><h2>{}</h2><p>All of {}:</p>{}</section>".format(name, *linked(home))
-        its_home, its_own, functions = members(home, item)
-        inner, last = "", its_own
-        for of, it in functions:
-            inner += f"<h4>{self.code(of.head, name)}</h4>" * (of not in (last, its_own))
+            link, names = linked(home)
+            return f'<section id="{name}"><h2>{name}</h2><p>All of {link}:</p>{names}</section>'
+        inner, last = "", item
+        for of, it in functions(home, item):
+            inner += f"<h4>{self.code(of.head, name)}</h4>" * (of not in (last, item))
             inner += f'<section id="{name}.{it.name}"><pre>{self.code(it.head, name)}</pre>'
             inner += f"{self.one(it, name)}</section>"
             last = of
-        for it in its_home.impls(its_own):
+        for it in home.impls(item):
             inner += f"<h4>{self.code(it.head, name)}</h4>{self.one(it, name)}" * it.is_of_trait
         below = f" <small>of {home.name}</small>" * (home != self.crate)
-        if inner and (below or its_own != item):
-            names = ", ".join(it.name for _, it in functions) or "traits"
+        if inner and below:
+            names = ", ".join(it.name for _, it in functions(home, item)) or "traits"
             inner = f"<details><summary>{names}</summary>{inner}</details>"
         declared = f"<pre>{self.code(item.declaration, name)}</pre>{self.one(item, name)}"
         return f'<section id="{name}"><h2>{name}{below}</h2>{declared}{inner}</section>'
@@ -219,7 +216,7 @@ class Page:
     def text(self):
         listed = ""
         for name, home, item in self.exports:
-            own = members(home, item)[2] if item and home == self.crate else []
+            own = functions(home, item) if item and home == self.crate else []
             links = "".join(f'<a href="#{name}.{it.name}">{it.name}</a>' for _, it in own)
             shown = name.replace("_", "_<wbr>")
             listed += f'<a href="{self.links[name]}">{shown}</a><div>{links}</div>'
@@ -244,7 +241,8 @@ def make(folder):
             write(f"{folder}/{name}.html", page.text())
             link, names = linked(page.crate)
             body += f"<h2>{title}</h2>" * bool(title)
-            body += f"<h3>{link}</h3>{page.prose(page.crate.docs)}{names}"
+            docs = page.prose(page.crate.docs).replace('href="#', f'href="{name}.html#')
+            body += f"<h3>{link}</h3>{docs}{names}"
             title, listed = "", listed + link
     write(f"{folder}/index.html", FRAME.format("The libraries", listed, body))
     write(f"{folder}/api.css", read(f"{TOP}/scripts/api.css"))
