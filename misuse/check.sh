@@ -4,9 +4,9 @@
 # --test` reads it, which proves nothing and so needs no library's proof. As a module of the crate it
 # may use what is private there. A line that ends in `//~ ERROR` has to be refused by that error, and
 # no other line by any. An error of one kind hides those that are looked for after it: so functions
-# that were refused are left out, and the rest is read again, until nothing is refused. That rest
-# shows that the others are refused for their misuse alone: its tests have to pass. Prints what came
-# of each line, and at the end how many passed and failed; the status is 0 if none failed.
+# that were refused are left out, and the rest is read again, until nothing is refused: then its tests
+# have to pass. Prints what came of each line, and at the end how many passed and failed; the status
+# is 0 if none failed.
 set -u
 top=$(cd "$(dirname "$0")/.." && pwd)
 [ $# -gt 0 ] || set -- $(cd "$top/misuse" && basename -s .txt ./*.txt)
