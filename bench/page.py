@@ -1,5 +1,5 @@
-"""Makes the table and the picture of bench/counts.tsv and bench/peers.tsv: those of
-bench/README.md and bench/counts.svg. `count.py --write` writes them, and count_check.py compares."""
+"""Makes the table of bench/README.md and the picture bench/counts.svg of counts.tsv and peers.tsv.
+`count.py --write` writes them, and count_check.py compares them."""
 import re
 from html import escape
 
