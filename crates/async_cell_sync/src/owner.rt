@@ -200,9 +200,9 @@ impl<T: Drop, R: Wait + Copy> Owner<T, R> {
         self.cell().guard(cancel).with(self.rt)
     }
 
-    /// Makes this owner a guard: its drop sets this value, if the cell holds none, and ends the owner.
-    /// The end of the last owner drops the value, so who waits for it has to be an owner, as a future
-    /// of `take_shared` is. Needs no memory.
+    /// Makes this owner a guard: its drop sets this value, if the cell holds none, and ends the
+    /// owner. The end of the last owner drops the value, so who waits for it has to be an owner, as
+    /// a future of `take_shared` is. Needs no memory.
     ///
     /// ```rust
     /// let slot = Owner::new(rt.alloc(), rt)?;

@@ -154,9 +154,9 @@ impl<T: Drop> Owner<T> {
         self.shared.get_weak().with()
     }
 
-    /// Makes this owner a guard: its drop sets this value, if the cell holds none, and ends the owner.
-    /// The end of the last owner drops the value, so who waits for it has to be an owner, as a future
-    /// of `take_shared` is. Needs no memory.
+    /// Makes this owner a guard: its drop sets this value, if the cell holds none, and ends the
+    /// owner. The end of the last owner drops the value, so who waits for it has to be an owner, as
+    /// a future of `take_shared` is. Needs no memory.
     ///
     /// ```rust
     /// let slot = Owner::new(rt.alloc())?;
