@@ -118,8 +118,9 @@ def main(words):
     told, faults = counts.compared(before, now)
     print("\n".join(told))
     if words:
-        page.write(counts.COUNTS, counts.printed(conditions(), [it[0] for it in COLUMNS], now))
-        page.write_all()
+        counts.write(counts.COUNTS, counts.printed(conditions(), [it[0] for it in COLUMNS], now))
+        for path, text in page.made().items():
+            counts.write(path, text)
     figures = sum(map(len, now.values()))
     print(f"count: {figures} counted, {faults} rose by more than {counts.FAILS} % or are not there")
     return 1 if faults and not words else 0

@@ -37,10 +37,11 @@ def main():
     shown = {f"{row}, {column}: {figure}": is_told(row, column, figure, *rest)
              for row, column, figure, *rest in TOLD}
     said, table = counts.read(counts.COUNTS)
-    columns = page.read(counts.COUNTS).split("\n")[1].split("\t")[1:]
+    columns = counts.text_of(counts.COUNTS).split("\n")[1].split("\t")[1:]
     shown["a table is read as it was written"] = (
-        counts.printed(said, columns, table) == page.read(counts.COUNTS))
-    shown["the page and the picture are those of the tables"] = page.main(["--check"]) == 0
+        counts.printed(said, columns, table) == counts.text_of(counts.COUNTS))
+    shown["the page and the picture are those of the tables"] = all(
+        it == counts.text_of(path) for path, it in page.made().items())
     for name, holds in shown.items():
         if not holds:
             print(f"count_check: it does not hold: {name}")

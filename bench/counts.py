@@ -19,9 +19,18 @@ def parsed(text):
     return said[0].lstrip("# "), table
 
 
-def read(path):
+def text_of(path):
     with open(path, encoding="utf-8") as file:
-        return parsed(file.read())
+        return file.read()
+
+
+def write(path, text):
+    with open(path, "w", encoding="utf-8") as file:
+        file.write(text)
+
+
+def read(path):
+    return parsed(text_of(path))
 
 
 def printed(said, columns, table):

@@ -1,11 +1,6 @@
-#!/usr/bin/env python3
-"""Makes the table and the picture of bench/counts.tsv and bench/peers.tsv.
-
-    page.py            writes them into bench/README.md and bench/counts.svg
-    page.py --check    fails if one of them is not as this script makes it
-"""
+"""Makes the table of bench/README.md and the picture bench/counts.svg of counts.tsv and peers.tsv.
+`count.py --write` writes them, and count_check.py compares them."""
 import re
-import sys
 from html import escape
 
 import counts
@@ -28,16 +23,6 @@ text { font: 12px sans-serif; fill: #1f2328 }
 .rust { fill: #d9730d }
 .others { fill: #afb8c1 }
 </style>"""
-
-
-def read(path):
-    with open(path, encoding="utf-8") as file:
-        return file.read()
-
-
-def write(path, text):
-    with open(path, "w", encoding="utf-8") as file:
-        file.write(text)
 
 
 def markdown(*tables):
@@ -95,27 +80,8 @@ def drawn(ours, peers):
 
 
 def made():
-    """Returns what this script makes: the texts, by their paths."""
+    """Returns the texts of both, by their paths."""
     (said, ours), (_, peers) = counts.read(counts.COUNTS), counts.read(counts.PEERS)
     table = f"Counted with {said}.\n\n{markdown(ours, peers)}"
-    page = TABLE.sub(lambda it: f"{it[1]}\n{table}\n", read(PAGE))
+    page = TABLE.sub(lambda it: f"{it[1]}\n{table}\n", counts.text_of(PAGE))
     return {PAGE: page, PICTURE: drawn(ours, peers)}
-
-
-def write_all():
-    for path, it in made().items():
-        write(path, it)
-
-
-def main(words):
-    if words != ["--check"]:
-        write_all()
-        return 0
-    others = [path for path, it in made().items() if it != read(path)]
-    for path in others:
-        print(f"page: {path} is not as page.py makes it")
-    return 1 if others else 0
-
-
-if __name__ == "__main__":
-    sys.exit(main(sys.argv[1:]))

@@ -11,30 +11,19 @@ typedef __SIZE_TYPE__ size;
 static size count, refused_at;
 static int is_armed, refuses_all;
 
-static int is_refused(void) {
-    return is_armed && (refuses_all || ++count == refused_at);
-}
+static int is_refused(void) { return is_armed && (refuses_all || ++count == refused_at); }
 
 /* Counts from here, and refuses the request of this number: 0 for none. */
-void player_count(size refused) {
-    count = 0;
-    refused_at = refused;
-}
+void player_count(size refused) { count = 0, refused_at = refused; }
 
 /* Counts requests, or does not. */
-void player_arm(size armed) {
-    is_armed = armed != 0;
-}
+void player_arm(size armed) { is_armed = armed != 0; }
 
 /* Refuses every request that would be counted, or no longer. */
-void player_refuse_all(size all) {
-    refuses_all = all != 0;
-}
+void player_refuse_all(size all) { refuses_all = all != 0; }
 
 /* How many were counted. */
-size player_counted(void) {
-    return count;
-}
+size player_counted(void) { return count; }
 #else
 extern char *getenv(const char *name);
 extern long strtol(const char *text, char **end, int base);
@@ -56,13 +45,9 @@ static int is_refused(void) {
 extern void *__libc_malloc(size bytes);
 extern void *__libc_realloc(void *place, size bytes);
 
-void *malloc(size bytes) {
-    return is_refused() ? 0 : __libc_malloc(bytes);
-}
+void *malloc(size bytes) { return is_refused() ? 0 : __libc_malloc(bytes); }
 
-void *realloc(void *place, size bytes) {
-    return is_refused() ? 0 : __libc_realloc(place, bytes);
-}
+void *realloc(void *place, size bytes) { return is_refused() ? 0 : __libc_realloc(place, bytes); }
 #else
 extern void *malloc(size bytes);
 extern void *realloc(void *place, size bytes);
@@ -89,7 +74,5 @@ struct got rattle_realloc(void *old, size kept, size bytes, size align) {
     return got(is_refused() ? 0 : realloc(old, bytes ? bytes : align));
 }
 
-void rattle_dealloc(void *place) {
-    free(place);
-}
+void rattle_dealloc(void *place) { free(place); }
 #endif

@@ -24,7 +24,7 @@ import sys
 import tempfile
 
 from api import libraries
-from lay_out import TOP, read
+from lay_out import TOP, read, write
 
 SNIPPET = re.compile(
     r"(?:<!-- snippet of (\S+) -->\n)?```rust\n(.*?)\n```\n(?:\nIt prints:?\n\n```text\n(.*?)\n```)?",
@@ -110,19 +110,16 @@ def lay_out(work, snippets):
     files = {it.name: it.module() for it in snippets}
     files["main"] = "\n".join([*lines, "Ok(())", "}"])
     for name, text in files.items():
-        with open(f"{work}/crates/snippets/src/{name}.rt", "w") as it:
-            it.write(text + "\n")
+        write(f"{work}/crates/snippets/src/{name}.rt", text + "\n")
     used = set(re.findall(r"^use (\w+)", "\n".join(files.values()), re.M)) - {"std"} | {"anyhow"}
-    known = open(f"{TOP}/crates.txt").read()
-    with open(f"{work}/crates.txt", "w") as it:
-        it.write(f"{known}snippets: {' '.join(sorted(used))}\n")
+    known = read(f"{TOP}/crates.txt")
+    write(f"{work}/crates.txt", f"{known}snippets: {' '.join(sorted(used))}\n")
 
 
 def run(work, snippets):
     """Builds and runs them as one program, and once more without those that do not compile."""
     while snippets:
         shutil.rmtree(f"{work}/crates/snippets", ignore_errors=True)
-        os.makedirs(f"{work}/crates/snippets/src")
         lay_out(work, snippets)
         print(f"{len(snippets)} snippets in one program ..", flush=True)
         asked = ["rt", "try", "--steps", "1"]

@@ -16,7 +16,8 @@ use std::sync::{Arc, Wait};
 /// and waits for a later one. It is no owner. `Owner::follow` makes one, and a clone another.
 ///
 /// A follower sees the last state, and not each one: of those that are written before it looks, it
-/// sees the last. The last state of all stays when the last owner ends, so no follower misses it.
+/// sees the last. A new one has seen the state of that moment: it is shown what is written later.
+/// The last state of all stays when the last owner ends, so no follower misses it.
 ///
 /// Its drop does not take the lock. Dropping a future that it made may wait for it.
 #[derive(Drop)]

@@ -19,8 +19,9 @@ use std::sync::Wait;
 ///
 /// **What runs under the lock:** closures, clones of the value, and its `Debug`. What a closure
 /// owns is dropped there too. Code that then calls the same cell waits forever. So does code that
-/// then drops an `Owner`, a `Guard`, a waiting future or a stream of it. Wakers are woken and
-/// values are dropped after the lock is released: what runs then may call the cell.
+/// then drops an `Owner`, a `Guard`, a waiting future or a stream of it, or waits for a thread that
+/// calls it: so call no cell there. Wakers are woken and values are dropped after the lock is
+/// released: what runs then may call the cell.
 ///
 /// A future made by `with` holds one place in the wait list while it waits (see `With`), so the
 /// list is no longer than the number of such futures that were alive at once. Each `poll_shared`

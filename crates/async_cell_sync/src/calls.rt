@@ -106,7 +106,7 @@ impl<T: Drop> AsyncCell<T> {
 
 impl AsyncCell<()> {
     /// Sets the value and wakes all waiters. One `wait` is ready: the first that is polled takes
-    /// the value, and the others wait on. A `get` leaves it, so every `get` is ready.
+    /// the value, and the others wait on. A `get` leaves it, and is ready until somebody takes it.
     pub fn notify<R: Wait>(&self, rt: &R) {
         self.set((), rt);
     }
@@ -229,7 +229,7 @@ impl<T: Drop, R: Wait + Drop> Owner<T, R> {
 
 impl<R: Wait + Drop> Owner<(), R> {
     /// Sets the value and wakes all waiters. One `wait` is ready: the first that is polled takes
-    /// the value, and the others wait on. A `get` leaves it, so every `get` is ready.
+    /// the value, and the others wait on. A `get` leaves it, and is ready until somebody takes it.
     pub fn notify(&self) {
         self.set(());
     }

@@ -10,8 +10,9 @@ use async_cell_waiting::{At, Cloning, Polled, Request, With, poll};
 use futures::task::{Context, Poll};
 use std::sync::Wait;
 
-/// Clones the value of a cell. Make the future by `with`. It may be polled again once ready, for
-/// further values. For the waker that `poll_shared` may add, see `AsyncCell`.
+/// Clones the value of a cell. Make the future by `with`. It may be polled again once ready: while
+/// the cell holds a value, it is ready at once. For the waker that `poll_shared` may add, see
+/// `AsyncCell`.
 ///
 /// A `Get` of a `Shared` must be consumed, as its owner must: by `.0.end(rt)`.
 #[derive(Clone, Copy, Drop)]

@@ -8,7 +8,8 @@ use std::sync::Wait;
 
 /// A guard of a cell, with the right to wait for the lock. Its drop sets its cancel value, if the
 /// cell holds no value, unless the guard was ended by `release`, `set` or `or_set`. So `?` and an
-/// early `return` leave that value in the cell. Each end ends the owner too, if the guard is one.
+/// early `return` leave that value in the cell. Each end ends the owner too, if the guard is one:
+/// the last owner's end drops the value, so who waits for it has to be an owner (`take_shared`).
 ///
 /// **Letting one go may wait for the lock**, as its other calls may. `GuardedCell` is the guard
 /// that must be consumed by a call, so that each end stands in the program.

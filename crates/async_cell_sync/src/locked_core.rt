@@ -1,7 +1,7 @@
 use async_cell_waiting::{CellCore, Lock};
 
-/// A core behind a lock. Each call makes one call of the core while the lock is held, for which it
-/// is passed `rt`, the right to wait.
+/// A core behind a lock. Each call makes its change while the lock is held, for which it is passed
+/// `rt`, the right to wait.
 ///
 /// **What runs under the lock:** closures, and the drop of what they own; clones of values and
 /// wakers; `will_wake` of wakers; `Debug` of values. Code that then calls the same cell waits

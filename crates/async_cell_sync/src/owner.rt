@@ -100,7 +100,8 @@ impl<T: Drop, R: Wait + Copy> Owner<T, R> {
         ended.map_err(|shared| Owner { shared, rt })
     }
 
-    /// Returns a future that takes the value (`try_take` takes it at once).
+    /// Returns a future that takes the value (`try_take` takes it at once). It borrows this owner,
+    /// which keeps the cell open: it waits forever if nobody sets a value.
     ///
     /// ```rust
     /// let slot = Owner::new_with(rt.alloc(), 7, rt)?;
@@ -113,7 +114,8 @@ impl<T: Drop, R: Wait + Copy> Owner<T, R> {
         self.cell().take().with(self.rt)
     }
 
-    /// Returns a future that clones the value and leaves it.
+    /// Returns a future that clones the value and leaves it: polled again, it is ready at once. It
+    /// borrows this owner, which keeps the cell open.
     ///
     /// ```rust
     /// let setting = Owner::new_with(rt.alloc(), 7, rt)?;
@@ -198,8 +200,9 @@ impl<T: Drop, R: Wait + Copy> Owner<T, R> {
         self.cell().guard(cancel).with(self.rt)
     }
 
-    /// Makes this owner a guard: its drop sets this value, if the cell holds none, and ends the owner.
-    /// Needs no memory.
+    /// Makes this owner a guard: its drop sets this value, if the cell holds none, and ends the
+    /// owner. The end of the last owner drops the value, so who waits for it has to be an owner, as
+    /// a future of `take_shared` is. Needs no memory.
     ///
     /// ```rust
     /// let slot = Owner::new(rt.alloc(), rt)?;
@@ -249,7 +252,7 @@ impl<T: Drop, R: Wait + Copy> Owner<T, R> {
 
 impl<R: Wait + Copy> Owner<(), R> {
     /// Returns a future that waits for `notify`. It takes the value, so each `notify` ends at most
-    /// one `wait`: where several tasks wait, use `get`.
+    /// one `wait`. Where several tasks wait for one `notify`, let all use `get`.
     pub fn wait(&self) -> With<Take<&AsyncCell<()>>, R>
         ensures of_this { result.polled.0.now ≡ cell_owned self.now }
     {

@@ -269,7 +269,7 @@ impl<T: Drop> AsyncCell<T> {
 
 impl AsyncCell<()> {
     /// Sets the value and wakes all waiters. One `wait` is ready: the first that is polled takes
-    /// the value, and the others wait on. A `get` leaves it, so every `get` is ready.
+    /// the value, and the others wait on. A `get` leaves it, and is ready until somebody takes it.
     pub fn notify(&self) {
         self.set(());
     }

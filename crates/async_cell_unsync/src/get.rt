@@ -11,7 +11,8 @@ use async_cell_waiting::{At, OneThread, Polled, Request, Taking, poll};
 use futures::future::Future;
 use futures::task::{Context, Poll};
 
-/// A future that clones the value of a cell. It may be polled again once ready, for further values.
+/// A future that clones the value of a cell. It may be polled again once ready: while the cell
+/// holds a value, it is ready at once.
 ///
 /// **Each poll that waits adds a waker**, which stays until the next write or close. The future of
 /// `with`, or of an `Owner`, keeps one, and renews it.

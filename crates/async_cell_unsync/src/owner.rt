@@ -98,14 +98,16 @@ impl<T: Drop> Owner<T> {
         self.shared.cell()
     }
 
-    /// Returns a future that takes the value (`try_take` takes it at once).
+    /// Returns a future that takes the value (`try_take` takes it at once). It borrows this owner,
+    /// which keeps the cell open: it waits forever if nobody sets a value.
     pub fn take(&self) -> With<Take<&AsyncCell<T>>>
         ensures of_this { result.polled.0.now ≡ cell_owned self.now }
     {
         self.cell().take().with()
     }
 
-    /// Returns a future that clones the value and leaves it.
+    /// Returns a future that clones the value and leaves it: polled again, it is ready at once. It
+    /// borrows this owner, which keeps the cell open.
     pub fn get(&self) -> With<Get<&AsyncCell<T>>>
     where
         T: Clone,
@@ -152,8 +154,9 @@ impl<T: Drop> Owner<T> {
         self.shared.get_weak().with()
     }
 
-    /// Makes this owner a guard: its drop sets this value, if the cell holds none, and ends the owner.
-    /// Needs no memory.
+    /// Makes this owner a guard: its drop sets this value, if the cell holds none, and ends the
+    /// owner. The end of the last owner drops the value, so who waits for it has to be an owner, as
+    /// a future of `take_shared` is. Needs no memory.
     ///
     /// ```rust
     /// let slot = Owner::new(rt.alloc())?;
@@ -193,7 +196,7 @@ impl<T: Drop> Owner<T> {
 
 impl Owner<()> {
     /// Returns a future that waits for `notify`. It takes the value, so each `notify` ends at most
-    /// one `wait`: where several tasks wait, use `get`.
+    /// one `wait`. Where several tasks wait for one `notify`, let all use `get`.
     pub fn wait(&self) -> With<Take<&AsyncCell<()>>>
         ensures of_this { result.polled.0.now ≡ cell_owned self.now }
     {

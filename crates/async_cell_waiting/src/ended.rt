@@ -1,5 +1,5 @@
 //! The end of a step, and what comes out of a core meanwhile. The core is released, then wakers are
-//! woken, and then the caller gets what it may drop. A step that ends otherwise does not compile.
+//! woken, and then the caller gets what it may drop. What is held is let go by an end alone.
 ghost use Rattle.std.specs.Prelude.{◌≡◌, Err, IfErr, IsSome, IsTrue};
 ghost use Rattle.async_cell_model.specs.Refusal.{FailsWithClosed, FailsWithMemory, FailsWithMemoryOrClosed};
 

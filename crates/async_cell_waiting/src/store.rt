@@ -7,8 +7,8 @@ mod locked;
 pub use lent::{Lender, Lent};
 pub use locked::{Lock, Locked};
 
-/// A core in a `Mutex` or a `RefCell`, lent for one step at a time. A call of a cell makes one call
-/// of the core in one step; `rt` is the right to it: behind a lock, to wait. Wakers are woken, and
+/// A core in a `Mutex` or a `RefCell`, lent for one step at a time. A call of a cell makes its
+/// change in one step; `rt` is the right to it: behind a lock, to wait. Wakers are woken, and
 /// old values, unused values and the value of a closed cell dropped, after it. Closures, clones and
 /// prints run in it: behind a lock one that calls its own cell waits forever.
 #[derive(Drop)]
@@ -46,7 +46,7 @@ pub trait Opens<'a, M: Stores> {
     ghost always: { Bool };
 
     /// Lends the core. Returns `None` during another step of a store that cannot wait for its end,
-    /// which no caller ever sees: a step calls nothing that could call the cell.
+    /// which no caller ever sees: no step in one thread runs code that could call the cell.
     fn open(&self, store: &'a StoredCore<M>) -> Option<Self::Open>
         ensures lent { IsTrue always → IsSome result };
 

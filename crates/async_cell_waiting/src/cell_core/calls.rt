@@ -1,5 +1,5 @@
 //! The calls that a step may make of a core. Only this module sees the core: each function makes
-//! one call of it, and holds what comes out. So no other text can wake or drop that during a step.
+//! one call of it, and holds what comes out, which the end of a step alone lets go.
 ghost use Rattle.std.specs.Prelude.{◌≡◌, ◌⊎◌, Option, IfErr, IfOk, IfSome, IsOk, IsSomeAnd, OnOk, IsTrue};
 ghost use Rattle.std.specs.Fn.{FnOnceReturnsAt};
 ghost use Rattle.async_cell_model.specs.Cell.{content, is_vacant};

@@ -1,4 +1,4 @@
-//! The calls of a cell, over any store: each makes one call of the core in one step.
+//! The calls of a cell, over any store: each makes its change in one step.
 ghost use Rattle.std.specs.Prelude.{◌≡◌, ◌⊎◌, Option, IfErr, OnOk};
 ghost use Rattle.async_cell_model.specs.History.{IsSound};
 ghost use Rattle.async_cell_model.specs.Refusal.{FailsWithClosed, FailsWithMemory};
