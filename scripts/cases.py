@@ -61,19 +61,20 @@ def cases(chosen):
     return found, faults
 
 
-def play(project, inputs, random_text):
+def play(project, inputs, random_texts):
     """Builds the player, and runs it for each file of the folder `inputs`. Prints its lines, each
     random case once that came out otherwise, and returns what each run counted."""
     refuses = try_kit.compiled(f"{TOP}/scripts/refuse.c", f"{inputs}.o", "-DPLAYER")
     words = ["--steps", "1", "--seconds", SECONDS, "--cases", inputs]
     words = try_kit.command(project, "player", [refuses], words)
     how = {**READ, "env": {**os.environ, "TMPDIR": os.path.dirname(inputs)}}
-    counts, told = [], set()
+    counts, told, random_text = [], set(), ""
     with subprocess.Popen(words, **how) as ran:
         for line in ran.stdout:
             found = re.match(r"(\d+) passed, (\d+) failed$", line)
             if found:
                 counts.append((int(found[1]), int(found[2])))
+            random_text = random_texts.get(line, random_text)  # (a run begins with its name)
             case = shown(line, random_text)
             print(line, end="" if not case or case in told else f"\n{case}\n", flush=True)
             told.add(case)
@@ -108,7 +109,8 @@ def main(words):
         write(f"{folder}/inputs/plain", read_cases.played(by_hand + random))
         refusing = read_cases.played(by_hand + refused)
         write(f"{folder}/inputs/refusing", f"refuse\n{refusing}")
-        counts = play(f"{folder}/project", f"{folder}/inputs", made)
+        random_texts = {"== plain\n": made, "== refusing\n": few}
+        counts = play(f"{folder}/project", f"{folder}/inputs", random_texts)
     passed, failed = (sum(it) for it in zip((0, len(faults + wrong)), *counts))
     failed += 2 - len(counts)
     print(f"{passed} passed, {failed} failed")
