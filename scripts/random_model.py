@@ -33,15 +33,13 @@ class Wait:
         before, self.tasks[place[1]] = self.tasks[place[1]], task
         return place, [before] if before and before != task else []
 
-    def leave(self, place):
-        if place and place[0] == self.round:
-            self.free.append(place[1])
-
-    def cancel(self, place):
-        """Returns whom the cancelled future lets go of."""
+    def leave(self, place, is_cancelled):
+        """Returns whom a future lets go of that is cancelled, or dropped."""
         if not place or place[0] != self.round:
             return []
         self.free.append(place[1])
+        if not is_cancelled:
+            return []
         woken, self.tasks[place[1]] = self.tasks[place[1]], None
         return once([woken])
 
@@ -82,10 +80,7 @@ class Cell:
         return "ok"
 
     def or_set(self, value):
-        if self.content is None:
-            self.fill(value)
-        else:
-            self.drop(value)
+        self.drop(self.fill(value) if self.content is None else value)
         return "ok"
 
     def try_set(self, value):
@@ -158,10 +153,7 @@ class Cell:
 
     def leave(self, word, place):
         """Drops or cancels a future that waits in this place."""
-        if word == "cancel":
-            self.happen("woke", *self.wait.cancel(place))
-        else:
-            self.wait.leave(place)
+        self.happen("woke", *self.wait.leave(place, word == "cancel"))
 
     def purge(self):
         self.happen("woke", *self.wait.purge())
