@@ -21,22 +21,26 @@ kit=$(dirname "$(dirname "$(readlink -f "$(command -v rt)")")")
     -fPIC -shared -nostdlib -fuse-ld=lld -o "$work/refuse.so" "$top/scripts/refuse.c"
 ulimit -c 0
 
-# What a run may end with: its status, and its lines. If the third line finds no memory, the program
-# has written the answers to the two before it. The last run, of which none is refused, has all.
-all='0 owners 2/pending/done woke 18446744073709551615/' two='1 owners 2/pending/'
+# What a run may end with: its status, and its lines. A poll that would add a waker may be refused:
+# then that one is not woken. The last run, of which no request is refused, has all.
+all='0 pending/pending/pending/pending/done woke 1 2/ready 7/some 7/none/'
+refused='0 pending/pending/refused memory/pending/done woke 1/ready 7/some 7/none/'
+four='1 pending/pending/pending/pending/' # what was written before the fifth line found none
+calls=('take 1' 'take 1' 'get 2' 'take 1' 'set 7' 'get 3' try_take try_take)
 passed=0 failed=0 seen=''
 until [ -e "$work/refused" ] && [ ! -s "$work/refused" ]; do
     status=0
-    printf 'own\nget 18446744073709551615\nset 7\n' |
+    printf '%s\n' "${calls[@]}" |
         timeout 20 env REFUSE=$((passed + failed + 1)) TELL=3 LD_PRELOAD="$work/refuse.so" \
             "$program" >"$work/out" 2>&1 3>"$work/refused" || status=${PIPESTATUS[1]}
     last="$status $(tr '\n' '/' <"$work/out")"
     seen+=$last$'\n'
     case $last in
-    "$all" | "$two" | '1 ' | '1 owners 2/' | '0 owners 2/refused memory/done/') : $((passed++)) ;;
+    "$all" | "$refused" | "$four" | '1 ') : $((passed++)) ;;
     *) : $((failed++)) ;;
     esac
 done
 echo "memory: $passed passed, $failed failed"
-[ "$failed" -eq 0 ] && [ "$last" = "$all" ] && grep -qxF "$two" <<<"$seen" && exit
+[ "$failed" -eq 0 ] && [ "$last" = "$all" ] && grep -qxF "$four" <<<"$seen" &&
+    grep -qxF "$refused" <<<"$seen" && exit
 printf 'Each status and text:\n%s' "$seen" && exit 1
