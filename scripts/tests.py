@@ -21,12 +21,8 @@ from lay_out import TOP
 
 # How a test ends where std found no memory for a request of its own: as a `Fail` prints, or, of a
 # test that returns an `AllocError`, as that does. A call of a cell answers Refusal::Memory.
-OWN_ERRORS = {
-    "error: AllocError",
-    "Error: AllocError",
-    "error: AllocFailed { .. }",
-    "error: Kind(OutOfMemory)",
-}
+OWN_ERRORS = {"error: AllocError", "Error: AllocError", "error: AllocFailed { .. }"}
+OWN_ERRORS |= {"error: Kind(OutOfMemory)"}
 SMALL_STACK = 64 * 1024
 # The limits are what ends a test that waits for what never comes: on a busy machine the one of its
 # processors' time alone, since it then gets little of that.
