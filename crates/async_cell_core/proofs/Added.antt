@@ -3,11 +3,7 @@ use Rattle.std.proofs.Common.{◌≡◌, ◌≤◌, ◌<◌, ◌-◌, ℕ, Bool,
 use Rattle.std.specs.Prelude.{nat_lt, IfOk, MatchOption}
 use Rattle.std.proofs.lemmas.Bool.Decides.{nat_tests}
 use Rattle.async_cell_model.specs.declared.entry.Kept.TheVariants.{PollTake, PollGet}
-use Rattle.async_cell_model.specs.Cell.{is_vacant}
-use Rattle.async_cell_model.specs.WaitList.{is_empty}
-use Rattle.async_cell_model.specs.History.{State, IsSound}
-use Rattle.async_cell_model.specs.Legal.{needs_no_memory}
-use Rattle.async_cell_model.specs.Machine.{Does}
+use Rattle.async_cell_model.specs.Machine.{is_vacant, is_empty, State, IsSound, needs_no_memory, Does}
 use Rattle.async_cell_model.proofs.OneMoreWaker.{never_skipped}
 use Rattle.async_cell_model.proofs.WaitingPoll as poll
 use Rattle.async_cell_wakers.specs.Place.{displaced}

@@ -8,10 +8,9 @@ use Rattle.async_cell_core.specs.declared.call.Call.TheVariants as call
 use Rattle.async_cell_model.specs.declared.entry.Entry.{Entry}
 use Rattle.async_cell_model.specs.declared.entry.Kept.{Kept}
 use Rattle.async_cell_model.specs.declared.reply.Reply.{Reply}
-use Rattle.async_cell_model.specs.Cell.{content}
-use Rattle.async_cell_model.specs.Step.{next}
-use Rattle.async_cell_model.specs.History.{State, History, cell_after}
-use Rattle.async_cell_model.specs.Legal.{RunsBy, copies, is_copy}
+use Rattle.async_cell_model.specs.Machine.{content, next, State, is_copy}
+use Rattle.async_cell_model.specs.History.{History, cell_after}
+use Rattle.async_cell_model.specs.Legal.{RunsBy, copies}
 use Rattle.async_cell_model.proofs.LegalHistories.{Runs-join-by}
 use Rattle.async_cell_core.specs.declared.call.Call.{Call}
 use Rattle.async_cell_core.specs.Kept.{is_get, kept_call, history_of, GetsAreCopied}

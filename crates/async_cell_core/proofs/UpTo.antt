@@ -4,9 +4,7 @@ use Rattle.async_cell_model.specs.declared.cell.Cell.{Cell}
 use Rattle.async_cell_model.specs.declared.cell.Cell.TheVariants.{Closed, Open}
 use Rattle.async_cell_model.specs.declared.entry.Kept.TheVariants.{TryGet, PollGet}
 use Rattle.async_cell_model.specs.declared.reply.Reply.TheVariants.{Value, Ready}
-use Rattle.async_cell_model.specs.Cell.{content, is_vacant}
-use Rattle.async_cell_model.specs.History.{State, IsSound}
-use Rattle.async_cell_model.specs.Machine.{DoesUpTo}
+use Rattle.async_cell_model.specs.Machine.{content, is_vacant, State, IsSound, DoesUpTo}
 use Rattle.async_cell_core.specs.Polled.{IsCloneOf}
 
 module _ {T W : Type 0} (is_clone : T → T → Type 0) (will_wake : W → W → Bool) (sure : Bool) where

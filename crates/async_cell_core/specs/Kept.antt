@@ -6,9 +6,8 @@ use Rattle.async_cell_model.specs.declared.entry.Entry.{Entry}
 use Rattle.async_cell_model.specs.declared.entry.Kept.{Kept}
 use Rattle.async_cell_model.specs.declared.entry.Kept.TheVariants as kept
 use Rattle.async_cell_model.specs.declared.reply.Reply.{Reply}
-use Rattle.async_cell_model.specs.Cell.{content}
-use Rattle.async_cell_model.specs.Clones.{copies}
-use Rattle.async_cell_model.specs.Step.{next}
+use Rattle.async_cell_model.specs.Machine.{content, next}
+use Rattle.async_cell_model.specs.Legal.{copies}
 use Rattle.async_cell_model.specs.History.{History}
 use Rattle.async_cell_core.specs.Polled.{IsCopied}
 use Rattle.async_cell_core.specs.declared.call.Call.{Call}

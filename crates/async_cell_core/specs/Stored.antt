@@ -3,7 +3,7 @@ use Rattle.std.specs.Prelude.{ℕ, Option, nat_eq, if◌then◌else◌}
 use Rattle.async_cell_wakers.specs.WaitList.{ListState}
 use Rattle.async_cell_model.specs.declared.cell.Cell.{Cell}
 use Rattle.async_cell_model.specs.declared.cell.Cell.TheVariants.{Closed, Open}
-use Rattle.async_cell_model.specs.History.{State}
+use Rattle.async_cell_model.specs.Machine.{State}
 
 -- the cell of a content and a number of owners: closed if the number is 0
 abbrev pub cell_of : {T : Type 0} → Option T → ℕ → Cell T

@@ -1,7 +1,6 @@
 -- Polls that have to wait: which need no memory, and what a refused one leaves.
 use Rattle.std.specs.Prelude.{◌≡◌, ◌<◌, ◌≤◌, ◌⊎◌, true, []}
-use Rattle.async_cell_model.specs.History.{State}
-use Rattle.async_cell_model.specs.WaitList.{skips}
+use Rattle.async_cell_model.specs.Machine.{State, skips}
 use Rattle.async_cell_core.specs.IsStep.{WakerRules}
 
 module _ {T W : Type 0} where

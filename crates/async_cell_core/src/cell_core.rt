@@ -1,8 +1,7 @@
 ghost use Rattle.std.specs.Prelude.{◌≡◌, ◌≤◌, ◌<◌, ◌↔◌, [], ◌+◌, ◌-◌, None, Err, true, false, is_some, IsOk, IsSome, IsSomeAnd, IfSome, IfOk, IfErr, OnOk, OnErr};
 ghost use Rattle.std.specs.Fn.{FnOnceReturnsAt};
 ghost use Rattle.std.specs.Option.{ForSome};
-ghost use Rattle.async_cell_model.specs.Cell.{content, is_closed, is_full, is_vacant};
-ghost use Rattle.async_cell_model.specs.History.{IsSound};
+ghost use Rattle.async_cell_model.specs.Machine.{content, is_closed, is_full, is_vacant, IsSound};
 ghost use Rattle.async_cell_core.specs.IsStep.{IsStep, replies, set_answer, replace_answer, update_answer, done_answer};
 
 mod debug;
@@ -33,7 +32,7 @@ pub struct Core<T, W: Wakes> {
 /// Contracts see the state: the cell, the wait list in order, and the room for more wakers.
 impl<T, W: Wakes> Model for Core<T, W> {
     ghost use Rattle.std.specs.Prelude.{◌≡◌, None};
-    ghost use Rattle.async_cell_model.specs.History.{State, IsSound};
+    ghost use Rattle.async_cell_model.specs.Machine.{State, IsSound};
     ghost use Rattle.async_cell_core.specs.Stored.{state_of};
 
     ghost Value = { State T W };

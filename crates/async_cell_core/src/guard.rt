@@ -1,6 +1,6 @@
 //! The end of a guard: the write of its cancel value, unless the guard was released.
 ghost use Rattle.std.specs.Prelude.{◌≡◌, [], true, IfSome, IfNone, if◌then◌else◌, None};
-ghost use Rattle.async_cell_model.specs.Cell.{is_vacant};
+ghost use Rattle.async_cell_model.specs.Machine.{is_vacant};
 ghost use Rattle.async_cell_core.specs.IsStep.{IsStep, end_guard_answer};
 
 use crate::{Core, Wakers, Wakes};

@@ -1,8 +1,7 @@
 //! Lists of calls, made in order.
 ghost use Rattle.std.specs.Prelude.{◌≡◌, map, vec_len, true, false, [], IfOk, IfErr, IfSome, OnErr, IsOk};
 ghost use Rattle.std.specs.List.{list_any};
-ghost use Rattle.async_cell_model.specs.Cell.{content, is_vacant};
-ghost use Rattle.async_cell_model.specs.Step.{is_memory};
+ghost use Rattle.async_cell_model.specs.Machine.{content, is_vacant, is_memory};
 ghost use Rattle.async_cell_model.specs.Legal.{Runs, RunsUpTo};
 ghost use Rattle.async_cell_core.specs.IsStep.{IsStep, IsStepUpTo};
 ghost use Rattle.async_cell_core.specs.Kept.{is_get, kept_call, history_of, GetsAreCopied};
@@ -110,7 +109,7 @@ pub fn step_copied<T: Copy, W: Wakes, E: Edit<T> + Drop>(
 ) -> Answer<T, W>
     ensures model { IsStep W.Wakes
         core.old (kept_call E.edit E.edit_some core.old.cell call) result core.new }
-    ensures sure { is_get call ≡ true → is_vacant core.old.cell ≡ false
+    ensures if_infallible { is_get call ≡ true → is_vacant core.old.cell ≡ false
         → is_memory result.reply ≡ false }
 {
     match call {

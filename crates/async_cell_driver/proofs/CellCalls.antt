@@ -11,12 +11,9 @@ use Rattle.async_cell_model.specs.declared.entry.Kept.{Kept}
 use Rattle.async_cell_model.specs.declared.entry.Kept.TheVariants as kept
 use Rattle.async_cell_model.specs.declared.reply.Reply.{Reply}
 use Rattle.async_cell_model.specs.declared.reply.Reply.TheVariants as reply
-use Rattle.async_cell_model.specs.Cell.{ends_waiting, is_vacant, is_full, is_closed, content, owners_of}
-use Rattle.async_cell_model.specs.Step.{next, reply as model_reply}
-use Rattle.async_cell_model.specs.WaitList.{wait_list}
-use Rattle.async_cell_model.specs.History.{State, IsSound, is_pending, pending_waker, waiting}
+use Rattle.async_cell_model.specs.Machine.{ends_waiting, is_vacant, is_full, is_closed, content, owners_of, next, reply as model_reply, wait_list, State, IsSound, is_pending, pending_waker, Does}
+use Rattle.async_cell_model.specs.History.{waiting}
 use Rattle.async_cell_model.specs.Legal.{woken_by}
-use Rattle.async_cell_model.specs.Machine.{Does}
 use Rattle.async_cell_model.proofs.Machine.{model_of}
 use Rattle.async_cell_model.proofs.OneEntry.{Runs-sound}
 use Rattle.async_cell_model.proofs.UpTo.{up_to_clones}
@@ -26,7 +23,7 @@ use Rattle.async_cell_driver.specs.declared.task.Task.{Task}
 use Rattle.async_cell_driver.specs.declared.event.Event.{Event}
 use Rattle.async_cell_driver.specs.declared.event.Told.{Told}
 use Rattle.async_cell_driver.specs.Mark.{is_done_mark, waits_mark, is_due_mark, is_ready_mark}
-use Rattle.async_cell_driver.specs.DriverState.{DriverState, mark_at, result_at, IsCovered, is_named, wake_each, AllNamed, AllWaiting}
+use Rattle.async_cell_driver.specs.DriverState.{DriverState, mark_at, result_at, NamesMatch, is_named, wake_each, AllNamed, AllWaiting}
 use Rattle.async_cell_driver.specs.Log.{Line, kinds, is_ready, is_poll_of, started}
 use Rattle.async_cell_driver.specs.History.{history, handed_out, line_of, call_of, reply_of, entry_of, names_by, kept_update}
 use Rattle.async_cell_driver.specs.Drives.{Drives, FitsTold}
@@ -121,7 +118,7 @@ module _ {T : Type 0} where
       → history from (line ∷ []) ≡ record { call = call; reply = r } ∷ [] → handed_out from (line ∷ []) ≡ line.names ∷ []
       → FitsTold (length (kinds from [])) (is_ready from []) line.event line.told line.names
       → ((i : ℕ) → is_poll_of i line.event line.told ≡ false) → started line.event line.told ≡ []
-      → IsCovered from → Does same_name true from.core (record { call = call; reply = r }) line.names core
+      → NamesMatch from → Does same_name true from.core (record { call = call; reply = r }) line.names core
       → Drives is_clone from (line ∷ []) (record { core = core; tasks = wake_each line.names from.tasks })
   called is_clone from core line call r is_history is_handed fits no_poll no_start covered answers =
       let kinds_stay = kinds-wake_each line.names from.tasks in
@@ -146,7 +143,7 @@ module _ {T : Type 0} where
       (event : Event T (Option T → Option T)) (told : Told T) (call : Kept T Named) (r : Reply T)
       → call_of (map (λ task. task.kind) from.tasks) from.core.cell event ≡ Some call → reply_of told ≡ Some r
       → ((i : ℕ) → is_poll_of i event told ≡ false) → started event told ≡ [] → ((count : ℕ) (ready : ℕ → Bool) (names : List Named) → FitsTold count ready event told names)
-      → IsCovered from → Does same_name true from.core (record { call = call; reply = r }) names core → tasks ≡ wake_each names from.tasks
+      → NamesMatch from → Does same_name true from.core (record { call = call; reply = r }) names core → tasks ≡ wake_each names from.tasks
       → Drives is_clone old (line_of old event told ∷ []) (record { core = core; tasks = tasks })
   call_drives is_clone from old same core tasks names event told call r is_call is_reply no_poll no_start fits covered answers tasks_are =
       let e : Entry T Named = record { call = call; reply = r } in
@@ -174,10 +171,10 @@ module _ {T : Type 0} where
       let unnamed : is_named i names ≡ false = unnamed_by (ends_waiting from.cell (next from.cell e)) from.waiting names i (names_are from to call r names answers) before.0 in
       mark-wake_each names tasks i ∙ (ap (λ (woken : Bool). woken_if woken (mark_at tasks i)) unnamed ∙ waiting_all i before.1)
 
-  pub covered_called : (from : DriverState T) (core : State T Named) (tasks : List (Task T)) (names : List Named) (call : Kept T Named) (r : Reply T) → is_pending r ≡ false → IsCovered from
-      → Does same_name true from.core (record { call = call; reply = r }) names core → tasks ≡ wake_each names from.tasks → IsCovered (record { core = core; tasks = tasks })
+  pub covered_called : (from : DriverState T) (core : State T Named) (tasks : List (Task T)) (names : List Named) (call : Kept T Named) (r : Reply T) → is_pending r ≡ false → NamesMatch from
+      → Does same_name true from.core (record { call = call; reply = r }) names core → tasks ≡ wake_each names from.tasks → NamesMatch (record { core = core; tasks = tasks })
   covered_called from core tasks names call r silent covered answers tasks_are =
-      subst (λ (ts : List (Task T)). IsCovered (record { core = core; tasks = ts })) (sym tasks_are)
+      subst (λ (ts : List (Task T)). NamesMatch (record { core = core; tasks = ts })) (sym tasks_are)
       (named_after from.core core call r names from.tasks answers covered.0, waiting_after from.core core call r names from.tasks silent answers covered.1)
 
   -- a reply that gives a value is the model's

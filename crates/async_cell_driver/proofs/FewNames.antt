@@ -7,12 +7,12 @@ use Rattle.std.proofs.lemmas.List.{get_or-map, length-map}
 use Rattle.std.proofs.lemmas.Map.Keys.{IsDistinct-from_apart}
 use Rattle.std.proofs.lemmas.Map.Steps.{length-le_from_distinct_below}
 use Rattle.async_cell_wakers.specs.declared.named.Named.{Named}
-use Rattle.async_cell_model.specs.History.{IsSound}
+use Rattle.async_cell_model.specs.Machine.{IsSound}
 use Rattle.async_cell_model.proofs.OneMoreWaker.{wait_list-distinct}
 use Rattle.async_cell_driver.specs.declared.task.Mark.{Mark}
 use Rattle.async_cell_driver.specs.declared.task.Mark.TheVariants.{Waiting}
 use Rattle.async_cell_driver.specs.declared.task.Task.{Task}
-use Rattle.async_cell_driver.specs.DriverState.{DriverState, mark_at, name_of, IsCovered, is_named}
+use Rattle.async_cell_driver.specs.DriverState.{DriverState, mark_at, name_of, NamesMatch, is_named}
 use Rattle.async_cell_wakers.specs.Named.{same_name}
 
 numbers_apart : (a b : Named) → a ≢ b → nat_eq a.0 b.0 ≡ false
@@ -40,8 +40,8 @@ marked_started zero (t ∷ tasks) mark is = omega arith
 marked_started (suc i) (t ∷ tasks) mark is = let rest = marked_started i tasks mark is in omega arith
 
 -- no more wakers wait than there are tasks
-pub waiting_few : {T : Type 0} (at : DriverState T) → IsSound same_name at.core → IsCovered at → length at.core.waiting ≤ length at.tasks
+pub waiting_few : {T : Type 0} (at : DriverState T) → IsSound same_name at.core → NamesMatch at → length at.core.waiting ≤ length at.tasks
 waiting_few at sound covered =
-    let distinct : AllPairs (λ (u v : Named). u ≢ v) at.core.waiting = subst (λ (l : List Named). AllPairs (λ (u v : Named). u ≢ v) l) sound.kept (wait_list-distinct same_name at.core.waiting (λ w. eq-eqb w.0 w.0 refl)) in
+    let distinct : AllPairs (λ (u v : Named). u ≢ v) at.core.waiting = subst (λ (l : List Named). AllPairs (λ (u v : Named). u ≢ v) l) sound.none_skipped (wait_list-distinct same_name at.core.waiting (λ w. eq-eqb w.0 w.0 refl)) in
     let few = length-le_from_distinct_below (map (λ (name : Named). name.0) at.core.waiting) (length at.tasks) (numbers_distinct at.core.waiting distinct) (λ q has. marked_started q at.tasks Waiting (covered.1 q (sym (named_number q at.core.waiting) ∙ has))) in
     rw length-map at few

@@ -7,11 +7,11 @@ use Rattle.std.proofs.Math.Bool.{or-true}
 use Rattle.std.proofs.lemmas.List.{map-append, length-map, reverse-append}
 use Rattle.async_cell_wakers.specs.declared.named.Named.{Named}
 use Rattle.async_cell_model.specs.declared.cell.Cell.{Cell}
-use Rattle.async_cell_model.specs.History.{History, IsSound, cell_after}
+use Rattle.async_cell_model.specs.History.{History, cell_after}
+use Rattle.async_cell_model.specs.Machine.{IsSound, UpToClones}
 use Rattle.async_cell_model.proofs.JoinedHistory.{cell_after-append}
 use Rattle.async_cell_model.proofs.LegalHistories.{Runs-nil}
 use Rattle.async_cell_model.specs.Legal.{RunsUpTo}
-use Rattle.async_cell_model.specs.Legal.{UpToClones}
 use Rattle.async_cell_model.proofs.LegalHistories.{Runs-join-by}
 use Rattle.async_cell_model.proofs.UpTo.{up_to_clones}
 use Rattle.async_cell_driver.specs.declared.task.Kind.{Kind}
@@ -22,7 +22,7 @@ use Rattle.async_cell_driver.specs.declared.event.Told.{Told}
 use Rattle.async_cell_driver.specs.declared.event.Told.TheVariants as told
 use Rattle.async_cell_driver.specs.declared.event.Polled.TheVariants.{Ready, Pending, NotReady}
 use Rattle.async_cell_driver.specs.Mark.{is_due_mark}
-use Rattle.async_cell_driver.specs.DriverState.{DriverState, mark_at, is_named, IsCovered}
+use Rattle.async_cell_driver.specs.DriverState.{DriverState, mark_at, is_named, NamesMatch}
 use Rattle.async_cell_driver.specs.Log.{Line, Log, lines, log_of, with_edit, kinds, is_started, is_done, waits, is_due, is_ready, is_poll_of, was_ready, was_pending, was_refused, started}
 use Rattle.async_cell_driver.specs.History.{line_of, history, handed_out, call_of, reply_of, entry_of}
 use Rattle.async_cell_driver.specs.Drives.{Drives, FitsTold, IsLegal, IsSpared, AllSpared}
@@ -49,7 +49,7 @@ due_step false s d f false u ready gone is = is
 
 module _ {T : Type 0} where
   -- no line leads nowhere
-  pub drives_nil : (is_clone : T → T → Type 0) (from : DriverState T) → IsSound same_name from.core → IsCovered from → Drives is_clone from [] from
+  pub drives_nil : (is_clone : T → T → Type 0) (from : DriverState T) → IsSound same_name from.core → NamesMatch from → Drives is_clone from [] from
   drives_nil is_clone from sound covered = record {
     legal = tt;
     core_leads = up_to_clones is_clone same_name true from.core from.core [] [] (Runs-nil same_name true from.core sound);

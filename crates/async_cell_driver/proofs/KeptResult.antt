@@ -4,7 +4,7 @@ use Rattle.std.specs.Prelude.{slice_get}
 use Rattle.std.specs.Option.{option_map}
 use Rattle.async_cell_driver.specs.declared.task.Task.{Task}
 use Rattle.async_cell_driver.specs.Mark.{is_done_mark, waits_mark, is_ready_mark}
-use Rattle.async_cell_driver.specs.DriverState.{DriverState, mark_at, result_at, result_of, change, with_result, IsCovered}
+use Rattle.async_cell_driver.specs.DriverState.{DriverState, mark_at, result_at, result_of, change, with_result, NamesMatch}
 use Rattle.async_cell_driver.specs.Log.{Log, is_ready}
 use Rattle.async_cell_driver.specs.Drives.{Drives}
 use Rattle.async_cell_driver.proofs.ReadyNow.{ready_now}
@@ -22,7 +22,7 @@ module _ {T : Type 0} where
   pub mark-keeping : (i j : ℕ) (result : Option (Option T)) (tasks : List (Task T)) → mark_at (change (with_result result) i tasks) j ≡ mark_at tasks j
   mark-keeping i j result tasks = says_same (option_map (λ task. task.mark)) (with_result result) (mark_kept result) i j tasks
 
-  pub covered_keeping : (i : ℕ) (result : Option (Option T)) (at : DriverState T) → IsCovered at → IsCovered (keeping i result at)
+  pub covered_keeping : (i : ℕ) (result : Option (Option T)) (at : DriverState T) → NamesMatch at → NamesMatch (keeping i result at)
   covered_keeping i result at covered = (
     λ j stands. covered.0 j (sym (mark-keeping i j result at.tasks) ∙ stands),
     λ j named. mark-keeping i j result at.tasks ∙ covered.1 j named,

@@ -4,7 +4,7 @@ use Rattle.std.specs.Prelude.{Result, Ok, Err, IfOk, IfErr}
 use Rattle.std.proofs.lemmas.List.{map-append, length-map}
 use Rattle.async_cell_model.specs.declared.refusal.Refusal.{Refusal}
 use Rattle.async_cell_model.specs.declared.refusal.Refusal.TheVariants.{Memory}
-use Rattle.async_cell_model.specs.History.{IsSound}
+use Rattle.async_cell_model.specs.Machine.{IsSound}
 use Rattle.async_cell_model.proofs.LegalHistories.{Runs-nil}
 use Rattle.async_cell_model.proofs.UpTo.{up_to_clones}
 use Rattle.async_cell_driver.specs.declared.task.Kind.{Kind}
@@ -15,7 +15,7 @@ use Rattle.async_cell_driver.specs.declared.event.Event.TheVariants.{Start, Poll
 use Rattle.async_cell_driver.specs.declared.event.Polled.TheVariants.{NotReady}
 use Rattle.async_cell_driver.specs.declared.event.Told.TheVariants.{Started, Refused, Polled}
 use Rattle.async_cell_driver.specs.Mark.{is_done_mark, waits_mark, is_due_mark}
-use Rattle.async_cell_driver.specs.DriverState.{DriverState, mark_at, IsCovered, result_at}
+use Rattle.async_cell_driver.specs.DriverState.{DriverState, mark_at, NamesMatch, result_at}
 use Rattle.async_cell_driver.specs.Log.{is_ready}
 use Rattle.async_cell_driver.specs.History.{line_of}
 use Rattle.async_cell_driver.specs.Drives.{Drives}
@@ -52,7 +52,7 @@ module _ {T : Type 0} where
   waiting_with_fresh (t ∷ tasks) kind (suc i) stands = waiting_with_fresh tasks kind i stands
 
   -- a new task waits for nothing
-  pub covered_with_fresh : (from : DriverState T) (kind : Kind) → IsCovered from → IsCovered (record from { tasks = from.tasks ++ fresh kind ∷ [] })
+  pub covered_with_fresh : (from : DriverState T) (kind : Kind) → NamesMatch from → NamesMatch (record from { tasks = from.tasks ++ fresh kind ∷ [] })
   covered_with_fresh from kind covered = (
     λ i stands. covered.0 i (waiting_with_fresh from.tasks kind i stands),
     λ i named. still_with_fresh from.tasks kind i (covered.1 i named),
@@ -62,7 +62,7 @@ module _ {T : Type 0} where
   kinds_with_fresh tasks kind = map-append (λ task. task.kind) tasks (fresh kind ∷ [])
 
   -- where a task is started
-  pub starts : (is_clone : T → T → Type 0) (from : DriverState T) (kind : Kind) → IsSound same_name from.core → IsCovered from
+  pub starts : (is_clone : T → T → Type 0) (from : DriverState T) (kind : Kind) → IsSound same_name from.core → NamesMatch from
       → Drives is_clone from (line_of from (Start kind) (Started (length from.tasks)) ∷ []) (record from { tasks = from.tasks ++ fresh kind ∷ [] })
   starts is_clone from kind sound covered = record {
     legal = ((sym (length-map from.tasks (λ task. task.kind)), refl), tt);
@@ -75,7 +75,7 @@ module _ {T : Type 0} where
   }
 
   -- where a start is refused
-  pub start_refused : (is_clone : T → T → Type 0) (from : DriverState T) (kind : Kind) → IsSound same_name from.core → IsCovered from
+  pub start_refused : (is_clone : T → T → Type 0) (from : DriverState T) (kind : Kind) → IsSound same_name from.core → NamesMatch from
       → Drives is_clone from (line_of from (Start kind) (Refused Memory) ∷ []) from
   start_refused is_clone from kind sound covered = record {
     legal = ((refl, refl), tt);
@@ -88,7 +88,7 @@ module _ {T : Type 0} where
   }
 
   -- where a task is not polled
-  pub not_polled : (from : DriverState T) (i : ℕ) (is_clone : T → T → Type 0) → IsSound same_name from.core → IsCovered from → is_ready from [] i ≡ false
+  pub not_polled : (from : DriverState T) (i : ℕ) (is_clone : T → T → Type 0) → IsSound same_name from.core → NamesMatch from → is_ready from [] i ≡ false
       → Drives is_clone from (line_of from (Poll i) (Polled NotReady) ∷ []) from
   not_polled from i is_clone sound covered not_ready = record {
     legal = ((not_ready, refl), tt);
@@ -101,12 +101,12 @@ module _ {T : Type 0} where
   }
 
   -- the same, where the new task and its number are known by what they equal
-  pub starts_as : (is_clone : T → T → Type 0) (from : DriverState T) (kind : Kind) (tasks : List (Task T)) (number : ℕ) → IsSound same_name from.core → IsCovered from
+  pub starts_as : (is_clone : T → T → Type 0) (from : DriverState T) (kind : Kind) (tasks : List (Task T)) (number : ℕ) → IsSound same_name from.core → NamesMatch from
       → number ≡ length from.tasks → tasks ≡ from.tasks ++ fresh kind ∷ []
       → Drives is_clone from (line_of from (Start kind) (Started number) ∷ []) (record { core = from.core; tasks = tasks })
   starts_as is_clone from kind tasks number sound covered counts made = rw (counts, made) (starts is_clone from kind sound covered)
 
-  pub start_refused_as : (is_clone : T → T → Type 0) (from : DriverState T) (kind : Kind) (tasks : List (Task T)) (why : Refusal) → IsSound same_name from.core → IsCovered from
+  pub start_refused_as : (is_clone : T → T → Type 0) (from : DriverState T) (kind : Kind) (tasks : List (Task T)) (why : Refusal) → IsSound same_name from.core → NamesMatch from
       → why ≡ Memory → tasks ≡ from.tasks → Drives is_clone from (line_of from (Start kind) (Refused why) ∷ []) (record { core = from.core; tasks = tasks })
   start_refused_as is_clone from kind tasks why sound covered for_memory same = rw (for_memory, same) (start_refused is_clone from kind sound covered)
 

@@ -13,12 +13,9 @@ use Rattle.async_cell_model.specs.declared.reply.Reply.{Reply}
 use Rattle.async_cell_model.specs.declared.reply.Reply.TheVariants as reply
 use Rattle.async_cell_model.specs.declared.refusal.Refusal.{Refusal}
 use Rattle.async_cell_model.specs.declared.refusal.Refusal.TheVariants.{Memory}
-use Rattle.async_cell_model.specs.Cell.{content, ends_waiting, is_vacant}
-use Rattle.async_cell_model.specs.Step.{next, is_memory}
-use Rattle.async_cell_model.specs.History.{State, IsSound}
-use Rattle.async_cell_model.specs.Legal.{woken_by}
+use Rattle.async_cell_model.specs.Machine.{content, ends_waiting, is_vacant, next, is_memory, State, IsSound}
+use Rattle.async_cell_model.specs.Legal.{woken_by, RunsUpTo, StepsUpTo}
 use Rattle.async_cell_core.specs.Polled.{poll_reply, IsReadyWith}
-use Rattle.async_cell_model.specs.Legal.{RunsUpTo, StepsUpTo}
 use Rattle.async_cell_driver.specs.declared.task.Kind.{Kind}
 use Rattle.async_cell_driver.specs.declared.task.Kind.TheVariants.{Take, Get}
 use Rattle.async_cell_driver.specs.declared.task.Mark.{Mark}
@@ -30,7 +27,7 @@ use Rattle.async_cell_driver.specs.declared.event.Told.TheVariants as told
 use Rattle.async_cell_driver.specs.declared.event.Polled.{Polled}
 use Rattle.async_cell_driver.specs.declared.event.Polled.TheVariants as polled
 use Rattle.async_cell_driver.specs.Mark.{is_done_mark, waits_mark, is_due_mark, is_ready_mark}
-use Rattle.async_cell_driver.specs.DriverState.{DriverState, name_of, mark_at, result_of, result_at, kind_at, IsCovered, AllNamed, AllWaiting, is_named, change, with_mark}
+use Rattle.async_cell_driver.specs.DriverState.{DriverState, name_of, mark_at, result_of, result_at, kind_at, NamesMatch, AllNamed, AllWaiting, is_named, change, with_mark}
 use Rattle.async_cell_driver.specs.Log.{Line, kinds, is_ready, is_poll_of, was_ready, was_pending, was_refused}
 use Rattle.async_cell_driver.specs.History.{poll_of, told_of, line_of, history, handed_out}
 use Rattle.async_cell_driver.specs.Asked.{waiting_when, mark_after, polled_of, IsPolledWith}
@@ -191,21 +188,21 @@ module _ {T : Type 0} where
   waiting_polled from core i (Err why) all ready refused waits j named =
       mark-marked mark.Ready i j from.tasks ∙ waiting_beside (nat_eq i j) mark.Ready (mark_at from.tasks j) (this_ready i j from.tasks ready) (all j (ap (is_named j) (sym refused.2) ∙ named))
 
-  pub covered_polled : (from : DriverState T) (core : State T Named) (i : ℕ) (asked : Result (Poll (Option T)) Refusal) → IsCovered from → is_ready_mark (mark_at from.tasks i) ≡ true
+  pub covered_polled : (from : DriverState T) (core : State T Named) (i : ℕ) (asked : Result (Poll (Option T)) Refusal) → NamesMatch from → is_ready_mark (mark_at from.tasks i) ≡ true
       → IfErr asked (λ why. (why ≡ Memory) × (core.cell ≡ from.core.cell) × (core.waiting ≡ from.core.waiting)) → IfOk asked (λ p. core.waiting ≡ waiting_when p (name_of i) from.core.waiting)
-      → IsCovered (record { core = core; tasks = change (with_mark (mark_after asked)) i from.tasks })
+      → NamesMatch (record { core = core; tasks = change (with_mark (mark_after asked)) i from.tasks })
   covered_polled from core i asked covered ready refused waits = (
     named_polled from core i asked covered.0 refused waits,
     waiting_polled from core i asked covered.1 ready refused waits,
   )
 
   -- the name of a ready task is not in the wait list
-  pub ready_unnamed : (from : DriverState T) (i : ℕ) → IsCovered from → is_ready_mark (mark_at from.tasks i) ≡ true → is_named i from.core.waiting ≡ false
+  pub ready_unnamed : (from : DriverState T) (i : ℕ) → NamesMatch from → is_ready_mark (mark_at from.tasks i) ≡ true → is_named i from.core.waiting ≡ false
   ready_unnamed from i covered ready = unnamed_if (is_named i from.core.waiting) (mark_at from.tasks i) (covered.1 i) ready
 
   -- where the poll of a ready task leads
   pub poll_drives : (is_clone : T → T → Type 0) (from : DriverState T) (core : State T Named) (i : ℕ) (kind : Kind) (asked : Result (Poll (Option T)) Refusal)
-      → IsSound same_name core → IsCovered from → kind_at from.tasks i ≡ Some kind → is_ready_mark (mark_at from.tasks i) ≡ true
+      → IsSound same_name core → NamesMatch from → kind_at from.tasks i ≡ Some kind → is_ready_mark (mark_at from.tasks i) ≡ true
       → (StepsUpTo same_name true is_clone from.core (poll_of (Some kind) i) (poll_reply asked) [] core)
       → IfErr asked (λ why. (why ≡ Memory) × (core.cell ≡ from.core.cell) × (core.waiting ≡ from.core.waiting)) → IfOk asked (λ p. core.waiting ≡ waiting_when p (name_of i) from.core.waiting)
       → Drives is_clone from (line_of from (event.Poll i) (told_of (polled_of asked)) ∷ []) (record { core = core; tasks = change (with_mark (mark_after asked)) i from.tasks })
@@ -265,7 +262,7 @@ module _ {T : Type 0} where
 
   -- the same, for an old state, tasks and an answer that are known by what they equal
   pub poll_drives_as : (is_clone : T → T → Type 0) (from old : DriverState T) → from ≡ old → (core : State T Named) (tasks : List (Task T)) (i : ℕ) (kind : Kind) (asked : Result (Poll (Option T)) Refusal) (answer : Result (Polled T) Refusal)
-      → IsSound same_name core → IsCovered from → kind_at from.tasks i ≡ Some kind → is_ready_mark (mark_at from.tasks i) ≡ true
+      → IsSound same_name core → NamesMatch from → kind_at from.tasks i ≡ Some kind → is_ready_mark (mark_at from.tasks i) ≡ true
       → (StepsUpTo same_name true is_clone from.core (poll_of (Some kind) i) (poll_reply asked) [] core)
       → IfErr asked (λ why. (why ≡ Memory) × (core.cell ≡ from.core.cell) × (core.waiting ≡ from.core.waiting)) → IfOk asked (λ p. core.waiting ≡ waiting_when p (name_of i) from.core.waiting)
       → tasks ≡ change (with_mark (mark_after asked)) i from.tasks → answer ≡ polled_of asked

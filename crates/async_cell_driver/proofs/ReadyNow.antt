@@ -1,14 +1,14 @@
 -- What the marks of a driver's tasks say of it now.
 use Rattle.std.proofs.Common.{◌≡◌, ℕ, zero, suc, true, not, ◌&&◌, List, [], ◌∷◌, Option, Some, None, map, refl, ◌∙◌}
 use Rattle.std.specs.Prelude.{slice_get, is_some}
-use Rattle.async_cell_model.specs.History.{IsSound}
+use Rattle.async_cell_model.specs.Machine.{IsSound}
 use Rattle.async_cell_driver.specs.declared.task.Mark.{Mark}
 use Rattle.async_cell_driver.specs.declared.task.Mark.TheVariants.{Ready, Waiting, Woken, Done}
 use Rattle.async_cell_driver.specs.declared.task.Task.{Task}
 use Rattle.async_cell_driver.specs.Mark.{is_done_mark, waits_mark, is_due_mark, is_ready_mark}
 use Rattle.async_cell_driver.specs.DriverState.{DriverState, mark_at, AllNamed, is_named}
 use Rattle.async_cell_driver.specs.Log.{is_ready}
-use Rattle.async_cell_driver.specs.Drives.{IsAwake}
+use Rattle.async_cell_driver.specs.Drives.{NoneForgotten}
 use Rattle.async_cell_wakers.specs.Named.{same_name}
 
 pub ready_by : (mark : Option Mark) → (is_some mark && (not (is_done_mark mark) && is_due_mark mark)) ≡ is_ready_mark mark
@@ -41,6 +41,6 @@ module _ {T : Type 0} where
       let named = covered i stands in let unnamed : is_named i [] ≡ true = rw none at named in cc
 
   -- where each waiting name stands in the waiting list, no task is forgotten
-  pub awake : (at : DriverState T) → IsSound same_name at.core → AllNamed at → IsAwake at
+  pub awake : (at : DriverState T) → IsSound same_name at.core → AllNamed at → NoneForgotten at
   awake at sound covered not_vacant i stands =
       ready_now at i ∙ woken_by (mark_at at.tasks i) stands (none_named at i covered (sound.waits_vacant not_vacant))

@@ -7,7 +7,7 @@ use Rattle.std.proofs.lemmas.Option.{slice_get_past}
 use Rattle.std.proofs.lemmas.List.Elements.{filter-append}
 use Rattle.std.proofs.lemmas.List.{map-append, length-map, reverse-append}
 use Rattle.async_cell_model.specs.declared.refusal.Refusal.{Refusal}
-use Rattle.async_cell_model.specs.Cell.{is_vacant}
+use Rattle.async_cell_model.specs.Machine.{is_vacant}
 use Rattle.async_cell_driver.specs.declared.task.Task.{Task}
 use Rattle.async_cell_driver.specs.declared.event.Event.TheVariants.{Poll}
 use Rattle.async_cell_driver.specs.declared.event.Told.{Told}
@@ -18,7 +18,7 @@ use Rattle.async_cell_driver.specs.Mark.{is_ready_mark}
 use Rattle.async_cell_driver.specs.DriverState.{DriverState, result_at, result_of, change, with_result}
 use Rattle.async_cell_driver.specs.Log.{Line, Log, is_started, is_done, is_due, is_ready, waits, is_poll_of, was_refused}
 use Rattle.async_cell_driver.specs.History.{line_of}
-use Rattle.async_cell_driver.specs.Drives.{Drives, KeepsResults, IsAwake}
+use Rattle.async_cell_driver.specs.Drives.{Drives, ResultsStay, NoneForgotten}
 use Rattle.async_cell_driver.specs.Settle.{numbers, events_of, has_refused, got, got_by, got_or, Keeps, Settles, SettlesOne}
 use Rattle.async_cell_driver.proofs.JoinedLogs.{drives_more}
 use Rattle.async_cell_driver.proofs.ReadyNow.{ready_now}
@@ -138,14 +138,14 @@ module _ {T : Type 0} where
   some_of_map f (t ∷ tasks) zero = refl
   some_of_map f (t ∷ tasks) (suc i) = some_of_map f tasks i
 
-  keeps_over : (from at : DriverState T) (i j : ℕ) (value : Option T) (b : Bool) → nat_eq i j ≡ b → is_some (slice_get at.tasks i) ≡ true → KeepsResults from at
+  keeps_over : (from at : DriverState T) (i j : ℕ) (value : Option T) (b : Bool) → nat_eq i j ≡ b → is_some (slice_get at.tasks i) ≡ true → ResultsStay from at
       → result_at (change (with_result (Some value)) i at.tasks) j ≡ got_or (got_or (if b then Some value else None) None) (result_at from.tasks j)
   keeps_over from at i j value true is there stay =
       subst (λ k. result_at (change (with_result (Some value)) i at.tasks) k ≡ Some value) (eqb-true i j is)
       (ap result_of (slice_get-change_same (with_result (Some value)) i at.tasks) ∙ kept_there value (slice_get at.tasks i) there)
   keeps_over from at i j value false is there stay = result-keeping_other i j (Some value) at.tasks (eqb-false i j is) ∙ stay j
 
-  pub keeps_one : (from at : DriverState T) (i : ℕ) (value : Option T) → is_ready from [] i ≡ true → map (λ task. task.kind) at.tasks ≡ map (λ task. task.kind) from.tasks ++ [] → KeepsResults from at
+  pub keeps_one : (from at : DriverState T) (i : ℕ) (value : Option T) → is_ready from [] i ≡ true → map (λ task. task.kind) at.tasks ≡ map (λ task. task.kind) from.tasks ++ [] → ResultsStay from at
       → Keeps from (line_of from (Poll i) (told.Polled (Ready value)) ∷ []) (keeping i (Some value) at)
   keeps_one from at i value ready kinds stay j =
       let there : is_some (slice_get at.tasks i) ≡ true =
@@ -171,7 +171,7 @@ module _ {T : Type 0} where
 
   -- a poll that gets nothing
   settles_quiet : (is_clone : T → T → Type 0) (from at : DriverState T) (i : ℕ) (result : Result (Unit {0}) Refusal) (answer : Told T) → got_by answer ≡ None
-      → MatchResult result (λ done. was_refused answer ≡ false) (λ why. answer ≡ told.Refused why) → KeepsResults from at
+      → MatchResult result (λ done. was_refused answer ≡ false) (λ why. answer ≡ told.Refused why) → ResultsStay from at
       → Drives is_clone from (line_of from (Poll i) answer ∷ []) at → SettlesOne is_clone from i result answer at
   settles_quiet is_clone from at i result answer none is stay drives = record {
     drives = drives;
@@ -180,12 +180,12 @@ module _ {T : Type 0} where
   }
 
   -- where the poll is refused
-  pub one_refused : (is_clone : T → T → Type 0) (from at : DriverState T) (i : ℕ) (why : Refusal) → KeepsResults from at
+  pub one_refused : (is_clone : T → T → Type 0) (from at : DriverState T) (i : ℕ) (why : Refusal) → ResultsStay from at
       → Drives is_clone from (line_of from (Poll i) (told.Refused why) ∷ []) at → SettlesOne is_clone from i (Err why) (told.Refused why) at
   one_refused is_clone from at i why stay drives = settles_quiet is_clone from at i (Err why) (told.Refused why) refl refl stay drives
 
   -- where it is not ready
-  pub one_pending : (is_clone : T → T → Type 0) (from at : DriverState T) (i : ℕ) (answer : Polled T) → ((value : Option T) → answer ≡ Ready value → ⊥) → KeepsResults from at
+  pub one_pending : (is_clone : T → T → Type 0) (from at : DriverState T) (i : ℕ) (answer : Polled T) → ((value : Option T) → answer ≡ Ready value → ⊥) → ResultsStay from at
       → Drives is_clone from (line_of from (Poll i) (told.Polled answer) ∷ []) at
       → SettlesOne is_clone from i (Ok tt) (told.Polled answer) at × (length at.tasks ≡ length from.tasks)
   one_pending is_clone from at i answer not_ready stay drives =
@@ -203,5 +203,5 @@ module _ {T : Type 0} where
   none_ready at n size passed j = elim (cases_lt j n) [ inl below ↦ passed j below | inr above ↦ past_ready at j (le_trans size above) ]
 
   -- and where the cell is full or closed then, none waits
-  pub none_waits : (at : DriverState T) → IsAwake at → ((j : ℕ) → is_ready at [] j ≡ false) → is_vacant at.core.cell ≡ false → (j : ℕ) → waits at [] j ≡ false
+  pub none_waits : (at : DriverState T) → NoneForgotten at → ((j : ℕ) → is_ready at [] j ≡ false) → is_vacant at.core.cell ≡ false → (j : ℕ) → waits at [] j ≡ false
   none_waits at awake not_ready not_vacant j = waits_or (waits at [] j) (is_ready at [] j) (awake not_vacant j) (not_ready j)

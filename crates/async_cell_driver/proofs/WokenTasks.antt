@@ -5,7 +5,7 @@ use Rattle.std.specs.Option.{option_map}
 use Rattle.std.proofs.lemmas.Bool.{eqb-true, eqb-false}
 use Rattle.std.proofs.lemmas.List.Folds.{list_any-append}
 use Rattle.async_cell_wakers.specs.declared.named.Named.{Named}
-use Rattle.async_cell_model.specs.WaitList.{wait_list, skips, with_one_more}
+use Rattle.async_cell_model.specs.Machine.{wait_list, skips, with_one_more}
 use Rattle.async_cell_driver.specs.declared.task.Mark.{Mark}
 use Rattle.async_cell_driver.specs.declared.task.Mark.TheVariants.{Ready, Waiting, Woken, Done}
 use Rattle.async_cell_driver.specs.declared.task.Task.{Task}

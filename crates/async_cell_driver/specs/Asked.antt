@@ -4,8 +4,7 @@ use Rattle.futures.specs.declared.task.Poll.{Poll}
 use Rattle.futures.specs.declared.task.Poll.TheVariants.{Ready, Pending}
 use Rattle.async_cell_wakers.specs.declared.named.Named.{Named}
 use Rattle.async_cell_model.specs.declared.refusal.Refusal.{Refusal}
-use Rattle.async_cell_model.specs.Cell.{content, is_vacant}
-use Rattle.async_cell_model.specs.History.{State}
+use Rattle.async_cell_model.specs.Machine.{content, is_vacant, State}
 use Rattle.async_cell_core.specs.Polled.{IsCloneOf}
 use Rattle.async_cell_driver.specs.declared.task.Mark.{Mark}
 use Rattle.async_cell_driver.specs.declared.task.Mark.TheVariants as mark

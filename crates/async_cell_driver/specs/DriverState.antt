@@ -3,7 +3,7 @@ use Rattle.std.specs.Prelude.{◌≡◌, ℕ, zero, suc, Bool, true, List, [], �
 use Rattle.std.specs.List.{list_any}
 use Rattle.std.specs.Option.{option_map}
 use Rattle.async_cell_wakers.specs.declared.named.Named.{Named}
-use Rattle.async_cell_model.specs.History.{State}
+use Rattle.async_cell_model.specs.Machine.{State}
 use Rattle.async_cell_driver.specs.declared.task.Kind.{Kind}
 use Rattle.async_cell_driver.specs.declared.task.Mark.{Mark}
 use Rattle.async_cell_driver.specs.declared.task.Mark.TheVariants.{Waiting}
@@ -68,5 +68,5 @@ module _ {T : Type 0} where
   abbrev pub AllWaiting : DriverState T → Type 0
   AllWaiting at = (i : ℕ) → is_named i at.core.waiting ≡ true → mark_at at.tasks i ≡ Some Waiting
 
-  abbrev pub IsCovered : DriverState T → Type 0
-  IsCovered at = AllNamed at × AllWaiting at
+  abbrev pub NamesMatch : DriverState T → Type 0
+  NamesMatch at = AllNamed at × AllWaiting at

@@ -3,7 +3,7 @@ use Rattle.std.specs.Prelude.{◌≡◌, ℕ, Bool, true, false, List, [], ◌�
 use Rattle.async_cell_wakers.specs.Named.{same_name}
 use Rattle.async_cell_wakers.specs.declared.named.Named.{Named}
 use Rattle.async_cell_model.specs.declared.refusal.Refusal.TheVariants.{Memory}
-use Rattle.async_cell_model.specs.Cell.{content, is_vacant}
+use Rattle.async_cell_model.specs.Machine.{content, is_vacant}
 use Rattle.async_cell_model.specs.declared.cell.Cell.{Cell}
 use Rattle.async_cell_model.specs.History.{cell_after}
 use Rattle.async_cell_model.specs.Legal.{RunsUpTo}
@@ -42,8 +42,8 @@ IsLegal from (line ∷ earlier) =
     × IsLegal from earlier
 
 -- whenever the cell is full or closed, every task that waits is ready
-abbrev pub IsAwake : {T : Type 0} → DriverState T → Type 0
-IsAwake at = is_vacant at.core.cell ≡ false
+abbrev pub NoneForgotten : {T : Type 0} → DriverState T → Type 0
+NoneForgotten at = is_vacant at.core.cell ≡ false
     → (i : ℕ) → waits at [] i ≡ true → is_ready at [] i ≡ true
 
 -- The promise: the log runs from one state of a driver to another. Each line fits those before it.
@@ -58,7 +58,7 @@ pub record Drives {T : Type 0} (is_clone : T → T → Type 0)
   pub done_is : (i : ℕ) → is_done to [] i ≡ is_done from log i
   pub waits_is : (i : ℕ) → waits to [] i ≡ waits from log i
   pub ready_is : (i : ℕ) → is_ready to [] i ≡ is_ready from log i
-  pub none_forgotten : IsAwake to
+  pub none_forgotten : NoneForgotten to
 
 -- the event happens, with this outcome
 abbrev pub Happens : {T : Type 0} → (T → T → Type 0) → DriverState T
@@ -81,5 +81,5 @@ AllSpared is_infallible from (line ∷ earlier) =
     × AllSpared is_infallible from earlier
 
 -- what `settle` got for the tasks stays
-abbrev pub KeepsResults : {T : Type 0} → DriverState T → DriverState T → Type 0
-KeepsResults from to = (i : ℕ) → result_at to.tasks i ≡ result_at from.tasks i
+abbrev pub ResultsStay : {T : Type 0} → DriverState T → DriverState T → Type 0
+ResultsStay from to = (i : ℕ) → result_at to.tasks i ≡ result_at from.tasks i

@@ -10,9 +10,9 @@ use Rattle.async_cell_model.specs.declared.entry.Kept.TheVariants as kept
 use Rattle.async_cell_model.specs.declared.refusal.Refusal.{Refusal}
 use Rattle.async_cell_model.specs.declared.reply.Reply.{Reply}
 use Rattle.async_cell_model.specs.declared.reply.Reply.TheVariants as reply
-use Rattle.async_cell_model.specs.History.{State, History, cell_after}
+use Rattle.async_cell_model.specs.Machine.{State, reply as model_reply}
+use Rattle.async_cell_model.specs.History.{History, cell_after}
 use Rattle.async_cell_model.specs.Legal.{woken_by}
-use Rattle.async_cell_model.specs.Step.{reply as model_reply}
 use Rattle.async_cell_driver.specs.declared.task.Kind.{Kind}
 use Rattle.async_cell_driver.specs.declared.task.Kind.TheVariants.{Get}
 use Rattle.async_cell_driver.specs.declared.event.Event.{Event}

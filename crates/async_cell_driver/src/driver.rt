@@ -1,13 +1,11 @@
 ghost use Rattle.std.specs.Prelude.{◌≡◌, ◌≢◌, ◌≤◌, ℕ, [], length, true, false, Some, None, Ok, ◌↔◌, IsTrue, IsOk, IfOk, IfErr, OnOk, OnErr, MatchOption};
-ghost use Rattle.async_cell_model.specs.Cell.{content, is_closed, is_vacant};
-ghost use Rattle.async_cell_model.specs.Legal.{may_refuse};
-ghost use Rattle.async_cell_model.specs.Machine.{DoesUpTo};
+ghost use Rattle.async_cell_model.specs.Machine.{content, is_closed, is_vacant, may_refuse, DoesUpTo};
 ghost use Rattle.async_cell_model.specs.Refusal.{FailsWithMemory};
 ghost use Rattle.async_cell_core.specs.Polled.{IsCloneOf, IsReadyWith, poll_reply};
 ghost use Rattle.async_cell_driver.specs.DriverState.{is_named, kind_at};
 ghost use Rattle.async_cell_driver.specs.Log.{is_ready, waits};
 ghost use Rattle.async_cell_driver.specs.History.{poll_of, told_of};
-ghost use Rattle.async_cell_driver.specs.Drives.{Happens, KeepsResults};
+ghost use Rattle.async_cell_driver.specs.Drives.{Happens, ResultsStay};
 ghost use Rattle.async_cell_wakers.specs.Named.{same_name};
 ghost use Rattle.async_cell_driver.specs.Asked.{ClonesContent, TakesContent, waiting_when, mark_after, polled_of};
 
@@ -40,13 +38,13 @@ pub struct Driver<T> {
 
 /// Contracts see the core, and the tasks by number.
 impl<T> Model for Driver<T> {
-    ghost use Rattle.async_cell_driver.specs.DriverState.{DriverState, IsCovered};
+    ghost use Rattle.async_cell_driver.specs.DriverState.{DriverState, NamesMatch};
 
     ghost Value = { DriverState T };
 
     ghost view = { λ s. record { core = s.core; tasks = s.tasks } };
 
-    ghost invariant = { λ s. IsCovered (record { core = s.core; tasks = s.tasks }) };
+    ghost invariant = { λ s. NamesMatch (record { core = s.core; tasks = s.tasks }) };
 }
 
 impl<T: Clone> Driver<T> {
@@ -70,7 +68,7 @@ impl<T: Clone> Driver<T> {
             Happens T.is_clone self.old (Event.Start kind) (Told.Refused why) self.new) }
 
         ensures number { IfOk result (λ number. number ≡ length self.old.tasks) }
-        ensures results_stay { KeepsResults self.old self.new }
+        ensures results_stay { ResultsStay self.old self.new }
         ensures unchanged { OnErr result (self.new ≡ self.old) }
     {
         self.core.soundness();
@@ -99,12 +97,12 @@ impl<T: Clone> Driver<T> {
             × (self.new.core.waiting ≡ self.old.core.waiting)) }
         ensures spared { may_refuse same_name true self.old.core
             (poll_of (kind_at self.old.tasks i) i) ≡ false → IsOk result }
-        ensures sure { is_vacant self.old.core.cell ≡ false
+        ensures if_infallible { is_vacant self.old.core.cell ≡ false
             → MatchOption (content self.old.core.cell) (IsOk result)
             (λ value. T.is_infallible value → IsOk result) }
 
         // What stays.
-        ensures results_stay { KeepsResults self.old self.new }
+        ensures results_stay { ResultsStay self.old self.new }
         ensures ready_no_more { OnOk result (is_ready self.new [] i ≡ false) }
         ensures others_stay { (j : ℕ) → j ≢ i → is_ready self.new [] j ≡ is_ready self.old [] j }
     {
@@ -196,7 +194,7 @@ fn ask<T: Clone>(
         → is_vacant core.old.cell ≡ false → core.new ≡ core.old }
     ensures spared { may_refuse same_name true core.old (poll_of (Some kind) name.0) ≡ false
         → IsOk result }
-    ensures sure { is_vacant core.old.cell ≡ false
+    ensures if_infallible { is_vacant core.old.cell ≡ false
         → MatchOption (content core.old.cell) (IsOk result)
         (λ value. T.is_infallible value → IsOk result) }
 {

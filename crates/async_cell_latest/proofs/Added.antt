@@ -2,7 +2,7 @@
 use Rattle.std.proofs.Common.{◌≡◌, ◌≤◌, ◌<◌, ◌-◌, ℕ, Bool, true, false, ◌&&◌, ◌||◌, inr, List, [], ◌∷◌, ◌++◌, Option, Some, None, Result, Ok, Err, IfNone, OnOk, OnErr, IsOk, refl, ap, arith, rules}
 use Rattle.std.specs.Prelude.{nat_lt, IfOk, MatchOption}
 use Rattle.std.proofs.lemmas.Bool.Decides.{nat_tests}
-use Rattle.async_cell_model.specs.WaitList.{is_empty}
+use Rattle.async_cell_model.specs.Machine.{is_empty}
 use Rattle.async_cell_model.proofs.OneMoreWaker.{never_skipped}
 use Rattle.async_cell_wakers.specs.Place.{displaced}
 use Rattle.async_cell_wakers.specs.WaitList.{ListState}

@@ -3,7 +3,7 @@ use Rattle.std.proofs.Common.{◌≡◌, ◌+◌, ◌-◌, ℕ, Bool, true, fals
 use Rattle.std.proofs.lemmas.Bool.Decides.{nat_tests}
 use Rattle.std.specs.Prelude.{if◌then◌else◌, nat_eq, nat_lt}
 use Rattle.async_cell_latest.specs.State.{State, Stays, is_closed, is_waited_for, registered, versions_limit, writers_limit}
-use Rattle.async_cell_latest.specs.Step.{Call, Write, Read, PollChanged, AddWriter, EndWriter, next, written, closed}
+use Rattle.async_cell_latest.specs.Step.{Kept, Write, Read, PollChanged, AddWriter, EndWriter, next, written, closed}
 use Rattle.async_cell_latest.specs.History.{History, is_memory, then_state, after}
 use Rattle.async_cell_latest.proofs.Versions.{either}
 
@@ -21,7 +21,7 @@ module _ {T W : Type 0} where
   closed_end s false is over = let same : s.writers - 1 ≡ s.writers = grind (arith, nat_tests) in (refl, refl, same)
 
 module _ {T W : Type 0} (will_wake : W → W → Bool) where
-  closed_next : (s : State T W) (call : Call T W) → is_closed s ≡ true → Stays s (next will_wake s call)
+  closed_next : (s : State T W) (call : Kept T W) → is_closed s ≡ true → Stays s (next will_wake s call)
   closed_next s (Write x) over = closed_write s x (is_closed s) (nat_lt s.version versions_limit) over
   closed_next s Read over = (refl, refl, refl)
   closed_next s (PollChanged seen w) over = either (λ (t : State T W). Stays s t) (is_waited_for s seen) (registered will_wake s w) s (refl, refl, refl) (refl, refl, refl)

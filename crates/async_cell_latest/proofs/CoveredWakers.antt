@@ -4,9 +4,10 @@ use Rattle.std.specs.Prelude.{if◌then◌else◌, nat_eq}
 use Rattle.std.proofs.lemmas.List.Folds.{list_any-append}
 use Rattle.std.proofs.lemmas.List.Elements.{Contains-append_left, Contains-push}
 use Rattle.async_cell_model.specs.declared.refusal.Refusal.TheVariants as why
-use Rattle.async_cell_model.specs.WaitList.{skips, IsCovered}
+use Rattle.async_cell_model.specs.Machine.{skips}
+use Rattle.async_cell_model.specs.History.{IsCovered}
 use Rattle.async_cell_latest.specs.State.{State, is_closed, is_writable, is_waited_for, registered, writers_limit}
-use Rattle.async_cell_latest.specs.Step.{Call, Write, Read, PollChanged, AddWriter, EndWriter, Reply, Old, Shown, Pending, Ended, Done, Refused, reply, next, written, closed, ends_waiting, wakes}
+use Rattle.async_cell_latest.specs.Step.{Kept, Write, Read, PollChanged, AddWriter, EndWriter, Reply, Old, Shown, Pending, Ended, Done, Refused, reply, next, written, closed, ends_waiting, wakes}
 use Rattle.async_cell_latest.specs.History.{Entry, History, is_memory, then_state, after, may_refuse, MayFollow, IsLegal}
 use Rattle.async_cell_latest.specs.Follower.{pending_waker, has_end}
 use Rattle.async_cell_latest.proofs.Versions.{first_false, rest_false, either, IsLegal-rest, after-append}
@@ -37,7 +38,7 @@ module _ {W : Type 0} (will_wake : W → W → Bool) where
   covers_one m w false is = inl (Contains-push m w)
 
 module _ {T W : Type 0} where
-  refused_waits : (call : Call T W) (w : W) → pending_waker call (Refused why.Memory None) ≡ Some w → ⊥
+  refused_waits : (call : Kept T W) (w : W) → pending_waker call (Refused why.Memory None) ≡ Some w → ⊥
   refused_waits (PollChanged seen v) w is = cc
   refused_waits call w is = cc
 
@@ -50,7 +51,7 @@ module _ {T W : Type 0} where
   close_ends false s ends = cc
 
   -- a call that ends all waiting needs no memory
-  ends_sure : (s : State T W) (call : Call T W) → ends_waiting s call ≡ true → is_memory (reply s call) ≡ false
+  ends_sure : (s : State T W) (call : Kept T W) → ends_waiting s call ≡ true → is_memory (reply s call) ≡ false
   ends_sure s (Write x) ends = not_memory_if (is_writable s) (Old s.value) (Refused why.Closed (Some x)) refl refl
   ends_sure s EndWriter ends = not_memory_if (is_closed s) (Refused why.Closed None) Done refl refl
   ends_sure s Read ends = cc
@@ -66,7 +67,7 @@ module _ {T W : Type 0} (will_wake : W → W → Bool) where
   end_covers true s w quiet covered = cc
   end_covers false s w quiet covered = covered
 
-  next-covers : (s : State T W) (call : Call T W) (w : W) → ends_waiting s call ≡ false → IsCovered will_wake s.waiting w → IsCovered will_wake (next will_wake s call).waiting w
+  next-covers : (s : State T W) (call : Kept T W) (w : W) → ends_waiting s call ≡ false → IsCovered will_wake s.waiting w → IsCovered will_wake (next will_wake s call).waiting w
   next-covers s (Write x) w quiet covered = write_covers (is_writable s) s x w quiet covered
   next-covers s Read w quiet covered = covered
   next-covers s (PollChanged seen v) w quiet covered =
@@ -90,7 +91,7 @@ module _ {T W : Type 0} (will_wake : W → W → Bool) where
       let same : v ≡ w = cc in
       subst (λ (u : W). IsCovered will_wake (registered will_wake s v).waiting u) same (covers_one will_wake s.waiting v (skips will_wake s.waiting v) refl)
 
-  pending_covers : (s : State T W) (call : Call T W) (r : Reply T) (w : W) → r ≡ reply s call → pending_waker call r ≡ Some w → IsCovered will_wake (if is_memory r then s else next will_wake s call).waiting w
+  pending_covers : (s : State T W) (call : Kept T W) (r : Reply T) (w : W) → r ≡ reply s call → pending_waker call r ≡ Some w → IsCovered will_wake (if is_memory r then s else next will_wake s call).waiting w
   pending_covers s (PollChanged seen v) Pending w own is = poll_covers s v w (nat_eq seen s.version) (is_closed s) (sym own) is
   pending_covers s call r w own is = cc
 
@@ -117,14 +118,14 @@ module _ {T W : Type 0} (will_wake : W → W → Bool) (sure : Bool) where
       → IsCovered will_wake (wakes (after will_wake b (g ++ e ∷ rest)) last.call) w
   is_woken b g e rest last w legal is quiet ends = rw ends (stays_covered b g e rest w legal is quiet)
 
-  next_ends : (s : State T W) (call : Call T W) → ends_waiting s call ≡ true → (next will_wake s call).waiting ≡ []
+  next_ends : (s : State T W) (call : Kept T W) → ends_waiting s call ≡ true → (next will_wake s call).waiting ≡ []
   next_ends s (Write x) ends = write_ends (is_writable s) s x ends
   next_ends s EndWriter ends = close_ends (nat_eq s.writers 1) s ends
   next_ends s Read ends = cc
   next_ends s (PollChanged seen w) ends = cc
   next_ends s AddWriter ends = cc
 
-  never_refused : (s : State T W) (call : Call T W) → ends_waiting s call ≡ true → may_refuse will_wake sure s call ≡ true → ⊥
+  never_refused : (s : State T W) (call : Kept T W) → ends_waiting s call ≡ true → may_refuse will_wake sure s call ≡ true → ⊥
   never_refused s (PollChanged seen w) ends refused = cc
   never_refused s call ends refused = cc
 

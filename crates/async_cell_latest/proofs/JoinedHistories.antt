@@ -3,9 +3,9 @@ use Rattle.std.proofs.Common.{◌≡◌, ◌≤◌, ◌+◌, ◌-◌, inl, inr, 
 use Rattle.std.proofs.lemmas.Grind.{common_steps}
 use Rattle.std.proofs.lemmas.Bool.Decides.{nat_tests}
 use Rattle.std.specs.Prelude.{if◌then◌else◌, nat_eq, nat_lt}
-use Rattle.async_cell_model.specs.WaitList.{is_empty, skips}
+use Rattle.async_cell_model.specs.Machine.{is_empty, skips}
 use Rattle.async_cell_latest.specs.State.{State, Stays, is_closed, is_writable, is_waited_for, registered, writers_limit}
-use Rattle.async_cell_latest.specs.Step.{Call, Write, Read, PollChanged, AddWriter, EndWriter, reply, next, written, closed, wakes}
+use Rattle.async_cell_latest.specs.Step.{Kept, Write, Read, PollChanged, AddWriter, EndWriter, reply, next, written, closed, wakes}
 use Rattle.async_cell_latest.specs.History.{Entry, History, is_memory, then_state, after, all_woken, may_refuse, MayFollow, IsLegal, Runs}
 use Rattle.async_cell_latest.proofs.Versions.{after-append}
 
@@ -42,7 +42,7 @@ module _ {T W : Type 0} where
   )
 
 module _ {T W : Type 0} (will_wake : W → W → Bool) where
-  next_more_in : (s : State T W) (r : ℕ) (call : Call T W) → s.room ≤ r → More (next will_wake s call) (next will_wake (record s { room = r }) call)
+  next_more_in : (s : State T W) (r : ℕ) (call : Kept T W) → s.room ≤ r → More (next will_wake s call) (next will_wake (record s { room = r }) call)
   next_more_in s r (Write x) more = more_if (is_writable s) (written s x) (written s x) s (record s { room = r }) ((refl, refl, refl), refl, le_refl _) ((refl, refl, refl), refl, more)
   next_more_in s r Read more = ((refl, refl, refl), refl, more)
   next_more_in s r (PollChanged seen w) more =
@@ -61,14 +61,14 @@ module _ {T W : Type 0} (will_wake : W → W → Bool) where
   after-more s t [] more = more
   after-more s t (e ∷ h) more = after-more (then_state will_wake s e) (then_state will_wake t e) h (then-more s t e more)
 
-  wakes-room : (s : State T W) (r : ℕ) (call : Call T W) → wakes (record s { room = r }) call ≡ wakes s call
+  wakes-room : (s : State T W) (r : ℕ) (call : Kept T W) → wakes (record s { room = r }) call ≡ wakes s call
   wakes-room s r (Write x) = refl
   wakes-room s r EndWriter = refl
   wakes-room s r Read = refl
   wakes-room s r (PollChanged seen w) = refl
   wakes-room s r AddWriter = refl
 
-  wakes-more : (s t : State T W) (call : Call T W) → More s t → wakes t call ≡ wakes s call
+  wakes-more : (s t : State T W) (call : Kept T W) → More s t → wakes t call ≡ wakes s call
   wakes-more s t call more = ap (λ (u : State T W). wakes u call) (same_but_room s t more) ∙ wakes-room s t.room call
 
   all_woken-more : (s t : State T W) (h : History T W) → More s t → all_woken will_wake t h ≡ all_woken will_wake s h
@@ -83,14 +83,14 @@ module _ {T W : Type 0} (will_wake : W → W → Bool) where
   all_woken-append s (e ∷ g) h = ap (λ (l : List (List W)). wakes s e.call ∷ l) (all_woken-append (then_state will_wake s e) g h)
 
 module _ {T W : Type 0} (will_wake : W → W → Bool) (sure : Bool) where
-  may_refuse-room : (s : State T W) (r : ℕ) (call : Call T W) → s.room ≤ r → may_refuse will_wake sure (record s { room = r }) call ≡ true → may_refuse will_wake sure s call ≡ true
+  may_refuse-room : (s : State T W) (r : ℕ) (call : Kept T W) → s.room ≤ r → may_refuse will_wake sure (record s { room = r }) call ≡ true → may_refuse will_wake sure s call ≡ true
   may_refuse-room s r (PollChanged seen w) more refused = poll_room (is_waited_for s seen) (skips will_wake s.waiting w) sure (is_empty s.waiting) _ _ (below_more_room s.room r more) refused
   may_refuse-room s r (Write x) more refused = refused
   may_refuse-room s r Read more refused = refused
   may_refuse-room s r AddWriter more refused = refused
   may_refuse-room s r EndWriter more refused = refused
 
-  reply-room : (s : State T W) (r : ℕ) (call : Call T W) → reply (record s { room = r }) call ≡ reply s call
+  reply-room : (s : State T W) (r : ℕ) (call : Kept T W) → reply (record s { room = r }) call ≡ reply s call
   reply-room s r (PollChanged seen w) = refl
   reply-room s r (Write x) = refl
   reply-room s r Read = refl

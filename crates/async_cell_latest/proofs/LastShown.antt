@@ -4,7 +4,7 @@ use Rattle.std.proofs.lemmas.Bool.Decides.{nat_tests}
 use Rattle.std.specs.Prelude.{if◌then◌else◌, nat_eq}
 use Rattle.async_cell_model.specs.declared.refusal.Refusal.TheVariants as why
 use Rattle.async_cell_latest.specs.State.{State, is_closed, is_writable, writers_limit}
-use Rattle.async_cell_latest.specs.Step.{Call, Write, Read, PollChanged, AddWriter, EndWriter, Reply, Old, Shown, Pending, Ended, Done, Refused, reply, next, written}
+use Rattle.async_cell_latest.specs.Step.{Kept, Write, Read, PollChanged, AddWriter, EndWriter, Reply, Old, Shown, Pending, Ended, Done, Refused, reply, next, written}
 use Rattle.async_cell_latest.specs.History.{Entry, History, is_memory, then_state, after, MayFollow, IsLegal}
 use Rattle.async_cell_latest.specs.Follower.{seen_then, IsBy, IsFollower, seen_after, is_old, has_write}
 use Rattle.async_cell_latest.proofs.Versions.{after-same, after-kept, IsLegal-rest, after-append}
@@ -53,7 +53,7 @@ module _ {T W : Type 0} where
   poll_not_old_if s true false = refl
 
   -- the calls of a follower write nothing
-  by_not_old : (s : State T W) (seen : ℕ) (call : Call T W) → IsBy seen call → is_old (reply s call) ≡ false
+  by_not_old : (s : State T W) (seen : ℕ) (call : Kept T W) → IsBy seen call → is_old (reply s call) ≡ false
   by_not_old s seen Read by = refl
   by_not_old s seen (PollChanged passed w) by = poll_not_old_if s (nat_eq passed s.version) (is_closed s)
   by_not_old s seen (Write x) by = absurd by
@@ -66,7 +66,7 @@ module _ {T W : Type 0} where
   seen_if s seen passed r true false is by shows = let same : passed ≡ s.version = grind (arith, nat_tests) in rw shows (sym by ∙ same)
 
   -- after a reply that is the model's own a follower has seen the version that is there
-  by_seen : (s : State T W) (seen : ℕ) (call : Call T W) (r : Reply T) → IsBy seen call → r ≡ reply s call → seen_then seen r ≡ s.version
+  by_seen : (s : State T W) (seen : ℕ) (call : Kept T W) (r : Reply T) → IsBy seen call → r ≡ reply s call → seen_then seen r ≡ s.version
   by_seen s seen Read r by is = rw is refl
   by_seen s seen (PollChanged passed w) r by is = seen_if s seen passed r (nat_eq passed s.version) (is_closed s) refl by is
   by_seen s seen (Write x) r by is = absurd by
@@ -91,7 +91,7 @@ module _ {T W : Type 0} where
   poll_shown s v version true true shows = let off = ap is_shown shows in cc
   poll_shown s v version true false shows = let off = ap is_shown shows in cc
 
-  own_shown : (s : State T W) (call : Call T W) (v : T) (version : ℕ) → reply s call ≡ Shown version v → (version ≡ s.version) × (v ≡ s.value)
+  own_shown : (s : State T W) (call : Kept T W) (v : T) (version : ℕ) → reply s call ≡ Shown version v → (version ≡ s.version) × (v ≡ s.value)
   own_shown s (Write x) v version shows = absurd (write_shows (is_writable s) s x v version shows)
   own_shown s Read v version shows = (sym (ap (shown_version 0) shows), sym (ap (shown_value v) shows))
   own_shown s (PollChanged seen w) v version shows = poll_shown s v version (nat_eq seen s.version) (is_closed s) shows
@@ -106,9 +106,9 @@ module _ {T W : Type 0} (will_wake : W → W → Bool) (sure : Bool) where
     | inr refused ↦ let off : is_memory e.reply ≡ true = ap is_memory refused.0 in cc
   ]
 
-  wrote_entry : (s : State T W) (x : T) (c : Call T W) (r : Reply T) → c ≡ Write x → r ≡ reply s c → is_old r ≡ true → (if is_memory r then s else next will_wake s c).value ≡ x
+  wrote_entry : (s : State T W) (x : T) (c : Kept T W) (r : Reply T) → c ≡ Write x → r ≡ reply s c → is_old r ≡ true → (if is_memory r then s else next will_wake s c).value ≡ x
   wrote_entry s x c r is same old =
-      let P : Call T W → Type 0 = λ d. r ≡ reply s d → (if is_memory r then s else next will_wake s d).value ≡ x in
+      let P : Kept T W → Type 0 = λ d. r ≡ reply s d → (if is_memory r then s else next will_wake s d).value ≡ x in
       subst P (sym is) (λ own. wrote (is_writable s) s x r own old) same
 
   -- after the last write the state has its value
@@ -140,7 +140,7 @@ module _ {T W : Type 0} (will_wake : W → W → Bool) (sure : Bool) where
   last_shown b g e rest seen w legal is memory none =
       let s : State T W = after will_wake b g in
       let begun = IsLegal-rest will_wake sure b g (e ∷ rest) legal in
-      let own : e.reply ≡ reply s (PollChanged seen w) = own_reply s e begun.0 memory ∙ ap (λ (c : Call T W). reply s c) is in
+      let own : e.reply ≡ reply s (PollChanged seen w) = own_reply s e begun.0 memory ∙ ap (λ (c : Kept T W). reply s c) is in
       let not_old : is_old e.reply ≡ false = ap is_old own ∙ by_not_old s seen (PollChanged seen w) refl in
       let kept = kept_from b g e rest legal not_old none in
       elim (poll_shows s seen w e.reply own) [

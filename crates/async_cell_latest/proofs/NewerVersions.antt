@@ -5,7 +5,7 @@ use Rattle.std.specs.Prelude.{if◌then◌else◌, nat_eq}
 use Rattle.async_cell_model.specs.declared.refusal.Refusal.TheVariants as why
 use Rattle.async_cell_model.specs.Taken.{IsSubsequence, none, skip, both}
 use Rattle.async_cell_latest.specs.State.{State, is_closed}
-use Rattle.async_cell_latest.specs.Step.{Call, Write, Read, PollChanged, AddWriter, EndWriter, Reply, Shown, Pending, Ended, Refused, reply}
+use Rattle.async_cell_latest.specs.Step.{Kept, Write, Read, PollChanged, AddWriter, EndWriter, Reply, Shown, Pending, Ended, Refused, reply}
 use Rattle.async_cell_latest.specs.History.{Entry, History, then_state, MayFollow, IsLegal}
 use Rattle.async_cell_latest.specs.Follower.{seen_then, IsBy, IsFollower, IsNewer, IsRising}
 use Rattle.async_cell_latest.proofs.Versions.{then-later}
@@ -18,14 +18,14 @@ module _ {T W : Type 0} where
   poll_newer s seen passed w true true is by below = (tt, below)
   poll_newer s seen passed w true false is by below = (tt, below)
 
-  own_newer : (s : State T W) (seen : ℕ) (call : Call T W) → IsBy seen call → seen ≤ s.version → IsNewer seen call (reply s call) × (seen_then seen (reply s call) ≤ s.version)
+  own_newer : (s : State T W) (seen : ℕ) (call : Kept T W) → IsBy seen call → seen ≤ s.version → IsNewer seen call (reply s call) × (seen_then seen (reply s call) ≤ s.version)
   own_newer s seen Read by below = (below, le_refl _)
   own_newer s seen (PollChanged passed w) by below = poll_newer s seen passed w (nat_eq passed s.version) (is_closed s) refl by below
   own_newer s seen (Write x) by below = absurd by
   own_newer s seen AddWriter by below = absurd by
   own_newer s seen EndWriter by below = absurd by
 
-  refused_newer : (seen : ℕ) (call : Call T W) → IsNewer seen call (Refused why.Memory None)
+  refused_newer : (seen : ℕ) (call : Kept T W) → IsNewer seen call (Refused why.Memory None)
   refused_newer seen (PollChanged passed w) = tt
   refused_newer seen Read = tt
   refused_newer seen (Write x) = tt

@@ -2,10 +2,10 @@
 use Rattle.std.proofs.Common.{◌≡◌, ◌≤◌, ◌+◌, ◌-◌, ℕ, Bool, true, false, not, ◌&&◌, ◌||◌, List, [], ◌∷◌, ◌++◌, refl, ap, sym, subst, ◌∙◌, arith, rules}
 use Rattle.std.proofs.lemmas.Bool.Decides.{nat_tests}
 use Rattle.std.specs.Prelude.{if◌then◌else◌, nat_eq, nat_lt}
-use Rattle.async_cell_model.specs.WaitList.{skips, wait_list}
+use Rattle.async_cell_model.specs.Machine.{skips, wait_list}
 use Rattle.async_cell_model.proofs.OneMoreWaker.{keep_added}
 use Rattle.async_cell_latest.specs.State.{State, IsSound, is_closed, registered, versions_limit, writers_limit, Stays}
-use Rattle.async_cell_latest.specs.Step.{Call, Write, Read, PollChanged, AddWriter, EndWriter, next, written, closed}
+use Rattle.async_cell_latest.specs.Step.{Kept, Write, Read, PollChanged, AddWriter, EndWriter, next, written, closed}
 use Rattle.async_cell_latest.specs.History.{History, is_memory, then_state, after, Runs}
 use Rattle.async_cell_latest.proofs.Versions.{either}
 
@@ -23,7 +23,7 @@ module _ {T W : Type 0} (will_wake : W → W → Bool) where
     last = grind (arith, nat_tests);
     counted = sound.counted;
     waits_open = λ over. refl;
-    kept = refl;
+    none_skipped = refl;
   }
 
   sound_poll : (s : State T W) (w : W) (same over : Bool) → is_closed s ≡ over → IsSound will_wake s → IsSound will_wake (if same && not over then registered will_wake s w else s)
@@ -34,7 +34,7 @@ module _ {T W : Type 0} (will_wake : W → W → Bool) where
     last = sound.last;
     counted = sound.counted;
     waits_open = λ over. absurd (search (rules, is, over));
-    kept = kept_if will_wake s.waiting w (skips will_wake s.waiting w) refl sound.kept;
+    none_skipped = kept_if will_wake s.waiting w (skips will_wake s.waiting w) refl sound.none_skipped;
   }
 
   sound_add : (s : State T W) (over full : Bool) → nat_eq s.writers writers_limit ≡ full → IsSound will_wake s → IsSound will_wake (if over || full then s else record s { writers = s.writers + 1 })
@@ -47,7 +47,7 @@ module _ {T W : Type 0} (will_wake : W → W → Bool) where
         last = sound.last;
         counted = grind (arith, nat_tests);
         waits_open = λ over. absurd (grind (arith, nat_tests, over));
-        kept = sound.kept;
+        none_skipped = sound.none_skipped;
       }
 
   sound_end : (s : State T W) (one : Bool) → nat_eq s.writers 1 ≡ one → IsSound will_wake s → IsSound will_wake (if one then closed s else record s { writers = s.writers - 1 })
@@ -56,7 +56,7 @@ module _ {T W : Type 0} (will_wake : W → W → Bool) where
     last = sound.last;
     counted = omega arith;
     waits_open = λ over. refl;
-    kept = refl;
+    none_skipped = refl;
   }
   sound_end s false is sound =
       let below : s.writers ≤ writers_limit = sound.counted in
@@ -65,10 +65,10 @@ module _ {T W : Type 0} (will_wake : W → W → Bool) where
         last = sound.last;
         counted = omega arith;
         waits_open = λ (over : nat_eq (s.writers - 1) 0 ≡ true). let gone : nat_eq s.writers 0 ≡ true = grind (arith, nat_tests) in sound.waits_open gone;
-        kept = sound.kept;
+        none_skipped = sound.none_skipped;
       }
 
-  next-sound : (s : State T W) (call : Call T W) → IsSound will_wake s → IsSound will_wake (next will_wake s call)
+  next-sound : (s : State T W) (call : Kept T W) → IsSound will_wake s → IsSound will_wake (next will_wake s call)
   next-sound s (Write x) sound = sound_write s x (is_closed s) (nat_lt s.version versions_limit) refl sound
   next-sound s Read sound = sound
   next-sound s (PollChanged seen w) sound = sound_poll s w (nat_eq seen s.version) (is_closed s) refl sound
@@ -86,7 +86,7 @@ module _ {T W : Type 0} (will_wake : W → W → Bool) where
     last = subst (λ (v : ℕ). v ≤ versions_limit) (sym stays.1) sound.last;
     counted = subst (λ (v : ℕ). v ≤ writers_limit) (sym stays.2) sound.counted;
     waits_open = λ (over : nat_eq t.writers 0 ≡ true). waiting ∙ sound.waits_open (ap (λ (v : ℕ). nat_eq v 0) (sym stays.2) ∙ over);
-    kept = subst (λ (l : List W). wait_list will_wake l ≡ l) (sym waiting) sound.kept;
+    none_skipped = subst (λ (l : List W). wait_list will_wake l ≡ l) (sym waiting) sound.none_skipped;
   }
 
   pub Runs-sound : (sure : Bool) (from to : State T W) (h : History T W) (woken : List (List W)) → Runs will_wake sure from h woken to → IsSound will_wake to

@@ -3,7 +3,7 @@ use Rattle.std.proofs.Common.{◌≡◌, ◌≤◌, ◌+◌, ◌-◌, inl, inr, 
 use Rattle.std.specs.Prelude.{if◌then◌else◌, nat_eq}
 use Rattle.async_cell_model.specs.declared.refusal.Refusal.TheVariants as why
 use Rattle.async_cell_latest.specs.State.{State, is_closed, is_writable, is_waited_for, registered, writers_limit}
-use Rattle.async_cell_latest.specs.Step.{Call, Write, Read, PollChanged, AddWriter, EndWriter, Old, Refused, reply, next, written, closed}
+use Rattle.async_cell_latest.specs.Step.{Kept, Write, Read, PollChanged, AddWriter, EndWriter, Old, Refused, reply, next, written, closed}
 use Rattle.async_cell_latest.specs.History.{Entry, History, is_memory, then_state, after, MayFollow, IsLegal}
 use Rattle.async_cell_latest.specs.Follower.{is_old, has_write}
 
@@ -31,7 +31,7 @@ module _ {T W : Type 0} where
 
 module _ {T W : Type 0} (will_wake : W → W → Bool) where
   -- no call moves the version back
-  next-later : (s : State T W) (call : Call T W) → s.version ≤ (next will_wake s call).version
+  next-later : (s : State T W) (call : Kept T W) → s.version ≤ (next will_wake s call).version
   next-later s (Write x) = either (λ (t : State T W). s.version ≤ t.version) (is_writable s) (written s x) s (omega arith) (le_refl _)
   next-later s Read = le_refl _
   next-later s (PollChanged seen w) = either (λ (t : State T W). s.version ≤ t.version) (is_waited_for s seen) (registered will_wake s w) s (le_refl _) (le_refl _)
@@ -46,7 +46,7 @@ module _ {T W : Type 0} (will_wake : W → W → Bool) where
   after-later s (e ∷ h) = le_trans (then-later s e) (after-later (then_state will_wake s e) h)
 
   -- with the same version it is the same value
-  next-same : (s : State T W) (call : Call T W) → (next will_wake s call).version ≡ s.version → (next will_wake s call).value ≡ s.value
+  next-same : (s : State T W) (call : Kept T W) → (next will_wake s call).version ≡ s.version → (next will_wake s call).value ≡ s.value
   next-same s (Write x) same = write_same (is_writable s) s x same
   next-same s Read same = refl
   next-same s (PollChanged seen w) same = either (λ (t : State T W). t.value ≡ s.value) (is_waited_for s seen) (registered will_wake s w) s refl refl
@@ -70,7 +70,7 @@ module _ {T W : Type 0} (will_wake : W → W → Bool) where
       after-same t h (same ∙ sym here) ∙ then-same s e here
 
   -- no call but a write that succeeds changes the version
-  next-kept : (s : State T W) (call : Call T W) → is_old (reply s call) ≡ false → (next will_wake s call).version ≡ s.version
+  next-kept : (s : State T W) (call : Kept T W) → is_old (reply s call) ≡ false → (next will_wake s call).version ≡ s.version
   next-kept s (Write x) not_old = write_kept (is_writable s) s x not_old
   next-kept s Read not_old = refl
   next-kept s (PollChanged seen w) not_old = either (λ (t : State T W). t.version ≡ s.version) (is_waited_for s seen) (registered will_wake s w) s refl refl

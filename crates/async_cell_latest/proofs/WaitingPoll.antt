@@ -2,7 +2,7 @@
 use Rattle.std.proofs.Common.{◌≡◌, ◌≤◌, ◌-◌, inl, ℕ, Bool, true, false, not, ◌&&◌, [], ◌∷◌, ◌++◌, refl, ap, sym, subst, ◌∙◌, arith}
 use Rattle.std.proofs.lemmas.Bool.Decides.{nat_tests}
 use Rattle.std.specs.Prelude.{◌↔◌, Option, if◌then◌else◌, nat_eq}
-use Rattle.async_cell_model.specs.WaitList.{skips}
+use Rattle.async_cell_model.specs.Machine.{skips}
 use Rattle.async_cell_latest.specs.State.{State, IsSound, Stays, is_closed}
 use Rattle.async_cell_latest.specs.Step.{PollChanged, Pending, Shown, Ended, reply, next}
 use Rattle.async_cell_latest.specs.History.{Runs}

@@ -2,7 +2,7 @@
 use Rattle.std.specs.Prelude.{◌≡◌, ◌≤◌, ◌<◌, ℕ, Bool, true, false, ◌||◌, [], ◌∷◌, Option, Some, None, ⊤}
 use Rattle.std.specs.List.{list_any}
 use Rattle.async_cell_latest.specs.State.{State}
-use Rattle.async_cell_latest.specs.Step.{Call, Read, PollChanged, Reply, Old, Shown, Pending, ends_waiting}
+use Rattle.async_cell_latest.specs.Step.{Kept, Read, PollChanged, Reply, Old, Shown, Pending, ends_waiting}
 use Rattle.async_cell_latest.specs.History.{History, then_state}
 
 -- the version that a follower has seen after a reply, if it had seen `seen` before
@@ -17,7 +17,7 @@ is_old _ = false
 
 module _ {T W : Type 0} where
   -- the call is one of a follower that has seen this version: a read, or a poll that passes it
-  abbrev pub IsBy : ℕ → Call T W → Type 0
+  abbrev pub IsBy : ℕ → Kept T W → Type 0
   IsBy seen Read = ⊤
   IsBy seen (PollChanged passed w) = passed ≡ seen
   IsBy seen _ = ⊥
@@ -34,7 +34,7 @@ module _ {T W : Type 0} where
   seen_after seen (e ∷ h) = seen_after (seen_then seen e.reply) h
 
   -- what the call shows is newer than this version if it is a poll, and no older if it is a read
-  abbrev pub IsNewer : ℕ → Call T W → Reply T → Type 0
+  abbrev pub IsNewer : ℕ → Kept T W → Reply T → Type 0
   IsNewer seen (PollChanged passed w) (Shown version value) = seen < version
   IsNewer seen Read (Shown version value) = seen ≤ version
   IsNewer seen call reply = ⊤
@@ -49,7 +49,7 @@ module _ {T W : Type 0} where
   has_write h = list_any (λ e. is_old e.reply) h
 
   -- the waker of a poll that returned `Pending`
-  abbrev pub pending_waker : Call T W → Reply T → Option W
+  abbrev pub pending_waker : Kept T W → Reply T → Option W
   pending_waker (PollChanged seen w) Pending = Some w
   pending_waker _ _ = None
 

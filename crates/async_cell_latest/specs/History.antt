@@ -1,13 +1,13 @@
 -- Histories: which are legal, the state after one, and the whole promise of a list of calls.
 use Rattle.std.specs.Prelude.{◌≡◌, ◌≤◌, ◌⊎◌, Bool, true, false, not, ◌&&◌, ◌||◌, List, [], ◌∷◌, None, ⊤, nat_lt, if◌then◌else◌}
 use Rattle.async_cell_model.specs.declared.refusal.Refusal.TheVariants as why
-use Rattle.async_cell_model.specs.WaitList.{is_empty, skips}
+use Rattle.async_cell_model.specs.Machine.{is_empty, skips}
 use Rattle.async_cell_latest.specs.State.{State, IsSound, Stays, is_waited_for}
-use Rattle.async_cell_latest.specs.Step.{Call, PollChanged, Reply, Refused, reply, next, wakes}
+use Rattle.async_cell_latest.specs.Step.{Kept, PollChanged, Reply, Refused, reply, next, wakes}
 
 -- a call and its reply
 pub record Entry (T W : Type 0) : Type 0 where
-  pub call : Call T W
+  pub call : Kept T W
   pub reply : Reply T
 
 -- the calls on a state, in order, each with its reply
@@ -34,16 +34,16 @@ module _ {T W : Type 0} (will_wake : W → W → Bool) where
   all_woken s [] = []
   all_woken s (e ∷ h) = wakes s e.call ∷ all_woken (then_state s e) h
 
--- `sure` says whether cloning a waker never fails
-module _ {T W : Type 0} (will_wake : W → W → Bool) (sure : Bool) where
+-- `sure_wakers` says whether cloning a waker never fails
+module _ {T W : Type 0} (will_wake : W → W → Bool) (sure_wakers : Bool) where
   -- Whether a poll by w that has to wait needs no memory: w is skipped, or its clone is sure and it
   -- is the first to wait or finds room.
   abbrev pub needs_no_memory : State T W → W → Bool
   needs_no_memory s w =
-      skips will_wake s.waiting w || (sure && (is_empty s.waiting || nat_lt 0 s.room))
+      skips will_wake s.waiting w || (sure_wakers && (is_empty s.waiting || nat_lt 0 s.room))
 
   -- whether a call may fail with `Memory`: a poll that waits and needs memory
-  abbrev pub may_refuse : State T W → Call T W → Bool
+  abbrev pub may_refuse : State T W → Kept T W → Bool
   may_refuse s (PollChanged seen w) = is_waited_for s seen && not (needs_no_memory s w)
   may_refuse s _ = false
 

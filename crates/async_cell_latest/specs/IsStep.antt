@@ -3,7 +3,7 @@ use Rattle.std.specs.Prelude.{ℕ, Bool, Option, Some, None, Result, Ok, Err, Li
 use Rattle.async_cell_model.specs.declared.refusal.Refusal.{Refusal}
 use Rattle.async_cell_model.specs.declared.refusal.Refusal.TheVariants as why
 use Rattle.async_cell_latest.specs.State.{State}
-use Rattle.async_cell_latest.specs.Step.{Call, Reply, Old, Shown, Pending, Ended, Done, Refused}
+use Rattle.async_cell_latest.specs.Step.{Kept, Reply, Old, Shown, Pending, Ended, Done, Refused}
 use Rattle.async_cell_latest.specs.History.{Runs}
 use Rattle.futures.specs.declared.task.Poll.{Poll}
 use Rattle.futures.specs.declared.task.Poll.TheVariants as poll
@@ -25,7 +25,7 @@ pub record Answer (T W : Type 0) : Type 0 where
 
 module _ {T W : Type 0} where
   -- the call is a step of the model: in the state `old` it gives this answer, and it leaves `new`
-  abbrev pub IsStep : WakerRules W → State T W → Call T W → Answer T W → State T W → Type 0
+  abbrev pub IsStep : WakerRules W → State T W → Kept T W → Answer T W → State T W → Type 0
   IsStep rules old call answer new =
       Runs rules.will_wake rules.SURE_CLONE old
       (record { call = call; reply = answer.reply } ∷ []) (answer.woken ∷ []) new

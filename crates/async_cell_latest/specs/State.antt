@@ -1,7 +1,7 @@
 -- A state that many follow: its value and version, its writers, and who waits for the next write.
 use Rattle.std.specs.Prelude.{◌≡◌, ◌≤◌, ◌-◌, ℕ, Bool, true, not, ◌&&◌, List, [], nat_eq, nat_lt, if◌then◌else◌}
 use Rattle.async_cell_wakers.specs.WaitList.{ListState}
-use Rattle.async_cell_model.specs.WaitList.{skips, wait_list, with_one_more}
+use Rattle.async_cell_model.specs.Machine.{skips, wait_list, with_one_more}
 
 -- the last version: no write comes after it
 abbrev pub versions_limit : ℕ
@@ -63,4 +63,4 @@ module _ {T W : Type 0} (will_wake : W → W → Bool) where
     pub last : s.version ≤ versions_limit
     pub counted : s.writers ≤ writers_limit
     pub waits_open : is_closed s ≡ true → s.waiting ≡ []
-    pub kept : wait_list will_wake s.waiting ≡ s.waiting
+    pub none_skipped : wait_list will_wake s.waiting ≡ s.waiting

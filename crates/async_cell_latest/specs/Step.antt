@@ -5,12 +5,12 @@ use Rattle.async_cell_model.specs.declared.refusal.Refusal.TheVariants as why
 use Rattle.async_cell_latest.specs.State.{State, is_closed, is_writable, is_waited_for, registered, writers_limit}
 
 -- a call on a state, as a history holds it; a poll has the version that its follower has seen
-pub data Call (T W : Type 0) : Type 0 where
-  Write : T → Call T W
-  Read : Call T W
-  PollChanged : ℕ → W → Call T W
-  AddWriter : Call T W
-  EndWriter : Call T W
+pub data Kept (T W : Type 0) : Type 0 where
+  Write : T → Kept T W
+  Read : Kept T W
+  PollChanged : ℕ → W → Kept T W
+  AddWriter : Kept T W
+  EndWriter : Kept T W
 
 -- What a call returns. `Shown` has the version and the value, `Old` the value that was there before
 -- the write, and a refusal what was passed to the write.
@@ -24,7 +24,7 @@ pub data Reply (T : Type 0) : Type 0 where
 
 module _ {T W : Type 0} where
   -- the reply to a call that does not fail with `Memory`
-  abbrev pub reply : State T W → Call T W → Reply T
+  abbrev pub reply : State T W → Kept T W → Reply T
   reply s (Write x) = if is_writable s then Old s.value else Refused why.Closed (Some x)
   reply s Read = Shown s.version s.value
   reply s (PollChanged seen w) =
@@ -36,13 +36,13 @@ module _ {T W : Type 0} where
   reply s EndWriter = if is_closed s then Refused why.Closed None else Done
 
   -- whether a call ends all waiting: a write that succeeds, or the end of the last writer
-  abbrev pub ends_waiting : State T W → Call T W → Bool
+  abbrev pub ends_waiting : State T W → Kept T W → Bool
   ends_waiting s (Write x) = is_writable s
   ends_waiting s EndWriter = nat_eq s.writers 1
   ends_waiting s _ = false
 
   -- the wakers that a call wakes: all that wait if it ends all waiting, else none
-  abbrev pub wakes : State T W → Call T W → List W
+  abbrev pub wakes : State T W → Kept T W → List W
   wakes s call = if ends_waiting s call then s.waiting else []
 
   -- the state after a write that succeeds: nobody waits
@@ -56,7 +56,7 @@ module _ {T W : Type 0} where
 
 module _ {T W : Type 0} (will_wake : W → W → Bool) where
   -- the state after a call that does not fail with `Memory`
-  abbrev pub next : State T W → Call T W → State T W
+  abbrev pub next : State T W → Kept T W → State T W
   next s (Write x) = if is_writable s then written s x else s
   next s Read = s
   next s (PollChanged seen w) = if is_waited_for s seen then registered will_wake s w else s

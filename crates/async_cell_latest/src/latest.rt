@@ -1,5 +1,5 @@
 ghost use Rattle.std.specs.Prelude.{◌≡◌, ◌≤◌, ◌+◌, [], length, true, Ok, IsOk, IfOk, IfErr, OnOk, OnErr, ◌↔◌};
-ghost use Rattle.async_cell_model.specs.Clones.{IsExact};
+ghost use Rattle.async_cell_model.specs.Legal.{IsExact};
 ghost use Rattle.async_cell_wakers.specs.WaitList.{first_then};
 ghost use Rattle.async_cell_latest.specs.State.{IsSound, is_closed, is_writable};
 ghost use Rattle.async_cell_latest.specs.Step.{Write, Read, Shown};
@@ -167,7 +167,7 @@ impl<T: Clone, W: Wakes> Latest<T, W> {
 
         ensures version { IfOk result (λ shown. shown.0 ≡ self.now.version) }
         ensures clones { IfOk result (λ shown. T.is_clone self.now.value shown.1) }
-        ensures sure { T.is_infallible self.now.value → IsOk result }
+        ensures if_infallible { T.is_infallible self.now.value → IsOk result }
         ensures refused { IfErr result (λ why. why ≡ Refusal.Memory) }
     {
         let copy: Result<T, AllocError> = self.value.clone();

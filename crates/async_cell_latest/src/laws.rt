@@ -2,7 +2,7 @@
 //! nothing.
 ghost use Rattle.std.specs.Prelude.{◌≡◌, ◌≤◌, ◌⊎◌, ◌++◌, ◌∷◌, [], ℕ, List, Bool, Some, true, false};
 ghost use Rattle.async_cell_model.specs.Taken.{IsSubsequence};
-ghost use Rattle.async_cell_model.specs.WaitList.{IsCovered};
+ghost use Rattle.async_cell_model.specs.History.{IsCovered};
 ghost use Rattle.async_cell_latest.specs.State.{State, IsSound, Stays, is_closed};
 ghost use Rattle.async_cell_latest.specs.Step.{Write, PollChanged, Shown, ends_waiting, wakes};
 ghost use Rattle.async_cell_latest.specs.History.{Entry, History, IsLegal, Runs, after, is_memory};
@@ -12,30 +12,30 @@ ghost use Rattle.async_cell_latest.specs.Follower.{IsFollower, IsRising, is_old,
 /// follower saw before. A follower is any choice of reads and polls of the history, in order, in
 /// which each poll passes the version that was shown last.
 pub fn the_versions_of_a_follower_rise<T, W>()
-    ensures { (will_wake : W → W → Bool) (sure : Bool)
+    ensures { (will_wake : W → W → Bool) (sure_wakers : Bool)
         (b : State T W) (h mine : History T W) (seen : ℕ)
-        → IsLegal will_wake sure b h → IsSubsequence mine h
+        → IsLegal will_wake sure_wakers b h → IsSubsequence mine h
         → IsFollower seen mine → seen ≤ b.version → IsRising seen mine }
 {}
 
 /// A poll after the last write shows the last state, its version and its value, or its follower has
 /// seen that version. The last state is what the last write put in, also once it is closed.
 pub fn a_poll_shows_the_last_state<T, W>()
-    ensures written { (will_wake : W → W → Bool) (sure : Bool)
+    ensures written { (will_wake : W → W → Bool) (sure_wakers : Bool)
         (b : State T W) (g : History T W) (e : Entry T W) (rest : History T W) (x : T)
-        → IsLegal will_wake sure b (g ++ e ∷ rest)
+        → IsLegal will_wake sure_wakers b (g ++ e ∷ rest)
         → e.call ≡ Write x → is_old e.reply ≡ true → has_write rest ≡ false
         → (after will_wake b (g ++ e ∷ rest)).value ≡ x }
-    ensures shown { (will_wake : W → W → Bool) (sure : Bool)
+    ensures shown { (will_wake : W → W → Bool) (sure_wakers : Bool)
         (b : State T W) (g : History T W) (e : Entry T W) (rest : History T W)
-        (seen : ℕ) (w : W) → IsLegal will_wake sure b (g ++ e ∷ rest)
+        (seen : ℕ) (w : W) → IsLegal will_wake sure_wakers b (g ++ e ∷ rest)
         → e.call ≡ PollChanged seen w → is_memory e.reply ≡ false → has_write rest ≡ false
         → (e.reply ≡ Shown (after will_wake b (g ++ e ∷ rest)).version
         (after will_wake b (g ++ e ∷ rest)).value)
         ⊎ (seen ≡ (after will_wake b (g ++ e ∷ rest)).version) }
-    ensures seen { (will_wake : W → W → Bool) (sure : Bool)
+    ensures seen { (will_wake : W → W → Bool) (sure_wakers : Bool)
         (b : State T W) (g : History T W) (e : Entry T W) (rest mine : History T W)
-        (start : ℕ) → IsLegal will_wake sure b (g ++ e ∷ rest)
+        (start : ℕ) → IsLegal will_wake sure_wakers b (g ++ e ∷ rest)
         → IsFollower start (mine ++ e ∷ []) → is_memory e.reply ≡ false → has_write rest ≡ false
         → seen_after start (mine ++ e ∷ []) ≡ (after will_wake b (g ++ e ∷ rest)).version }
 {}
@@ -49,10 +49,10 @@ pub fn the_last_state_stays<T, W>()
 
 /// A version is the name of one value: whoever is shown the same version is shown the same value.
 pub fn a_version_names_one_value<T, W>()
-    ensures { (will_wake : W → W → Bool) (sure : Bool)
+    ensures { (will_wake : W → W → Bool) (sure_wakers : Bool)
         (b : State T W) (g : History T W) (e : Entry T W) (m : History T W) (f : Entry T W)
         (rest : History T W) (version : ℕ) (x y : T)
-        → IsLegal will_wake sure b (g ++ e ∷ (m ++ f ∷ rest))
+        → IsLegal will_wake sure_wakers b (g ++ e ∷ (m ++ f ∷ rest))
         → e.reply ≡ Shown version x → f.reply ≡ Shown version y → x ≡ y }
 {}
 
@@ -60,21 +60,21 @@ pub fn a_version_names_one_value<T, W>()
 /// returned `Pending` waits, or some waiting waker would wake it. The write or the close wakes all
 /// that wait, and then nobody waits, so each is woken once.
 pub fn no_waiting_follower_is_forgotten<T, W>()
-    ensures covered { (will_wake : W → W → Bool) (sure : Bool)
+    ensures covered { (will_wake : W → W → Bool) (sure_wakers : Bool)
         (b : State T W) (g : History T W) (e : Entry T W) (rest : History T W) (w : W)
-        → IsLegal will_wake sure b (g ++ e ∷ rest) → pending_waker e.call e.reply ≡ Some w
+        → IsLegal will_wake sure_wakers b (g ++ e ∷ rest) → pending_waker e.call e.reply ≡ Some w
         → has_end will_wake (after will_wake b (g ++ e ∷ [])) rest ≡ false
         → IsCovered will_wake (after will_wake b (g ++ e ∷ rest)).waiting w }
-    ensures woken { (will_wake : W → W → Bool) (sure : Bool)
+    ensures woken { (will_wake : W → W → Bool) (sure_wakers : Bool)
         (b : State T W) (g : History T W) (e : Entry T W) (rest : History T W) (last : Entry T W)
         (w : W)
-        → IsLegal will_wake sure b (g ++ e ∷ rest) → pending_waker e.call e.reply ≡ Some w
+        → IsLegal will_wake sure_wakers b (g ++ e ∷ rest) → pending_waker e.call e.reply ≡ Some w
         → has_end will_wake (after will_wake b (g ++ e ∷ [])) rest ≡ false
         → ends_waiting (after will_wake b (g ++ e ∷ rest)) last.call ≡ true
         → IsCovered will_wake (wakes (after will_wake b (g ++ e ∷ rest)) last.call) w }
-    ensures nobody_waits { (will_wake : W → W → Bool) (sure : Bool)
+    ensures nobody_waits { (will_wake : W → W → Bool) (sure_wakers : Bool)
         (b : State T W) (g : History T W) (last : Entry T W)
-        → IsLegal will_wake sure b (g ++ last ∷ [])
+        → IsLegal will_wake sure_wakers b (g ++ last ∷ [])
         → ends_waiting (after will_wake b g) last.call ≡ true
         → (after will_wake b (g ++ last ∷ [])).waiting ≡ [] }
 {}
@@ -82,19 +82,19 @@ pub fn no_waiting_follower_is_forgotten<T, W>()
 /// Two histories, the second from the state where the first ends, are one. So the steps of the
 /// calls of a `Latest`, one after the other, are one legal history.
 pub fn two_histories_are_one<T, W>()
-    ensures { (will_wake : W → W → Bool) (sure : Bool)
+    ensures { (will_wake : W → W → Bool) (sure_wakers : Bool)
         (from at to : State T W) (g h : History T W)
         (first second : List (List W))
-        → Runs will_wake sure from g first at
-        → Runs will_wake sure at h second to
-        → Runs will_wake sure from (g ++ h) (first ++ second) to }
+        → Runs will_wake sure_wakers from g first at
+        → Runs will_wake sure_wakers at h second to
+        → Runs will_wake sure_wakers from (g ++ h) (first ++ second) to }
 {}
 
 /// A history ends in a sound state, so another history can start from there.
 pub fn a_history_ends_in_a_sound_state<T, W>()
     ensures after { (will_wake : W → W → Bool) (b : State T W) (h : History T W)
         → IsSound will_wake b → IsSound will_wake (after will_wake b h) }
-    ensures runs { (will_wake : W → W → Bool) (sure : Bool)
+    ensures runs { (will_wake : W → W → Bool) (sure_wakers : Bool)
         (from to : State T W) (h : History T W) (woken : List (List W))
-        → Runs will_wake sure from h woken to → IsSound will_wake to }
+        → Runs will_wake sure_wakers from h woken to → IsSound will_wake to }
 {}

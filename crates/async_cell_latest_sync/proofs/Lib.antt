@@ -1,3 +1,3 @@
 pub mod Found
-pub mod OneState
 pub mod Polled
+pub mod SomeState

@@ -7,7 +7,7 @@ use Rattle.futures.specs.declared.task.Poll.TheVariants.{Ready, Pending}
 use Rattle.futures.specs.Poll.{IfReady, OnPending}
 use Rattle.async_cell_model.specs.declared.refusal.Refusal.{Refusal}
 use Rattle.async_cell_model.specs.Refusal.{FailsWithMemory}
-use Rattle.async_cell_latest_sync.specs.OneState.{OfOneState}
+use Rattle.async_cell_latest_sync.specs.SomeState.{SomeState}
 use Rattle.async_cell_latest_sync.specs.Told.{AreTold}
 use Rattle.async_cell_latest_sync.specs.declared.follower.Follower.{Follower}
 
@@ -27,7 +27,7 @@ module _ {T : Type 0} (is_clone : T → T → Type 0) where
   -- an item is a clone of a state that was not seen, and is now marked
   abbrev Shown : ℕ → ℕ → Option (Result T Refusal) → Type 0
   Shown old new item =
-      IfSome item (λ told. IfOk told (λ copy. OfOneState new (λ s.
+      IfSome item (λ told. IfOk told (λ copy. SomeState new (λ s.
       (s.version ≢ old) × is_clone s.value copy)))
 
   pub value_of : (old new : ℕ) (polled : Poll (Option (Result T Refusal)))

@@ -1,5 +1,5 @@
 pub mod Found
 pub mod Names
-pub mod OneState
 pub mod Seen
+pub mod SomeState
 pub mod Told

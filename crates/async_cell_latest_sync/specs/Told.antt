@@ -9,7 +9,8 @@ module _ {T : Type 0} (is_clone : T → T → Type 0) where
   -- The item is told to a follower that has seen this version: it is a clone of a state of another
   -- version, and P holds of that one; or there was no memory, and P holds of what was seen.
   abbrev pub IsTold : ℕ → Result T Refusal → (ℕ → Type 0) → Type 0
-  IsTold seen (Ok copy) P = (s : State T TaskWaker) × (s.version ≢ seen) × is_clone s.value copy × P s.version
+  IsTold seen (Ok copy) P =
+      (s : State T TaskWaker) × (s.version ≢ seen) × is_clone s.value copy × P s.version
   IsTold seen (Err why) P = (why ≡ Memory) × P seen
 
   -- these items are told to it, one after the other, and then this answer

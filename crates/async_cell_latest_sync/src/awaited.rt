@@ -7,7 +7,7 @@ ghost use Rattle.futures.specs.Task.{Covers, Keeps};
 ghost use Rattle.async_cell_model.specs.Refusal.{FailsWithMemory, FailsWithMemoryOrClosed};
 ghost use Rattle.async_cell_latest_sync.specs.Found.{IsFound};
 ghost use Rattle.async_cell_latest_sync.specs.Names.{cell_followed, sources};
-ghost use Rattle.async_cell_latest_sync.specs.OneState.{OfOneState};
+ghost use Rattle.async_cell_latest_sync.specs.SomeState.{SomeState};
 ghost use Rattle.async_cell_latest_sync.specs.Told.{AreTold};
 
 use crate::cell::{Unseen, UnseenState};
@@ -61,7 +61,7 @@ impl<T: Drop, R: Wait + Drop> Future for Changed<'_, T, R> {
     ghost gives = { λ _. FailsWithMemoryOrClosed };
 
     fn poll(&mut self, cx: &mut Context<'_>) -> Poll<Result<(), Refusal>>
-        ensures marks { IfReady result (λ told. OnOk told (OfOneState {T = T}
+        ensures marks { IfReady result (λ told. OnOk told (SomeState {T = T}
             self.new.follower.now.seen (λ s. s.version ≢ self.old.follower.now.seen))) }
         ensures unmarked { IfReady result (λ told. OnErr told
             (self.new.follower.now ≡ self.old.follower.now)) }
@@ -148,8 +148,8 @@ impl<T: Clone, R: Wait + Drop, F: FnMut(&T) -> bool + Drop> Future for WaitFor<'
 
     fn poll(&mut self, cx: &mut Context<'_>) -> Poll<Result<T, Refusal>>
         requires can_poll { F.IsAlwaysCallable self.old.predicate }
-        ensures of_one_state { IfReady result (λ answer. IfOk answer (λ copy.
-            OfOneState self.new.follower.now.seen (λ s. T.is_clone s.value copy
+        ensures of_some_state { IfReady result (λ answer. IfOk answer (λ copy.
+            SomeState self.new.follower.now.seen (λ s. T.is_clone s.value copy
             × CalledAt F.FnMut self.old.predicate s.value true self.new.predicate))) }
         ensures unmarked { result ≡ Poll.Ready (Err Refusal.Memory)
             → self.new.follower.now ≡ self.old.follower.now }
@@ -160,7 +160,7 @@ impl<T: Clone, R: Wait + Drop, F: FnMut(&T) -> bool + Drop> Future for WaitFor<'
         ensures again { OnPending result (F.IsAlwaysCallable self.new.predicate) }
         ensures looked { OnPending result (((self.new.predicate ≡ self.old.predicate)
             × (self.new.follower.now ≡ self.old.follower.now))
-            ⊎ OfOneState self.new.follower.now.seen (λ s.
+            ⊎ SomeState self.new.follower.now.seen (λ s.
             CalledAt F.FnMut self.old.predicate s.value false self.new.predicate)) }
         ensures of_this { cell_followed self.new.follower.now
             ≡ cell_followed self.old.follower.now }
@@ -263,8 +263,8 @@ impl<T: Clone, R: Wait + Drop> Stream for States<T, R> {
         × AreTold T.is_clone states.follower.seen items last };
 
     fn poll_next(&mut self, cx: &mut Context<'_>) -> Poll<Option<Result<T, Refusal>>>
-        ensures of_one_state { IfReady result (λ item. IfSome item (λ told. IfOk told (λ copy.
-            OfOneState self.new.follower.seen (λ s.
+        ensures of_some_state { IfReady result (λ item. IfSome item (λ told. IfOk told (λ copy.
+            SomeState self.new.follower.seen (λ s.
             (s.version ≢ self.old.follower.seen) × T.is_clone s.value copy)))) }
         ensures unmarked { IfReady result (λ item. IfSome item (λ told. OnErr told
             (self.new.follower ≡ self.old.follower))) }

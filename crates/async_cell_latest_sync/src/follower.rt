@@ -113,7 +113,7 @@ impl<T: Drop, R: Wait + Drop> Follower<T, R> {
     where
         T: Clone,
         ensures clones { IfOk result (λ copy. (value : T) × T.is_clone value copy) }
-        ensures sure { ((value : T) → T.is_infallible value) → IsOk result }
+        ensures if_infallible { ((value : T) → T.is_infallible value) → IsOk result }
         ensures refused { FailsWithMemory result }
     {
         Ok(self.cell.get(&self.rt)?.1)
@@ -123,9 +123,9 @@ impl<T: Drop, R: Wait + Drop> Follower<T, R> {
     pub fn read_and_update(&mut self) -> Result<T, Refusal>
     where
         T: Clone,
-        ensures of_one_state { IfOk result (λ copy. HasSeen self.new (λ s.
+        ensures of_some_state { IfOk result (λ copy. HasSeen self.new (λ s.
             T.is_clone s.value copy)) }
-        ensures sure { ((value : T) → T.is_infallible value) → IsOk result }
+        ensures if_infallible { ((value : T) → T.is_infallible value) → IsOk result }
         ensures refused { FailsWithMemory result }
         ensures unmarked { OnErr result (self.new ≡ self.old) }
         ensures of_this { cell_followed self.new ≡ cell_followed self.old }
@@ -147,7 +147,7 @@ impl<T: Drop, R: Wait + Drop> Follower<T, R> {
     /// `peek`, of a value that is then marked as seen.
     pub fn peek_and_update<A, F: FnOnce(&T) -> A>(&mut self, look: F) -> A
         requires { F.IsAlwaysCallable look }
-        ensures of_one_state { HasSeen self.new (λ s.
+        ensures of_some_state { HasSeen self.new (λ s.
             FnOnceReturnsAt F.FnOnce look s.value result) }
         ensures of_this { cell_followed self.new ≡ cell_followed self.old }
     {
@@ -158,7 +158,7 @@ impl<T: Drop, R: Wait + Drop> Follower<T, R> {
 
     /// Returns whether there is an unseen state, also once the last owner has ended. Marks nothing.
     pub fn has_changed(&self) -> bool
-        ensures of_one_state { (s : State T TaskWaker)
+        ensures of_some_state { (s : State T TaskWaker)
             × ((result ≡ true) ↔ (self.now.seen ≢ s.version)) }
     {
         self.cell.version(&self.rt) != self.seen

@@ -70,7 +70,7 @@ impl<T: Drop, R: Wait + Drop> Owner<T, R> {
     where
         T: Clone,
         ensures clones { IfOk result (λ copy. (value : T) × T.is_clone value copy) }
-        ensures sure { ((value : T) → T.is_infallible value) → IsOk result }
+        ensures if_infallible { ((value : T) → T.is_infallible value) → IsOk result }
         ensures refused { FailsWithMemory result }
     {
         Ok(self.cell.get(&self.rt)?.1)

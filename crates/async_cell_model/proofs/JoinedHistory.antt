@@ -4,10 +4,8 @@ use Rattle.std.specs.List.{filter_map}
 use Rattle.std.proofs.lemmas.List.Elements.{filter_map-append}
 use Rattle.std.specs.Prelude.{if◌then◌else◌}
 use Rattle.async_cell_model.specs.declared.cell.Cell.{Cell}
-use Rattle.async_cell_model.specs.Cell.{ends_waiting}
-use Rattle.async_cell_model.specs.Step.{next}
-use Rattle.async_cell_model.specs.WaitList.{wait_list}
-use Rattle.async_cell_model.specs.History.{State, History, cell_after, has_fill_or_close, since, registrations, pending_waker, waiting, room, after}
+use Rattle.async_cell_model.specs.Machine.{ends_waiting, next, wait_list, State, pending_waker}
+use Rattle.async_cell_model.specs.History.{History, cell_after, has_fill_or_close, since, registrations, waiting, room, after}
 use Rattle.async_cell_model.proofs.OneMoreWaker.{wait_list-append, wait_list-wait_list, wait_list-longer}
 
 or_over : (p q r s : Bool) → s ≡ (q || r) → (p || s) ≡ ((p || q) || r)

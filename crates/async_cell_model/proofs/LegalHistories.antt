@@ -6,10 +6,9 @@ use Rattle.std.specs.Prelude.{if◌then◌else◌, nat_lt}
 use Rattle.async_cell_model.specs.declared.entry.Entry.{Entry}
 use Rattle.async_cell_model.specs.declared.entry.Kept.{Kept}
 use Rattle.async_cell_model.specs.declared.entry.Kept.TheVariants.{TryGet, PollTake, PollGet}
-use Rattle.async_cell_model.specs.Cell.{is_full, is_vacant}
-use Rattle.async_cell_model.specs.WaitList.{wait_list, skips, is_empty}
-use Rattle.async_cell_model.specs.History.{State, History, IsSound, has_fill_or_close, room, after}
-use Rattle.async_cell_model.specs.Legal.{Exactly, MayFollowBy, IsLegalAfterBy, RunsBy, woken_by, wakes_after, may_refuse, Runs}
+use Rattle.async_cell_model.specs.Machine.{is_full, is_vacant, wait_list, skips, is_empty, State, IsSound, Exactly, may_refuse}
+use Rattle.async_cell_model.specs.History.{History, has_fill_or_close, room, after}
+use Rattle.async_cell_model.specs.Legal.{MayFollowBy, IsLegalAfterBy, RunsBy, woken_by, wakes_after, Runs}
 use Rattle.async_cell_model.specs.declared.reply.Reply.{Reply}
 use Rattle.async_cell_model.proofs.JoinedHistory.{after-append}
 
@@ -101,15 +100,15 @@ module _ {T W : Type 0} (MayReply : Kept T W → Reply T → Reply T → Type 0)
   join_at : (b : State T W) (r : ℕ) (to : State T W) (g h : History T W) (ws us : List (List W)) → IsSound will_wake b → IsLegalAfterBy MayReply will_wake sure b [] g → room will_wake b g ≤ r → ws ≡ wakes_after will_wake b [] g
       → RunsBy MayReply will_wake sure (record (after will_wake b g) { room = r }) h us to → RunsBy MayReply will_wake sure b (g ++ h) (ws ++ us) to
   join_at b r to g h ws us sound legal more handed second =
-      let begun = IsLegalAfter-begun MayReply will_wake sure b g [] h sound.kept (IsLegalAfter-room (after will_wake b g) r more [] h second.legal) in
-      let joined = after-append will_wake b g h sound.kept in
+      let begun = IsLegalAfter-begun MayReply will_wake sure b g [] h sound.none_skipped (IsLegalAfter-room (after will_wake b g) r more [] h second.legal) in
+      let joined = after-append will_wake b g h sound.none_skipped in
       record {
         sound = sound;
         legal = IsLegalAfter-append MayReply will_wake sure b [] g h legal (subst (λ (l : History T W). IsLegalAfterBy MayReply will_wake sure b l h) (append-nil g) begun);
         cell_is = second.cell_is ∙ sym (ap (λ (at : State T W). at.cell) joined);
         waiting_is = second.waiting_is ∙ sym (ap (λ (at : State T W). at.waiting) joined);
-        room_is_left = joined_room b r to g h sound.kept more second.room_is_left;
-        wakes_are = handed_both b r g h ws us sound.kept handed second.wakes_are;
+        room_is_left = joined_room b r to g h sound.none_skipped more second.room_is_left;
+        wakes_are = handed_both b r g h ws us sound.none_skipped handed second.wakes_are;
       }
 
   -- two histories, the second from the state where the first ends, are one
@@ -124,7 +123,7 @@ module _ {T W : Type 0} (MayReply : Kept T W → Reply T → Reply T → Type 0)
     sound = sound;
     legal = tt;
     cell_is = refl;
-    waiting_is = sym (ap (wait_list will_wake) (append-nil b.waiting) ∙ sound.kept);
+    waiting_is = sym (ap (wait_list will_wake) (append-nil b.waiting) ∙ sound.none_skipped);
     room_is_left = omega arith;
     wakes_are = refl;
   }

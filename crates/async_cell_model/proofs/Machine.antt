@@ -9,13 +9,9 @@ use Rattle.async_cell_model.specs.declared.entry.Kept.{Kept}
 use Rattle.async_cell_model.specs.declared.entry.Kept.TheVariants.{TryGet, PollGet}
 use Rattle.async_cell_model.specs.declared.reply.Reply.{Reply}
 use Rattle.async_cell_model.specs.declared.reply.Reply.TheVariants.{Value, Ready}
-use Rattle.async_cell_model.specs.Cell.{ends_waiting}
-use Rattle.async_cell_model.specs.Clones.{Exactly, IsCloned, UpToClones}
-use Rattle.async_cell_model.specs.Step.{next, reply, is_memory}
-use Rattle.async_cell_model.specs.WaitList.{wait_list, with_one_more}
-use Rattle.async_cell_model.specs.History.{State, IsSound, waiting, room, after, is_pending, waker_of, pending_waker}
+use Rattle.async_cell_model.specs.Machine.{ends_waiting, Exactly, IsCloned, UpToClones, next, reply, is_memory, wait_list, with_one_more, State, IsSound, is_pending, waker_of, pending_waker, Does, DoesUpTo}
+use Rattle.async_cell_model.specs.History.{waiting, room, after}
 use Rattle.async_cell_model.specs.Legal.{RunsBy, MayFollowBy, Steps, StepsUpTo, woken_by}
-use Rattle.async_cell_model.specs.Machine.{Does, DoesUpTo}
 use Rattle.async_cell_model.proofs.OneMoreWaker.{wait_list-one}
 use Rattle.async_cell_model.proofs.Whole.{after-nil}
 
@@ -64,7 +60,7 @@ module _ {T W : Type 0} (MayReply : Kept T W → Reply T → Reply T → Type 0)
   one_of : (from to : State T W) (e : Entry T W) (woken : List W) → RunsBy MayReply will_wake sure from (e ∷ []) (woken ∷ []) to → One from e woken to
   unfolding first_of
   one_of from to e woken leads =
-      let kept = leads.sound.kept in record {
+      let kept = leads.sound.none_skipped in record {
         sound = leads.sound;
         may = subst (λ (at : State T W). MayFollowBy MayReply will_wake sure at e) (here from kept) leads.legal.0;
         cell_is = leads.cell_is;
@@ -75,7 +71,7 @@ module _ {T W : Type 0} (MayReply : Kept T W → Reply T → Reply T → Type 0)
 
   runs_of : (from to : State T W) (e : Entry T W) (woken : List W) → One from e woken to → RunsBy MayReply will_wake sure from (e ∷ []) (woken ∷ []) to
   runs_of from to e woken does =
-      let kept = does.sound.kept in
+      let kept = does.sound.none_skipped in
       let list : to.waiting ≡ waiting will_wake from (e ∷ []) = does.waiting_is ∙ sym (list_is from e kept _ refl ∙ left from to e _ _ does.cell_is) in record {
         sound = does.sound;
         legal = (subst (λ (at : State T W). MayFollowBy MayReply will_wake sure at e) (sym (here from kept)) does.may, tt);

@@ -1,4 +1,4 @@
--- A value is taken once: the replies give, in order, some of what was there and was brought.
+-- A value is taken once: the replies give, in order, some of what was there and was put_in.
 use Rattle.std.proofs.Common.{◌≡◌, ◌≢◌, inl, inr, ℕ, suc, zero, Bool, true, false, ◌||◌, List, [], ◌∷◌, ◌++◌, Option, Some, None, refl, sym, subst, arith, append_assoc, append-nil, ◌-◌}
 use Rattle.std.specs.Prelude.{if◌then◌else◌, nat_eq, option_to_list, All, AllPairs}
 use Rattle.std.specs.List.{cons_option}
@@ -12,11 +12,10 @@ use Rattle.async_cell_model.specs.declared.entry.Kept.TheVariants.{Set, OrSet, R
 use Rattle.async_cell_model.specs.declared.reply.Reply.{Reply}
 use Rattle.async_cell_model.specs.declared.reply.Reply.TheVariants.{Done, Value, Refused, Ready}
 use Rattle.async_cell_model.specs.declared.refusal.Refusal.TheVariants as why
-use Rattle.async_cell_model.specs.Cell.{content, owners_limit}
-use Rattle.async_cell_model.specs.Step.{next, next_open, reply, reply_open, reply_closed, is_memory}
-use Rattle.async_cell_model.specs.History.{State, History, cell_after, after}
-use Rattle.async_cell_model.specs.Legal.{IsCloned, IsLegalAfterBy, MayFollowBy, UpToClones}
-use Rattle.async_cell_model.specs.Taken.{IsDistinct, IsSubsequence, none, skip, both, is_update, has_update, brought_by, brought, given_by, given}
+use Rattle.async_cell_model.specs.Machine.{content, owners_limit, next, next_open, reply, reply_open, reply_closed, is_memory, State, IsCloned, UpToClones}
+use Rattle.async_cell_model.specs.History.{History, cell_after, after}
+use Rattle.async_cell_model.specs.Legal.{IsLegalAfterBy, MayFollowBy}
+use Rattle.async_cell_model.specs.Taken.{IsDistinct, IsSubsequence, none, skip, both, is_update, has_update, put_by, put_in, taken_by, taken_out}
 
 first_plain : (p q : Bool) → (p || q) ≡ false → p ≡ false
 first_plain true q plain = plain
@@ -78,9 +77,9 @@ cons_is None xs = refl
 cons_is (Some x) xs = refl
 
 module _ {T W : Type 0} where
-  -- what a reply gives and the cell then holds was there, or was brought
+  -- what a reply gives and the cell then holds was there, or was put_in
   pub record Hands (c : Cell T) (call : Kept T W) (reply : Reply T) (after : Cell T) : Type 0 where
-    pub fits : IsSubsequence (option_to_list (given_by call reply) ++ option_to_list (content after)) (option_to_list (content c) ++ option_to_list (brought_by call))
+    pub fits : IsSubsequence (option_to_list (taken_by call reply) ++ option_to_list (content after)) (option_to_list (content c) ++ option_to_list (put_by call))
 
   closed_gives : (call : Kept T W) → Hands Closed call (reply_closed call) Closed
   closed_gives (Set x) = record { fits = IsSubsequence-nil _ }
@@ -98,7 +97,7 @@ module _ {T W : Type 0} where
   closed_gives TakeInner = record { fits = none }
 
   -- the content stays, and nothing is given
-  stays : (value : Option T) (call : Kept T W) → IsSubsequence (option_to_list value) (option_to_list value ++ option_to_list (brought_by call))
+  stays : (value : Option T) (call : Kept T W) → IsSubsequence (option_to_list value) (option_to_list value ++ option_to_list (put_by call))
   stays None call = IsSubsequence-nil _
   stays (Some v) call = both (IsSubsequence-nil _)
 
@@ -170,7 +169,7 @@ module _ {T W : Type 0} where
   replied_gives Closed call plain = closed_gives call
   replied_gives (Open value owners) call plain = rw (not_memory_open value owners call) (open_gives value owners call plain)
 
-  refused_nothing : (call : Kept T W) → given_by call (Refused why.Memory None) ≡ None
+  refused_nothing : (call : Kept T W) → taken_by call (Refused why.Memory None) ≡ None
   refused_nothing (Set x) = refl
   refused_nothing (OrSet x) = refl
   refused_nothing (Replace x) = refl
@@ -206,25 +205,25 @@ module _ {T W : Type 0} (is_clone : T → T → Type 0) (will_wake : W → W →
   ]
 
   one_more : (b : State T W) (g : History T W) (e : Entry T W) (h : History T W) → Hands (cell_after b.cell g) e.call e.reply (next (cell_after b.cell g) e)
-      → IsSubsequence (given h) (option_to_list (content (cell_after b.cell (g ++ e ∷ []))) ++ brought h)
-      → IsSubsequence (given (e ∷ h)) (option_to_list (content (cell_after b.cell g)) ++ brought (e ∷ h))
+      → IsSubsequence (taken_out h) (option_to_list (content (cell_after b.cell (g ++ e ∷ []))) ++ put_in h)
+      → IsSubsequence (taken_out (e ∷ h)) (option_to_list (content (cell_after b.cell g)) ++ put_in (e ∷ h))
   one_more b g e h head rest =
       let here : List T = option_to_list (content (cell_after b.cell g)) in
-      let later : IsSubsequence (given h) (option_to_list (content (next (cell_after b.cell g) e)) ++ brought h) =
-      subst (λ (c : Cell T). IsSubsequence (given h) (option_to_list (content c) ++ brought h)) (cell_after-append b.cell g (e ∷ [])) rest in
-      let taken = IsSubsequence-append _ _ _ _ (IsSubsequence-same (option_to_list (given_by e.call e.reply))) later in
-      let there = subst (λ (l : List T). IsSubsequence (option_to_list (given_by e.call e.reply) ++ given h) l) (sym (append_assoc (option_to_list (given_by e.call e.reply)) _ (brought h))) taken in
-      let all = IsSubsequence-trans (IsSubsequence-append _ _ _ _ head.fits (IsSubsequence-same (brought h))) _ there in
-      let parts = append_assoc here (option_to_list (brought_by e.call)) (brought h) in
-      rw (cons_is (given_by e.call e.reply) (given h), cons_is (brought_by e.call) (brought h), ← parts) all
+      let later : IsSubsequence (taken_out h) (option_to_list (content (next (cell_after b.cell g) e)) ++ put_in h) =
+      subst (λ (c : Cell T). IsSubsequence (taken_out h) (option_to_list (content c) ++ put_in h)) (cell_after-append b.cell g (e ∷ [])) rest in
+      let taken = IsSubsequence-append _ _ _ _ (IsSubsequence-same (option_to_list (taken_by e.call e.reply))) later in
+      let there = subst (λ (l : List T). IsSubsequence (option_to_list (taken_by e.call e.reply) ++ taken_out h) l) (sym (append_assoc (option_to_list (taken_by e.call e.reply)) _ (put_in h))) taken in
+      let all = IsSubsequence-trans (IsSubsequence-append _ _ _ _ head.fits (IsSubsequence-same (put_in h))) _ there in
+      let parts = append_assoc here (option_to_list (put_by e.call)) (put_in h) in
+      rw (cons_is (taken_by e.call e.reply) (taken_out h), cons_is (put_by e.call) (put_in h), ← parts) all
 
-  -- what the replies give is, in order, some of what was there and was brought
+  -- what the replies give is, in order, some of what was there and was put_in
   pub given_in_order : (b : State T W) (g h : History T W) → has_update h ≡ false → IsLegalAfterBy (UpToClones is_clone) will_wake sure b g h
-      → IsSubsequence (given h) (option_to_list (content (cell_after b.cell g)) ++ brought h)
+      → IsSubsequence (taken_out h) (option_to_list (content (cell_after b.cell g)) ++ put_in h)
   given_in_order b g [] plain legal = IsSubsequence-nil _
   given_in_order b g (e ∷ h) plain legal =
       one_more b g e h (entry_gives (after will_wake b g) e (first_plain _ _ plain) legal.0) (given_in_order b (g ++ e ∷ []) h (rest_plain _ _ plain) legal.1)
 
   pub given_once : (b : State T W) (h : History T W) → has_update h ≡ false → IsLegalAfterBy (UpToClones is_clone) will_wake sure b [] h
-      → IsDistinct (option_to_list (content b.cell) ++ brought h) → IsDistinct (given h)
+      → IsDistinct (option_to_list (content b.cell) ++ put_in h) → IsDistinct (taken_out h)
   given_once b h plain legal distinct = pairs_of_subsequence (λ x y. x ≢ y) _ _ (given_in_order b [] h plain legal) distinct

@@ -9,11 +9,9 @@ use Rattle.async_cell_model.specs.declared.entry.Kept.TheVariants.{Set, OrSet, R
 use Rattle.async_cell_model.specs.declared.reply.Reply.{Reply}
 use Rattle.async_cell_model.specs.declared.reply.Reply.TheVariants.{Pending, Done, Value, Is, Ready, Refused}
 use Rattle.async_cell_model.specs.declared.refusal.Refusal.TheVariants as why
-use Rattle.async_cell_model.specs.Cell.{ends_waiting, owners_limit, IsCounted, is_vacant}
-use Rattle.async_cell_model.specs.Step.{next, next_open, reply, reply_open, is_memory, is_refused}
-use Rattle.async_cell_model.specs.WaitList.{wait_list}
-use Rattle.async_cell_model.specs.History.{State, History, IsSound, pending_waker, waiting}
-use Rattle.async_cell_model.specs.Legal.{IsCloned, RunsBy, MayFollowBy, UpToClones, wakes_after}
+use Rattle.async_cell_model.specs.Machine.{ends_waiting, owners_limit, IsCounted, is_vacant, next, next_open, reply, reply_open, is_memory, wait_list, State, IsSound, pending_waker, IsCloned, UpToClones}
+use Rattle.async_cell_model.specs.Legal.{is_refused, RunsBy, MayFollowBy, wakes_after}
+use Rattle.async_cell_model.specs.History.{History, waiting}
 use Rattle.async_cell_model.proofs.Whole.{after-nil, IsSound-after}
 
 module _ {T : Type 0} where
@@ -87,7 +85,7 @@ module _ {T W : Type 0} (is_clone : T → T → Type 0) (will_wake : W → W →
   -- a refused entry leaves the cell as it was
   pub refused_cell : (from to : State T W) (e : Entry T W) (woken : List (List W)) → RunsBy (UpToClones is_clone) will_wake sure from (e ∷ []) woken to → is_refused e.reply ≡ true → next from.cell e ≡ from.cell
   refused_cell from to e woken leads is =
-      let here : MayFollowBy (UpToClones is_clone) will_wake sure from e = subst (λ (at : State T W). MayFollowBy (UpToClones is_clone) will_wake sure at e) (after-nil is_clone will_wake sure from leads.sound.kept) leads.legal.0 in
+      let here : MayFollowBy (UpToClones is_clone) will_wake sure from e = subst (λ (at : State T W). MayFollowBy (UpToClones is_clone) will_wake sure at e) (after-nil is_clone will_wake sure from leads.sound.none_skipped) leads.legal.0 in
       next-refused from e here is
 
   -- and so neither fills nor closes
@@ -99,7 +97,7 @@ module _ {T W : Type 0} (is_clone : T → T → Type 0) (will_wake : W → W →
   refused_waiting from to e woken leads is =
       let quiet = quiet_if_refused from to e woken leads is in
       let silent : pending_waker e ≡ None = refused_silent e.call e.reply is in
-      let list : waiting will_wake from (e ∷ []) ≡ from.waiting = rw (quiet, silent) (ap (wait_list will_wake) (append-nil from.waiting) ∙ leads.sound.kept) in
+      let list : waiting will_wake from (e ∷ []) ≡ from.waiting = rw (quiet, silent) (ap (wait_list will_wake) (append-nil from.waiting) ∙ leads.sound.none_skipped) in
       leads.waiting_is ∙ list
 
   -- an entry that neither fills nor closes wakes no waker
@@ -115,7 +113,7 @@ module _ {T W : Type 0} (is_clone : T → T → Type 0) (will_wake : W → W →
   -- one that fills or closes wakes every waiting waker
   pub handed_all : (from to : State T W) (e : Entry T W) (woken : List (List W)) → RunsBy (UpToClones is_clone) will_wake sure from (e ∷ []) woken to → ends_waiting from.cell (next from.cell e) ≡ true → woken ≡ from.waiting ∷ []
   handed_all from to e woken leads ends =
-      let list : wait_list will_wake (from.waiting ++ []) ≡ from.waiting = ap (wait_list will_wake) (append-nil from.waiting) ∙ leads.sound.kept in
+      let list : wait_list will_wake (from.waiting ++ []) ≡ from.waiting = ap (wait_list will_wake) (append-nil from.waiting) ∙ leads.sound.none_skipped in
       let all : wakes_after will_wake from [] (e ∷ []) ≡ from.waiting ∷ [] = rw (ends, list) refl in
       leads.wakes_are ∙ all
 
@@ -126,5 +124,5 @@ module _ {T W : Type 0} (is_clone : T → T → Type 0) (will_wake : W → W →
       record {
         counted = subst (λ (c : Cell T). IsCounted c) (sym leads.cell_is) there.counted;
         waits_vacant = λ not. leads.waiting_is ∙ there.waits_vacant (subst (λ (c : Cell T). is_vacant c ≡ false) leads.cell_is not);
-        kept = subst (λ (l : List W). wait_list will_wake l ≡ l) (sym leads.waiting_is) there.kept;
+        none_skipped = subst (λ (l : List W). wait_list will_wake l ≡ l) (sym leads.waiting_is) there.none_skipped;
       }

@@ -3,11 +3,9 @@ use Rattle.std.proofs.Common.{◌≡◌, ◌≤◌, ◌<◌, ◌⊎◌, inl, inr
 use Rattle.std.specs.Prelude.{if◌then◌else◌}
 use Rattle.std.specs.List.{filter_map}
 use Rattle.async_cell_model.specs.declared.entry.Entry.{Entry}
-use Rattle.async_cell_model.specs.Cell.{is_vacant, ends_waiting}
-use Rattle.async_cell_model.specs.Step.{next}
-use Rattle.async_cell_model.specs.WaitList.{wait_list, skips}
-use Rattle.async_cell_model.specs.History.{State, History, cell_after, registrations, pending_waker, waiting, room, after}
-use Rattle.async_cell_model.specs.Legal.{IsLegalAfterBy, MayFollowBy, UpToClones}
+use Rattle.async_cell_model.specs.Machine.{is_vacant, ends_waiting, next, wait_list, skips, State, pending_waker, UpToClones}
+use Rattle.async_cell_model.specs.History.{History, cell_after, registrations, waiting, room, after}
+use Rattle.async_cell_model.specs.Legal.{IsLegalAfterBy, MayFollowBy}
 use Rattle.async_cell_model.proofs.JoinedHistory.{waiting-append, room-append}
 use Rattle.async_cell_model.proofs.OneMoreWaker.{wait_list-wait_list, wait_list-one}
 use Rattle.async_cell_model.proofs.Whole.{IsLegalAfter-second, waits_there, pending_stays_vacant}

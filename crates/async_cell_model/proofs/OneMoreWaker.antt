@@ -5,7 +5,8 @@ use Rattle.std.proofs.lemmas.List.Sums.{fold-append}
 use Rattle.std.proofs.lemmas.List.Folds.{list_any-append, list_any_at}
 use Rattle.std.proofs.lemmas.List.Elements.{Contains-append_left, Contains-push}
 use Rattle.std.proofs.lemmas.List.Quantifiers.{all_pairs_push}
-use Rattle.async_cell_model.specs.WaitList.{wait_list, skips, with_one_more, IsCovered}
+use Rattle.async_cell_model.specs.Machine.{wait_list, skips, with_one_more}
+use Rattle.async_cell_model.specs.History.{IsCovered}
 
 module _ {W : Type 0} (will_wake : W → W → Bool) where
   -- the wait list of a longer list goes on from that of the shorter one

@@ -10,11 +10,9 @@ use Rattle.async_cell_model.specs.declared.entry.Kept.{Kept}
 use Rattle.async_cell_model.specs.declared.entry.Kept.TheVariants.{Set, OrSet, Replace, Update, UpdateSome, TryTake, TryGet, IsSet, PollTake, PollGet, AddOwner, EndOwner, TakeInner}
 use Rattle.async_cell_model.specs.declared.reply.Reply.TheVariants.{Value, Ready}
 use Rattle.async_cell_model.specs.declared.reply.Reply.{Reply}
-use Rattle.async_cell_model.specs.Cell.{is_vacant, ends_waiting, IsCounted, owners_limit}
-use Rattle.async_cell_model.specs.Step.{next, next_open, reply, reply_open, reply_closed, is_memory}
-use Rattle.async_cell_model.specs.WaitList.{wait_list}
-use Rattle.async_cell_model.specs.History.{State, IsSound, registrations, is_pending, pending_waker, after}
-use Rattle.async_cell_model.specs.Legal.{IsCloned, MayFollowBy, UpToClones}
+use Rattle.async_cell_model.specs.Machine.{is_vacant, ends_waiting, IsCounted, owners_limit, next, next_open, reply, reply_open, reply_closed, is_memory, wait_list, State, IsSound, is_pending, pending_waker, IsCloned, UpToClones}
+use Rattle.async_cell_model.specs.History.{registrations, after}
+use Rattle.async_cell_model.specs.Legal.{MayFollowBy}
 use Rattle.async_cell_model.proofs.OneMoreWaker.{wait_list-wait_list}
 
 module _ {T : Type 0} where
@@ -127,5 +125,5 @@ module _ {T W : Type 0} (is_clone : T → T → Type 0) (will_wake : W → W →
   IsSound-step at e sound may = record {
     counted = next-counted at.cell e sound.counted;
     waits_vacant = λ not. nobody at e (is_vacant at.cell) _ refl (λ vacant. ends_if at.cell (next at.cell e) vacant not) sound.waits_vacant may;
-    kept = wait_list-wait_list will_wake (registrations at (e ∷ []));
+    none_skipped = wait_list-wait_list will_wake (registrations at (e ∷ []));
   }

@@ -6,9 +6,9 @@ use Rattle.async_cell_model.specs.declared.entry.Kept.{Kept}
 use Rattle.async_cell_model.specs.declared.entry.Kept.TheVariants.{TryGet, PollGet}
 use Rattle.async_cell_model.specs.declared.reply.Reply.{Reply}
 use Rattle.async_cell_model.specs.declared.reply.Reply.TheVariants.{Value, Ready}
-use Rattle.async_cell_model.specs.History.{State, History}
-use Rattle.async_cell_model.specs.Clones.{IsExact, IsCloned, UpToClones, copies, is_copy}
-use Rattle.async_cell_model.specs.Legal.{IsLegalAfterBy, IsLegalAfter, Runs, RunsUpTo}
+use Rattle.async_cell_model.specs.Machine.{State, IsCloned, UpToClones, is_copy}
+use Rattle.async_cell_model.specs.History.{History}
+use Rattle.async_cell_model.specs.Legal.{IsExact, copies, IsLegalAfterBy, IsLegalAfter, Runs, RunsUpTo}
 
 none_step : (a b : Bool) → (a || b) ≡ false → (a ≡ false) × (b ≡ false)
 none_step false b none = (refl, none)

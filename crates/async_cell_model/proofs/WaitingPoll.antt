@@ -7,11 +7,7 @@ use Rattle.async_cell_model.specs.declared.entry.Kept.TheVariants.{PollTake, Pol
 use Rattle.async_cell_model.specs.declared.reply.Reply.{Reply}
 use Rattle.async_cell_model.specs.declared.reply.Reply.TheVariants.{Pending, Refused}
 use Rattle.async_cell_model.specs.declared.refusal.Refusal.TheVariants as why
-use Rattle.async_cell_model.specs.Cell.{is_vacant}
-use Rattle.async_cell_model.specs.WaitList.{skips}
-use Rattle.async_cell_model.specs.History.{State, IsSound}
-use Rattle.async_cell_model.specs.Legal.{needs_no_memory}
-use Rattle.async_cell_model.specs.Machine.{Does}
+use Rattle.async_cell_model.specs.Machine.{is_vacant, skips, State, IsSound, needs_no_memory, Does}
 
 module _ {T W : Type 0} (will_wake : W → W → Bool) (sure : Bool) where
   -- the call with this reply wakes nobody

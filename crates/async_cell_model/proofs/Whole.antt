@@ -9,12 +9,10 @@ use Rattle.async_cell_model.specs.declared.entry.Kept.{Kept}
 use Rattle.async_cell_model.specs.declared.entry.Kept.TheVariants.{PollTake, PollGet, Set, OrSet, Replace, Update, UpdateSome, TryTake, TryGet, IsSet, AddOwner, EndOwner, TakeInner}
 use Rattle.async_cell_model.specs.declared.reply.Reply.{Reply}
 use Rattle.async_cell_model.specs.declared.reply.Reply.TheVariants.{Pending, Done, Value, Is, Ready, Refused}
-use Rattle.async_cell_model.specs.Cell.{is_vacant, ends_waiting}
-use Rattle.async_cell_model.specs.Step.{next}
+use Rattle.async_cell_model.specs.Machine.{is_vacant, ends_waiting, next, wait_list, State, IsSound, pending_waker, UpToClones}
 use Rattle.async_cell_model.specs.Taken.{IsDistinct}
-use Rattle.async_cell_model.specs.WaitList.{wait_list, IsCovered}
-use Rattle.async_cell_model.specs.History.{State, History, IsSound, cell_after, has_fill_or_close, registrations, pending_waker, waiting, after}
-use Rattle.async_cell_model.specs.Legal.{IsLegalAfterBy, MayFollowBy, UpToClones}
+use Rattle.async_cell_model.specs.History.{IsCovered, History, cell_after, has_fill_or_close, registrations, waiting, after}
+use Rattle.async_cell_model.specs.Legal.{IsLegalAfterBy, MayFollowBy}
 use Rattle.async_cell_model.proofs.OneMoreWaker.{wait_list-covers, wait_list-distinct}
 use Rattle.async_cell_model.proofs.JoinedHistory.{after-append, registrations-append, cell_after-append}
 use Rattle.async_cell_model.proofs.SoundAfter.{IsSound-step, no_waker}
@@ -40,7 +38,7 @@ module _ {T W : Type 0} (is_clone : T → T → Type 0) (will_wake : W → W →
   pub IsLegal-anew : (b : State T W) (g h : History T W) → IsSound will_wake b → IsLegalAfterBy (UpToClones is_clone) will_wake sure b [] (g ++ h) → IsLegalAfterBy (UpToClones is_clone) will_wake sure (after will_wake b g) [] h
   IsLegal-anew b g h sound legal =
       let second = IsLegalAfter-second b [] g h legal in
-      IsLegalAfter-anew b g [] h sound.kept (subst (λ (l : History T W). IsLegalAfterBy (UpToClones is_clone) will_wake sure b l h) (sym (append-nil g)) second)
+      IsLegalAfter-anew b g [] h sound.none_skipped (subst (λ (l : History T W). IsLegalAfterBy (UpToClones is_clone) will_wake sure b l h) (sym (append-nil g)) second)
 
   -- the empty history leaves the state as it is
   pub after-nil : (b : State T W) → wait_list will_wake b.waiting ≡ b.waiting → after will_wake b [] ≡ b
@@ -50,11 +48,11 @@ module _ {T W : Type 0} (is_clone : T → T → Type 0) (will_wake : W → W →
       λ i. record { cell = b.cell; waiting = same i; room = left i }
 
   pub IsSound-after : (b : State T W) (h : History T W) → IsSound will_wake b → IsLegalAfterBy (UpToClones is_clone) will_wake sure b [] h → IsSound will_wake (after will_wake b h)
-  IsSound-after b [] sound legal = subst (λ (at : State T W). IsSound will_wake at) (sym (after-nil b sound.kept)) sound
+  IsSound-after b [] sound legal = subst (λ (at : State T W). IsSound will_wake at) (sym (after-nil b sound.none_skipped)) sound
   IsSound-after b (e ∷ h) sound legal =
-      let may : MayFollowBy (UpToClones is_clone) will_wake sure b e = subst (λ (at : State T W). MayFollowBy (UpToClones is_clone) will_wake sure at e) (after-nil b sound.kept) legal.0 in
-      let anew : IsLegalAfterBy (UpToClones is_clone) will_wake sure (after will_wake b (e ∷ [])) [] h = IsLegalAfter-anew b (e ∷ []) [] h sound.kept legal.1 in
-      subst (λ (at : State T W). IsSound will_wake at) (sym (after-append will_wake b (e ∷ []) h sound.kept)) (IsSound-after (after will_wake b (e ∷ [])) h (IsSound-step is_clone will_wake sure b e sound may) anew)
+      let may : MayFollowBy (UpToClones is_clone) will_wake sure b e = subst (λ (at : State T W). MayFollowBy (UpToClones is_clone) will_wake sure at e) (after-nil b sound.none_skipped) legal.0 in
+      let anew : IsLegalAfterBy (UpToClones is_clone) will_wake sure (after will_wake b (e ∷ [])) [] h = IsLegalAfter-anew b (e ∷ []) [] h sound.none_skipped legal.1 in
+      subst (λ (at : State T W). IsSound will_wake at) (sym (after-append will_wake b (e ∷ []) h sound.none_skipped)) (IsSound-after (after will_wake b (e ∷ [])) h (IsSound-step is_clone will_wake sure b e sound may) anew)
 
 module _ {T W : Type 0} where
   -- a poll that waits neither fills nor closes

@@ -1,30 +1,17 @@
--- Histories: the cell, the wait list and the room after one.
-use Rattle.std.specs.Prelude.{◌≡◌, ◌-◌, ℕ, Bool, true, false, ◌||◌, List, [], ◌∷◌, ◌++◌, length, Option, Some, None, filter_map, if◌then◌else◌}
+-- Histories: the cell, the wait list and the room after one. Each can be read off the history.
+use Rattle.std.specs.Prelude.{◌≡◌, ◌⊎◌, ◌-◌, ℕ, Bool, true, false, ◌||◌, List, [], ◌∷◌, ◌++◌, Contains, length, filter_map, if◌then◌else◌}
 use Rattle.async_cell_model.specs.declared.cell.Cell.{Cell}
 use Rattle.async_cell_model.specs.declared.entry.Entry.{Entry}
-use Rattle.async_cell_model.specs.declared.entry.Kept.{Kept}
-use Rattle.async_cell_model.specs.declared.entry.Kept.TheVariants.{PollTake, PollGet}
-use Rattle.async_cell_model.specs.declared.reply.Reply.{Reply}
-use Rattle.async_cell_model.specs.declared.reply.Reply.TheVariants.{Pending}
-use Rattle.async_cell_model.specs.Cell.{ends_waiting, is_vacant, IsCounted}
-use Rattle.async_cell_model.specs.Step.{next}
-use Rattle.async_cell_model.specs.WaitList.{wait_list}
+use Rattle.async_cell_model.specs.Machine.{State, next, ends_waiting, pending_waker, wait_list, skips}
 
--- The state that a history starts from: the cell, the wait list in order of registration, and the
--- room, which is the number of wakers that can still be added without memory beyond their clones.
-pub record State (T W : Type 0) : Type 0 where
-  pub cell : Cell T
-  pub waiting : List W
-  pub room : ℕ
+module _ {W : Type 0} (will_wake : W → W → Bool) where
+  -- w waits, or some waiting waker would wake it
+  abbrev pub IsCovered : List W → W → Type 0
+  IsCovered waiting w = Contains waiting w ⊎ (skips will_wake waiting w ≡ true)
 
 -- the calls on a cell, in order, each with its reply
 abbrev pub History : Type 0 → Type 0 → Type 0
 History T W = List (Entry T W)
-
--- whether the reply is `Pending`
-abbrev pub is_pending : {T : Type 0} → Reply T → Bool
-is_pending Pending = true
-is_pending _ = false
 
 module _ {T W : Type 0} where
   -- the cell after a history
@@ -41,16 +28,6 @@ module _ {T W : Type 0} where
   abbrev pub since : Cell T → History T W → History T W
   since c [] = []
   since c (e ∷ h) = if has_fill_or_close c (e ∷ h) then since (next c e) h else e ∷ h
-
-  -- the waker of a poll: `None` for any other call
-  abbrev pub waker_of : Kept T W → Option W
-  waker_of (PollTake w) = Some w
-  waker_of (PollGet w) = Some w
-  waker_of _ = None
-
-  -- the waker of a poll that returned `Pending`
-  abbrev pub pending_waker : Entry T W → Option W
-  pending_waker e = if is_pending e.reply then waker_of e.call else None
 
   -- The wakers of the polls that returned `Pending` since the last fill or close, in order. If
   -- there was none, the wakers that waited in the start state come first.
@@ -74,10 +51,3 @@ module _ {T W : Type 0} (will_wake : W → W → Bool) where
   -- the state after a history: the start state of whatever follows
   abbrev pub after : State T W → History T W → State T W
   after b h = record { cell = cell_after b.cell h; waiting = waiting b h; room = room b h }
-
-  -- A sound state: the number of owners is in range, wakers wait only if the cell is vacant, and
-  -- none of them is one that an earlier waiting waker would wake.
-  pub record IsSound (b : State T W) : Type 0 where
-    pub counted : IsCounted b.cell
-    pub waits_vacant : is_vacant b.cell ≡ false → b.waiting ≡ []
-    pub kept : wait_list will_wake b.waiting ≡ b.waiting

@@ -1,16 +1,25 @@
 -- Which histories are legal, and the whole promise of a call and of a list of calls.
-use Rattle.std.specs.Prelude.{◌≡◌, ◌≤◌, ◌⊎◌, Bool, true, false, not, ◌&&◌, ◌||◌, List, [], ◌∷◌, ◌++◌, None, ⊤, nat_lt, if◌then◌else◌}
+use Rattle.std.specs.Prelude.{◌≡◌, ◌≤◌, ◌⊎◌, Bool, true, false, List, [], ◌∷◌, ◌++◌, None, ⊤, if◌then◌else◌}
 use Rattle.async_cell_model.specs.declared.entry.Entry.{Entry}
 use Rattle.async_cell_model.specs.declared.entry.Kept.{Kept}
-use Rattle.async_cell_model.specs.declared.entry.Kept.TheVariants.{TryGet, PollTake, PollGet}
 use Rattle.async_cell_model.specs.declared.reply.Reply.{Reply}
 use Rattle.async_cell_model.specs.declared.reply.Reply.TheVariants.{Refused}
 use Rattle.async_cell_model.specs.declared.refusal.Refusal.TheVariants as why
-use Rattle.async_cell_model.specs.Cell.{is_full, is_vacant, ends_waiting}
-use Rattle.async_cell_model.specs.Step.{reply, next, FitsUpdate}
-use Rattle.async_cell_model.specs.WaitList.{is_empty, skips}
-pub use Rattle.async_cell_model.specs.Clones.{copies, is_copy, Exactly, IsCloned, UpToClones}
-use Rattle.async_cell_model.specs.History.{State, History, IsSound, cell_after, waiting, room, after}
+use Rattle.async_cell_model.specs.Machine.{State, IsSound, ends_waiting, reply, next, FitsUpdate, may_refuse, is_copy, Exactly, UpToClones}
+use Rattle.async_cell_model.specs.History.{History, cell_after, waiting, room, after}
+
+-- whether the reply is a refusal
+abbrev pub is_refused : {T : Type 0} → Reply T → Bool
+is_refused (Refused why back) = true
+is_refused _ = false
+
+-- whether the call of the entry copies the value
+abbrev pub copies : {T W : Type 0} → Entry T W → Bool
+copies e = is_copy e.call
+
+-- under this clone relation, every clone equals its source
+abbrev pub IsExact : {T : Type 0} → (T → T → Type 0) → Type 0
+IsExact {T} is_clone = (a b : T) → is_clone a b → b ≡ a
 
 -- the wakers that an entry wakes: the whole wait list if it fills or closes the cell, else none
 abbrev pub woken_by : {T W : Type 0} → State T W → Entry T W → List W
@@ -22,30 +31,15 @@ module _ {T W : Type 0} (will_wake : W → W → Bool) where
   wakes_after b h [] = []
   wakes_after b h (e ∷ rest) = woken_by (after will_wake b h) e ∷ wakes_after b (h ++ e ∷ []) rest
 
--- `sure` says whether cloning a waker never fails
-module _ {T W : Type 0} (will_wake : W → W → Bool) (sure : Bool) where
-  -- Whether a poll by w that has to wait needs no memory: w is skipped, or its clone is sure and it
-  -- is the first to wait or finds room.
-  abbrev pub needs_no_memory : State T W → W → Bool
-  needs_no_memory at w =
-      skips will_wake at.waiting w || (sure && (is_empty at.waiting || nat_lt 0 at.room))
-
-  -- whether a call may fail with `Memory`: a get of a full cell, which clones the value, or a poll
-  -- of a vacant cell that needs memory
-  abbrev pub may_refuse : State T W → Kept T W → Bool
-  may_refuse at TryGet = is_full at.cell
-  may_refuse at (PollTake w) = is_vacant at.cell && not (needs_no_memory at w)
-  may_refuse at (PollGet w) = is_full at.cell || (is_vacant at.cell && not (needs_no_memory at w))
-  may_refuse at _ = false
-
 -- `MayReply call own reply`: the call may return `reply` where the model's own reply is `own`
 module _ {T W : Type 0} (MayReply : Kept T W → Reply T → Reply T → Type 0)
-    (will_wake : W → W → Bool) (sure : Bool) where
+    (will_wake : W → W → Bool) (sure_wakers : Bool) where
   -- The entry is legal in this state: its reply is an allowed one, or `Memory` if the call may fail
   -- with it; and an update fits the cell.
   pub record MayFollowBy (at : State T W) (e : Entry T W) : Type 0 where
     pub replied : MayReply e.call (reply at.cell e.call) e.reply
-        ⊎ ((e.reply ≡ Refused why.Memory None) × (may_refuse will_wake sure at e.call ≡ true))
+        ⊎ ((e.reply ≡ Refused why.Memory None)
+            × (may_refuse will_wake sure_wakers at e.call ≡ true))
     pub updated : FitsUpdate at.cell e.call
 
   -- each of these entries is legal after those before it, if the entries h come first
@@ -67,14 +61,14 @@ module _ {T W : Type 0} (MayReply : Kept T W → Reply T → Reply T → Type 0)
     pub wakes_are : woken ≡ wakes_after will_wake from [] h
 
 -- Exact histories: each reply is the model's own, or `Memory`.
-module _ {T W : Type 0} (will_wake : W → W → Bool) (sure : Bool) where
+module _ {T W : Type 0} (will_wake : W → W → Bool) (sure_wakers : Bool) where
   -- the entry is legal in this state
   abbrev pub MayFollow : State T W → Entry T W → Type 0
-  MayFollow at e = MayFollowBy Exactly will_wake sure at e
+  MayFollow at e = MayFollowBy Exactly will_wake sure_wakers at e
 
   -- each of these entries is legal after those before it, if the entries h come first
   abbrev pub IsLegalAfter : State T W → History T W → History T W → Type 0
-  IsLegalAfter b h rest = IsLegalAfterBy Exactly will_wake sure b h rest
+  IsLegalAfter b h rest = IsLegalAfterBy Exactly will_wake sure_wakers b h rest
 
   -- each entry is legal after those before it
   abbrev pub IsLegal : State T W → History T W → Type 0
@@ -82,7 +76,7 @@ module _ {T W : Type 0} (will_wake : W → W → Bool) (sure : Bool) where
 
   -- the promise of a list of calls
   abbrev pub Runs : State T W → History T W → List (List W) → State T W → Type 0
-  Runs from h woken to = RunsBy Exactly will_wake sure from h woken to
+  Runs from h woken to = RunsBy Exactly will_wake sure_wakers from h woken to
 
   -- the promise of one call: it returns this reply, wakes these wakers, and leaves this state
   abbrev pub Steps : State T W → Kept T W → Reply T → List W → State T W → Type 0
@@ -90,14 +84,15 @@ module _ {T W : Type 0} (will_wake : W → W → Bool) (sure : Bool) where
       Runs from (record { call = call; reply = answer } ∷ []) (woken ∷ []) to
 
 -- The same up to clones: a get of a full cell may return a clone of the value.
-module _ {T W : Type 0} (will_wake : W → W → Bool) (sure : Bool) (is_clone : T → T → Type 0) where
+module _ {T W : Type 0} (will_wake : W → W → Bool) (sure_wakers : Bool)
+    (is_clone : T → T → Type 0) where
   -- each entry is legal after those before it
   abbrev pub IsLegalUpTo : State T W → History T W → Type 0
-  IsLegalUpTo b h = IsLegalAfterBy (UpToClones is_clone) will_wake sure b [] h
+  IsLegalUpTo b h = IsLegalAfterBy (UpToClones is_clone) will_wake sure_wakers b [] h
 
   -- the promise of a list of calls
   abbrev pub RunsUpTo : State T W → History T W → List (List W) → State T W → Type 0
-  RunsUpTo from h woken to = RunsBy (UpToClones is_clone) will_wake sure from h woken to
+  RunsUpTo from h woken to = RunsBy (UpToClones is_clone) will_wake sure_wakers from h woken to
 
   -- the promise of one call
   abbrev pub StepsUpTo : State T W → Kept T W → Reply T → List W → State T W → Type 0

@@ -29,25 +29,25 @@ module _ {T W : Type 0} where
   has_update h = list_any (λ e. is_update e.call) h
 
   -- the value passed to the call, if it writes one
-  abbrev pub brought_by : Kept T W → Option T
-  brought_by (Set x) = Some x
-  brought_by (OrSet x) = Some x
-  brought_by (Replace x) = Some x
-  brought_by _ = None
+  abbrev pub put_by : Kept T W → Option T
+  put_by (Set x) = Some x
+  put_by (OrSet x) = Some x
+  put_by (Replace x) = Some x
+  put_by _ = None
 
   -- the values passed to the writes, in order
-  abbrev pub brought : History T W → List T
-  brought h = filter_map (λ e. brought_by e.call) h
+  abbrev pub put_in : History T W → List T
+  put_in h = filter_map (λ e. put_by e.call) h
 
   -- the value that a reply moves out of the cell: a get only copies it
-  abbrev pub given_by : Kept T W → Reply T → Option T
-  given_by TryTake (Value v) = v
-  given_by (Replace x) (Value v) = v
-  given_by TakeInner (Value v) = v
-  given_by EndOwner (Value v) = v
-  given_by (PollTake w) (Ready v) = v
-  given_by _ _ = None
+  abbrev pub taken_by : Kept T W → Reply T → Option T
+  taken_by TryTake (Value v) = v
+  taken_by (Replace x) (Value v) = v
+  taken_by TakeInner (Value v) = v
+  taken_by EndOwner (Value v) = v
+  taken_by (PollTake w) (Ready v) = v
+  taken_by _ _ = None
 
   -- the values that the replies moved out of the cell, in order
-  abbrev pub given : History T W → List T
-  given h = filter_map (λ e. given_by e.call e.reply) h
+  abbrev pub taken_out : History T W → List T
+  taken_out h = filter_map (λ e. taken_by e.call e.reply) h

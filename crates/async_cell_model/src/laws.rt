@@ -6,14 +6,10 @@ ghost use Rattle.std.specs.List.{list_any};
 ghost use Rattle.async_cell_model.specs.declared.entry.Entry.{Entry};
 ghost use Rattle.async_cell_model.specs.declared.entry.Kept.{Kept};
 ghost use Rattle.async_cell_model.specs.declared.reply.Reply.{Reply};
-ghost use Rattle.async_cell_model.specs.Cell.{is_vacant, content, ends_waiting};
-ghost use Rattle.async_cell_model.specs.Clones.{IsExact, copies};
-ghost use Rattle.async_cell_model.specs.History.{State, History, IsSound, cell_after, waiting, room, after, has_fill_or_close, pending_waker};
-ghost use Rattle.async_cell_model.specs.Legal.{IsLegal, IsLegalUpTo, Runs, RunsUpTo, StepsUpTo};
-ghost use Rattle.async_cell_model.specs.Machine.{DoesUpTo};
-ghost use Rattle.async_cell_model.specs.Step.{next, is_refused};
-ghost use Rattle.async_cell_model.specs.WaitList.{IsCovered, wait_list, skips};
-ghost use Rattle.async_cell_model.specs.Taken.{IsDistinct, IsSubsequence, has_update, brought, given};
+ghost use Rattle.async_cell_model.specs.Machine.{is_vacant, content, ends_waiting, State, IsSound, pending_waker, DoesUpTo, next, wait_list, skips};
+ghost use Rattle.async_cell_model.specs.Legal.{IsExact, copies, IsLegal, IsLegalUpTo, Runs, RunsUpTo, StepsUpTo, is_refused};
+ghost use Rattle.async_cell_model.specs.History.{History, cell_after, waiting, room, after, has_fill_or_close, IsCovered};
+ghost use Rattle.async_cell_model.specs.Taken.{IsDistinct, IsSubsequence, has_update, put_in, taken_out};
 
 pub mod exact;
 
@@ -21,8 +17,8 @@ pub mod exact;
 /// and of a closed one is empty.
 #[tactic(auto, using(crate::proofs::Whole::waits_only_vacant))]
 pub fn only_a_vacant_cell_keeps_waiting<T: Clone, W>()
-    ensures { (will_wake : W → W → Bool) (sure : Bool) (b : State T W) (h : History T W)
-        → IsSound will_wake b → IsLegalUpTo will_wake sure T.is_clone b h
+    ensures { (will_wake : W → W → Bool) (sure_wakers : Bool) (b : State T W) (h : History T W)
+        → IsSound will_wake b → IsLegalUpTo will_wake sure_wakers T.is_clone b h
         → is_vacant (cell_after b.cell h) ≡ false → waiting will_wake b h ≡ [] }
 {}
 
@@ -30,9 +26,9 @@ pub fn only_a_vacant_cell_keeps_waiting<T: Clone, W>()
 /// `Pending` waits, or some waiting waker would wake it.
 #[tactic(auto, using(crate::proofs::Whole::stays_covered))]
 pub fn a_pending_waker_stays_covered<T: Clone, W>()
-    ensures { (will_wake : W → W → Bool) (sure : Bool)
+    ensures { (will_wake : W → W → Bool) (sure_wakers : Bool)
         (b : State T W) (g : History T W) (e : Entry T W) (rest : History T W) (w : W)
-        → IsLegalUpTo will_wake sure T.is_clone b (g ++ e ∷ rest) → pending_waker e ≡ Some w
+        → IsLegalUpTo will_wake sure_wakers T.is_clone b (g ++ e ∷ rest) → pending_waker e ≡ Some w
         → has_fill_or_close (cell_after b.cell (g ++ e ∷ [])) rest ≡ false
         → IsCovered will_wake (waiting will_wake b (g ++ e ∷ rest)) w }
 {}
@@ -42,12 +38,13 @@ pub fn a_pending_waker_stays_covered<T: Clone, W>()
 /// each at most once. So if the latter differ, no value is returned by two replies. A clone that a
 /// get returns is not taken out of the cell, and does not count.
 pub fn a_value_is_taken_once<T: Clone, W>()
-    ensures in_order { (will_wake : W → W → Bool) (sure : Bool) (b : State T W) (h : History T W)
-        → IsLegalUpTo will_wake sure T.is_clone b h → has_update h ≡ false
-        → IsSubsequence (given h) (option_to_list (content b.cell) ++ brought h) }
-    ensures once { (will_wake : W → W → Bool) (sure : Bool) (b : State T W) (h : History T W)
-        → IsLegalUpTo will_wake sure T.is_clone b h → has_update h ≡ false
-        → IsDistinct (option_to_list (content b.cell) ++ brought h) → IsDistinct (given h) }
+    ensures in_order { (will_wake : W → W → Bool) (sure_wakers : Bool)
+        (b : State T W) (h : History T W)
+        → IsLegalUpTo will_wake sure_wakers T.is_clone b h → has_update h ≡ false
+        → IsSubsequence (taken_out h) (option_to_list (content b.cell) ++ put_in h) }
+    ensures once { (will_wake : W → W → Bool) (sure_wakers : Bool) (b : State T W) (h : History T W)
+        → IsLegalUpTo will_wake sure_wakers T.is_clone b h → has_update h ≡ false
+        → IsDistinct (option_to_list (content b.cell) ++ put_in h) → IsDistinct (taken_out h) }
 {}
 
 /// Only the current state matters. After a joined history `g ++ h`, the cell, the wait list and the
@@ -55,15 +52,18 @@ pub fn a_value_is_taken_once<T: Clone, W>()
 /// legal, so is `g`, and so is `h` from that state. A legal history from a sound state ends in a
 /// sound state.
 pub fn a_history_can_begin_anew<T: Clone, W>()
-    ensures begins { (will_wake : W → W → Bool) (sure : Bool) (b : State T W) (g : History T W)
-        → IsSound will_wake b → IsLegalUpTo will_wake sure T.is_clone b g
+    ensures begins { (will_wake : W → W → Bool) (sure_wakers : Bool)
+        (b : State T W) (g : History T W)
+        → IsSound will_wake b → IsLegalUpTo will_wake sure_wakers T.is_clone b g
         → IsSound will_wake (after will_wake b g) }
-    ensures front { (will_wake : W → W → Bool) (sure : Bool) (b : State T W) (g h : History T W)
-        → IsLegalUpTo will_wake sure T.is_clone b (g ++ h)
-        → IsLegalUpTo will_wake sure T.is_clone b g }
-    ensures legal { (will_wake : W → W → Bool) (sure : Bool) (b : State T W) (g h : History T W)
-        → IsSound will_wake b → IsLegalUpTo will_wake sure T.is_clone b (g ++ h)
-        → IsLegalUpTo will_wake sure T.is_clone (after will_wake b g) h }
+    ensures front { (will_wake : W → W → Bool) (sure_wakers : Bool)
+        (b : State T W) (g h : History T W)
+        → IsLegalUpTo will_wake sure_wakers T.is_clone b (g ++ h)
+        → IsLegalUpTo will_wake sure_wakers T.is_clone b g }
+    ensures legal { (will_wake : W → W → Bool) (sure_wakers : Bool)
+        (b : State T W) (g h : History T W)
+        → IsSound will_wake b → IsLegalUpTo will_wake sure_wakers T.is_clone b (g ++ h)
+        → IsLegalUpTo will_wake sure_wakers T.is_clone (after will_wake b g) h }
     ensures cell { (will_wake : W → W → Bool) (b : State T W) (g h : History T W)
         → cell_after b.cell (g ++ h) ≡ cell_after (after will_wake b g).cell h }
     ensures waiting { (will_wake : W → W → Bool) (b : State T W) (g h : History T W)
@@ -75,12 +75,12 @@ pub fn a_history_can_begin_anew<T: Clone, W>()
 /// Two histories, the second from the state where the first ends, are one. So two runs, one after
 /// the other, are one run of the joined calls.
 pub fn two_histories_are_one<T: Clone, W>()
-    ensures { (will_wake : W → W → Bool) (sure : Bool)
+    ensures { (will_wake : W → W → Bool) (sure_wakers : Bool)
         (from at to : State T W) (g h : History T W)
         (first second : List (List W))
-        → RunsUpTo will_wake sure T.is_clone from g first at
-        → RunsUpTo will_wake sure T.is_clone at h second to
-        → RunsUpTo will_wake sure T.is_clone from (g ++ h) (first ++ second) to }
+        → RunsUpTo will_wake sure_wakers T.is_clone from g first at
+        → RunsUpTo will_wake sure_wakers T.is_clone at h second to
+        → RunsUpTo will_wake sure_wakers T.is_clone from (g ++ h) (first ++ second) to }
 {}
 
 /// What one poll does to the wait list. Its waker is added last, or skipped: it is skipped exactly
@@ -89,9 +89,9 @@ pub fn one_more_waker_is_last_or_skipped<T: Clone, W>()
     ensures list { (will_wake : W → W → Bool) (l : List W) (w : W)
         → wait_list will_wake l ≡ l
         → wait_list will_wake (l ++ w ∷ []) ≡ (if skips will_wake l w then l else l ++ w ∷ []) }
-    ensures poll { (will_wake : W → W → Bool) (sure : Bool)
+    ensures poll { (will_wake : W → W → Bool) (sure_wakers : Bool)
         (b : State T W) (h : History T W) (e : Entry T W) (w : W)
-        → IsLegalUpTo will_wake sure T.is_clone b (h ++ e ∷ []) → pending_waker e ≡ Some w
+        → IsLegalUpTo will_wake sure_wakers T.is_clone b (h ++ e ∷ []) → pending_waker e ≡ Some w
         → waiting will_wake b (h ++ e ∷ [])
         ≡ (if skips will_wake (waiting will_wake b h) w
         then waiting will_wake b h else waiting will_wake b h ++ w ∷ []) }
@@ -138,24 +138,24 @@ pub fn the_room_goes_by_one<T, W>()
 
 /// A history ends in a sound state, so another history can start from there.
 pub fn a_history_ends_in_a_sound_state<T: Clone, W>()
-    ensures { (will_wake : W → W → Bool) (sure : Bool)
+    ensures { (will_wake : W → W → Bool) (sure_wakers : Bool)
         (from to : State T W) (h : History T W) (woken : List (List W))
-        → RunsUpTo will_wake sure T.is_clone from h woken to → IsSound will_wake to }
+        → RunsUpTo will_wake sure_wakers T.is_clone from h woken to → IsSound will_wake to }
 {}
 
 /// A refused call changes nothing: the cell and the wait list are as before, and it wakes no waker.
 pub fn a_refused_call_changes_nothing<T: Clone, W>()
-    ensures cell { (will_wake : W → W → Bool) (sure : Bool)
+    ensures cell { (will_wake : W → W → Bool) (sure_wakers : Bool)
         (from to : State T W) (e : Entry T W) (woken : List (List W))
-        → RunsUpTo will_wake sure T.is_clone from (e ∷ []) woken to
+        → RunsUpTo will_wake sure_wakers T.is_clone from (e ∷ []) woken to
         → is_refused e.reply ≡ true → to.cell ≡ from.cell }
-    ensures waiting { (will_wake : W → W → Bool) (sure : Bool)
+    ensures waiting { (will_wake : W → W → Bool) (sure_wakers : Bool)
         (from to : State T W) (e : Entry T W) (woken : List (List W))
-        → RunsUpTo will_wake sure T.is_clone from (e ∷ []) woken to
+        → RunsUpTo will_wake sure_wakers T.is_clone from (e ∷ []) woken to
         → is_refused e.reply ≡ true → to.waiting ≡ from.waiting }
-    ensures woken { (will_wake : W → W → Bool) (sure : Bool)
+    ensures woken { (will_wake : W → W → Bool) (sure_wakers : Bool)
         (from to : State T W) (e : Entry T W) (woken : List (List W))
-        → RunsUpTo will_wake sure T.is_clone from (e ∷ []) woken to
+        → RunsUpTo will_wake sure_wakers T.is_clone from (e ∷ []) woken to
         → is_refused e.reply ≡ true → woken ≡ [] ∷ [] }
 {}
 
@@ -166,13 +166,13 @@ pub fn a_fill_or_close_ends_all_waiting<T: Clone, W>()
         (b : State T W) (h : History T W) (e : Entry T W)
         → ends_waiting (cell_after b.cell h) (next (cell_after b.cell h) e) ≡ true
         → waiting will_wake b (h ++ e ∷ []) ≡ [] }
-    ensures all_are_handed_out { (will_wake : W → W → Bool) (sure : Bool)
+    ensures all_are_handed_out { (will_wake : W → W → Bool) (sure_wakers : Bool)
         (from to : State T W) (e : Entry T W) (woken : List (List W))
-        → RunsUpTo will_wake sure T.is_clone from (e ∷ []) woken to
+        → RunsUpTo will_wake sure_wakers T.is_clone from (e ∷ []) woken to
         → ends_waiting from.cell (next from.cell e) ≡ true → woken ≡ from.waiting ∷ [] }
-    ensures others_hand_out_none { (will_wake : W → W → Bool) (sure : Bool)
+    ensures others_hand_out_none { (will_wake : W → W → Bool) (sure_wakers : Bool)
         (from to : State T W) (e : Entry T W) (woken : List (List W))
-        → RunsUpTo will_wake sure T.is_clone from (e ∷ []) woken to
+        → RunsUpTo will_wake sure_wakers T.is_clone from (e ∷ []) woken to
         → ends_waiting from.cell (next from.cell e) ≡ false → woken ≡ [] ∷ [] }
 {}
 
@@ -180,35 +180,35 @@ pub fn a_fill_or_close_ends_all_waiting<T: Clone, W>()
 /// history has no get: each reply is then the model's own. And an exact history is one up to
 /// clones.
 pub fn with_exact_clones_a_history_is_exact<T: Clone, W>()
-    ensures exact { (will_wake : W → W → Bool) (sure : Bool)
+    ensures exact { (will_wake : W → W → Bool) (sure_wakers : Bool)
         (from to : State T W) (h : History T W) (woken : List (List W))
         → (list_any copies h ≡ true → IsExact T.is_clone)
-        → RunsUpTo will_wake sure T.is_clone from h woken to
-        → Runs will_wake sure from h woken to }
-    ensures up_to_clones { (will_wake : W → W → Bool) (sure : Bool)
+        → RunsUpTo will_wake sure_wakers T.is_clone from h woken to
+        → Runs will_wake sure_wakers from h woken to }
+    ensures up_to_clones { (will_wake : W → W → Bool) (sure_wakers : Bool)
         (from to : State T W) (h : History T W) (woken : List (List W))
-        → Runs will_wake sure from h woken to
-        → RunsUpTo will_wake sure T.is_clone from h woken to }
-    ensures exact_legal { (will_wake : W → W → Bool) (sure : Bool)
+        → Runs will_wake sure_wakers from h woken to
+        → RunsUpTo will_wake sure_wakers T.is_clone from h woken to }
+    ensures exact_legal { (will_wake : W → W → Bool) (sure_wakers : Bool)
         (b : State T W) (h : History T W)
         → (list_any copies h ≡ true → IsExact T.is_clone)
-        → IsLegalUpTo will_wake sure T.is_clone b h → IsLegal will_wake sure b h }
-    ensures legal_up_to_clones { (will_wake : W → W → Bool) (sure : Bool)
+        → IsLegalUpTo will_wake sure_wakers T.is_clone b h → IsLegal will_wake sure_wakers b h }
+    ensures legal_up_to_clones { (will_wake : W → W → Bool) (sure_wakers : Bool)
         (b : State T W) (h : History T W)
-        → IsLegal will_wake sure b h → IsLegalUpTo will_wake sure T.is_clone b h }
+        → IsLegal will_wake sure_wakers b h → IsLegalUpTo will_wake sure_wakers T.is_clone b h }
 {}
 
 /// The machine is the model: a step that is read off a history of one entry is what the machine
 /// does, and the other way round.
 pub fn a_step_is_the_machines<T: Clone, W>()
-    ensures machine { (will_wake : W → W → Bool) (sure : Bool) (from to : State T W)
+    ensures machine { (will_wake : W → W → Bool) (sure_wakers : Bool) (from to : State T W)
         (call : Kept T W) (answer : Reply T) (woken : List W)
-        → StepsUpTo will_wake sure T.is_clone from call answer woken to
-        → DoesUpTo will_wake sure T.is_clone
+        → StepsUpTo will_wake sure_wakers T.is_clone from call answer woken to
+        → DoesUpTo will_wake sure_wakers T.is_clone
         from (record { call = call; reply = answer }) woken to }
-    ensures model { (will_wake : W → W → Bool) (sure : Bool) (from to : State T W)
+    ensures model { (will_wake : W → W → Bool) (sure_wakers : Bool) (from to : State T W)
         (call : Kept T W) (answer : Reply T) (woken : List W)
-        → DoesUpTo will_wake sure T.is_clone
+        → DoesUpTo will_wake sure_wakers T.is_clone
         from (record { call = call; reply = answer }) woken to
-        → StepsUpTo will_wake sure T.is_clone from call answer woken to }
+        → StepsUpTo will_wake sure_wakers T.is_clone from call answer woken to }
 {}

@@ -7,8 +7,7 @@ use Rattle.async_cell_model.specs.declared.cell.Cell.TheVariants.{Closed, Open}
 use Rattle.async_cell_model.specs.declared.refusal.Refusal.TheVariants as why
 use Rattle.async_cell_model.specs.declared.reply.Reply.{Reply}
 use Rattle.async_cell_model.specs.declared.reply.Reply.TheVariants.{Done, Value, Refused}
-use Rattle.async_cell_model.specs.Cell.{owners_limit}
-use Rattle.async_cell_model.specs.Step.{reply}
+use Rattle.async_cell_model.specs.Machine.{owners_limit, reply}
 use Rattle.async_cell_core.specs.declared.call.Call.{Call}
 use Rattle.async_cell_core.specs.declared.call.Call.TheVariants.{Set, OrSet, Replace, Update, UpdateSome, TryTake, TryGet, IsSet, PollTake, PollGet, AddOwner, EndOwner, TakeInner}
 use Rattle.async_cell_core.specs.Kept.{kept_call}

@@ -7,10 +7,7 @@ use Rattle.async_cell_model.specs.declared.entry.Kept.{Kept}
 use Rattle.async_cell_model.specs.declared.entry.Kept.TheVariants as kept
 use Rattle.async_cell_model.specs.declared.reply.Reply.{Reply}
 use Rattle.async_cell_model.specs.declared.reply.Reply.TheVariants as replied
-use Rattle.async_cell_model.specs.Cell.{content, ends_waiting}
-use Rattle.async_cell_model.specs.Step.{is_memory, reply, next}
-use Rattle.async_cell_model.specs.History.{State, is_pending}
-use Rattle.async_cell_model.specs.Machine.{Does}
+use Rattle.async_cell_model.specs.Machine.{content, ends_waiting, is_memory, reply, next, State, is_pending, Does}
 use Rattle.async_cell_core.specs.declared.call.Call.{Call}
 use Rattle.async_cell_core.specs.declared.call.Call.TheVariants.{Set, OrSet, Replace, Update, UpdateSome, TryTake, TryGet, IsSet, PollTake, PollGet, AddOwner, EndOwner, TakeInner}
 use Rattle.async_cell_core.specs.Kept.{kept_call}

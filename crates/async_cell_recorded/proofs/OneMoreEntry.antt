@@ -6,11 +6,9 @@ use Rattle.std.proofs.lemmas.List.Elements.{All-push}
 use Rattle.async_cell_wakers.specs.declared.named.Named.{Named}
 use Rattle.async_cell_model.specs.declared.cell.Cell.{Cell}
 use Rattle.async_cell_model.specs.declared.entry.Entry as model
-use Rattle.async_cell_model.specs.Step.{is_memory, reply}
-use Rattle.async_cell_model.specs.History.{State, History, IsSound, has_fill_or_close, after}
+use Rattle.async_cell_model.specs.Machine.{is_memory, reply, State, IsSound, ends_waiting, Does}
+use Rattle.async_cell_model.specs.History.{History, has_fill_or_close, after}
 use Rattle.async_cell_model.specs.Legal.{IsLegal, woken_by, wakes_after, Runs}
-use Rattle.async_cell_model.specs.Cell.{ends_waiting}
-use Rattle.async_cell_model.specs.Machine.{Does}
 use Rattle.async_cell_model.proofs.LegalHistories.{Runs-join}
 use Rattle.async_cell_model.proofs.Machine.{model_of}
 use Rattle.async_cell_recorded.specs.declared.entry.Entry.{Entry}
@@ -34,7 +32,7 @@ module _ {T : Type 0} where
   plain-snoc h e = map-append plain_entry h (e ∷ [])
 
   starts : (n : ℕ) → (1 ≤ n) × (n ≤ 4294967295) → IsSound {T = T} same_name (start n)
-  starts n owned = record { counted = owned; waits_vacant = λ none. cc; kept = refl }
+  starts n owned = record { counted = owned; waits_vacant = λ none. cc; none_skipped = refl }
 
   -- a recorded history leads to a core with its cell and its waiting list
   leads : (r : Recording T) (core : State T Named) → IsRecorded r → core.cell ≡ (state r).cell → core.waiting ≡ (state r).waiting

@@ -6,7 +6,7 @@ use Rattle.async_cell_wakers.specs.declared.named.Named.{Named}
 use Rattle.async_cell_model.specs.declared.entry.Entry as model
 use Rattle.async_cell_model.specs.History.{History}
 use Rattle.async_cell_model.specs.Legal.{IsLegal}
-use Rattle.async_cell_model.specs.Step.{is_memory}
+use Rattle.async_cell_model.specs.Machine.{is_memory}
 use Rattle.async_cell_recorded.specs.declared.entry.Entry.{Entry}
 use Rattle.async_cell_recorded.specs.Recording.{Recording, PlainRecording, IsRecorded, IsPlain, plain_entry, without_shares, of_one_share, with_one_share, made_by, serials_of, numbers_below, start}
 use Rattle.async_cell_wakers.specs.Named.{same_name}

@@ -6,7 +6,7 @@ use Rattle.async_cell_model.specs.declared.entry.Kept.{Kept}
 use Rattle.async_cell_model.specs.declared.refusal.Refusal.{Refusal}
 use Rattle.async_cell_model.specs.declared.refusal.Refusal.TheVariants.{Memory, OutOfTurn}
 use Rattle.async_cell_model.specs.Legal.{woken_by}
-use Rattle.async_cell_model.specs.Step.{reply}
+use Rattle.async_cell_model.specs.Machine.{reply}
 use Rattle.async_cell_recorded.specs.declared.entry.Entry.{Entry}
 use Rattle.async_cell_recorded.specs.Counting.{ShareState, Test, share_after}
 use Rattle.async_cell_recorded.specs.Recording.{Recording, IsRecorded, state, plain_entry}

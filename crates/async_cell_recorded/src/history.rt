@@ -1,5 +1,5 @@
 ghost use Rattle.std.specs.Prelude.{◌≡◌, ◌↔◌, [], false, IsTrue, IfOk, IfErr, length, map};
-ghost use Rattle.async_cell_model.specs.Taken.{IsDistinct, brought, given, has_update};
+ghost use Rattle.async_cell_model.specs.Taken.{IsDistinct, put_in, taken_out, has_update};
 ghost use Rattle.async_cell_model.specs.Refusal.{FailsWithMemory};
 ghost use Rattle.async_cell_recorded.specs.Recording.{IsRecorded, plain_entry, without_shares, with_one_share};
 
@@ -68,8 +68,8 @@ impl<T> History<T> {
     /// Does nothing: its contract is the law.
     pub fn a_value_is_taken_once(&self)
         ensures law { has_update (map plain_entry self.now.entries) ≡ false
-            → IsDistinct (brought (map plain_entry self.now.entries))
-            → IsDistinct (given (map plain_entry self.now.entries)) }
+            → IsDistinct (put_in (map plain_entry self.now.entries))
+            → IsDistinct (taken_out (map plain_entry self.now.entries)) }
     {
         let _ = self.entries();
         a_value_is_taken_once::<T, Named>();

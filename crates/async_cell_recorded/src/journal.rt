@@ -1,7 +1,7 @@
 ghost use Rattle.std.specs.Prelude.{◌≡◌, ◌≢◌, ◌↔◌, ◌⊎◌, ◌≤◌, ◌++◌, ◌∷◌, [], length, vec_len};
 ghost use Rattle.std.specs.Prelude.{IfOk, IfErr, OnErr};
 ghost use Rattle.std.specs.List.{sum_by};
-ghost use Rattle.async_cell_model.specs.Step.{reply};
+ghost use Rattle.async_cell_model.specs.Machine.{reply};
 ghost use Rattle.async_cell_model.specs.Legal.{woken_by};
 ghost use Rattle.async_cell_model.specs.Refusal.{FailsWithMemory};
 ghost use Rattle.async_cell_core.specs.Kept.{kept_call};

@@ -1,8 +1,6 @@
 //! One call on the core, as a history stores it.
 ghost use Rattle.std.specs.Prelude.{◌≡◌, true, false, IfOk, OnErr};
-ghost use Rattle.async_cell_model.specs.Cell.{content};
-ghost use Rattle.async_cell_model.specs.Step.{is_memory};
-ghost use Rattle.async_cell_model.specs.Machine.{Does};
+ghost use Rattle.async_cell_model.specs.Machine.{content, is_memory, Does};
 ghost use Rattle.async_cell_core.specs.Kept.{kept_call};
 ghost use Rattle.async_cell_wakers.specs.Named.{same_name};
 ghost use Rattle.async_cell_recorded.specs.Keeping.{kept_before, kept_after};

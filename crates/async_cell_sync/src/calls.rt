@@ -59,7 +59,7 @@ impl<T: Drop> AsyncCell<T> {
     pub fn try_get<R: Wait>(&self, rt: &R) -> Result<Option<T>, Refusal>
     where
         T: Clone,
-        ensures sure { ((value : T) → T.is_infallible value) → IsOk result }
+        ensures if_infallible { ((value : T) → T.is_infallible value) → IsOk result }
         ensures refused { FailsWithMemory result }
     {
         self.core.try_get(rt)
@@ -184,7 +184,7 @@ impl<T: Drop, R: Wait + Drop> Owner<T, R> {
     pub fn try_get(&self) -> Result<Option<T>, Refusal>
     where
         T: Clone,
-        ensures sure { ((value : T) → T.is_infallible value) → IsOk result }
+        ensures if_infallible { ((value : T) → T.is_infallible value) → IsOk result }
         ensures refused { FailsWithMemory result }
     {
         self.shared.cell.try_get(&self.rt)

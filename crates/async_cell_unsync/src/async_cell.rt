@@ -1,6 +1,6 @@
 ghost use Rattle.std.specs.Prelude.{◌≡◌, IsOk, IfOk, IfErr, IfSome, Some};
 ghost use Rattle.std.specs.Fn.{FnOnceReturnsAt};
-ghost use Rattle.async_cell_model.specs.History.{IsSound};
+ghost use Rattle.async_cell_model.specs.Machine.{IsSound};
 ghost use Rattle.async_cell_model.specs.Refusal.{FailsWithMemory};
 ghost use Rattle.async_cell_unsync.specs.Names.{cell_of};
 
@@ -142,7 +142,7 @@ impl<T: Drop> AsyncCell<T> {
     pub fn try_get(&self) -> Result<Option<T>, Refusal>
     where
         T: Clone,
-        ensures sure { ((value : T) → T.is_infallible value) → IsOk result }
+        ensures if_infallible { ((value : T) → T.is_infallible value) → IsOk result }
         ensures refused { FailsWithMemory result }
     {
         match self.try_take() {
@@ -258,7 +258,7 @@ impl<T: Drop> AsyncCell<T> {
     pub(crate) fn copy_back(&self, value: T) -> Result<T, Refusal>
     where
         T: Clone,
-        ensures sure { ((value : T) → T.is_infallible value) → IsOk result }
+        ensures if_infallible { ((value : T) → T.is_infallible value) → IsOk result }
         ensures refused { FailsWithMemory result }
     {
         let copy: Result<_, _> = value.clone();

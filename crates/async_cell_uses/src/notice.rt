@@ -1,7 +1,7 @@
 //! A notice whose readers get a clone of its text. The clone of a `String` has memory of its own,
 //! so it does not equal its source. What `look` promises holds all the same.
 ghost use Rattle.std.specs.Prelude.{◌≡◌, [], Some};
-ghost use Rattle.async_cell_model.specs.Cell.{content};
+ghost use Rattle.async_cell_model.specs.Machine.{content};
 
 use async_cell_core::{Answer, Call, Core, Edit, Named, step};
 use std::alloc::Global;

@@ -1,8 +1,7 @@
 //! A slot for the reply to one request.
 ghost use Rattle.std.specs.Prelude.{◌≡◌, [], ◌∷◌, ◌++◌, Some, None, Ok, IfOk, OnOk, OnErr, IsOk, true, false};
 ghost use Rattle.async_cell_wakers.specs.Named.{same_name};
-ghost use Rattle.async_cell_model.specs.Cell.{content, is_closed, is_vacant};
-ghost use Rattle.async_cell_model.specs.WaitList.{wait_list};
+ghost use Rattle.async_cell_model.specs.Machine.{content, is_closed, is_vacant, wait_list};
 
 use async_cell_core::{Core, Named, Poll, Refusal, Wakers};
 use std::alloc::Global;

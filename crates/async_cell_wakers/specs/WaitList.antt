@@ -2,8 +2,8 @@
 use Rattle.std.specs.Prelude.{ℕ, List, [], ◌∷◌, Option, Some, None}
 
 -- The wakers in order of registration; the room, which is the number of wakers that can still be
--- added without memory beyond their clones; and the round, which moves on when the wakers are handed
--- out: the places of other rounds are given up.
+-- added without memory beyond their clones; and the round, which moves on when the wakers are
+-- handed out: the places of other rounds are given up.
 pub record ListState (W : Type 0) : Type 0 where
   pub wakers : List W
   pub room : ℕ

@@ -1,5 +1,5 @@
 ghost use Rattle.std.specs.Prelude.{◌≡◌, ◌≢◌, ◌<◌, ◌≤◌, ◌-◌, [], ◌∷◌, ◌++◌, length, IsTrue, IsOk, IfErr, IfSome, IfNone, OnSome, OnOk, OnErr, ◌↔◌};
-ghost use Rattle.async_cell_model.specs.WaitList.{skips};
+ghost use Rattle.async_cell_model.specs.Machine.{skips};
 ghost use Rattle.async_cell_wakers.specs.Place.{GivesUpPlaces};
 ghost use Rattle.async_cell_wakers.specs.WaitList.{first_then};
 

@@ -38,9 +38,11 @@ where
     requires { F.can_poll future.old }
     ensures ready { IfOk result (λ polled. IfSome polled (F.gives future.old)) }
     ensures late { IfOk result (λ polled. IfNone polled (F.can_poll future.new)) }
-    ensures late_gives { IfOk result (λ polled. IfNone polled ((x : _) → F.gives future.new x → F.gives future.old x)) }
+    ensures late_gives { IfOk result (λ polled. IfNone polled
+        ((x : _) → F.gives future.new x → F.gives future.old x)) }
     ensures failed { IfErr result (λ _. F.can_poll future.new) }
-    ensures failed_gives { IfErr result (λ _. (x : _) → F.gives future.new x → F.gives future.old x) }
+    ensures failed_gives { IfErr result (λ _.
+        (x : _) → F.gives future.new x → F.gives future.old x) }
 {
     let start = Instant::now(rt)?;
     let napper = Napper::new(rt)?;

@@ -9,11 +9,8 @@ use Rattle.async_cell_wakers.specs.Named.{same_name}
 use Rattle.async_cell_wakers.specs.declared.named.Named.{Named}
 use Rattle.async_cell_model.specs.declared.entry.Kept.{Kept}
 use Rattle.async_cell_model.specs.declared.reply.Reply.{Reply}
-use Rattle.async_cell_model.specs.Cell.{ends_waiting}
-use Rattle.async_cell_model.specs.WaitList.{wait_list, skips}
+use Rattle.async_cell_model.specs.Machine.{ends_waiting, wait_list, skips, State, IsSound, is_pending, waker_of, pending_waker, Does}
 use Rattle.async_cell_model.proofs.OneMoreWaker.{wait_list-one}
-use Rattle.async_cell_model.specs.History.{State, IsSound, is_pending, waker_of, pending_waker}
-use Rattle.async_cell_model.specs.Machine.{Does}
 use Rattle.cellrun.specs.Names.{KnowsNames}
 
 -- where nobody waits, any names will do
@@ -67,7 +64,7 @@ polled_by false before after names all name known has is = one_more before after
 pub polled : (from : State ℤ Named) (after : List Named) (names : BTreeSet ℕ) (all : Bool) (name : ℕ) → KnowsNames from.waiting names all → IsSound same_name from
     → (all ≡ true → contains nat_cmp names name ≡ true) → after ≡ wait_list same_name (from.waiting ++ record { 0 = name } ∷ []) → KnowsNames after names all
 polled from after names all name known sound has is =
-    polled_by (skips same_name from.waiting (record { 0 = name })) from.waiting after names all name known has (is ∙ wait_list-one same_name from.waiting (record { 0 = name }) sound.kept)
+    polled_by (skips same_name from.waiting (record { 0 = name })) from.waiting after names all name known has (is ∙ wait_list-one same_name from.waiting (record { 0 = name }) sound.none_skipped)
 
 kept_by : (ends : Bool) (waiting after : List Named) (names : BTreeSet ℕ) (all : Bool) → after ≡ (if ends then [] else waiting) → KnowsNames waiting names all → KnowsNames after names all
 kept_by true waiting after names all is known = nobody after names all is

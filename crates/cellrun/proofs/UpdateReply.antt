@@ -10,10 +10,7 @@ use Rattle.async_cell_model.specs.declared.reply.Reply.{Reply}
 use Rattle.async_cell_model.specs.declared.reply.Reply.TheVariants.{Done, Refused}
 use Rattle.async_cell_model.specs.declared.refusal.Refusal.{Refusal}
 use Rattle.async_cell_model.specs.declared.refusal.Refusal.TheVariants as refusal
-use Rattle.async_cell_model.specs.Cell.{content, is_closed, owners_of}
-use Rattle.async_cell_model.specs.Step.{reply}
-use Rattle.async_cell_model.specs.History.{State}
-use Rattle.async_cell_model.specs.Machine.{Does}
+use Rattle.async_cell_model.specs.Machine.{content, is_closed, owners_of, reply, State, Does}
 use Rattle.async_cell_core.specs.IsStep.{update_answer}
 use Rattle.cellrun.specs.CallPrints.{kept_update, kept_update_some, reply_text, refusal_text, end_text, done_text}
 use Rattle.async_cell_wakers.specs.Named.{same_name}

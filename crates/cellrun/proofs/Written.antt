@@ -3,7 +3,7 @@ use Rattle.std.proofs.Common.{◌≡◌, ℕ, ℤ, ◌+◌, List, [], ◌++◌, 
 use Rattle.std.specs.Result.{result_unwrap_or}
 use Rattle.std.specs.Io.KnownBytes.{Keeps, Appends, append_known}
 use Rattle.async_cell_wakers.specs.declared.named.Named.{Named}
-use Rattle.async_cell_model.specs.History.{State}
+use Rattle.async_cell_model.specs.Machine.{State}
 use Rattle.cellrun.specs.CallPrints.{CallPrints}
 use Rattle.cellrun.specs.Next.{IsNext}
 use Rattle.cellrun.specs.Written.{Prints, StopsAt, Owes, new_cell}

@@ -4,7 +4,7 @@ use Rattle.std.specs.Ordering.{nat_cmp}
 use Rattle.std.specs.BTreeSet.{BTreeSet, contains}
 use Rattle.async_cell_wakers.specs.Named.{same_name}
 use Rattle.async_cell_wakers.specs.declared.named.Named.{Named}
-use Rattle.async_cell_model.specs.WaitList.{skips}
+use Rattle.async_cell_model.specs.Machine.{skips}
 
 -- If `all` is true, the names that wait are among these.
 pub record KnowsNames (waiting : List Named) (names : BTreeSet ℕ) (all : Bool) : Type 0 where

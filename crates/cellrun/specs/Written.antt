@@ -3,7 +3,7 @@ use Rattle.std.specs.Prelude.{◌≡◌, ◌≢◌, ℕ, ℤ, ◌+◌, List, [],
 use Rattle.std.specs.Io.KnownBytes.{append_known}
 use Rattle.async_cell_wakers.specs.declared.named.Named.{Named}
 use Rattle.async_cell_model.specs.declared.cell.Cell.TheVariants.{Open}
-use Rattle.async_cell_model.specs.History.{State}
+use Rattle.async_cell_model.specs.Machine.{State}
 use Rattle.cellrun.specs.CallPrints.{CallPrints}
 use Rattle.cellrun.specs.Next.{IsLine, first_line, after_line}
 use Rattle.cellrun.specs.declared.command.Command.{Command}

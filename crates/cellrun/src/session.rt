@@ -2,8 +2,7 @@
 ghost use Rattle.std.specs.Prelude.{◌≡◌, [], true, false, OnOk};
 ghost use Rattle.std.specs.Ordering.{nat_cmp};
 ghost use Rattle.std.specs.BTreeSet.{contains};
-ghost use Rattle.async_cell_model.specs.Machine.{Does};
-ghost use Rattle.async_cell_model.specs.WaitList.{skips};
+ghost use Rattle.async_cell_model.specs.Machine.{Does, skips};
 ghost use Rattle.async_cell_wakers.specs.Named.{same_name};
 ghost use Rattle.async_cell_core.specs.Polled.{poll_reply};
 ghost use Rattle.cellrun.specs.CallPrints.{CallPrints};

@@ -1,7 +1,7 @@
 //! The fast paths of a write and of an end: where no more than
 //! one waker waits, it is returned by itself, and no list is made.
 ghost use Rattle.std.specs.Prelude.{◌≡◌, [], None, true, false, Ok, Some, IfSome, IfNone, IfOk, IfErr, OnOk, OnErr};
-ghost use Rattle.async_cell_model.specs.Cell.{content, is_vacant, owners_of};
+ghost use Rattle.async_cell_model.specs.Machine.{content, is_vacant, owners_of};
 ghost use Rattle.async_cell_wakers.specs.WaitList.{first_then};
 ghost use Rattle.async_cell_core.specs.IsStep.{IsStep, replace_answer, end_answer};
 

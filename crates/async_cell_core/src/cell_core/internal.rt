@@ -1,7 +1,6 @@
 //! Calls for the crates that build on this one.
 ghost use Rattle.std.specs.Prelude.{◌≡◌, ◌↔◌, [], None, true, false, Ok, Some, IsOk, IfOk, IfErr, OnOk, OnErr};
-ghost use Rattle.async_cell_model.specs.Cell.{content, is_full, is_vacant};
-ghost use Rattle.async_cell_model.specs.History.{IsSound};
+ghost use Rattle.async_cell_model.specs.Machine.{content, is_full, is_vacant, IsSound};
 ghost use Rattle.async_cell_core.specs.IsStep.{IsStep, replies, replace_answer, poll_answer};
 
 use super::Core;

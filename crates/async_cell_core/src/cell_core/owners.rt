@@ -1,6 +1,6 @@
 //! The owners of a cell, and its end.
 ghost use Rattle.std.specs.Prelude.{◌≡◌, ◌↔◌, ◌⊎◌, [], ◌+◌, ◌-◌, None, Err, true, false, IsOk, IfOk, IfErr, OnOk, OnErr};
-ghost use Rattle.async_cell_model.specs.Cell.{content, owners_of, owners_limit, is_closed};
+ghost use Rattle.async_cell_model.specs.Machine.{content, owners_of, owners_limit, is_closed};
 ghost use Rattle.async_cell_core.specs.IsStep.{IsStep, done_answer, end_answer};
 
 use super::Core;
@@ -14,7 +14,7 @@ impl<T: Drop, W: Wakes> Core<T, W> {
         ensures model { IsStep W.Wakes self.old Kept.AddOwner (done_answer result) self.new }
 
         ensures if_closed { (result ≡ Err Refusal.Closed) ↔ (is_closed self.old.cell ≡ true) }
-        ensures if_full { (result ≡ Err Refusal.OwnersFull)
+        ensures if_owners_full { (result ≡ Err Refusal.OwnersFull)
             ↔ (owners_of self.old.cell ≡ owners_limit) }
         ensures refused { IfErr result (λ why.
             (why ≡ Refusal.Closed) ⊎ (why ≡ Refusal.OwnersFull)) }

@@ -1,7 +1,7 @@
 //! The places of waiting futures, and wakers that are never
 //! skipped.
 ghost use Rattle.std.specs.Prelude.{◌≡◌, ◌<◌, ◌≤◌, ◌-◌, [], ◌∷◌, ◌++◌, true, false, IsOk, IfOk, IfNone, IfErr, OnOk, OnErr, MatchOption};
-ghost use Rattle.async_cell_model.specs.Cell.{is_vacant};
+ghost use Rattle.async_cell_model.specs.Machine.{is_vacant};
 ghost use Rattle.async_cell_wakers.specs.Place.{displaced};
 ghost use Rattle.async_cell_core.specs.IsStep.{IsStep, wait_answer};
 

@@ -1,8 +1,6 @@
 //! Polls and gets: what waits, and what copies the value.
 ghost use Rattle.std.specs.Prelude.{◌≡◌, ◌≤◌, ◌<◌, [], ◌∷◌, ◌++◌, None, Ok, length, true, false, IsOk, IfOk, OnOk, OnErr, MatchOption};
-ghost use Rattle.async_cell_model.specs.Cell.{content, is_closed, is_full, is_vacant};
-ghost use Rattle.async_cell_model.specs.History.{IsSound};
-ghost use Rattle.async_cell_model.specs.WaitList.{wait_list};
+ghost use Rattle.async_cell_model.specs.Machine.{content, is_closed, is_full, is_vacant, IsSound, wait_list};
 ghost use Rattle.async_cell_model.specs.Refusal.{FailsWithMemory};
 ghost use Rattle.async_cell_core.specs.IsStep.{IsStep, IsStepUpTo, get_answer, poll_answer, wait_answer};
 ghost use Rattle.async_cell_core.specs.Polled.{IsExact, IsCloneOf, IsReadyWith};
@@ -111,7 +109,7 @@ impl<T: Clone, W: Wakes> Core<T, W> {
         ensures gives { IsExact T.is_clone → IfOk result (λ copy. copy ≡ content self.now.cell) }
         ensures clones { IfOk result (IsCloneOf T.is_clone (content self.now.cell)) }
         ensures gives_none { is_full self.now.cell ≡ false → result ≡ Ok None }
-        ensures sure { MatchOption (content self.now.cell)
+        ensures if_infallible { MatchOption (content self.now.cell)
             (IsOk result) (λ value. T.is_infallible value → IsOk result) }
     {
         match &self.value {
@@ -145,8 +143,9 @@ impl<T: Clone, W: Wakes> Core<T, W> {
             → IfOk result (λ polled. polled ≡ Poll.Ready (content self.old.cell)) }
         ensures clones { is_vacant self.old.cell ≡ false
             → IfOk result (IsReadyWith (IsCloneOf T.is_clone (content self.old.cell))) }
-        ensures sure { is_vacant self.old.cell ≡ false → MatchOption (content self.old.cell)
-            (IsOk result) (λ value. T.is_infallible value → IsOk result) }
+        ensures if_infallible { is_vacant self.old.cell ≡ false
+            → MatchOption (content self.old.cell) (IsOk result)
+            (λ value. T.is_infallible value → IsOk result) }
         ensures stays { is_vacant self.old.cell ≡ false → self.new ≡ self.old }
 
         // A poll that has to wait.

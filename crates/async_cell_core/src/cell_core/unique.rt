@@ -1,8 +1,6 @@
 //! Waiting with a waker that no waiting one would wake.
 ghost use Rattle.std.specs.Prelude.{◌≡◌, ◌≤◌, [], ◌∷◌, ◌++◌, true, false, IsOk, OnOk, OnErr};
-ghost use Rattle.async_cell_model.specs.Cell.{is_vacant};
-ghost use Rattle.async_cell_model.specs.WaitList.{skips};
-ghost use Rattle.async_cell_model.specs.Legal.{needs_no_memory};
+ghost use Rattle.async_cell_model.specs.Machine.{is_vacant, skips, needs_no_memory};
 ghost use Rattle.async_cell_model.specs.Refusal.{FailsWithMemory};
 ghost use Rattle.async_cell_core.specs.IsStep.{IsStep, wait_answer};
 

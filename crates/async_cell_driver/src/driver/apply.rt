@@ -3,7 +3,7 @@ ghost use Rattle.std.specs.Prelude.{◌≡◌, List, [], map, length, vec_len, I
 ghost use Rattle.async_cell_wakers.specs.declared.named.Named.{Named as Name};
 ghost use Rattle.async_cell_driver.specs.Log.{log_of, with_edit};
 ghost use Rattle.async_cell_driver.specs.History.{done_or};
-ghost use Rattle.async_cell_driver.specs.Drives.{AllSpared, Drives, Happens, IsSpared, KeepsResults};
+ghost use Rattle.async_cell_driver.specs.Drives.{AllSpared, Drives, Happens, IsSpared, ResultsStay};
 
 use super::Driver;
 use crate::event::{Event, Told};
@@ -26,7 +26,7 @@ impl<T: Clone> Driver<T> {
             (log_of (map (with_edit E.edit) events.items) told.items names) self.new
             × AllSpared T.is_infallible self.old
             (log_of (map (with_edit E.edit) events.items) told.items names)) }
-        ensures results_stay { KeepsResults self.old self.new }
+        ensures results_stay { ResultsStay self.old self.new }
         ensures comes_back { IfErr result (λ back. back ≡ events) }
         ensures unchanged { OnErr result (self.new ≡ self.old) }
     {
@@ -46,7 +46,7 @@ impl<T: Clone> Driver<T> {
         ensures drives { Happens T.is_clone self.old (with_edit E.edit event) result self.new }
         ensures spared { IsSpared T.is_infallible self.old.core.cell
             (with_edit E.edit event) result }
-        ensures results_stay { KeepsResults self.old self.new }
+        ensures results_stay { ResultsStay self.old self.new }
     {
         match event {
             Event::Start(kind) => match self.start(kind) {

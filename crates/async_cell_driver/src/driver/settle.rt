@@ -1,6 +1,6 @@
 //! Polls of all tasks that are ready.
 ghost use Rattle.std.specs.Prelude.{◌≡◌, ◌≢◌, ℕ, [], true, false, length, IsOk, OnOk, None, MatchOption};
-ghost use Rattle.async_cell_model.specs.Cell.{content, is_vacant};
+ghost use Rattle.async_cell_model.specs.Machine.{content, is_vacant};
 ghost use Rattle.async_cell_driver.specs.DriverState.{result_at};
 ghost use Rattle.async_cell_driver.specs.Log.{Log, is_ready, waits};
 ghost use Rattle.async_cell_driver.specs.Drives.{Drives};
@@ -33,7 +33,7 @@ impl<T: Clone> Driver<T> {
         ensures none_ready { OnOk result ((i : ℕ) → is_ready self.new [] i ≡ false) }
         ensures none_waits { OnOk result
             (is_vacant self.new.core.cell ≡ false → (i : ℕ) → waits self.new [] i ≡ false) }
-        ensures sure { is_vacant self.new.core.cell ≡ false
+        ensures if_infallible { is_vacant self.new.core.cell ≡ false
             → MatchOption (content self.new.core.cell) (IsOk result)
             (λ value. T.is_infallible value → IsOk result) }
     {
@@ -57,7 +57,7 @@ impl<T: Clone> Driver<T> {
         ensures ready_no_more { OnOk result (is_ready self.new [] i ≡ false) }
         ensures others_stay { (j : ℕ) → j ≢ i → is_ready self.new [] j ≡ is_ready self.old [] j }
         ensures size { length self.new.tasks ≡ length self.old.tasks }
-        ensures sure { is_vacant self.new.core.cell ≡ false
+        ensures if_infallible { is_vacant self.new.core.cell ≡ false
             → MatchOption (content self.new.core.cell) (IsOk result)
             (λ value. T.is_infallible value → IsOk result) }
     {

@@ -1,10 +1,10 @@
 //! Calls on the cell of a driver. Each makes one call of the core, and wakes the tasks whose names
 //! it returns.
 ghost use Rattle.std.specs.Prelude.{◌≡◌, ◌↔◌, ◌+◌, ◌-◌, true, false, Some, None, Err, IsOk, IfOk, IfErr, OnOk, OnErr};
-ghost use Rattle.async_cell_model.specs.Cell.{is_closed, is_full, is_vacant, content, owners_of, owners_limit};
+ghost use Rattle.async_cell_model.specs.Machine.{is_closed, is_full, is_vacant, content, owners_of, owners_limit};
 ghost use Rattle.async_cell_model.specs.declared.entry.Kept.TheVariants as kept;
 ghost use Rattle.async_cell_driver.specs.History.{told_by};
-ghost use Rattle.async_cell_driver.specs.Drives.{Happens, KeepsResults};
+ghost use Rattle.async_cell_driver.specs.Drives.{Happens, ResultsStay};
 
 use super::Driver;
 use crate::event::{Event, Told};
@@ -22,7 +22,7 @@ impl<T: Clone> Driver<T> {
 
         ensures if_open { IsOk result ↔ (is_closed self.old.core.cell ≡ false) }
         ensures holds { OnOk result (content self.new.core.cell ≡ Some value) }
-        ensures results_stay { KeepsResults self.old self.new }
+        ensures results_stay { ResultsStay self.old self.new }
         ensures unchanged { OnErr result (self.new ≡ self.old) }
         ensures comes_back { IfErr result (λ back. back ≡ value) }
     {
@@ -46,7 +46,7 @@ impl<T: Clone> Driver<T> {
             (is_vacant self.old.core.cell ≡ true → content self.new.core.cell ≡ Some value) }
         ensures leaves { is_full self.old.core.cell ≡ true
             → self.new.core.cell ≡ self.old.core.cell }
-        ensures results_stay { KeepsResults self.old self.new }
+        ensures results_stay { ResultsStay self.old self.new }
         ensures unchanged { OnErr result (self.new ≡ self.old) }
         ensures comes_back { IfErr result (λ back. back ≡ value) }
     {
@@ -70,7 +70,7 @@ impl<T: Clone> Driver<T> {
             (is_vacant self.old.core.cell ≡ true → content self.new.core.cell ≡ Some value) }
         ensures leaves { is_full self.old.core.cell ≡ true
             → self.new.core.cell ≡ self.old.core.cell }
-        ensures results_stay { KeepsResults self.old self.new }
+        ensures results_stay { ResultsStay self.old self.new }
         ensures unchanged { OnErr result (self.new ≡ self.old) }
         ensures comes_back { IfErr result (λ back. back ≡ value) }
     {
@@ -92,7 +92,7 @@ impl<T: Clone> Driver<T> {
         ensures if_open { IsOk result ↔ (is_closed self.old.core.cell ≡ false) }
         ensures holds { OnOk result (content self.new.core.cell ≡ Some value) }
         ensures gives_old { IfOk result (λ old. old ≡ content self.old.core.cell) }
-        ensures results_stay { KeepsResults self.old self.new }
+        ensures results_stay { ResultsStay self.old self.new }
         ensures unchanged { OnErr result (self.new ≡ self.old) }
         ensures comes_back { IfErr result (λ back. back ≡ value) }
     {
@@ -114,7 +114,7 @@ impl<T: Clone> Driver<T> {
         ensures if_open { IsOk result ↔ (is_closed self.old.core.cell ≡ false) }
         ensures holds { OnOk result
             (content self.new.core.cell ≡ E.edit edit (content self.old.core.cell)) }
-        ensures results_stay { KeepsResults self.old self.new }
+        ensures results_stay { ResultsStay self.old self.new }
         ensures unchanged { OnErr result (self.new ≡ self.old) }
     {
         let woken = self.core.update(|content| edit.edit(content))?;
@@ -129,7 +129,7 @@ impl<T: Clone> Driver<T> {
 
         ensures takes { result ≡ content self.old.core.cell }
         ensures leaves_none { content self.new.core.cell ≡ None }
-        ensures results_stay { KeepsResults self.old self.new }
+        ensures results_stay { ResultsStay self.old self.new }
     {
         self.core.try_take()
     }
@@ -144,11 +144,11 @@ impl<T: Clone> Driver<T> {
             (Told.Reply (Reply.Refused why None)) self.new) }
 
         ensures if_closed { (result ≡ Err Refusal.Closed) ↔ (is_closed self.old.core.cell ≡ true) }
-        ensures if_full { (result ≡ Err Refusal.OwnersFull)
+        ensures if_owners_full { (result ≡ Err Refusal.OwnersFull)
             ↔ (owners_of self.old.core.cell ≡ owners_limit) }
         ensures counted { OnOk result
             (owners_of self.new.core.cell ≡ owners_of self.old.core.cell + 1) }
-        ensures results_stay { KeepsResults self.old self.new }
+        ensures results_stay { ResultsStay self.old self.new }
         ensures unchanged { OnErr result (self.new ≡ self.old) }
     {
         self.core.add_owner()
@@ -167,7 +167,7 @@ impl<T: Clone> Driver<T> {
         ensures if_open { IsOk result ↔ (is_closed self.old.core.cell ≡ false) }
         ensures counted { owners_of self.new.core.cell ≡ owners_of self.old.core.cell - 1 }
         ensures last { owners_of self.old.core.cell ≡ 1 → is_closed self.new.core.cell ≡ true }
-        ensures results_stay { KeepsResults self.old self.new }
+        ensures results_stay { ResultsStay self.old self.new }
         ensures unchanged { OnErr result (self.new ≡ self.old) }
     {
         let _last = self.end()?;
@@ -187,7 +187,7 @@ impl<T: Clone> Driver<T> {
         ensures if_open { IsOk result ↔ (is_closed self.old.core.cell ≡ false) }
         ensures counted { owners_of self.new.core.cell ≡ owners_of self.old.core.cell - 1 }
         ensures closes { owners_of self.old.core.cell ≡ 1 → is_closed self.new.core.cell ≡ true }
-        ensures results_stay { KeepsResults self.old self.new }
+        ensures results_stay { ResultsStay self.old self.new }
         ensures unchanged { OnErr result (self.new ≡ self.old) }
     {
         let (last, woken) = self.core.end_owner()?;

@@ -1,6 +1,6 @@
 //! Polls: what a follower is told, and what waits.
 ghost use Rattle.std.specs.Prelude.{◌≡◌, ◌≢◌, ◌≤◌, ◌<◌, ◌↔◌, [], None, Some, Ok, true, false, IsOk, IfOk, IfErr, OnOk, OnErr};
-ghost use Rattle.async_cell_model.specs.WaitList.{with_one_more};
+ghost use Rattle.async_cell_model.specs.Machine.{with_one_more};
 ghost use Rattle.async_cell_latest.specs.State.{IsSound, Stays, is_closed, is_waited_for};
 ghost use Rattle.async_cell_latest.specs.Step.{PollChanged};
 ghost use Rattle.async_cell_latest.specs.History.{needs_no_memory};

@@ -15,7 +15,7 @@ impl<T: Drop, W: Wakes> Latest<T, W> {
         ensures model { IsStep W.Wakes self.old AddWriter (add_answer result) self.new }
 
         ensures if_closed { (result ≡ Err Refusal.Closed) ↔ (is_closed self.old ≡ true) }
-        ensures if_full { (result ≡ Err Refusal.OwnersFull)
+        ensures if_owners_full { (result ≡ Err Refusal.OwnersFull)
             ↔ (self.old.writers ≡ writers_limit) }
         ensures counted { OnOk result (self.new.writers ≡ self.old.writers + 1) }
         ensures unchanged { OnErr result (self.new ≡ self.old) }

@@ -59,7 +59,7 @@ impl<T: Drop> LatestCore<T> {
         T: Clone,
         ensures version { IfOk result.answer (λ shown. shown.0 ≡ self.now.state.version) }
         ensures clones { IfOk result.answer (λ shown. T.is_clone self.now.state.value shown.1) }
-        ensures sure { ((value : T) → T.is_infallible value) → IsOk result.answer }
+        ensures if_infallible { ((value : T) → T.is_infallible value) → IsOk result.answer }
         ensures refused { FailsWithMemory result.answer }
     {
         Held::of(self.state.get())

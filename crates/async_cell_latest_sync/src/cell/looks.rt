@@ -4,7 +4,7 @@ ghost use Rattle.std.specs.Fn.{FnOnceReturnsAt};
 ghost use Rattle.async_cell_model.specs.Refusal.{FailsWithMemory};
 ghost use Rattle.async_cell_latest.specs.State.{State};
 ghost use Rattle.async_cell_latest_sync.specs.Found.{IsTested};
-ghost use Rattle.async_cell_latest_sync.specs.OneState.{OfOneState};
+ghost use Rattle.async_cell_latest_sync.specs.SomeState.{SomeState};
 
 use super::LatestCell;
 use async_cell_latest::{Refusal, TaskWaker};
@@ -16,7 +16,7 @@ impl<T: Drop> LatestCell<T> {
     /// Calls the closure on the value, while the lock is held. Returns the version too.
     pub(crate) fn peek<A, F: FnOnce(&T) -> A, R: Wait>(&self, look: F, rt: &R) -> (u64, A)
         requires { F.IsAlwaysCallable look }
-        ensures of_one_state { OfOneState result.0 (λ s.
+        ensures of_some_state { SomeState result.0 (λ s.
             FnOnceReturnsAt F.FnOnce look s.value result.1) }
     {
         let step = self.core.lock(rt);
@@ -29,9 +29,9 @@ impl<T: Drop> LatestCell<T> {
     pub(crate) fn get<R: Wait>(&self, rt: &R) -> Result<(u64, T), Refusal>
     where
         T: Clone,
-        ensures of_one_state { IfOk result (λ shown. OfOneState shown.0 (λ s.
+        ensures of_some_state { IfOk result (λ shown. SomeState shown.0 (λ s.
             T.is_clone s.value shown.1)) }
-        ensures sure { ((value : T) → T.is_infallible value) → IsOk result }
+        ensures if_infallible { ((value : T) → T.is_infallible value) → IsOk result }
         ensures refused { FailsWithMemory result }
     {
         let step = self.core.lock(rt);
@@ -51,7 +51,7 @@ impl<T: Drop> LatestCell<T> {
     where
         T: Clone,
         requires { P.IsAlwaysCallable predicate.old }
-        ensures of_one_state { IfSome result (λ tested. OfOneState tested.0 (λ s.
+        ensures of_some_state { IfSome result (λ tested. SomeState tested.0 (λ s.
             IsTested P.FnMut T.is_clone predicate.old s.value tested.1 predicate.new)) }
         ensures uncalled { IfNone result (predicate.new ≡ predicate.old) }
         ensures again { P.IsAlwaysCallable predicate.new }
@@ -69,7 +69,7 @@ impl<T: Drop> LatestCell<T> {
 
     /// Returns the version.
     pub(crate) fn version<R: Wait>(&self, rt: &R) -> u64
-        ensures of_one_state { (s : State T TaskWaker) × (result ≡ s.version) }
+        ensures of_some_state { (s : State T TaskWaker) × (result ≡ s.version) }
     {
         self.peek(|_| (), rt).0
     }

@@ -13,11 +13,11 @@ pub struct UnseenState(pub u64);
 
 impl<T: Drop> Query<LatestCore<T>> for Unseen {
     ghost use Rattle.std.specs.Prelude.{◌≢◌};
-    ghost use Rattle.async_cell_latest_sync.specs.OneState.{OfOneState};
+    ghost use Rattle.async_cell_latest_sync.specs.SomeState.{SomeState};
 
     type Answer = u64;
 
-    ghost gives = { λ asked version. OfOneState {T = T} version (λ s. s.version ≢ asked.0) };
+    ghost gives = { λ asked version. SomeState {T = T} version (λ s. s.version ≢ asked.0) };
 
     #[inline(always)]
     fn must_wait(self, core: &LatestCore<T>) -> bool {
@@ -35,12 +35,12 @@ impl<T: Drop> Query<LatestCore<T>> for Unseen {
 
 impl<T: Clone> Query<LatestCore<T>> for UnseenState {
     ghost use Rattle.std.specs.Prelude.{◌≢◌};
-    ghost use Rattle.async_cell_latest_sync.specs.OneState.{OfOneState};
+    ghost use Rattle.async_cell_latest_sync.specs.SomeState.{SomeState};
 
     type Answer = (u64, T);
 
     ghost gives = { λ asked shown.
-        OfOneState shown.0 (λ s. (s.version ≢ asked.0) × T.is_clone s.value shown.1) };
+        SomeState shown.0 (λ s. (s.version ≢ asked.0) × T.is_clone s.value shown.1) };
 
     #[inline(always)]
     fn must_wait(self, core: &LatestCore<T>) -> bool {

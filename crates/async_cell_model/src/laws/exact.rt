@@ -3,28 +3,25 @@ ghost use Rattle.std.specs.Prelude.{◌≡◌, ◌<◌, ◌++◌, ◌∷◌, [],
 ghost use Rattle.async_cell_model.specs.declared.entry.Entry.{Entry};
 ghost use Rattle.async_cell_model.specs.declared.entry.Kept.{Kept};
 ghost use Rattle.async_cell_model.specs.declared.reply.Reply.{Reply};
-ghost use Rattle.async_cell_model.specs.Cell.{is_vacant, content, ends_waiting};
-ghost use Rattle.async_cell_model.specs.History.{State, History, IsSound, cell_after, waiting, room, after, has_fill_or_close, pending_waker};
-ghost use Rattle.async_cell_model.specs.Legal.{IsLegal, Runs, Steps};
-ghost use Rattle.async_cell_model.specs.Machine.{Does};
-ghost use Rattle.async_cell_model.specs.Step.{next, is_refused};
-ghost use Rattle.async_cell_model.specs.WaitList.{IsCovered, wait_list, skips};
-ghost use Rattle.async_cell_model.specs.Taken.{IsDistinct, IsSubsequence, has_update, brought, given};
+ghost use Rattle.async_cell_model.specs.Machine.{is_vacant, content, ends_waiting, State, IsSound, pending_waker, Does, next, wait_list, skips};
+ghost use Rattle.async_cell_model.specs.History.{History, cell_after, waiting, room, after, has_fill_or_close, IsCovered};
+ghost use Rattle.async_cell_model.specs.Legal.{IsLegal, Runs, Steps, is_refused};
+ghost use Rattle.async_cell_model.specs.Taken.{IsDistinct, IsSubsequence, has_update, put_in, taken_out};
 
 /// Wakers wait only if the cell is vacant: open without a value. So the wait list of a full cell
 /// and of a closed one is empty.
 pub fn only_a_vacant_cell_keeps_waiting<T, W>()
-    ensures { (will_wake : W → W → Bool) (sure : Bool) (b : State T W) (h : History T W)
-        → IsSound will_wake b → IsLegal will_wake sure b h
+    ensures { (will_wake : W → W → Bool) (sure_wakers : Bool) (b : State T W) (h : History T W)
+        → IsSound will_wake b → IsLegal will_wake sure_wakers b h
         → is_vacant (cell_after b.cell h) ≡ false → waiting will_wake b h ≡ [] }
 {}
 
 /// No waiting poll is forgotten. Until the next fill or close, the waker of each poll that returned
 /// `Pending` waits, or some waiting waker would wake it.
 pub fn a_pending_waker_stays_covered<T, W>()
-    ensures { (will_wake : W → W → Bool) (sure : Bool)
+    ensures { (will_wake : W → W → Bool) (sure_wakers : Bool)
         (b : State T W) (g : History T W) (e : Entry T W) (rest : History T W) (w : W)
-        → IsLegal will_wake sure b (g ++ e ∷ rest) → pending_waker e ≡ Some w
+        → IsLegal will_wake sure_wakers b (g ++ e ∷ rest) → pending_waker e ≡ Some w
         → has_fill_or_close (cell_after b.cell (g ++ e ∷ [])) rest ≡ false
         → IsCovered will_wake (waiting will_wake b (g ++ e ∷ rest)) w }
 {}
@@ -33,13 +30,13 @@ pub fn a_pending_waker_stays_covered<T, W>()
 /// cell are, in order, some of those that it held at the start and that were passed to the writes,
 /// each at most once. So if the latter differ, no value is returned by two replies.
 pub fn a_value_is_taken_once<T, W>()
-    ensures in_order { (will_wake : W → W → Bool) (sure : Bool)
+    ensures in_order { (will_wake : W → W → Bool) (sure_wakers : Bool)
         (b : State T W) (h : History T W)
-        → IsLegal will_wake sure b h → has_update h ≡ false
-        → IsSubsequence (given h) (option_to_list (content b.cell) ++ brought h) }
-    ensures once { (will_wake : W → W → Bool) (sure : Bool) (b : State T W) (h : History T W)
-        → IsLegal will_wake sure b h → has_update h ≡ false
-        → IsDistinct (option_to_list (content b.cell) ++ brought h) → IsDistinct (given h) }
+        → IsLegal will_wake sure_wakers b h → has_update h ≡ false
+        → IsSubsequence (taken_out h) (option_to_list (content b.cell) ++ put_in h) }
+    ensures once { (will_wake : W → W → Bool) (sure_wakers : Bool) (b : State T W) (h : History T W)
+        → IsLegal will_wake sure_wakers b h → has_update h ≡ false
+        → IsDistinct (option_to_list (content b.cell) ++ put_in h) → IsDistinct (taken_out h) }
 {}
 
 /// Only the current state matters. After a joined history `g ++ h`, the cell, the wait list and the
@@ -47,14 +44,17 @@ pub fn a_value_is_taken_once<T, W>()
 /// legal, so is `g`, and so is `h` from that state. A legal history from a sound state ends in a
 /// sound state.
 pub fn a_history_can_begin_anew<T, W>()
-    ensures begins { (will_wake : W → W → Bool) (sure : Bool) (b : State T W) (g : History T W)
-        → IsSound will_wake b → IsLegal will_wake sure b g
+    ensures begins { (will_wake : W → W → Bool) (sure_wakers : Bool)
+        (b : State T W) (g : History T W)
+        → IsSound will_wake b → IsLegal will_wake sure_wakers b g
         → IsSound will_wake (after will_wake b g) }
-    ensures front { (will_wake : W → W → Bool) (sure : Bool) (b : State T W) (g h : History T W)
-        → IsLegal will_wake sure b (g ++ h) → IsLegal will_wake sure b g }
-    ensures legal { (will_wake : W → W → Bool) (sure : Bool) (b : State T W) (g h : History T W)
-        → IsSound will_wake b → IsLegal will_wake sure b (g ++ h)
-        → IsLegal will_wake sure (after will_wake b g) h }
+    ensures front { (will_wake : W → W → Bool) (sure_wakers : Bool)
+        (b : State T W) (g h : History T W)
+        → IsLegal will_wake sure_wakers b (g ++ h) → IsLegal will_wake sure_wakers b g }
+    ensures legal { (will_wake : W → W → Bool) (sure_wakers : Bool)
+        (b : State T W) (g h : History T W)
+        → IsSound will_wake b → IsLegal will_wake sure_wakers b (g ++ h)
+        → IsLegal will_wake sure_wakers (after will_wake b g) h }
     ensures cell { (will_wake : W → W → Bool) (b : State T W) (g h : History T W)
         → cell_after b.cell (g ++ h) ≡ cell_after (after will_wake b g).cell h }
     ensures waiting { (will_wake : W → W → Bool) (b : State T W) (g h : History T W)
@@ -67,10 +67,10 @@ pub fn a_history_can_begin_anew<T, W>()
 /// Two histories, the second from the state where the first ends, are one. So two runs, one after
 /// the other, are one run of the joined calls.
 pub fn two_histories_are_one<T, W>()
-    ensures { (will_wake : W → W → Bool) (sure : Bool)
+    ensures { (will_wake : W → W → Bool) (sure_wakers : Bool)
         (from at to : State T W) (g h : History T W) (first second : List (List W))
-        → Runs will_wake sure from g first at → Runs will_wake sure at h second to
-        → Runs will_wake sure from (g ++ h) (first ++ second) to }
+        → Runs will_wake sure_wakers from g first at → Runs will_wake sure_wakers at h second to
+        → Runs will_wake sure_wakers from (g ++ h) (first ++ second) to }
 {}
 
 /// What one poll does to the wait list. Its waker is added last, or skipped: it is skipped exactly
@@ -79,9 +79,9 @@ pub fn one_more_waker_is_last_or_skipped<T, W>()
     ensures list { (will_wake : W → W → Bool) (l : List W) (w : W)
         → wait_list will_wake l ≡ l
         → wait_list will_wake (l ++ w ∷ []) ≡ (if skips will_wake l w then l else l ++ w ∷ []) }
-    ensures poll { (will_wake : W → W → Bool) (sure : Bool)
+    ensures poll { (will_wake : W → W → Bool) (sure_wakers : Bool)
         (b : State T W) (h : History T W) (e : Entry T W) (w : W)
-        → IsLegal will_wake sure b (h ++ e ∷ []) → pending_waker e ≡ Some w
+        → IsLegal will_wake sure_wakers b (h ++ e ∷ []) → pending_waker e ≡ Some w
         → waiting will_wake b (h ++ e ∷ [])
         ≡ (if skips will_wake (waiting will_wake b h) w
         then waiting will_wake b h else waiting will_wake b h ++ w ∷ []) }
@@ -89,24 +89,24 @@ pub fn one_more_waker_is_last_or_skipped<T, W>()
 
 /// A history ends in a sound state, so another history can start from there.
 pub fn a_history_ends_in_a_sound_state<T, W>()
-    ensures { (will_wake : W → W → Bool) (sure : Bool)
+    ensures { (will_wake : W → W → Bool) (sure_wakers : Bool)
         (from to : State T W) (h : History T W) (woken : List (List W))
-        → Runs will_wake sure from h woken to → IsSound will_wake to }
+        → Runs will_wake sure_wakers from h woken to → IsSound will_wake to }
 {}
 
 /// A refused call changes nothing: the cell and the wait list are as before, and it wakes no waker.
 pub fn a_refused_call_changes_nothing<T, W>()
-    ensures cell { (will_wake : W → W → Bool) (sure : Bool)
+    ensures cell { (will_wake : W → W → Bool) (sure_wakers : Bool)
         (from to : State T W) (e : Entry T W) (woken : List (List W))
-        → Runs will_wake sure from (e ∷ []) woken to → is_refused e.reply ≡ true
+        → Runs will_wake sure_wakers from (e ∷ []) woken to → is_refused e.reply ≡ true
         → to.cell ≡ from.cell }
-    ensures waiting { (will_wake : W → W → Bool) (sure : Bool)
+    ensures waiting { (will_wake : W → W → Bool) (sure_wakers : Bool)
         (from to : State T W) (e : Entry T W) (woken : List (List W))
-        → Runs will_wake sure from (e ∷ []) woken to → is_refused e.reply ≡ true
+        → Runs will_wake sure_wakers from (e ∷ []) woken to → is_refused e.reply ≡ true
         → to.waiting ≡ from.waiting }
-    ensures woken { (will_wake : W → W → Bool) (sure : Bool)
+    ensures woken { (will_wake : W → W → Bool) (sure_wakers : Bool)
         (from to : State T W) (e : Entry T W) (woken : List (List W))
-        → Runs will_wake sure from (e ∷ []) woken to → is_refused e.reply ≡ true
+        → Runs will_wake sure_wakers from (e ∷ []) woken to → is_refused e.reply ≡ true
         → woken ≡ [] ∷ [] }
 {}
 
@@ -117,14 +117,14 @@ pub fn a_fill_or_close_ends_all_waiting<T, W>()
         (e : Entry T W)
         → ends_waiting (cell_after b.cell h) (next (cell_after b.cell h) e) ≡ true
         → waiting will_wake b (h ++ e ∷ []) ≡ [] }
-    ensures all_are_handed_out { (will_wake : W → W → Bool) (sure : Bool)
+    ensures all_are_handed_out { (will_wake : W → W → Bool) (sure_wakers : Bool)
         (from to : State T W) (e : Entry T W) (woken : List (List W))
-        → Runs will_wake sure from (e ∷ []) woken to
+        → Runs will_wake sure_wakers from (e ∷ []) woken to
         → ends_waiting from.cell (next from.cell e) ≡ true
         → woken ≡ from.waiting ∷ [] }
-    ensures others_hand_out_none { (will_wake : W → W → Bool) (sure : Bool)
+    ensures others_hand_out_none { (will_wake : W → W → Bool) (sure_wakers : Bool)
         (from to : State T W) (e : Entry T W) (woken : List (List W))
-        → Runs will_wake sure from (e ∷ []) woken to
+        → Runs will_wake sure_wakers from (e ∷ []) woken to
         → ends_waiting from.cell (next from.cell e) ≡ false
         → woken ≡ [] ∷ [] }
 {}
@@ -132,12 +132,12 @@ pub fn a_fill_or_close_ends_all_waiting<T, W>()
 /// The machine is the model: a step that is read off a history of one entry is what the machine
 /// does, and the other way round.
 pub fn a_step_is_the_machines<T, W>()
-    ensures machine { (will_wake : W → W → Bool) (sure : Bool) (from to : State T W)
+    ensures machine { (will_wake : W → W → Bool) (sure_wakers : Bool) (from to : State T W)
         (call : Kept T W) (answer : Reply T) (woken : List W)
-        → Steps will_wake sure from call answer woken to
-        → Does will_wake sure from (record { call = call; reply = answer }) woken to }
-    ensures model { (will_wake : W → W → Bool) (sure : Bool) (from to : State T W)
+        → Steps will_wake sure_wakers from call answer woken to
+        → Does will_wake sure_wakers from (record { call = call; reply = answer }) woken to }
+    ensures model { (will_wake : W → W → Bool) (sure_wakers : Bool) (from to : State T W)
         (call : Kept T W) (answer : Reply T) (woken : List W)
-        → Does will_wake sure from (record { call = call; reply = answer }) woken to
-        → Steps will_wake sure from call answer woken to }
+        → Does will_wake sure_wakers from (record { call = call; reply = answer }) woken to
+        → Steps will_wake sure_wakers from call answer woken to }
 {}

@@ -2,8 +2,7 @@
 //! one call of it, and holds what comes out, which the end of a step alone lets go.
 ghost use Rattle.std.specs.Prelude.{◌≡◌, ◌⊎◌, Option, IfErr, IfOk, IfSome, IsOk, IsSomeAnd, OnOk, IsTrue};
 ghost use Rattle.std.specs.Fn.{FnOnceReturnsAt};
-ghost use Rattle.async_cell_model.specs.Cell.{content, is_vacant};
-ghost use Rattle.async_cell_model.specs.History.{IsSound};
+ghost use Rattle.async_cell_model.specs.Machine.{content, is_vacant, IsSound};
 ghost use Rattle.async_cell_model.specs.Refusal.{FailsWithClosed, FailsWithMemory};
 
 use crate::ended::{Held, Writes};
@@ -79,7 +78,7 @@ impl<T: Drop, W: Wakes> CellCore<T, W> {
     pub(crate) fn try_get(&self) -> Held<Result<Option<T>, Refusal>>
     where
         T: Clone,
-        ensures sure { ((value : T) → T.is_infallible value) → IsOk result.answer }
+        ensures if_infallible { ((value : T) → T.is_infallible value) → IsOk result.answer }
         ensures refused { FailsWithMemory result.answer }
     {
         Held::of(self.inner.try_get())
@@ -244,7 +243,7 @@ impl<T: Drop, W: Wakes> Writes<T> for CellCore<T, W> {
 
 impl<T: Drop> Room for CellCore<T, TaskWaker> {
     ghost use Rattle.std.specs.Prelude.{◌≡◌, true};
-    ghost use Rattle.async_cell_model.specs.Cell.{is_vacant};
+    ghost use Rattle.async_cell_model.specs.Machine.{is_vacant};
 
     ghost vacant = { λ cell. is_vacant cell.inner.cell ≡ true };
 

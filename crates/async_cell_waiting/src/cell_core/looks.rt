@@ -1,7 +1,7 @@
 //! The calls that change nothing.
 ghost use Rattle.std.specs.Prelude.{IsOk, IsSome, IsTrue, IfSome};
 ghost use Rattle.std.specs.Fn.{FnOnceReturnsAt};
-ghost use Rattle.async_cell_model.specs.History.{IsSound};
+ghost use Rattle.async_cell_model.specs.Machine.{IsSound};
 ghost use Rattle.async_cell_model.specs.Refusal.{FailsWithMemory};
 
 use super::CellCore;
@@ -28,7 +28,7 @@ impl<M: Stores<Core = CellCore<T, W>>, T: Drop, W: Wakes> StoredCore<M> {
     pub fn try_get<'a, R: Opens<'a, M>>(&'a self, rt: &R) -> Result<Option<T>, Refusal>
     where
         T: Clone,
-        ensures sure { ((value : T) → T.is_infallible value) → IsOk result }
+        ensures if_infallible { ((value : T) → T.is_infallible value) → IsOk result }
         ensures refused { FailsWithMemory result }
     {
         let Some(step) = self.look(rt) else {

@@ -1,6 +1,6 @@
 //! The calls of a cell, over any store: each makes its change in one step.
 ghost use Rattle.std.specs.Prelude.{◌≡◌, ◌⊎◌, Option, IfErr, OnOk};
-ghost use Rattle.async_cell_model.specs.History.{IsSound};
+ghost use Rattle.async_cell_model.specs.Machine.{IsSound};
 ghost use Rattle.async_cell_model.specs.Refusal.{FailsWithClosed, FailsWithMemory};
 
 use super::CellCore;

@@ -1,4 +1,4 @@
-use Rattle.async_cell_model.specs.Clones.{UpToClones}
+use Rattle.async_cell_model.specs.Machine.{UpToClones}
 use Rattle.async_cell_core.proofs.LongerRuns.{two_runs}
 use Rattle.async_cell_core.proofs.laws.two_runs_are_one.Goals as goal
 

@@ -1,7 +1,7 @@
 use Rattle.std.proofs.Common.{◌≡◌, [], arith, sym, ◌∙◌, append_assoc, append-nil, length-append}
 use Rattle.std.proofs.lemmas.List.{nil_from_length}
 use Rattle.std.specs.Vec.Iter.{into_iter_items}
-use Rattle.async_cell_model.specs.Legal.{UpToClones}
+use Rattle.async_cell_model.specs.Machine.{UpToClones}
 use Rattle.async_cell_model.proofs.Machine.{model_up_to}
 use Rattle.async_cell_model.proofs.UpTo.{exact_told}
 use Rattle.async_cell_core.proofs.LongerRuns.{run_more, copied_more, copies_are}

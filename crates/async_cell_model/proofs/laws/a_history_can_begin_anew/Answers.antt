@@ -10,5 +10,5 @@ returns ctx c = record {
   legal = λ will_wake sure b g h sound legal. IsLegal-anew ctx.T.Clone.is_clone will_wake sure b g h sound legal;
   cell = λ will_wake b g h. cell_after-append b.cell g h;
   waiting = λ will_wake b g h. waiting-append will_wake b g h;
-  room = λ will_wake b g h sound. room-append will_wake b g h sound.kept;
+  room = λ will_wake b g h sound. room-append will_wake b g h sound.none_skipped;
 }

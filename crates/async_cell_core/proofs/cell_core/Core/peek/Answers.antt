@@ -1,5 +1,5 @@
 use Rattle.std.proofs.Common.{rules, ◌≡◌, Some, refl}
-use Rattle.async_cell_model.specs.Cell.{content}
+use Rattle.async_cell_model.specs.Machine.{content}
 use Rattle.async_cell_core.proofs.cell_core.Core.peek.Goals as goal
 
 pub returns-in-Some-clause-called : goal.returns-in-Some-clause-called

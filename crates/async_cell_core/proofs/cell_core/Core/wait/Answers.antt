@@ -1,5 +1,5 @@
 use Rattle.std.proofs.Common.{rules, ◌≡◌, false, refl}
-use Rattle.async_cell_model.specs.WaitList.{skips}
+use Rattle.async_cell_model.specs.Machine.{skips}
 use Rattle.async_cell_model.proofs.WaitingPoll.{get_added, take_added}
 use Rattle.async_cell_core.proofs.cell_core.Core.wait.Goals as goal
 

@@ -2,7 +2,7 @@ use Rattle.std.proofs.Common.{◌≡◌, ◌≤◌, ◌+◌, List, map, length, 
 use Rattle.std.specs.Vec.Iter.{into_iter_items, into_iter_len}
 use Rattle.async_cell_wakers.specs.declared.named.Named.{Named}
 use Rattle.async_cell_driver.specs.Log.{log_of, with_edit}
-use Rattle.async_cell_driver.specs.Drives.{AllSpared, Drives, KeepsResults}
+use Rattle.async_cell_driver.specs.Drives.{AllSpared, Drives, ResultsStay}
 use Rattle.async_cell_driver.proofs.driver.Driver.apply.Given as goal
 
 -- the events that happened so far, and what they were told
@@ -14,5 +14,5 @@ invariant-loop-event g l = record {
   drives : (handed : List (List Named)) × (length handed ≡ length l.yielded)
       × Drives g.T.Clone.is_clone l.fn.self (log_of (map (with_edit g.E.Edit.edit) l.yielded) l.told.items handed) l.self
       × AllSpared g.T.Clone.is_infallible l.fn.self (log_of (map (with_edit g.E.Edit.edit) l.yielded) l.told.items handed);
-  results : KeepsResults l.fn.self l.self;
+  results : ResultsStay l.fn.self l.self;
 }

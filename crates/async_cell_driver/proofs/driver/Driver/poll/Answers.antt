@@ -50,11 +50,11 @@ pub returns-clause-others_stay : goal.returns-clause-others_stay
 returns-clause-others_stay g c j other =
     rw (c.set_mark.ensures, ← c.self.view_is) (others_stay c.ask-asked.new.core (record { core = c.self.inside.core; tasks = c.self.inside.tasks }) c.mark_of.result c.args.i j (λ same. other (sym same)))
 
-pub returns-in_default-clause-sure : goal.returns-in_default-clause-sure
-returns-in_default-clause-sure g c not_vacant = sure_anyway _ _ _ refl
+pub returns-in_default-clause-if_infallible : goal.returns-in_default-clause-if_infallible
+returns-in_default-clause-if_infallible g c not_vacant = sure_anyway _ _ _ refl
 
-pub returns-clause-sure : goal.returns-clause-sure
-returns-clause-sure g c = rw (← c.self.view_is, c.polled.ensures) (λ not_vacant. sure_polled _ _ c.ask-asked.result (c.ask-asked.ensures.sure not_vacant))
+pub returns-clause-if_infallible : goal.returns-clause-if_infallible
+returns-clause-if_infallible g c = rw (← c.self.view_is, c.polled.ensures) (λ not_vacant. sure_polled _ _ c.ask-asked.result (c.ask-asked.ensures.if_infallible not_vacant))
 
 pub returns-in_default-clause-taker : goal.returns-in_default-clause-taker
 returns-in_default-clause-taker g c =

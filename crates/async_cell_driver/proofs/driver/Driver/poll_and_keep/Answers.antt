@@ -58,12 +58,12 @@ pub returns-in_default : goal.returns-in_default
 returns-in_default g c =
     let asked = c.in_ok-content.ensures in
     let one = one_pending g.T.Clone.is_clone c.args.self.now c.poll.new.self c.args.i c.in_ok-content.field-0 c.in_default.not-Ready asked.results_stay asked.drives in
-    record { settles = (told.Polled c.in_ok-content.field-0, one.0); ready_no_more = asked.ready_no_more; others_stay = asked.others_stay; size = one.1; sure = λ not_vacant. sure_anyway _ _ _ refl }
+    record { settles = (told.Polled c.in_ok-content.field-0, one.0); ready_no_more = asked.ready_no_more; others_stay = asked.others_stay; size = one.1; if_infallible = λ not_vacant. sure_anyway _ _ _ refl }
 
-pub returns-in-Ready-clause-sure : goal.returns-in-Ready-clause-sure
-returns-in-Ready-clause-sure g c not_vacant = sure_anyway _ _ _ refl
+pub returns-in-Ready-clause-if_infallible : goal.returns-in-Ready-clause-if_infallible
+returns-in-Ready-clause-if_infallible g c not_vacant = sure_anyway _ _ _ refl
 
-pub returns-in_err-content-clause-sure : goal.returns-in_err-content-clause-sure
-returns-in_err-content-clause-sure g c =
+pub returns-in_err-content-clause-if_infallible : goal.returns-in_err-content-clause-if_infallible
+returns-in_err-content-clause-if_infallible g c =
     let p = err_from_is_err_and c.from_residual.result c.from_residual.ensures.1 in
-    rw (p.1, c.in_err-content.ensures.refused.1) c.in_err-content.ensures.sure
+    rw (p.1, c.in_err-content.ensures.refused.1) c.in_err-content.ensures.if_infallible

@@ -61,10 +61,10 @@ returns-clause-none_waits g c =
     let here = c.loop-i.invariant in
     none_waits c.loop-i.self here.settled.1.drives.none_forgotten (none_ready c.loop-i.self c.loop-i.i (omega (arith, here.size, here.ends)) here.passed)
 
-pub returns-in_err-poll_and_keep-clause-sure : goal.returns-in_err-poll_and_keep-clause-sure
-returns-in_err-poll_and_keep-clause-sure g c =
+pub returns-in_err-poll_and_keep-clause-if_infallible : goal.returns-in_err-poll_and_keep-clause-if_infallible
+returns-in_err-poll_and_keep-clause-if_infallible g c =
     let p = err_from_is_err_and c.from_residual.result c.from_residual.ensures.1 in
-    rw p.1 c.in_err-poll_and_keep.ensures.sure
+    rw p.1 c.in_err-poll_and_keep.ensures.if_infallible
 
-pub returns-clause-sure : goal.returns-clause-sure
-returns-clause-sure g c not_vacant = sure_anyway _ _ _ refl
+pub returns-clause-if_infallible : goal.returns-clause-if_infallible
+returns-clause-if_infallible g c not_vacant = sure_anyway _ _ _ refl

@@ -7,16 +7,16 @@ use Rattle.async_cell_latest_sync.proofs.awaited.WaitForFuture.poll.Goals as goa
 use Rattle.async_cell_latest_sync.proofs.awaited.WaitForFuture.poll.Goals.{in-Ready-Err-poll, in-Ready-Ok-poll, in-Pending-poll}
 
 -- the value that was cloned is the one that the predicate was called on
-pub returns-in-Some-found-clause-of_one_state : goal.returns-in-Some-found-clause-of_one_state
-returns-in-Some-found-clause-of_one_state g c =
-    let one = c.in-Some.ensures.of_one_state in
+pub returns-in-Some-found-clause-of_some_state : goal.returns-in-Some-found-clause-of_some_state
+returns-in-Some-found-clause-of_some_state g c =
+    let one = c.in-Some.ensures.of_some_state in
     let tested = rw c.in-Ok.is at one.2 in
     let found = rw c.in-Some-found.is at tested in
     (one.0, one.1, (found.1, found.0))
 
 pub returns-in-Some-found-clause-value : goal.returns-in-Some-found-clause-value
 returns-in-Some-found-clause-value g c =
-    let one = c.in-Some.ensures.of_one_state in
+    let one = c.in-Some.ensures.of_some_state in
     let tested = rw c.in-Ok.is at one.2 in
     let found = rw c.in-Some-found.is at tested in
     (tt, (one.0.value, found.1, ([], _, _, refl, found.0)))
@@ -24,7 +24,7 @@ returns-in-Some-found-clause-value g c =
 -- where it was false, what is found later is found after it
 pub returns-clause-same : goal.returns-clause-same
 returns-clause-same g c =
-    let one = c.in-Some.ensures.of_one_state in
+    let one = c.in-Some.ensures.of_some_state in
     let tested = rw c.in-Ok.is at one.2 in
     let denied = rw c.in_default-found.is at tested in
     let Kept : WaitFor g.row.T.Denot g.row.R.Denot g.row.F.Denot → Type 0 = (λ self. CalledAt g.F.FnMut c.args.self.now.predicate one.0.value false self.predicate) in
@@ -37,7 +37,7 @@ returns-clause-same g c =
 
 pub returns-clause-looked : goal.returns-clause-looked
 returns-clause-looked g c =
-    let one = c.in-Some.ensures.of_one_state in
+    let one = c.in-Some.ensures.of_some_state in
     let tested = rw c.in-Ok.is at one.2 in
     let denied = rw c.in_default-found.is at tested in
     let Kept : WaitFor g.row.T.Denot g.row.R.Denot g.row.F.Denot → Type 0 = (λ self. CalledAt g.F.FnMut c.args.self.now.predicate one.0.value false self.predicate) in

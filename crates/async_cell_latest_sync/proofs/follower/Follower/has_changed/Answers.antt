@@ -4,5 +4,5 @@ use Rattle.async_cell_latest_sync.proofs.follower.Follower.has_changed.Goals as 
 -- the state whose version was read is the one that was locked
 pub returns : goal.returns
 returns g c =
-    let one = c.version.ensures.of_one_state in
-    record { of_one_state = (one.0, search rules) }
+    let one = c.version.ensures.of_some_state in
+    record { of_some_state = (one.0, search rules) }

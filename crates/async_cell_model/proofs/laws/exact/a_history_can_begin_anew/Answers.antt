@@ -17,5 +17,5 @@ returns ctx c = record {
       (IsLegal-anew NoClone will_wake sure b g h sound (legal_of_exact will_wake sure b _ legal));
   cell = λ will_wake b g h. cell_after-append b.cell g h;
   waiting = λ will_wake b g h. waiting-append will_wake b g h;
-  room = λ will_wake b g h sound. room-append will_wake b g h sound.kept;
+  room = λ will_wake b g h sound. room-append will_wake b g h sound.none_skipped;
 }

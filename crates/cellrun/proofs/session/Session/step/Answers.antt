@@ -1,6 +1,5 @@
 use Rattle.std.proofs.Common.{◌≡◌, true, [], Some, None, OnOk, rules, refl, sym, ap, subst}
-use Rattle.async_cell_model.specs.Cell.{content}
-use Rattle.async_cell_model.specs.Machine.{Does}
+use Rattle.async_cell_model.specs.Machine.{content, Does}
 use Rattle.async_cell_model.specs.declared.reply.Reply.TheVariants.{Refused}
 use Rattle.async_cell_wakers.specs.Named.{same_name}
 use Rattle.cellrun.specs.declared.command.Command.TheVariants.{UpdatePut, UpdateNone, UpdateKeep}

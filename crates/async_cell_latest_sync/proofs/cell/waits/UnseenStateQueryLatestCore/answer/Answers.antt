@@ -1,4 +1,4 @@
-use Rattle.async_cell_latest_sync.proofs.OneState.{unseen}
+use Rattle.async_cell_latest_sync.proofs.SomeState.{unseen}
 use Rattle.async_cell_latest_sync.proofs.cell.waits.UnseenStateQueryLatestCore.answer.Goals as goal
 
 pub returns-in-true-clause-gives : goal.returns-in-true-clause-gives

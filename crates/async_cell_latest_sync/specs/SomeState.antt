@@ -5,5 +5,5 @@ use Rattle.async_cell_latest.specs.State.{State}
 
 module _ {T : Type 0} where
   -- P holds of a state that has this version
-  abbrev pub OfOneState : ℕ → (State T TaskWaker → Type 0) → Type 0
-  OfOneState version P = (s : State T TaskWaker) × (version ≡ s.version) × P s
+  abbrev pub SomeState : ℕ → (State T TaskWaker → Type 0) → Type 0
+  SomeState version P = (s : State T TaskWaker) × (version ≡ s.version) × P s
