@@ -225,7 +225,7 @@ module _ {T : Type 0} where
   sure_after None P R Q follows sure = follows sure
   sure_after (Some value) P R Q follows sure = λ q. follows (sure q)
 
-  -- where a poll is sure, a refusal of it is spared
+  -- where a poll cannot fail, a refusal of it is spared
   pub spared_refused : (is_infallible : T → Type 0) (c : Cell T) (i : ℕ) (why : Refusal) (result : Result (Polled T) Refusal) → result ≡ Err why
       → (is_vacant c ≡ false → MatchOption (content c) (IsOk result) (λ value. is_infallible value → IsOk result))
       → IsSpared is_infallible c (event.Poll i) (told.Refused why)
@@ -236,7 +236,7 @@ module _ {T : Type 0} where
   ok_polled (Ok Pending) ok = refl
   ok_polled (Err why) ok = cc
 
-  -- what the task's poll answers is as sure as the core's answer
+  -- where the core's answer cannot fail, the task's poll cannot
   pub sure_polled : (o : Option T) (Q : T → Type 0) (asked : Result (Poll (Option T)) Refusal) → MatchOption o (IsOk asked) (λ value. Q value → IsOk asked)
       → MatchOption o (IsOk (polled_of asked)) (λ value. Q value → IsOk (polled_of asked))
   sure_polled o Q asked sure = sure_after o (IsOk asked) (IsOk (polled_of asked)) Q (ok_polled asked) sure

@@ -96,7 +96,7 @@ module _ {T W : Type 0} where
   closed_gives EndOwner = record { fits = none }
   closed_gives TakeInner = record { fits = none }
 
-  -- the content stays, and nothing is given
+  -- the content stays, and nothing is taken out
   stays : (value : Option T) (call : Kept T W) → IsSubsequence (option_to_list value) (option_to_list value ++ option_to_list (put_by call))
   stays None call = IsSubsequence-nil _
   stays (Some v) call = both (IsSubsequence-nil _)

@@ -1,5 +1,5 @@
 /// A cell of the model: closed, or open with an optional value and a number of owners. It holds no
-/// wakers: the wait list is computed from the history of the calls.
+/// wakers: a state has the wait list beside it.
 #[derive(Clone, Copy, Debug, Drop, PartialEq, Eq)]
 pub enum Cell<T> {
     /// The last owner is gone, and the value with it.
