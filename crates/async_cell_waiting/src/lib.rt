@@ -10,6 +10,7 @@ mod polls;
 mod query;
 mod room;
 mod store;
+mod told;
 mod with;
 
 pub use cell_core::{CellCore, Cloning, Taking};
@@ -18,4 +19,5 @@ pub use polls::poll;
 pub use query::Query;
 pub use room::Room;
 pub use store::{Lender, Lent, Lock, Locked, OneThread, Opens, Step, StoredCore, Stores};
+pub use told::{Naming, Past, Unnamed, Witness};
 pub use with::{At, Places, Polled, Request, Takes, Upgrade, Values, With, weakly};

@@ -1,35 +1,70 @@
 //! The calls that a step may make of a core. Only this module sees the core: each function makes
 //! one call of it, and holds what comes out, which the end of a step alone lets go.
-ghost use Rattle.std.specs.Prelude.{◌≡◌, ◌⊎◌, Option, IfErr, IfOk, IfSome, IsOk, IsSomeAnd, OnOk, IsTrue};
+ghost use Rattle.std.specs.Prelude.{◌≡◌, ◌⊎◌, [], Option, IfErr, IfOk, IfSome, IsOk, IsSomeAnd, OnOk, IsTrue};
 ghost use Rattle.std.specs.Fn.{FnOnceReturnsAt};
 ghost use Rattle.async_cell_model.specs.Machine.{content, is_vacant, IsSound};
+ghost use Rattle.async_cell_waiting.specs.Told.{Fits};
 ghost use Rattle.async_cell_model.specs.Refusal.{FailsWithClosed, FailsWithMemory};
 
 use crate::ended::{Held, Writes};
 use crate::room::Room;
+use crate::told::*;
 use async_cell_core::{Core, Place, Poll, Refusal, TaskWaker, Wakers, Wakes, end_guard};
+use async_cell_model::Kept;
 use futures::task::Waker;
 use std::alloc::Global;
 use std::fmt;
+use std::marker::Model;
 
 /// The core of a cell, whose own calls it hides: what they return would be woken or dropped during
 /// a step. Its own hold what comes out.
 #[derive(Drop)]
-pub struct CellCore<T, W: Wakes> {
+pub struct CellCore<T, W: Wakes, N: Naming<T, W> = Unnamed> {
     inner: Core<T, W>,
+    past: Past<T, W, N>,
+}
+
+/// Contracts see the state of the core, and its past, which leads to it.
+impl<T, W: Wakes, N: Naming<T, W>> Model for CellCore<T, W, N> {
+    ghost use Rattle.async_cell_waiting.specs.Told.{Desk, Leads};
+
+    ghost Value = { Desk T W };
+
+    ghost view = { λ c. record { inner = c.inner; past = c.past } };
+
+    ghost invariant = { λ c. Leads W.will_wake W.SURE_CLONE c.past c.inner };
 }
 
 impl<T: Drop, W: Wakes> CellCore<T, W> {
     /// Wraps the core, whatever its state.
     pub fn of(core: Core<T, W>) -> Self {
-        CellCore { inner: core }
+        let opened = Opened::of(&core);
+        CellCore::begin(core, opened)
+    }
+}
+
+impl<T: Drop, W: Wakes, N: Naming<T, W>> CellCore<T, W, N> {
+    /// Wraps the core, which begins its history.
+    #[inline(always)]
+    #[tactic(auto, using(crate::proofs::Leading::leads_start))]
+    pub fn begin(core: Core<T, W>, opened: Opened<T, W>) -> Self
+        requires named { Fits N.named opened }
+        requires begins { opened.start ≡ core }
+        ensures begun { result.past.begun ≡ opened }
+        ensures empty { result.past.calls ≡ [] }
+    {
+        core.soundness();
+        CellCore {
+            inner: core,
+            past: Past::of(opened),
+        }
     }
 
     /// Returns the core. Ensures what holds of every core.
     pub fn into_core(self) -> Core<T, W>
         ensures { IsSound W.will_wake result }
     {
-        let CellCore { inner } = self;
+        let CellCore { inner, past: _ } = self;
         inner.soundness();
         inner
     }
@@ -106,32 +141,67 @@ impl<T: Drop, W: Wakes> CellCore<T, W> {
 
     #[inline(always)]
     pub(crate) fn overwrite(&mut self, value: T) -> Held<Result<T, T>>
+        requires may { N.may (Kept.Replace value) }
         ensures comes_back { IfErr result.answer (λ back. back ≡ value) }
     {
-        Held::of(self.inner.overwrite(value))
+        let asked = Asked::of(&self.inner, &value);
+        let written = self.inner.overwrite(value);
+        if let Ok(old) = &written {
+            asked.enter(&mut self.past, &Overwrites, old, &self.inner);
+        }
+        Held::of(written)
     }
 
     #[inline(always)]
     pub(crate) fn fill_first(&mut self, value: T) -> Result<Held<(), Option<W>>, Held<T>>
+        requires may { N.may (Kept.Replace value) }
         ensures comes_back { IfErr result (λ back. back.answer ≡ value) }
     {
+        let asked = Asked::of(&self.inner, &value);
         match self.inner.fill_first(value) {
-            Ok(first) => Ok(Held::waking((), first)),
+            Ok(first) => {
+                asked.enter(&mut self.past, &FillsFirst, &first, &self.inner);
+                Ok(Held::waking((), first))
+            }
             Err(value) => Err(Held::of(value)),
         }
     }
 
     #[inline(always)]
-    pub(crate) fn put_quiet(&mut self, value: T) -> Result<(), Held<T>> {
-        self.inner.put_quiet(value).map_err(Held::of)
+    pub(crate) fn put_quiet(&mut self, value: T) -> Result<(), Held<T>>
+        requires may { N.may (Kept.Replace value) }
+    {
+        let asked = Asked::of(&self.inner, &value);
+        match self.inner.put_quiet(value) {
+            Ok(()) => {
+                asked.enter(&mut self.past, &PutsQuietly, &(), &self.inner);
+                Ok(())
+            }
+            Err(value) => Err(Held::of(value)),
+        }
+    }
+
+    #[inline(always)]
+    pub(crate) fn replace(&mut self, value: T) -> Held<Result<Option<T>, T>, Option<Wakers<W>>>
+        requires may { N.may (Kept.Replace value) }
+        ensures comes_back { IfErr result.answer (λ back. back ≡ value) }
+    {
+        let asked = Asked::of(&self.inner, &value);
+        let written = self.inner.replace(value);
+        asked.enter(&mut self.past, &Replaces, &written, &self.inner);
+        Held::of_result(written)
     }
 
     #[inline(always)]
     pub(crate) fn or_set(&mut self, value: T) -> Held<Result<Option<T>, T>, Option<Wakers<W>>>
+        requires may { N.may (Kept.OrSet value) }
         ensures unused { IfOk result.answer (λ unused. IfSome unused (λ back. back ≡ value)) }
         ensures comes_back { IfErr result.answer (λ back. back ≡ value) }
     {
-        match self.inner.or_set(value) {
+        let asked = Asked::of(&self.inner, &value);
+        let written = self.inner.or_set(value);
+        asked.enter(&mut self.past, &OrSets, &written, &self.inner);
+        match written {
             Ok((unused, woken)) => Held::waking(Ok(unused), Some(woken)),
             Err(value) => Held::waking(Err(value), None),
         }
@@ -141,11 +211,15 @@ impl<T: Drop, W: Wakes> CellCore<T, W> {
     pub(crate) fn update<F>(&mut self, change: F) -> Held<Result<(), Refusal>, Option<Wakers<W>>>
     where
         F: FnOnce(Option<T>) -> Option<T> + Drop,
-        requires { F.IsAlwaysCallable change }
+        requires callable { F.IsAlwaysCallable change }
+        requires may { (saw put : Option T) → N.may (Kept.Update saw put) }
         ensures called { OnOk result.answer ((saw put : Option T) × F.post change saw put) }
         ensures refused { FailsWithClosed result.answer }
     {
-        match self.inner.update(change) {
+        let asked = Asked::of(&self.inner, &());
+        let updated = self.inner.update(change);
+        asked.enter(&mut self.past, &Updates, &updated, &self.inner);
+        match updated {
             Ok(woken) => Held::waking(Ok(()), Some(woken)),
             Err(why) => Held::waking(Err(why), None),
         }
@@ -155,22 +229,32 @@ impl<T: Drop, W: Wakes> CellCore<T, W> {
     pub(crate) fn update_some<F>(&mut self, change: F) -> Held<Result<(), Refusal>>
     where
         F: FnOnce(T) -> T + Drop,
-        requires { F.IsAlwaysCallable change }
+        requires callable { F.IsAlwaysCallable change }
+        requires may { (saw put : Option T) → N.may (Kept.UpdateSome saw put) }
         ensures refused { FailsWithClosed result.answer }
     {
-        Held::of(self.inner.update_some(change))
+        let asked = Asked::of(&self.inner, &());
+        let updated = self.inner.update_some(change);
+        asked.enter(&mut self.past, &UpdatesSome, &updated, &self.inner);
+        Held::of(updated)
     }
 
     #[inline(always)]
     pub(crate) fn try_take(&mut self) -> Held<Option<T>> {
-        Held::of(self.inner.try_take())
+        let asked = Asked::of(&self.inner, &());
+        let taken = self.inner.try_take();
+        asked.enter(&mut self.past, &TryTakes, &taken, &self.inner);
+        Held::of(taken)
     }
 
     #[inline(always)]
     pub(crate) fn poll_take(&mut self, waker: &W) -> Held<Result<Poll<Option<T>>, Refusal>>
         ensures refused { FailsWithMemory result.answer }
     {
-        Held::of(self.inner.poll_take(waker))
+        let asked = Asked::of(&self.inner, waker);
+        let polled = self.inner.poll_take(waker);
+        asked.enter(&mut self.past, &PollsTake, &polled, &self.inner);
+        Held::of(polled)
     }
 
     #[inline(always)]
@@ -179,7 +263,13 @@ impl<T: Drop, W: Wakes> CellCore<T, W> {
         T: Clone,
         ensures refused { FailsWithMemory result.answer }
     {
-        Held::of(self.inner.poll_get(waker))
+        let asked = Asked::of(&self.inner, waker);
+        let polled = self.inner.poll_get(waker);
+        match &polled {
+            Ok(Poll::Ready(_)) => {} // It changed nothing.
+            _ => asked.enter(&mut self.past, &PollsGet, &polled, &self.inner),
+        }
+        Held::of(polled)
     }
 
     #[inline(always)]
@@ -190,8 +280,18 @@ impl<T: Drop, W: Wakes> CellCore<T, W> {
     }
 
     #[inline(always)]
-    pub(crate) fn end_guard(&mut self, cancel: Option<T>) -> Held<Option<T>, Option<Wakers<W>>> {
-        let (unused, woken) = end_guard(&mut self.inner, cancel);
+    pub(crate) fn end_guard(&mut self, cancel: Option<T>) -> Held<Option<T>, Option<Wakers<W>>>
+        requires may { IfSome cancel (λ value. N.may (Kept.OrSet value)) }
+    {
+        let asked = match &cancel {
+            Some(value) => Some(Asked::of(&self.inner, value)),
+            None => None,
+        };
+        let ended = end_guard(&mut self.inner, cancel);
+        if let Some(asked) = &asked {
+            asked.enter(&mut self.past, &EndsGuard, &ended, &self.inner);
+        }
+        let (unused, woken) = ended;
         Held::waking(unused, Some(woken))
     }
 
@@ -200,17 +300,28 @@ impl<T: Drop, W: Wakes> CellCore<T, W> {
         ensures refused { IfErr result.answer (λ why.
             (why ≡ Refusal.Closed) ⊎ (why ≡ Refusal.OwnersFull)) }
     {
-        Held::of(self.inner.add_owner())
+        let asked = Asked::of(&self.inner, &());
+        let added = self.inner.add_owner();
+        asked.enter(&mut self.past, &AddsOwner, &added, &self.inner);
+        Held::of(added)
     }
 
     #[inline(always)]
     pub(crate) fn end_other(&mut self) -> bool {
-        self.inner.end_other()
+        let asked = Asked::of(&self.inner, &());
+        let is_other = self.inner.end_other();
+        if is_other {
+            asked.enter(&mut self.past, &EndsOther, &is_other, &self.inner);
+        }
+        is_other
     }
 
     #[inline(always)]
     pub(crate) fn close_first(&mut self) -> Option<Held<Option<T>, Option<W>>> {
-        let (value, first) = self.inner.close_first()?;
+        let asked = Asked::of(&self.inner, &());
+        let closed = self.inner.close_first()?;
+        asked.enter(&mut self.past, &ClosesFirst, &closed, &self.inner);
+        let (value, first) = closed;
         Some(Held::waking(value, first))
     }
 
@@ -218,7 +329,10 @@ impl<T: Drop, W: Wakes> CellCore<T, W> {
     pub(crate) fn end_owner(&mut self) -> Held<Result<Option<T>, Refusal>, Option<Wakers<W>>>
         ensures refused { FailsWithClosed result.answer }
     {
-        Held::of_result(self.inner.end_owner())
+        let asked = Asked::of(&self.inner, &());
+        let ended = self.inner.end_owner();
+        asked.enter(&mut self.past, &EndsOwner, &ended, &self.inner);
+        Held::of_result(ended)
     }
 
     #[inline(always)]
@@ -226,7 +340,10 @@ impl<T: Drop, W: Wakes> CellCore<T, W> {
         ensures refused { IfErr result.answer (λ why.
             (why ≡ Refusal.Closed) ⊎ (why ≡ Refusal.StillShared)) }
     {
-        Held::of_result(self.inner.take_inner())
+        let asked = Asked::of(&self.inner, &());
+        let taken = self.inner.take_inner();
+        asked.enter(&mut self.past, &TakesInner, &taken, &self.inner);
+        Held::of_result(taken)
     }
 }
 
@@ -237,11 +354,11 @@ impl<T: Drop, W: Wakes> Writes<T> for CellCore<T, W> {
 
     #[inline(always)]
     fn write(&mut self, value: T) -> Held<Result<Option<T>, T>, Option<Wakers<W>>> {
-        Held::of_result(self.inner.replace(value))
+        self.replace(value)
     }
 }
 
-impl<T: Drop> Room for CellCore<T, TaskWaker> {
+impl<T: Drop, N: Naming<T, TaskWaker>> Room for CellCore<T, TaskWaker, N> {
     ghost use Rattle.std.specs.Prelude.{◌≡◌, true};
     ghost use Rattle.async_cell_model.specs.Machine.{is_vacant};
 
@@ -253,7 +370,12 @@ impl<T: Drop> Room for CellCore<T, TaskWaker> {
 
     #[inline(always)]
     fn add(&mut self, waker: TaskWaker) -> Held<Result<(), TaskWaker>> {
-        Held::of(self.inner.add(waker))
+        let asked = Asked::of(&self.inner, &waker);
+        let added = self.inner.add(waker);
+        if added.is_ok() {
+            asked.enter(&mut self.past, &Waits, &(), &self.inner);
+        }
+        Held::of(added)
     }
 
     #[inline(always)]
@@ -263,7 +385,12 @@ impl<T: Drop> Room for CellCore<T, TaskWaker> {
 
     #[inline(always)]
     fn store_new(&mut self, place: &mut Place, waker: TaskWaker) -> Held<Result<(), TaskWaker>> {
-        Held::of(self.inner.store_new(place, waker))
+        let asked = Asked::of(&self.inner, &waker);
+        let stored = self.inner.store_new(place, waker);
+        if stored.is_ok() {
+            asked.enter(&mut self.past, &Waits, &(), &self.inner);
+        }
+        Held::of(stored)
     }
 
     #[inline(always)]
@@ -277,7 +404,13 @@ impl<T: Drop> Room for CellCore<T, TaskWaker> {
         place: &mut Place,
         waker: TaskWaker,
     ) -> Held<Result<Option<TaskWaker>, TaskWaker>> {
-        Held::of(self.inner.store(place, waker))
+        let asked = Asked::of(&self.inner, &waker);
+        let stored = self.inner.store(place, waker);
+        // If another one stood in the place, the future waited already.
+        if let Ok(None) = &stored {
+            asked.enter(&mut self.past, &Waits, &(), &self.inner);
+        }
+        Held::of(stored)
     }
 
     #[inline(always)]

@@ -1,0 +1,44 @@
+-- What one more call makes of a past that leads to a core.
+use Rattle.std.proofs.Common.{◌≡◌, ◌≤◌, ℕ, Bool, true, List, [], ◌∷◌, ◌++◌, refl, ap, sym, subst, ◌∙◌}
+use Rattle.async_cell_model.specs.declared.entry.Entry.{Entry}
+use Rattle.async_cell_model.specs.Machine.{State, IsSound, Does}
+use Rattle.async_cell_model.specs.History.{History}
+use Rattle.async_cell_model.specs.Legal.{IsLegal, Runs, wakes_after}
+use Rattle.async_cell_model.proofs.LegalHistories.{Runs-join, Runs-nil}
+use Rattle.async_cell_model.proofs.Machine.{model_of}
+use Rattle.async_cell_waiting.specs.Told.{Past, Leads, IsAllowed, IsLawful}
+use Rattle.std.specs.List.{All}
+use Rattle.std.proofs.lemmas.List.Elements.{All-append, All-cons, All-nil}
+use Rattle.async_cell_model.specs.declared.entry.Kept.{Kept}
+
+module _ {T W : Type 0} (will_wake : W → W → Bool) (sure : Bool) where
+  -- no calls lead to the first state
+  pub leads_start : (past : Past T W) (core : State T W) → past.calls ≡ [] → past.begun.start ≡ core → IsSound will_wake core → Leads will_wake sure past core
+  leads_start past core empty first sound = rw (empty, first) (Runs-nil will_wake sure core sound)
+
+  -- the calls that are one more lead to the state after it
+  pub leads_more : (past now : Past T W) (from to : State T W) (e : Entry T W) (woken : List W) → Leads will_wake sure past from → Does will_wake sure from e woken to → now.begun ≡ past.begun → now.calls ≡ past.calls ++ e ∷ [] → Leads will_wake sure now to
+  leads_more past now from to e woken led does begun calls =
+      let both = Runs-join will_wake sure past.begun.start from to past.calls (e ∷ []) _ (woken ∷ []) led (model_of will_wake sure from to e.call e.reply woken does) in
+      let longer : Runs will_wake sure past.begun.start (past.calls ++ e ∷ []) (wakes_after will_wake past.begun.start [] (past.calls ++ e ∷ [])) to = record {
+        sound = both.sound;
+        legal = both.legal;
+        cell_is = both.cell_is;
+        waiting_is = both.waiting_is;
+        room_is_left = both.room_is_left;
+        wakes_are = refl;
+      } in
+      rw (begun, calls) longer
+
+  -- and they are legal
+  pub legal_more : (past : Past T W) (from to : State T W) (e : Entry T W) (woken : List W) → Leads will_wake sure past from → Does will_wake sure from e woken to → IsLegal will_wake sure past.begun.start (past.calls ++ e ∷ [])
+  legal_more past from to e woken led does =
+      (leads_more past (record { begun = past.begun; calls = past.calls ++ e ∷ [] }) from to e woken led does refl refl).legal
+
+module _ {T W : Type 0} (may : Kept T W → Type 0) where
+  -- lawful calls, and one more that is legal and allowed
+  pub lawful_more : (will_wake : W → W → Bool) (sure : Bool) (start : State T W) (h : History T W) (e : Entry T W) → IsLawful will_wake sure may start h → IsLegal will_wake sure start (h ++ e ∷ []) → IsAllowed may e.call → IsLawful will_wake sure may start (h ++ e ∷ [])
+  lawful_more will_wake sure start h e lawful legal allowed = record {
+    legal = legal;
+    allowed = All-append (λ x. IsAllowed may x.call) h (e ∷ []) lawful.allowed (All-cons (λ x. IsAllowed may x.call) e [] allowed (All-nil (λ x. IsAllowed may x.call)));
+  }

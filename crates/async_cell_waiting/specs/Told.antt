@@ -1,0 +1,119 @@
+-- What is told of a cell: which cell it is, its history, and what a call adds to it.
+use Rattle.std.specs.Prelude.{◌≡◌, ℕ, Bool, true, false, List, [], ◌∷◌, ◌++◌, ⊤, Option, Some, None, Result, Ok, Err}
+use Rattle.std.specs.List.{All}
+use mathlib.Core.List.{IsPrefix}
+use Rattle.async_cell_model.specs.declared.cell.Cell.TheVariants.{Closed}
+use Rattle.async_cell_model.specs.declared.entry.Entry.{Entry}
+use Rattle.async_cell_model.specs.declared.entry.Kept.{Kept}
+use Rattle.async_cell_model.specs.declared.entry.Kept.TheVariants.{Set, OrSet, Replace, Update, UpdateSome}
+use Rattle.async_cell_model.specs.declared.refusal.Refusal.{Refusal}
+use Rattle.async_cell_model.specs.declared.refusal.Refusal.TheVariants as why
+use Rattle.async_cell_model.specs.declared.reply.Reply.{Reply}
+use Rattle.async_cell_model.specs.declared.reply.Reply.TheVariants as reply
+use Rattle.async_cell_model.specs.Machine.{State, Does}
+use Rattle.async_cell_model.specs.History.{History, after}
+use Rattle.async_cell_model.specs.Legal.{IsLegal, Runs, wakes_after}
+use Rattle.async_cell_core.specs.declared.call.Answer.{Answer}
+
+-- how a named cell began: the name of its list of calls, and its first state
+pub record Begun (T W : Type 0) : Type 0 where
+  pub name : ℕ
+  pub start : State T W
+
+-- how a cell began, and the calls on it so far
+pub record Past (T W : Type 0) : Type 0 where
+  pub begun : Begun T W
+  pub calls : History T W
+
+-- a core, beside its past
+pub record Desk (T W : Type 0) : Type 0 where
+  pub inner : State T W
+  pub past : Past T W
+
+module _ {T W : Type 0} where
+  -- a cell without a name can have begun anyhow
+  abbrev pub Fits : Option (Begun T W) → Begun T W → Type 0
+  Fits None begun = ⊤
+  Fits (Some named) begun = begun ≡ named
+
+  -- the first state of a named cell
+  abbrev pub start_of : Option (Begun T W) → State T W
+  start_of None = record { cell = Closed; waiting = []; room = 0 }
+  start_of (Some named) = named.start
+
+  -- a call and the reply to it
+  abbrev pub entry_of : Kept T W → Answer T W → Entry T W
+  entry_of call answer = record { call = call; reply = answer.reply }
+
+  -- whether the call writes
+  abbrev pub is_write : Kept T W → Bool
+  is_write (Set x) = true
+  is_write (OrSet x) = true
+  is_write (Replace x) = true
+  is_write (Update saw put) = true
+  is_write (UpdateSome saw put) = true
+  is_write _ = false
+
+  -- a write is one that may be made; any other call is
+  abbrev pub IsAllowed : (Kept T W → Type 0) → Kept T W → Type 0
+  IsAllowed may call = is_write call ≡ true → may call
+
+module _ {T W : Type 0} (will_wake : W → W → Bool) (sure_wakers : Bool) where
+  -- the calls are legal, and lead from the first state to this one
+  abbrev pub Leads : Past T W → State T W → Type 0
+  Leads past at = Runs will_wake sure_wakers past.begun.start past.calls
+      (wakes_after will_wake past.begun.start [] past.calls) at
+
+  -- from this state the calls are legal, and the writes among them are allowed
+  pub record IsLawful (may : Kept T W → Type 0) (start : State T W) (calls : History T W)
+      : Type 0 where
+    pub legal : IsLegal will_wake sure_wakers start calls
+    pub allowed : All (λ e. IsAllowed may e.call) calls
+
+  -- these calls were seen of the cell with this name, whose list has this name
+  pub record IsSeen (may : Kept T W → Type 0) (named : Option (Begun T W)) (name : ℕ)
+      (calls : History T W) : Type 0 where
+    pub of_this : named ≡ Some (record { name = name; start = start_of named })
+    pub lawful : IsLawful may (start_of named) calls
+
+  -- the core made this call, which its past has now at the end
+  pub record Made (old : Desk T W) (call : Kept T W) (reply : Reply T) (new : Desk T W)
+      : Type 0 where
+    pub woken : List W
+    pub does : Does will_wake sure_wakers old.inner
+        (record { call = call; reply = reply }) woken new.inner
+    pub begun : new.past.begun ≡ old.past.begun
+    pub entered : new.past.calls ≡ old.past.calls ++ record { call = call; reply = reply } ∷ []
+
+  -- The calls that were seen have gone on, and end with this call and its reply. There it is a step
+  -- of the machine: on the state after all calls before it.
+  pub record IsTold (start : State T W) (seen : History T W) (call : Kept T W) (reply : Reply T)
+      (now : History T W) : Type 0 where
+    pub before : History T W
+    pub goes_on : IsPrefix seen before
+    pub ends : now ≡ before ++ record { call = call; reply = reply } ∷ []
+    pub woken : List W
+    pub does : Does will_wake sure_wakers (after will_wake start before)
+        (record { call = call; reply = reply }) woken (after will_wake start now)
+
+-- The reply that stands for what a call returned.
+module _ {T : Type 0} where
+  -- of `set`
+  abbrev pub set_reply : {A : Type 0} → Result A T → Reply T
+  set_reply (Ok _) = reply.Done
+  set_reply (Err back) = reply.Refused why.Closed (Some back)
+
+  -- of `replace` and `or_set`
+  abbrev pub write_reply : Result (Option T) T → Reply T
+  write_reply (Ok old) = reply.Value old
+  write_reply (Err back) = reply.Refused why.Closed (Some back)
+
+  -- of `update`, `update_some` and `add_owner`
+  abbrev pub done_reply : {A : Type 0} → Result A Refusal → Reply T
+  done_reply (Ok _) = reply.Done
+  done_reply (Err why) = reply.Refused why None
+
+  -- of `end_owner` and `take_inner`
+  abbrev pub end_reply : Result (Option T) Refusal → Reply T
+  end_reply (Ok value) = reply.Value value
+  end_reply (Err why) = reply.Refused why None

@@ -1,0 +1,11 @@
+//! What is told of a cell: its history, which exists in the proofs alone.
+mod entries;
+mod naming;
+mod past;
+mod witness;
+
+pub(crate) use entries::*;
+pub use naming::{Naming, Unnamed};
+pub(crate) use past::{Asked, Enters};
+pub use past::{Opened, Past};
+pub use witness::Witness;

@@ -1,0 +1,165 @@
+ghost use Rattle.std.specs.Prelude.{◌≡◌, [], ◌∷◌, ◌++◌};
+ghost use Rattle.async_cell_core.specs.IsStep.{IsStep};
+ghost use Rattle.async_cell_waiting.specs.Told.{Fits, IsAllowed, Leads, entry_of};
+
+use crate::told::Naming;
+use async_cell_core::{Core, Wakes};
+use async_cell_model::Entry;
+use ghost_log::{Log, Makes};
+use std::marker::{Model, PhantomData};
+use std::snapshot::Snapshot;
+
+/// Says which call of the model it is, by the states before and after it and by what was passed to
+/// it, and how it was answered, by what it returned. Only contracts read it.
+pub(crate) trait Enters<C, A, T, W> {
+    ghost use Rattle.async_cell_model.specs.declared.entry.Kept.{Kept};
+    ghost use Rattle.async_cell_model.specs.Machine.{State};
+    ghost use Rattle.async_cell_core.specs.declared.call.Answer.{Answer};
+
+    ghost call: { State T W → C → State T W → Kept T W };
+
+    ghost answer: { State T W → A → Answer T W };
+}
+
+/// A core that begins a history, which no type names yet.
+#[derive(Drop)]
+pub struct Opened<T, W: Wakes> {
+    log: Log<Entry<T, W>>,
+    start: Snapshot<Core<T, W>>,
+}
+
+/// Contracts see how it begins.
+impl<T, W: Wakes> Model for Opened<T, W> {
+    ghost use Rattle.std.specs.Prelude.{◌≡◌, []};
+    ghost use Rattle.async_cell_waiting.specs.Told.{Begun};
+
+    ghost Value = { Begun T W };
+
+    ghost view = { λ o. record { name = o.log.name; start = o.start.value } };
+
+    ghost invariant = { λ o. o.log.list ≡ [] };
+}
+
+impl<T, W: Wakes> Opened<T, W> {
+    /// Begins a history with this core.
+    #[inline(always)]
+    pub fn of(core: &Core<T, W>) -> Self
+        ensures { result.start ≡ core.now }
+    {
+        Opened {
+            log: Log::open(),
+            start: Snapshot::of(core),
+        }
+    }
+}
+
+/// The whole history of a cell, and the right to make it longer: it lies beside the core. It has no
+/// bytes.
+#[derive(Drop)]
+pub struct Past<T, W: Wakes, N: Naming<T, W>> {
+    pub(super) log: Log<Entry<T, W>>,
+    of: PhantomData<N>,
+    start: Snapshot<Core<T, W>>,
+}
+
+/// Contracts see how the cell began, and its calls so far.
+impl<T, W: Wakes, N: Naming<T, W>> Model for Past<T, W, N> {
+    ghost use Rattle.async_cell_waiting.specs.Told.{Fits, IsLawful, Past as PastCalls};
+
+    ghost Value = { PastCalls T W };
+
+    ghost view = { λ p. record {
+      begun = record { name = p.log.name; start = p.start.value };
+      calls = p.log.list;
+    } };
+
+    ghost invariant = { λ p. Fits N.named (record { name = p.log.name; start = p.start.value })
+        × IsLawful W.will_wake W.SURE_CLONE N.may p.start.value p.log.list };
+}
+
+impl<T, W: Wakes, N: Naming<T, W>> Past<T, W, N> {
+    /// Begins with this core, and no calls.
+    pub(crate) fn of(opened: Opened<T, W>) -> Self
+        requires { Fits N.named opened }
+        ensures begun { result.begun ≡ opened }
+        ensures empty { result.calls ≡ [] }
+    {
+        let Opened { log, start } = opened;
+        Past {
+            log,
+            of: PhantomData,
+            start,
+        }
+    }
+}
+
+/// A call that is made of a core: the core before it, and what is passed to it. It has no bytes.
+#[derive(Drop)]
+pub(crate) struct Asked<C, T, W: Wakes> {
+    from: Snapshot<Core<T, W>>,
+    passed: Snapshot<C>,
+}
+
+impl<C, T, W: Wakes> Asked<C, T, W> {
+    /// A call of this core, to which this is passed.
+    #[inline(always)]
+    pub(crate) fn of(core: &Core<T, W>, passed: &C) -> Self
+        ensures from { result.from.value ≡ core.now }
+        ensures passed { result.passed.value ≡ passed.now }
+    {
+        Asked {
+            from: Snapshot::of(core),
+            passed: Snapshot::of(passed),
+        }
+    }
+
+    /// Adds the call at the end of the past, as `M` enters it: it returned this, and left this core.
+    #[inline(always)]
+    pub(crate) fn enter<N: Naming<T, W>, M: Enters<C, A, T, W>, A>(
+        &self,
+        past: &mut Past<T, W, N>,
+        _: &M,
+        returned: &A,
+        to: &Core<T, W>,
+    )
+        requires led { Leads W.will_wake W.SURE_CLONE past.old self.now.from.value }
+        requires step { IsStep W.Wakes self.now.from.value
+            (M.call self.now.from.value self.now.passed.value to.now)
+            (M.answer self.now.from.value returned.now) to.now }
+        requires allowed { IsAllowed N.may
+            (M.call self.now.from.value self.now.passed.value to.now) }
+        ensures leads { Leads W.will_wake W.SURE_CLONE past.new to.now }
+        ensures begun { past.new.begun ≡ past.old.begun }
+        ensures entered { past.new.calls ≡ past.old.calls ++ entry_of
+            (M.call self.now.from.value self.now.passed.value to.now)
+            (M.answer self.now.from.value returned.now) ∷ [] }
+    {
+        past.log.push::<_, By<M>>(&Made {
+            asked: self,
+            returned,
+            to,
+        });
+    }
+}
+
+/// A call that was made: what it returned, and the core that it left.
+#[derive(Drop)]
+struct Made<'a, 'b, 'c, C, A, T, W: Wakes> {
+    asked: &'a Asked<C, T, W>,
+    returned: &'b A,
+    to: &'c Core<T, W>,
+}
+
+/// The entry that `M` makes of a call.
+struct By<M>(PhantomData<M>);
+
+impl<'a, 'b, 'c, C, A, T, W: Wakes, M: Enters<C, A, T, W>> Makes<
+    Made<'a, 'b, 'c, C, A, T, W>,
+    Entry<T, W>,
+> for By<M> {
+    ghost use Rattle.async_cell_waiting.specs.Told.{entry_of};
+
+    ghost entry = { λ made. entry_of
+        (M.call made.asked.now.from.value made.asked.now.passed.value made.to.now)
+        (M.answer made.asked.now.from.value made.returned.now) };
+}
