@@ -1,1 +1,4 @@
+pub mod Entered
 pub mod Leading
+pub mod Setting
+pub mod Telling

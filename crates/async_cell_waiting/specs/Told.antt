@@ -10,10 +10,11 @@ use Rattle.async_cell_model.specs.declared.refusal.Refusal.{Refusal}
 use Rattle.async_cell_model.specs.declared.refusal.Refusal.TheVariants as why
 use Rattle.async_cell_model.specs.declared.reply.Reply.{Reply}
 use Rattle.async_cell_model.specs.declared.reply.Reply.TheVariants as reply
-use Rattle.async_cell_model.specs.Machine.{State, Does}
+use Rattle.async_cell_model.specs.Machine.{State, Does, UpToClones}
 use Rattle.async_cell_model.specs.History.{History, after}
 use Rattle.async_cell_model.specs.Legal.{IsLegal, Runs, wakes_after}
 use Rattle.async_cell_core.specs.declared.call.Answer.{Answer}
+use Rattle.async_cell_core.specs.IsStep.{WakerRules}
 
 -- how a named cell began: the name of its list of calls, and its first state
 pub record Begun (T W : Type 0) : Type 0 where
@@ -44,6 +45,11 @@ module _ {T W : Type 0} where
   -- a call and the reply to it
   abbrev pub entry_of : Kept T W → Answer T W → Entry T W
   entry_of call answer = record { call = call; reply = answer.reply }
+
+  -- the answer of a `set`, made of what `replace` returned
+  abbrev pub set_answer : Result (Option T × List W) T → Answer T W
+  set_answer (Ok (old, woken)) = record { reply = reply.Done; woken = woken }
+  set_answer (Err back) = record { reply = reply.Refused why.Closed (Some back); woken = [] }
 
   -- whether the call writes
   abbrev pub is_write : Kept T W → Bool
@@ -85,16 +91,22 @@ module _ {T W : Type 0} (will_wake : W → W → Bool) (sure_wakers : Bool) wher
     pub begun : new.past.begun ≡ old.past.begun
     pub entered : new.past.calls ≡ old.past.calls ++ record { call = call; reply = reply } ∷ []
 
-  -- The calls that were seen have gone on, and end with this call and its reply. There it is a step
-  -- of the machine: on the state after all calls before it.
-  pub record IsTold (start : State T W) (seen : History T W) (call : Kept T W) (reply : Reply T)
-      (now : History T W) : Type 0 where
-    pub before : History T W
-    pub goes_on : IsPrefix seen before
-    pub ends : now ≡ before ++ record { call = call; reply = reply } ∷ []
-    pub woken : List W
-    pub does : Does will_wake sure_wakers (after will_wake start before)
-        (record { call = call; reply = reply }) woken (after will_wake start now)
+-- The calls that were seen have gone on, and end with this call and its reply. There it is a step of
+-- the machine: on the state after all calls before it.
+pub record IsTold {T W : Type 0} (rules : WakerRules W) (named : Option (Begun T W))
+    (seen : History T W) (call : Kept T W) (reply : Reply T) (now : History T W) : Type 0 where
+  pub before : History T W
+  pub goes_on : IsPrefix seen before
+  pub ends : now ≡ before ++ record { call = call; reply = reply } ∷ []
+  pub woken : List W
+  pub does : Does rules.will_wake rules.SURE_CLONE (after rules.will_wake (start_of named) before)
+      (record { call = call; reply = reply }) woken (after rules.will_wake (start_of named) now)
+
+-- the same up to clones: where the machine gives a value, a get may return a clone of it
+abbrev pub IsToldUpTo : {T W : Type 0} → (T → T → Type 0) → WakerRules W → Option (Begun T W)
+    → History T W → Kept T W → Reply T → History T W → Type 0
+IsToldUpTo {T} is_clone rules named seen call reply now = (own : Reply T)
+    × IsTold rules named seen call own now × UpToClones is_clone call own reply
 
 -- The reply that stands for what a call returned.
 module _ {T : Type 0} where
@@ -117,3 +129,8 @@ module _ {T : Type 0} where
   abbrev pub end_reply : Result (Option T) Refusal → Reply T
   end_reply (Ok value) = reply.Value value
   end_reply (Err why) = reply.Refused why None
+
+  -- of a get: the machine's own reply, where the cell held this content
+  abbrev pub own_reply : {A : Type 0} → Option T → Result A Refusal → Reply T
+  own_reply held (Ok _) = reply.Value held
+  own_reply held (Err why) = reply.Refused why None

@@ -2,6 +2,7 @@
 //! woken, and then the caller gets what it may drop. What is held is let go by an end alone.
 ghost use Rattle.std.specs.Prelude.{◌≡◌, Err, IfErr, IsSome, IsTrue};
 ghost use Rattle.async_cell_model.specs.Refusal.{FailsWithClosed, FailsWithMemory, FailsWithMemoryOrClosed};
+ghost use Rattle.async_cell_waiting.specs.Held.{answer_of};
 
 use crate::room::Room;
 use crate::store::{Opens, Step, StoredCore, Stores};
@@ -177,6 +178,7 @@ impl<A, E, W> Held<Result<A, E>, Option<Wakers<W>>> {
     /// Holds what a call of the core returned: an answer and wakers, or an error.
     #[inline(always)]
     pub fn of_result(returned: Result<(A, Wakers<W>), E>) -> Self
+        ensures answers { result.answer ≡ answer_of returned }
         ensures refused { IfErr result.answer (λ why. returned ≡ Err why) }
     {
         match returned {

@@ -3,14 +3,16 @@
 ghost use Rattle.std.specs.Prelude.{◌≡◌, ◌⊎◌, [], Option, IfErr, IfOk, IfSome, IsOk, IsSomeAnd, OnOk, IsTrue};
 ghost use Rattle.std.specs.Fn.{FnOnceReturnsAt};
 ghost use Rattle.async_cell_model.specs.Machine.{content, is_vacant, IsSound};
-ghost use Rattle.async_cell_waiting.specs.Told.{Fits};
+ghost use Rattle.async_cell_core.specs.Polled.{IsCloneOf, poll_reply};
+ghost use Rattle.async_cell_waiting.specs.Told.{Fits, Leads, Made, start_of, set_reply, write_reply, done_reply, end_reply, own_reply};
+ghost use mathlib.Core.List.{IsPrefix};
 ghost use Rattle.async_cell_model.specs.Refusal.{FailsWithClosed, FailsWithMemory};
 
 use crate::ended::{Held, Writes};
 use crate::room::Room;
 use crate::told::*;
 use async_cell_core::{Core, Place, Poll, Refusal, TaskWaker, Wakers, Wakes, end_guard};
-use async_cell_model::Kept;
+use async_cell_model::{Kept, Reply};
 use futures::task::Waker;
 use std::alloc::Global;
 use std::fmt;
@@ -75,6 +77,17 @@ impl<T: Drop, W: Wakes, N: Naming<T, W>> CellCore<T, W, N> {
         ensures { IsSound W.will_wake self.now.inner }
     {
         self.inner.soundness();
+    }
+
+    /// Lets a witness see the past.
+    #[inline(always)]
+    pub(crate) fn tell(&self, witness: &mut Witness<T, W, N>)
+        ensures whole { witness.new ≡ self.now.past.calls }
+        ensures goes_on { IsPrefix witness.old self.now.past.calls }
+        ensures begun { self.now.past.begun.start ≡ start_of N.named }
+        ensures led { Leads W.will_wake W.SURE_CLONE self.now.past self.now.inner }
+    {
+        witness.learn(&self.past);
     }
 
     #[inline(always)]
@@ -182,13 +195,31 @@ impl<T: Drop, W: Wakes, N: Naming<T, W>> CellCore<T, W, N> {
     }
 
     #[inline(always)]
+    #[tactic(auto, using(crate::proofs::Entered::made_write))]
     pub(crate) fn replace(&mut self, value: T) -> Held<Result<Option<T>, T>, Option<Wakers<W>>>
         requires may { N.may (Kept.Replace value) }
         ensures comes_back { IfErr result.answer (λ back. back ≡ value) }
+        ensures made { Made W.will_wake W.SURE_CLONE self.old
+            (Kept.Replace value) (write_reply result.answer) self.new }
     {
         let asked = Asked::of(&self.inner, &value);
         let written = self.inner.replace(value);
         asked.enter(&mut self.past, &Replaces, &written, &self.inner);
+        Held::of_result(written)
+    }
+
+    /// `replace`, entered as a `set`.
+    #[inline(always)]
+    #[tactic(auto, using(crate::proofs::Setting::set_does, crate::proofs::Entered::made_set))]
+    pub(crate) fn set(&mut self, value: T) -> Held<Result<Option<T>, T>, Option<Wakers<W>>>
+        requires may { N.may (Kept.Set value) }
+        ensures comes_back { IfErr result.answer (λ back. back ≡ value) }
+        ensures made { Made W.will_wake W.SURE_CLONE self.old
+            (Kept.Set value) (set_reply result.answer) self.new }
+    {
+        let asked = Asked::of(&self.inner, &value);
+        let written = self.inner.replace(value);
+        asked.enter(&mut self.past, &Sets, &written, &self.inner);
         Held::of_result(written)
     }
 
@@ -197,6 +228,8 @@ impl<T: Drop, W: Wakes, N: Naming<T, W>> CellCore<T, W, N> {
         requires may { N.may (Kept.OrSet value) }
         ensures unused { IfOk result.answer (λ unused. IfSome unused (λ back. back ≡ value)) }
         ensures comes_back { IfErr result.answer (λ back. back ≡ value) }
+        ensures made { Made W.will_wake W.SURE_CLONE self.old
+            (Kept.OrSet value) (write_reply result.answer) self.new }
     {
         let asked = Asked::of(&self.inner, &value);
         let written = self.inner.or_set(value);
@@ -215,6 +248,9 @@ impl<T: Drop, W: Wakes, N: Naming<T, W>> CellCore<T, W, N> {
         requires may { (saw put : Option T) → N.may (Kept.Update saw put) }
         ensures called { OnOk result.answer ((saw put : Option T) × F.post change saw put) }
         ensures refused { FailsWithClosed result.answer }
+        ensures made { Made W.will_wake W.SURE_CLONE self.old
+            (Kept.Update (content self.old.inner.cell) (content self.new.inner.cell))
+            (done_reply result.answer) self.new }
     {
         let asked = Asked::of(&self.inner, &());
         let updated = self.inner.update(change);
@@ -232,6 +268,9 @@ impl<T: Drop, W: Wakes, N: Naming<T, W>> CellCore<T, W, N> {
         requires callable { F.IsAlwaysCallable change }
         requires may { (saw put : Option T) → N.may (Kept.UpdateSome saw put) }
         ensures refused { FailsWithClosed result.answer }
+        ensures made { Made W.will_wake W.SURE_CLONE self.old
+            (Kept.UpdateSome (content self.old.inner.cell) (content self.new.inner.cell))
+            (done_reply result.answer) self.new }
     {
         let asked = Asked::of(&self.inner, &());
         let updated = self.inner.update_some(change);
@@ -240,16 +279,50 @@ impl<T: Drop, W: Wakes, N: Naming<T, W>> CellCore<T, W, N> {
     }
 
     #[inline(always)]
-    pub(crate) fn try_take(&mut self) -> Held<Option<T>> {
+    pub(crate) fn try_take(&mut self) -> Held<Option<T>>
+        ensures made { Made W.will_wake W.SURE_CLONE self.old
+            Kept.TryTake (Reply.Value result.answer) self.new }
+    {
         let asked = Asked::of(&self.inner, &());
         let taken = self.inner.try_take();
         asked.enter(&mut self.past, &TryTakes, &taken, &self.inner);
         Held::of(taken)
     }
 
+    /// `try_get`, which is entered.
+    #[inline(always)]
+    #[tactic(auto, using(crate::proofs::Setting::get_does))]
+    pub(crate) fn get(&mut self) -> Held<Result<Option<T>, Refusal>>
+    where
+        T: Clone,
+        ensures clones { IfOk result.answer (IsCloneOf T.is_clone (content self.old.inner.cell)) }
+        ensures refused { FailsWithMemory result.answer }
+        ensures made { Made W.will_wake W.SURE_CLONE self.old Kept.TryGet
+            (own_reply (content self.old.inner.cell) result.answer) self.new }
+    {
+        let asked = Asked::of(&self.inner, &());
+        let copied = self.inner.try_get();
+        asked.enter(&mut self.past, &Gets, &copied, &self.inner);
+        Held::of(copied)
+    }
+
+    /// `is_set`, which is entered.
+    #[inline(always)]
+    pub(crate) fn has_value(&mut self) -> bool
+        ensures made { Made W.will_wake W.SURE_CLONE self.old
+            Kept.IsSet (Reply.Is result) self.new }
+    {
+        let asked = Asked::of(&self.inner, &());
+        let is_set = self.inner.is_set();
+        asked.enter(&mut self.past, &Looks, &is_set, &self.inner);
+        is_set
+    }
+
     #[inline(always)]
     pub(crate) fn poll_take(&mut self, waker: &W) -> Held<Result<Poll<Option<T>>, Refusal>>
         ensures refused { FailsWithMemory result.answer }
+        ensures made { Made W.will_wake W.SURE_CLONE self.old
+            (Kept.PollTake waker.now) (poll_reply result.answer) self.new }
     {
         let asked = Asked::of(&self.inner, waker);
         let polled = self.inner.poll_take(waker);
@@ -299,6 +372,8 @@ impl<T: Drop, W: Wakes, N: Naming<T, W>> CellCore<T, W, N> {
     pub(crate) fn add_owner(&mut self) -> Held<Result<(), Refusal>>
         ensures refused { IfErr result.answer (λ why.
             (why ≡ Refusal.Closed) ⊎ (why ≡ Refusal.OwnersFull)) }
+        ensures made { Made W.will_wake W.SURE_CLONE self.old
+            Kept.AddOwner (done_reply result.answer) self.new }
     {
         let asked = Asked::of(&self.inner, &());
         let added = self.inner.add_owner();
@@ -326,8 +401,11 @@ impl<T: Drop, W: Wakes, N: Naming<T, W>> CellCore<T, W, N> {
     }
 
     #[inline(always)]
+    #[tactic(auto, using(crate::proofs::Entered::made_end))]
     pub(crate) fn end_owner(&mut self) -> Held<Result<Option<T>, Refusal>, Option<Wakers<W>>>
         ensures refused { FailsWithClosed result.answer }
+        ensures made { Made W.will_wake W.SURE_CLONE self.old
+            Kept.EndOwner (end_reply result.answer) self.new }
     {
         let asked = Asked::of(&self.inner, &());
         let ended = self.inner.end_owner();
@@ -336,9 +414,12 @@ impl<T: Drop, W: Wakes, N: Naming<T, W>> CellCore<T, W, N> {
     }
 
     #[inline(always)]
+    #[tactic(auto, using(crate::proofs::Entered::made_end))]
     pub(crate) fn take_inner(&mut self) -> Held<Result<Option<T>, Refusal>, Option<Wakers<W>>>
         ensures refused { IfErr result.answer (λ why.
             (why ≡ Refusal.Closed) ⊎ (why ≡ Refusal.StillShared)) }
+        ensures made { Made W.will_wake W.SURE_CLONE self.old
+            Kept.TakeInner (end_reply result.answer) self.new }
     {
         let asked = Asked::of(&self.inner, &());
         let taken = self.inner.take_inner();

@@ -216,3 +216,42 @@ impl<T, W> Enters<(), Result<(Option<T>, Wakers<W>), Refusal>, T, W> for TakesIn
 
     ghost answer = { λ _ taken. end_answer taken };
 }
+
+/// The entry of a `set`.
+pub(crate) struct Sets;
+
+impl<T, W> Enters<T, Result<(Option<T>, Wakers<W>), T>, T, W> for Sets {
+    ghost use Rattle.async_cell_model.specs.declared.entry.Kept.TheVariants as kept;
+    ghost use Rattle.async_cell_waiting.specs.Told.{set_answer};
+
+    ghost call = { λ _ value _. kept.Set value };
+
+    ghost answer = { λ _ replaced. set_answer replaced };
+}
+
+/// The entry of a `try_get`.
+pub(crate) struct Gets;
+
+impl<T, W> Enters<(), Result<Option<T>, Refusal>, T, W> for Gets {
+    ghost use Rattle.async_cell_model.specs.declared.entry.Kept.TheVariants as kept;
+    ghost use Rattle.async_cell_model.specs.Machine.{content};
+    ghost use Rattle.async_cell_core.specs.IsStep.{replies};
+    ghost use Rattle.async_cell_waiting.specs.Told.{own_reply};
+
+    ghost call = { λ _ _ _. kept.TryGet };
+
+    ghost answer = { λ from copied. replies (own_reply (content from.cell) copied) };
+}
+
+/// The entry of an `is_set`.
+pub(crate) struct Looks;
+
+impl<T, W> Enters<(), bool, T, W> for Looks {
+    ghost use Rattle.async_cell_model.specs.declared.entry.Kept.TheVariants as kept;
+    ghost use Rattle.async_cell_model.specs.declared.reply.Reply.TheVariants as reply;
+    ghost use Rattle.async_cell_core.specs.IsStep.{replies};
+
+    ghost call = { λ _ _ _. kept.IsSet };
+
+    ghost answer = { λ _ is_set. replies (reply.Is is_set) };
+}

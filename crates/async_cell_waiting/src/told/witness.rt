@@ -30,9 +30,11 @@ impl<T, W: Wakes, N: Naming<T, W>> Model for Witness<T, W, N> {
 impl<T, W: Wakes, N: Naming<T, W>> Witness<T, W, N> {
     /// Sees the whole history. What was seen before begins it.
     #[inline(always)]
+    #[tactic(auto, using(crate::proofs::Telling::same_name, crate::proofs::Telling::began))]
     pub(crate) fn learn(&mut self, past: &Past<T, W, N>)
         ensures whole { self.new ≡ past.now.calls }
         ensures goes_on { IsPrefix self.old past.now.calls }
+        ensures begun { past.now.begun.start ≡ start_of N.named }
     {
         self.seen.learn(&past.log);
     }
