@@ -70,3 +70,9 @@ told_of {T} {W} rules named old new seen now call reply led made begins on is =
       woken = woken_by (after will_wake (after will_wake start old.past.calls) []) e;
       does = subst (λ (h : History T W). Does will_wake sure (after will_wake start old.past.calls) e (woken_by (after will_wake (after will_wake start old.past.calls) []) e) (after will_wake start h)) (sym (is ∙ made.entered)) at;
     }
+
+-- the same, where the reply is made of what the caller got, which was held until the step had ended
+pub told_held : {T W A : Type 0} (rules : WakerRules W) (named : Option (Begun T W)) (old new : Desk T W) (seen now : History T W) (call : Kept T W) (reply : A → Reply T) (held got : A) → Leads rules.will_wake rules.SURE_CLONE old.past old.inner → Made rules.will_wake rules.SURE_CLONE old call (reply held) new
+    → old.past.begun.start ≡ start_of named → IsPrefix seen old.past.calls → now ≡ new.past.calls → got ≡ held → IsTold rules named seen call (reply got) now
+told_held rules named old new seen now call reply held got led made begins on is same =
+    subst (λ a. IsTold rules named seen call (reply a) now) (sym same) (told_of rules named old new seen now call (reply held) led made begins on is)

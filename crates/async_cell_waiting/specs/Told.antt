@@ -131,6 +131,6 @@ module _ {T : Type 0} where
   end_reply (Err why) = reply.Refused why None
 
   -- of a get: the machine's own reply, where the cell held this content
-  abbrev pub own_reply : {A : Type 0} → Option T → Result A Refusal → Reply T
-  own_reply held (Ok _) = reply.Value held
-  own_reply held (Err why) = reply.Refused why None
+  abbrev pub get_reply : {A : Type 0} → Option T → Result A Refusal → Reply T
+  get_reply held (Ok _) = reply.Value held
+  get_reply held (Err why) = reply.Refused why None

@@ -1,4 +1,5 @@
 //! What is told of a cell: its history, which exists in the proofs alone.
+mod calls;
 mod entries;
 mod naming;
 mod past;

@@ -4,7 +4,7 @@ ghost use Rattle.std.specs.Prelude.{◌≡◌, ◌⊎◌, [], Option, IfErr, IfO
 ghost use Rattle.std.specs.Fn.{FnOnceReturnsAt};
 ghost use Rattle.async_cell_model.specs.Machine.{content, is_vacant, IsSound};
 ghost use Rattle.async_cell_core.specs.Polled.{IsCloneOf, poll_reply};
-ghost use Rattle.async_cell_waiting.specs.Told.{Fits, Leads, Made, start_of, set_reply, write_reply, done_reply, end_reply, own_reply};
+ghost use Rattle.async_cell_waiting.specs.Told.{Fits, Leads, Made, start_of, set_reply, write_reply, done_reply, end_reply, get_reply};
 ghost use mathlib.Core.List.{IsPrefix};
 ghost use Rattle.async_cell_model.specs.Refusal.{FailsWithClosed, FailsWithMemory};
 
@@ -298,7 +298,7 @@ impl<T: Drop, W: Wakes, N: Naming<T, W>> CellCore<T, W, N> {
         ensures clones { IfOk result.answer (IsCloneOf T.is_clone (content self.old.inner.cell)) }
         ensures refused { FailsWithMemory result.answer }
         ensures made { Made W.will_wake W.SURE_CLONE self.old Kept.TryGet
-            (own_reply (content self.old.inner.cell) result.answer) self.new }
+            (get_reply (content self.old.inner.cell) result.answer) self.new }
     {
         let asked = Asked::of(&self.inner, &());
         let copied = self.inner.try_get();

@@ -236,11 +236,11 @@ impl<T, W> Enters<(), Result<Option<T>, Refusal>, T, W> for Gets {
     ghost use Rattle.async_cell_model.specs.declared.entry.Kept.TheVariants as kept;
     ghost use Rattle.async_cell_model.specs.Machine.{content};
     ghost use Rattle.async_cell_core.specs.IsStep.{replies};
-    ghost use Rattle.async_cell_waiting.specs.Told.{own_reply};
+    ghost use Rattle.async_cell_waiting.specs.Told.{get_reply};
 
     ghost call = { λ _ _ _. kept.TryGet };
 
-    ghost answer = { λ from copied. replies (own_reply (content from.cell) copied) };
+    ghost answer = { λ from copied. replies (get_reply (content from.cell) copied) };
 }
 
 /// The entry of an `is_set`.

@@ -1,0 +1,190 @@
+//! The calls of the model, for a thread that is told of the cell's history.
+ghost use Rattle.std.specs.Prelude.{◌≡◌, Option, IfErr, OnOk, IsTrue};
+ghost use Rattle.async_cell_core.specs.Polled.{poll_reply};
+ghost use Rattle.async_cell_waiting.specs.Told.{IsTold, IsToldUpTo, set_reply, write_reply, done_reply, end_reply};
+
+use crate::cell_core::CellCore;
+use crate::ended::{Held, end, end_and_wake};
+use crate::store::{Opens, Step, StoredCore, Stores};
+use crate::told::{Naming, Witness};
+use async_cell_core::{Poll, Refusal, Wakes};
+use async_cell_model::{Kept, Reply};
+
+impl<T: Drop, W: Wakes, N: Naming<T, W>> Witness<T, W, N> {
+    /// Sets the value, drops the old one and wakes all waiters.
+    pub fn set<'a, M: Stores<Core = CellCore<T, W, N>>, R: Opens<'a, M>>(
+        &mut self,
+        cell: &'a StoredCore<M>,
+        value: T,
+        rt: &R,
+    ) -> Result<(), T>
+        requires may { N.may (Kept.Set value) }
+        ensures told { IsTrue R.always → IsTold W.Wakes N.named self.old
+            (Kept.Set value) (set_reply result) self.new }
+        ensures comes_back { IfErr result (λ back. back ≡ value) }
+    {
+        let Some(mut step) = rt.open(cell) else {
+            return Err(value);
+        };
+        let core = step.lend();
+        core.tell(self);
+        let written = core.set(value);
+        core.tell(self);
+        match end_and_wake(step, written) {
+            Ok(old) => {
+                drop(old);
+                Ok(())
+            }
+            Err(value) => Err(value),
+        }
+    }
+
+    /// Sets the value, wakes all waiters, returns the old one.
+    pub fn replace<'a, M: Stores<Core = CellCore<T, W, N>>, R: Opens<'a, M>>(
+        &mut self,
+        cell: &'a StoredCore<M>,
+        value: T,
+        rt: &R,
+    ) -> Result<Option<T>, T>
+        requires may { N.may (Kept.Replace value) }
+        ensures told { IsTrue R.always → IsTold W.Wakes N.named self.old
+            (Kept.Replace value) (write_reply result) self.new }
+        ensures comes_back { IfErr result (λ back. back ≡ value) }
+    {
+        let Some(mut step) = rt.open(cell) else {
+            return Err(value);
+        };
+        let core = step.lend();
+        core.tell(self);
+        let written = core.replace(value);
+        core.tell(self);
+        end_and_wake(step, written)
+    }
+
+    /// Sets the value and wakes all waiters, if there is none. Returns an unused `value`.
+    pub fn or_set<'a, M: Stores<Core = CellCore<T, W, N>>, R: Opens<'a, M>>(
+        &mut self,
+        cell: &'a StoredCore<M>,
+        value: T,
+        rt: &R,
+    ) -> Result<Option<T>, T>
+        requires may { N.may (Kept.OrSet value) }
+        ensures told { IsTrue R.always → IsTold W.Wakes N.named self.old
+            (Kept.OrSet value) (write_reply result) self.new }
+        ensures comes_back { IfErr result (λ back. back ≡ value) }
+    {
+        let Some(mut step) = rt.open(cell) else {
+            return Err(value);
+        };
+        let core = step.lend();
+        core.tell(self);
+        let written = core.or_set(value);
+        core.tell(self);
+        end_and_wake(step, written)
+    }
+
+    /// Takes the value, if there is one.
+    pub fn try_take<'a, M: Stores<Core = CellCore<T, W, N>>, R: Opens<'a, M>>(
+        &mut self,
+        cell: &'a StoredCore<M>,
+        rt: &R,
+    ) -> Option<T>
+        ensures told { IsTrue R.always → IsTold W.Wakes N.named self.old
+            Kept.TryTake (Reply.Value result) self.new }
+    {
+        let mut step = rt.open(cell)?;
+        let core = step.lend();
+        core.tell(self);
+        let taken = core.try_take();
+        core.tell(self);
+        end(step, taken)
+    }
+
+    /// Returns whether there is a value.
+    pub fn is_set<'a, M: Stores<Core = CellCore<T, W, N>>, R: Opens<'a, M>>(
+        &mut self,
+        cell: &'a StoredCore<M>,
+        rt: &R,
+    ) -> bool
+        ensures told { IsTrue R.always → IsTold W.Wakes N.named self.old
+            Kept.IsSet (Reply.Is result) self.new }
+    {
+        let Some(mut step) = rt.open(cell) else {
+            return false;
+        };
+        let core = step.lend();
+        core.tell(self);
+        let is_set = core.has_value();
+        core.tell(self);
+        end(step, Held::of(is_set))
+    }
+
+    /// Takes the value, or registers the waker.
+    pub fn poll_take<'a, M: Stores<Core = CellCore<T, W, N>>, R: Opens<'a, M>>(
+        &mut self,
+        cell: &'a StoredCore<M>,
+        waker: &W,
+        rt: &R,
+    ) -> Result<Poll<Option<T>>, Refusal>
+        ensures told { IsTrue R.always → IsTold W.Wakes N.named self.old
+            (Kept.PollTake waker.now) (poll_reply result) self.new }
+    {
+        let mut step = rt.open(cell).ok_or(Refusal::Memory)?;
+        let core = step.lend();
+        core.tell(self);
+        let polled = core.poll_take(waker);
+        core.tell(self);
+        end(step, polled)
+    }
+
+    /// Adds an owner.
+    pub fn add_owner<'a, M: Stores<Core = CellCore<T, W, N>>, R: Opens<'a, M>>(
+        &mut self,
+        cell: &'a StoredCore<M>,
+        rt: &R,
+    ) -> Result<(), Refusal>
+        ensures told { IsTrue R.always → IsTold W.Wakes N.named self.old
+            Kept.AddOwner (done_reply result) self.new }
+    {
+        let mut step = rt.open(cell).ok_or(Refusal::Closed)?;
+        let core = step.lend();
+        core.tell(self);
+        let added = core.add_owner();
+        core.tell(self);
+        end(step, added)
+    }
+
+    /// Ends one owner. The last one closes the cell, wakes all waiters and returns the value.
+    pub fn end_owner<'a, M: Stores<Core = CellCore<T, W, N>>, R: Opens<'a, M>>(
+        &mut self,
+        cell: &'a StoredCore<M>,
+        rt: &R,
+    ) -> Result<Option<T>, Refusal>
+        ensures told { IsTrue R.always → IsTold W.Wakes N.named self.old
+            Kept.EndOwner (end_reply result) self.new }
+    {
+        let mut step = rt.open(cell).ok_or(Refusal::Closed)?;
+        let core = step.lend();
+        core.tell(self);
+        let ended = core.end_owner();
+        core.tell(self);
+        end_and_wake(step, ended)
+    }
+
+    /// Closes the cell, wakes all waiters and returns the value, if there is one owner.
+    pub fn take_inner<'a, M: Stores<Core = CellCore<T, W, N>>, R: Opens<'a, M>>(
+        &mut self,
+        cell: &'a StoredCore<M>,
+        rt: &R,
+    ) -> Result<Option<T>, Refusal>
+        ensures told { IsTrue R.always → IsTold W.Wakes N.named self.old
+            Kept.TakeInner (end_reply result) self.new }
+    {
+        let mut step = rt.open(cell).ok_or(Refusal::Closed)?;
+        let core = step.lend();
+        core.tell(self);
+        let taken = core.take_inner();
+        core.tell(self);
+        end_and_wake(step, taken)
+    }
+}
