@@ -5,4 +5,4 @@ mod stored;
 mod waits;
 
 pub use calls::CellCore;
-pub use waits::{Cloning, Taking};
+pub use waits::{Cloning, Taking, ToldCloning, ToldTaking};

@@ -1,6 +1,6 @@
 //! The end of a step, and what comes out of a core meanwhile. The core is released, then wakers are
 //! woken, and then the caller gets what it may drop. What is held is let go by an end alone.
-ghost use Rattle.std.specs.Prelude.{◌≡◌, Err, IfErr, IsSome, IsTrue};
+ghost use Rattle.std.specs.Prelude.{◌≡◌, Ok, Err, Some, IfOk, IfErr, IsSome, IsTrue};
 ghost use Rattle.async_cell_model.specs.Refusal.{FailsWithClosed, FailsWithMemory, FailsWithMemoryOrClosed};
 ghost use Rattle.async_cell_waiting.specs.Held.{answer_of};
 
@@ -127,6 +127,7 @@ impl<X> Held<Option<X>> {
     /// Holds what there is: `Closed` if there is none.
     #[inline(always)]
     pub(crate) fn or_closed(self) -> Held<Result<X, Refusal>>
+        ensures found { IfOk result.answer (λ found. self.answer ≡ Some found) }
         ensures refused { FailsWithClosed result.answer }
     {
         let Held { answer, woken: _ } = self;
@@ -139,11 +140,28 @@ impl<X> Held<Result<Option<X>, Refusal>> {
     #[inline(always)]
     pub(crate) fn or_closed(self) -> Held<Result<X, Refusal>>
         requires { FailsWithMemory self.answer }
+        ensures found { IfOk result.answer (λ found. self.answer ≡ Ok (Some found)) }
         ensures refused { FailsWithMemoryOrClosed result.answer }
     {
         let Held { answer, woken: _ } = self;
         match answer {
             Ok(found) => Held::of(found.ok_or(Refusal::Closed)),
+            Err(why) => Held::of(Err(why)),
+        }
+    }
+}
+
+impl<X, E> Held<Result<X, E>> {
+    /// Holds this beside what was found.
+    #[inline(always)]
+    pub(crate) fn beside<Y: Drop>(self, other: Y) -> Held<Result<(X, Y), E>>
+        ensures found { IfOk result.answer (λ both.
+            (self.answer ≡ Ok both.0) × (both.1 ≡ other)) }
+        ensures refused { IfErr result.answer (λ why. self.answer ≡ Err why) }
+    {
+        let Held { answer, woken: _ } = self;
+        match answer {
+            Ok(found) => Held::of(Ok((found, other))),
             Err(why) => Held::of(Err(why)),
         }
     }

@@ -13,11 +13,11 @@ mod store;
 mod told;
 mod with;
 
-pub use cell_core::{CellCore, Cloning, Taking};
+pub use cell_core::{CellCore, Cloning, Taking, ToldCloning, ToldTaking};
 pub use ended::{Held, Writes, end, end_and_wake, end_and_wake_one, open_holding, put_held};
 pub use polls::poll;
 pub use query::Query;
 pub use room::Room;
 pub use store::{Lender, Lent, Lock, Locked, OneThread, Opens, Step, StoredCore, Stores};
-pub use told::{Naming, Past, Unnamed, Witness};
+pub use told::{Naming, Opened, Unnamed, Witness};
 pub use with::{At, Places, Polled, Request, Takes, Upgrade, Values, With, weakly};

@@ -6,7 +6,7 @@ use crate::room::Room;
 use async_cell_model::Refusal;
 
 /// What a poll asks of a core.
-pub trait Query<C: Room>: Copy {
+pub trait Query<C: Room>: Drop {
     /// What the poll returns.
     type Answer;
 
@@ -14,7 +14,7 @@ pub trait Query<C: Room>: Copy {
     ghost gives: { Self → Self.Answer → Type 0 } = { λ _ _. ⊤ };
 
     /// Returns whether a poll has to wait.
-    fn must_wait(self, core: &C) -> bool
+    fn must_wait(&self, core: &C) -> bool
         ensures open { IsTrue result → C.vacant core.now };
 
     /// Makes the answer of a poll that need not wait.

@@ -20,7 +20,7 @@ impl<T: Drop> Query<LatestCore<T>> for Unseen {
     ghost gives = { λ asked version. SomeState {T = T} version (λ s. s.version ≢ asked.0) };
 
     #[inline(always)]
-    fn must_wait(self, core: &LatestCore<T>) -> bool {
+    fn must_wait(&self, core: &LatestCore<T>) -> bool {
         !core.is_unseen(self.0) && !core.is_closed()
     }
 
@@ -43,7 +43,7 @@ impl<T: Clone> Query<LatestCore<T>> for UnseenState {
         SomeState shown.0 (λ s. (s.version ≢ asked.0) × T.is_clone s.value shown.1) };
 
     #[inline(always)]
-    fn must_wait(self, core: &LatestCore<T>) -> bool {
+    fn must_wait(&self, core: &LatestCore<T>) -> bool {
         Unseen(self.0).must_wait(core)
     }
 

@@ -2,7 +2,8 @@
 use super::CellCore;
 use crate::ended::Held;
 use crate::query::Query;
-use async_cell_core::{Refusal, TaskWaker};
+use crate::told::{Naming, Witness};
+use async_cell_core::{Refusal, TaskWaker, Wakes};
 
 /// Takes the value of a cell.
 #[derive(Clone, Copy, Drop)]
@@ -16,7 +17,7 @@ impl<T: Drop> Query<CellCore<T, TaskWaker>> for Taking {
     type Answer = T;
 
     #[inline(always)]
-    fn must_wait(self, core: &CellCore<T, TaskWaker>) -> bool {
+    fn must_wait(&self, core: &CellCore<T, TaskWaker>) -> bool {
         core.is_vacant()
     }
 
@@ -30,12 +31,82 @@ impl<T: Clone> Query<CellCore<T, TaskWaker>> for Cloning {
     type Answer = T;
 
     #[inline(always)]
-    fn must_wait(self, core: &CellCore<T, TaskWaker>) -> bool {
+    fn must_wait(&self, core: &CellCore<T, TaskWaker>) -> bool {
         Taking.must_wait(core)
     }
 
     #[inline(always)]
     fn answer(self, core: &mut CellCore<T, TaskWaker>) -> Held<Result<T, Refusal>> {
         core.try_get().or_closed()
+    }
+}
+
+/// `Taking`, of a cell that this is a witness of.
+#[derive(Drop)]
+pub struct ToldTaking<T, N: Naming<T, TaskWaker>>(pub Witness<T, TaskWaker, N>);
+
+/// `Cloning`, of a cell that this is a witness of.
+#[derive(Drop)]
+pub struct ToldCloning<T, N: Naming<T, TaskWaker>>(pub Witness<T, TaskWaker, N>);
+
+/// Gives the witness back, which has seen that the value was taken.
+impl<T: Drop, N: Naming<T, TaskWaker>> Query<CellCore<T, TaskWaker, N>> for ToldTaking<T, N> {
+    ghost use Rattle.std.specs.Prelude.{Some};
+    ghost use Rattle.async_cell_model.specs.declared.entry.Kept.TheVariants.{TryTake};
+    ghost use Rattle.async_cell_model.specs.declared.reply.Reply.TheVariants.{Value};
+    ghost use Rattle.async_cell_waiting.specs.Told.{IsTold};
+
+    type Answer = (T, Witness<T, TaskWaker, N>);
+
+    ghost gives = { λ asked given. IsTold ⟦<TaskWaker as Wakes>⟧ N.named asked.0
+        TryTake (Value (Some given.0)) given.1 };
+
+    #[inline(always)]
+    fn must_wait(&self, core: &CellCore<T, TaskWaker, N>) -> bool {
+        core.is_vacant()
+    }
+
+    #[inline(always)]
+    #[tactic(auto, using(crate::proofs::Telling::told_of))]
+    fn answer(
+        self,
+        core: &mut CellCore<T, TaskWaker, N>,
+    ) -> Held<Result<(T, Witness<T, TaskWaker, N>), Refusal>> {
+        let ToldTaking(mut seen) = self;
+        core.tell(&mut seen);
+        let taken = core.try_take();
+        core.tell(&mut seen);
+        taken.or_closed().beside(seen)
+    }
+}
+
+/// Gives the witness back, which has seen that the value was cloned.
+impl<T: Clone, N: Naming<T, TaskWaker>> Query<CellCore<T, TaskWaker, N>> for ToldCloning<T, N> {
+    ghost use Rattle.std.specs.Prelude.{Some};
+    ghost use Rattle.async_cell_model.specs.declared.entry.Kept.TheVariants.{TryGet};
+    ghost use Rattle.async_cell_model.specs.declared.reply.Reply.TheVariants.{Value};
+    ghost use Rattle.async_cell_waiting.specs.Told.{IsToldUpTo};
+
+    type Answer = (T, Witness<T, TaskWaker, N>);
+
+    ghost gives = { λ asked given. IsToldUpTo T.is_clone ⟦<TaskWaker as Wakes>⟧ N.named asked.0
+        TryGet (Value (Some given.0)) given.1 };
+
+    #[inline(always)]
+    fn must_wait(&self, core: &CellCore<T, TaskWaker, N>) -> bool {
+        core.is_vacant()
+    }
+
+    #[inline(always)]
+    #[tactic(auto, using(crate::proofs::Telling::told_of))]
+    fn answer(
+        self,
+        core: &mut CellCore<T, TaskWaker, N>,
+    ) -> Held<Result<(T, Witness<T, TaskWaker, N>), Refusal>> {
+        let ToldCloning(mut seen) = self;
+        core.tell(&mut seen);
+        let copied = core.get();
+        core.tell(&mut seen);
+        copied.or_closed().beside(seen)
     }
 }
