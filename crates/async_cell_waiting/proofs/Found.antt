@@ -1,12 +1,13 @@
 -- What a future that is told gives: what a take or a get found.
-use Rattle.std.proofs.Common.{◌≡◌, inl, inr, Option, Some, None, Result, Ok, Err, refl, sym, subst, ◌∙◌, IfOk}
+use Rattle.std.proofs.Common.{◌≡◌, inl, inr, Option, Some, None, Result, Ok, Err, refl, sym, subst, IfOk, OnOk}
+use Rattle.async_cell_model.specs.declared.entry.Kept.{Kept}
 use Rattle.async_cell_model.specs.declared.entry.Kept.TheVariants.{TryTake, TryGet}
 use Rattle.async_cell_model.specs.declared.refusal.Refusal.{Refusal}
-use Rattle.async_cell_model.specs.declared.reply.Reply.TheVariants.{Value}
+use Rattle.async_cell_model.specs.declared.reply.Reply.TheVariants.{Value, Done}
 use Rattle.async_cell_model.specs.History.{History}
 use Rattle.async_cell_core.specs.IsStep.{WakerRules}
 use Rattle.async_cell_core.specs.Polled.{IsCloneOf}
-use Rattle.async_cell_waiting.specs.Told.{Begun, IsTold, IsToldUpTo, get_reply}
+use Rattle.async_cell_waiting.specs.Told.{Begun, IsTold, IsToldUpTo, get_reply, end_reply, done_reply}
 
 module _ {T W : Type 0} (rules : WakerRules W) (named : Option (Begun T W)) (seen : History T W) where
   -- a take that found a value
@@ -29,3 +30,30 @@ module _ {T W : Type 0} (rules : WakerRules W) (named : Option (Begun T W)) (see
       let some : copied ≡ Ok (Some x) = subst (λ f. IfOk f (λ it. copied ≡ Ok (Some it))) same is in
       copied_as is_clone h held x (subst (λ c. IsTold rules named seen TryGet (get_reply held c) h) some (subst (λ (l : History T W). IsTold rules named seen TryGet (get_reply held copied) l) (sym whole) told))
       (subst (λ c. IfOk c (IsCloneOf is_clone held)) some clones)
+
+  got_as : (is_clone : T → T → Type 0) (now : History T W) (held : Option T) (copied : Result (Option T) Refusal) → IsTold rules named seen TryGet (get_reply held copied) now → IfOk copied (IsCloneOf is_clone held) → IsToldUpTo is_clone rules named seen TryGet (end_reply copied) now
+  got_as is_clone now held (Err why) told clones = (end_reply (Err why), told, inl refl)
+  got_as is_clone now None (Ok None) told clones = (Value None, told, inl refl)
+  got_as is_clone now None (Ok (Some x)) told clones = absurd clones
+  got_as is_clone now (Some a) (Ok None) told clones = absurd clones
+  got_as is_clone now (Some a) (Ok (Some x)) told clones = (Value (Some a), told, inr clones)
+
+  -- a get, found or not
+  pub told_got : (is_clone : T → T → Type 0) (now : History T W) (held : Option T) (copied got : Result (Option T) Refusal) → IsTold rules named seen TryGet (get_reply held copied) now → IfOk copied (IsCloneOf is_clone held) → got ≡ copied → IsToldUpTo is_clone rules named seen TryGet (end_reply got) now
+  told_got is_clone now held copied got told clones same =
+      subst (λ g. IsToldUpTo is_clone rules named seen TryGet (end_reply g) now) (sym same) (got_as is_clone now held copied told clones)
+
+  put_as : {A : Type 0} (now : History T W) (kept : Option T → Option T → Kept T W) (saw put : Option T) (held : Result A Refusal) (P : Option T → Option T → Type 0) → IsTold rules named seen (kept saw put) (done_reply held) now → OnOk held (P saw put)
+      → OnOk held ((s : Option T) × (p : Option T) × IsTold rules named seen (kept s p) Done now × P s p)
+  put_as now kept saw put (Ok it) P told called = (saw, put, told, called)
+  put_as now kept saw put (Err why) P told called = tt
+
+  -- an update, made or refused
+  pub told_put : {A : Type 0} (now : History T W) (kept : Option T → Option T → Kept T W) (saw put : Option T) (held got : Result A Refusal) (P : Option T → Option T → Type 0) → IsTold rules named seen (kept saw put) (done_reply held) now → OnOk held (P saw put) → got ≡ held
+      → OnOk got ((s : Option T) × (p : Option T) × IsTold rules named seen (kept s p) Done now × P s p)
+  told_put now kept saw put held got P told called same =
+      subst (λ r. OnOk r ((s : Option T) × (p : Option T) × IsTold rules named seen (kept s p) Done now × P s p)) (sym same) (put_as now kept saw put held P told called)
+
+pub on_ok : {A E P : Type 0} (r : Result A E) → P → OnOk r P
+on_ok (Ok it) p = p
+on_ok (Err why) p = tt

@@ -21,6 +21,16 @@ module _ {T W : Type 0} where
   began None begun there fits = absurd (cc there)
   began (Some it) begun there fits = ap (λ b. b.start) fits
 
+  -- what has a name fits it
+  pub fits : (named : Option (Begun T W)) (begun : Begun T W) → named ≡ Some begun → Fits named begun
+  fits None begun is = absurd (cc is)
+  fits (Some it) begun is = cc is
+
+  -- what fits a name has it
+  pub named : (o : Option (Begun T W)) (begun : Begun T W) → IsSome o → Fits o begun → o ≡ Some (record { name = begun.name; start = start_of o })
+  named None begun there fits = absurd (cc there)
+  named (Some it) begun there fits = ap (λ b. Some (record { name = b.name; start = it.start })) (sym fits)
+
   -- a list that is of the name, and one that fits it, are one
   pub same_name : (named : Option (Begun T W)) (begun : Begun T W) (name : ℕ) (start : State T W) → named ≡ Some (record { name = name; start = start }) → Fits named begun → name ≡ begun.name
   same_name None begun name start is fits = absurd (cc is)

@@ -1,6 +1,6 @@
 //! The calls that a step may make of a core. Only this module sees the core: each function makes
 //! one call of it, and holds what comes out, which the end of a step alone lets go.
-ghost use Rattle.std.specs.Prelude.{◌≡◌, ◌⊎◌, [], Option, IfErr, IfOk, IfSome, IsOk, IsSomeAnd, OnOk, IsTrue};
+ghost use Rattle.std.specs.Prelude.{◌≡◌, ◌⊎◌, [], Option, IfErr, IfOk, IfSome, IsOk, IsSome, IsSomeAnd, OnOk, IsTrue};
 ghost use Rattle.std.specs.Fn.{FnOnceReturnsAt};
 ghost use Rattle.async_cell_model.specs.Machine.{content, is_vacant, IsSound};
 ghost use Rattle.async_cell_core.specs.Polled.{IsCloneOf, poll_reply};
@@ -77,6 +77,14 @@ impl<T: Drop, W: Wakes, N: Naming<T, W>> CellCore<T, W, N> {
         ensures { IsSound W.will_wake self.now.inner }
     {
         self.inner.soundness();
+    }
+
+    /// Makes a witness of the past.
+    pub(crate) fn witness(&self) -> Witness<T, W, N>
+        requires { IsSome N.named }
+        ensures { result ≡ self.now.past.calls }
+    {
+        Witness::of(&self.past)
     }
 
     /// Lets a witness see the past.
@@ -246,7 +254,8 @@ impl<T: Drop, W: Wakes, N: Naming<T, W>> CellCore<T, W, N> {
         F: FnOnce(Option<T>) -> Option<T> + Drop,
         requires callable { F.IsAlwaysCallable change }
         requires may { (saw put : Option T) → N.may (Kept.Update saw put) }
-        ensures called { OnOk result.answer ((saw put : Option T) × F.post change saw put) }
+        ensures called { OnOk result.answer
+            (F.post change (content self.old.inner.cell) (content self.new.inner.cell)) }
         ensures refused { FailsWithClosed result.answer }
         ensures made { Made W.will_wake W.SURE_CLONE self.old
             (Kept.Update (content self.old.inner.cell) (content self.new.inner.cell))
@@ -267,6 +276,8 @@ impl<T: Drop, W: Wakes, N: Naming<T, W>> CellCore<T, W, N> {
         F: FnOnce(T) -> T + Drop,
         requires callable { F.IsAlwaysCallable change }
         requires may { (saw put : Option T) → N.may (Kept.UpdateSome saw put) }
+        ensures called { IfSome (content self.old.inner.cell) (λ old.
+            IsSomeAnd (content self.new.inner.cell) (λ new. F.post change old new)) }
         ensures refused { FailsWithClosed result.answer }
         ensures made { Made W.will_wake W.SURE_CLONE self.old
             (Kept.UpdateSome (content self.old.inner.cell) (content self.new.inner.cell))

@@ -1,25 +1,18 @@
 //! The calls of a cell, over any store: each makes its change in one step.
-ghost use Rattle.std.specs.Prelude.{◌≡◌, ◌⊎◌, Option, IfErr, OnOk};
+ghost use Rattle.std.specs.Prelude.{◌≡◌, ◌⊎◌, [], Option, Some, IfErr, OnOk};
 ghost use Rattle.async_cell_model.specs.Machine.{IsSound};
 ghost use Rattle.async_cell_model.specs.Refusal.{FailsWithClosed, FailsWithMemory};
 
 use super::CellCore;
 use crate::ended::{Held, end, end_and_wake, end_and_wake_one, put_held, write_held};
 use crate::store::{Opens, Step, StoredCore, Stores, opened};
+use crate::told::{Naming, Opened, Witness};
 use async_cell_core::{Core, Poll, Refusal, Wakes};
 
 impl<M: Stores<Core = CellCore<T, W>>, T: Drop, W: Wakes> StoredCore<M> {
     /// Stores the core, whatever its state.
     pub fn new(core: Core<T, W>) -> Self {
         StoredCore::of(CellCore::of(core))
-    }
-
-    /// Returns the core. Waits for no step.
-    #[doc(hidden)]
-    pub fn into_core(self) -> Core<T, W>
-        ensures { IsSound W.will_wake result }
-    {
-        self.into_stored().into_core()
     }
 
     /// Returns the content, whatever the number of owners. Wakes all waiters. Takes no lock.
@@ -216,6 +209,40 @@ impl<M: Stores<Core = CellCore<T, W>>, T: Drop, W: Wakes> StoredCore<M> {
         }
     }
 
+    /// Closes the cell, wakes all waiters and returns the value, if there is one owner. Fails with
+    /// `Closed` on a closed cell, and with `StillShared` if there are other owners.
+    pub fn take_inner<'a, R: Opens<'a, M>>(&'a self, rt: &R) -> Result<Option<T>, Refusal>
+        ensures refused { IfErr result (λ why.
+            (why ≡ Refusal.Closed) ⊎ (why ≡ Refusal.StillShared)) }
+    {
+        let mut step = rt.open(self).ok_or(Refusal::Closed)?;
+        let closed = step.lend().take_inner();
+        end_and_wake(step, closed)
+    }
+}
+
+impl<M: Stores<Core = CellCore<T, W, N>>, T: Drop, W: Wakes, N: Naming<T, W>> StoredCore<M> {
+    /// Stores the core, which begins its history, and makes the first witness of it.
+    #[doc(hidden)]
+    #[tactic(auto, using(crate::proofs::Telling::fits))]
+    pub fn named(core: Core<T, W>, opened: Opened<T, W>) -> (Self, Witness<T, W, N>)
+        requires named { N.named ≡ Some opened }
+        requires begins { opened.start ≡ core }
+        ensures new { result.1 ≡ [] }
+    {
+        let core = CellCore::begin(core, opened);
+        let witness = core.witness();
+        (StoredCore::of(core), witness)
+    }
+
+    /// Returns the core. Waits for no step.
+    #[doc(hidden)]
+    pub fn into_core(self) -> Core<T, W>
+        ensures { IsSound W.will_wake result }
+    {
+        self.into_stored().into_core()
+    }
+
     /// Adds an owner. Fails with `Closed`, and with `OwnersFull` beyond 4,294,967,295 owners.
     pub fn add_owner<'a, R: Opens<'a, M>>(&'a self, rt: &R) -> Result<(), Refusal>
         ensures refused { IfErr result (λ why.
@@ -244,22 +271,13 @@ impl<M: Stores<Core = CellCore<T, W>>, T: Drop, W: Wakes> StoredCore<M> {
             None => end_last(step),
         }
     }
-
-    /// Closes the cell, wakes all waiters and returns the value, if there is one owner. Fails with
-    /// `Closed` on a closed cell, and with `StillShared` if there are other owners.
-    pub fn take_inner<'a, R: Opens<'a, M>>(&'a self, rt: &R) -> Result<Option<T>, Refusal>
-        ensures refused { IfErr result (λ why.
-            (why ≡ Refusal.Closed) ⊎ (why ≡ Refusal.StillShared)) }
-    {
-        let mut step = rt.open(self).ok_or(Refusal::Closed)?;
-        let closed = step.lend().take_inner();
-        end_and_wake(step, closed)
-    }
 }
 
 /// Ends the last owner, of a core that is lent.
 #[inline(never)]
-fn end_last<G: Step<Core = CellCore<T, W>>, T: Drop, W: Wakes>(mut step: G) -> Result<(), Refusal>
+fn end_last<G: Step<Core = CellCore<T, W, N>>, T: Drop, W: Wakes, N: Naming<T, W>>(
+    mut step: G,
+) -> Result<(), Refusal>
     ensures refused { FailsWithClosed result }
 {
     let ended = step.lend().end_owner();

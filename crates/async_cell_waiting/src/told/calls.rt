@@ -1,5 +1,6 @@
 //! The calls of the model, for a thread that is told of the cell's history.
-ghost use Rattle.std.specs.Prelude.{◌≡◌, Option, IfErr, OnOk, IsTrue};
+ghost use Rattle.std.specs.Prelude.{◌≡◌, Option, IfErr, IfSome, IsSomeAnd, OnOk, IsTrue};
+ghost use Rattle.async_cell_model.specs.Refusal.{FailsWithClosed, FailsWithMemory};
 ghost use Rattle.async_cell_core.specs.Polled.{poll_reply};
 ghost use Rattle.async_cell_waiting.specs.Told.{IsTold, IsToldUpTo, set_reply, write_reply, done_reply, end_reply};
 
@@ -98,6 +99,85 @@ impl<T: Drop, W: Wakes, N: Naming<T, W>> Witness<T, W, N> {
         let taken = core.try_take();
         core.tell(self);
         end(step, taken)
+    }
+
+    /// Returns a clone of the value, if there is one. Fails with `Memory` if the clone fails.
+    #[tactic(auto, using(crate::proofs::Found::told_got))]
+    pub fn try_get<'a, M: Stores<Core = CellCore<T, W, N>>, R: Opens<'a, M>>(
+        &mut self,
+        cell: &'a StoredCore<M>,
+        rt: &R,
+    ) -> Result<Option<T>, Refusal>
+    where
+        T: Clone,
+        ensures told { IsTrue R.always → IsToldUpTo T.is_clone W.Wakes N.named self.old
+            Kept.TryGet (end_reply result) self.new }
+        ensures refused { FailsWithMemory result }
+    {
+        let mut step = rt.open(cell).ok_or(Refusal::Memory)?;
+        let core = step.lend();
+        core.tell(self);
+        let copied = core.get();
+        core.tell(self);
+        end(step, copied)
+    }
+
+    /// Calls the closure on the content and stores what it returns. Wakes all waiters if that puts
+    /// a value into an empty cell. Fails with `Closed` on a closed cell, and is then told of nothing.
+    pub fn update<'a, F, M: Stores<Core = CellCore<T, W, N>>, R: Opens<'a, M>>(
+        &mut self,
+        cell: &'a StoredCore<M>,
+        change: F,
+        rt: &R,
+    ) -> Result<(), Refusal>
+    where
+        F: FnOnce(Option<T>) -> Option<T> + Drop,
+        requires callable { F.IsAlwaysCallable change }
+        requires may { (saw put : Option T) → N.may (Kept.Update saw put) }
+        ensures told { IsTrue R.always → OnOk result ((saw put : Option T)
+            × IsTold W.Wakes N.named self.old (Kept.Update saw put) Reply.Done self.new
+            × F.post change saw put) }
+        ensures refused { FailsWithClosed result }
+    {
+        let mut step = rt.open(cell).ok_or(Refusal::Closed)?;
+        if step.shown().is_closed() {
+            let _not_called = end(step, Held::of(change));
+            return Err(Refusal::Closed);
+        }
+        let core = step.lend();
+        core.tell(self);
+        let updated = core.update(change);
+        core.tell(self);
+        end_and_wake(step, updated)
+    }
+
+    /// Calls the closure on the value, if there is one, and stores what it returns. Fails with
+    /// `Closed` on a closed cell, and is then told of nothing.
+    pub fn update_some<'a, F, M: Stores<Core = CellCore<T, W, N>>, R: Opens<'a, M>>(
+        &mut self,
+        cell: &'a StoredCore<M>,
+        change: F,
+        rt: &R,
+    ) -> Result<(), Refusal>
+    where
+        F: FnOnce(T) -> T + Drop,
+        requires callable { F.IsAlwaysCallable change }
+        requires may { (saw put : Option T) → N.may (Kept.UpdateSome saw put) }
+        ensures told { IsTrue R.always → OnOk result ((saw put : Option T)
+            × IsTold W.Wakes N.named self.old (Kept.UpdateSome saw put) Reply.Done self.new
+            × IfSome saw (λ old. IsSomeAnd put (λ new. F.post change old new))) }
+        ensures refused { FailsWithClosed result }
+    {
+        let mut step = rt.open(cell).ok_or(Refusal::Closed)?;
+        if step.shown().is_closed() {
+            let _not_called = end(step, Held::of(change));
+            return Err(Refusal::Closed);
+        }
+        let core = step.lend();
+        core.tell(self);
+        let updated = core.update_some(change);
+        core.tell(self);
+        end(step, updated)
     }
 
     /// Returns whether there is a value.

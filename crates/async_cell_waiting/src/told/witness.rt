@@ -1,4 +1,4 @@
-ghost use Rattle.std.specs.Prelude.{◌≡◌, ◌⊎◌};
+ghost use Rattle.std.specs.Prelude.{◌≡◌, ◌⊎◌, IsSome};
 ghost use mathlib.Core.List.{IsPrefix};
 ghost use Rattle.async_cell_waiting.specs.Told.{IsLawful, start_of};
 
@@ -28,6 +28,18 @@ impl<T, W: Wakes, N: Naming<T, W>> Model for Witness<T, W, N> {
 }
 
 impl<T, W: Wakes, N: Naming<T, W>> Witness<T, W, N> {
+    /// Makes a witness that has seen the whole history.
+    #[tactic(auto, using(crate::proofs::Telling::named))]
+    pub(crate) fn of(past: &Past<T, W, N>) -> Self
+        requires { IsSome N.named }
+        ensures { result ≡ past.now.calls }
+    {
+        Witness {
+            seen: past.log.seen(),
+            of: PhantomData,
+        }
+    }
+
     /// Sees the whole history. What was seen before begins it.
     #[inline(always)]
     #[tactic(auto, using(crate::proofs::Telling::same_name, crate::proofs::Telling::began))]

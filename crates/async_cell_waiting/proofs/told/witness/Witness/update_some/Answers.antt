@@ -1,0 +1,13 @@
+use Rattle.std.proofs.Common.{IfSome, IsSomeAnd}
+use Rattle.async_cell_model.specs.declared.entry.Kept.TheVariants.{UpdateSome}
+use Rattle.async_cell_model.specs.Machine.{content}
+use Rattle.async_cell_waiting.specs.Told.{done_reply}
+use Rattle.async_cell_waiting.proofs.Found.{told_put, on_ok}
+use Rattle.async_cell_waiting.proofs.Telling.{told_of}
+use Rattle.async_cell_waiting.proofs.told.witness.Witness.update_some.Goals as goal
+
+pub returns-clause-told : goal.returns-clause-told
+returns-clause-told g c always =
+    let saw = content c.lend-core.result.now.inner.cell in let put = content c.update_some-updated.new.self.inner.cell in
+    let told = told_of _ g.N.Naming.named c.lend-core.result.now c.update_some-updated.new.self c.args.self.now c.tell-2.new.witness (UpdateSome saw put) (done_reply c.update_some-updated.result.answer) c.tell.ensures.led c.update_some-updated.ensures.made c.tell.ensures.begun c.tell.ensures.goes_on c.tell-2.ensures.whole in
+    told_put _ g.N.Naming.named c.args.self.now c.tell-2.new.witness UpdateSome saw put c.update_some-updated.result.answer c.end.result (λ s p. IfSome s (λ old. IsSomeAnd p (λ new. g.F.FnOnce.post c.args.change (old, tt) new))) told (on_ok c.update_some-updated.result.answer c.update_some-updated.ensures.called) c.end.ensures.answers
