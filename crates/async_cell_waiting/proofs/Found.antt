@@ -1,12 +1,15 @@
 -- What a future that is told gives: what a take or a get found.
 use Rattle.std.proofs.Common.{◌≡◌, inl, inr, Option, Some, None, Result, Ok, Err, refl, sym, subst, IfOk, OnOk}
 use Rattle.async_cell_model.specs.declared.entry.Kept.{Kept}
-use Rattle.async_cell_model.specs.declared.entry.Kept.TheVariants.{TryTake, TryGet}
+use Rattle.async_cell_model.specs.declared.entry.Kept.TheVariants.{TryTake, TryGet, PollGet}
 use Rattle.async_cell_model.specs.declared.refusal.Refusal.{Refusal}
 use Rattle.async_cell_model.specs.declared.reply.Reply.TheVariants.{Value, Done}
 use Rattle.async_cell_model.specs.History.{History}
 use Rattle.async_cell_core.specs.IsStep.{WakerRules}
-use Rattle.async_cell_core.specs.Polled.{IsCloneOf}
+use Rattle.async_cell_core.specs.Polled.{IsCloneOf, poll_reply}
+use Rattle.async_cell_model.specs.declared.reply.Reply.{Reply}
+use Rattle.async_cell_model.specs.Machine.{UpToClones}
+use Rattle.futures.specs.declared.task.Poll.{Poll}
 use Rattle.async_cell_waiting.specs.Told.{Begun, IsTold, IsToldUpTo, get_reply, end_reply, done_reply}
 
 module _ {T W : Type 0} (rules : WakerRules W) (named : Option (Begun T W)) (seen : History T W) where
@@ -42,6 +45,10 @@ module _ {T W : Type 0} (rules : WakerRules W) (named : Option (Begun T W)) (see
   pub told_got : (is_clone : T → T → Type 0) (now : History T W) (held : Option T) (copied got : Result (Option T) Refusal) → IsTold rules named seen TryGet (get_reply held copied) now → IfOk copied (IsCloneOf is_clone held) → got ≡ copied → IsToldUpTo is_clone rules named seen TryGet (end_reply got) now
   told_got is_clone now held copied got told clones same =
       subst (λ g. IsToldUpTo is_clone rules named seen TryGet (end_reply g) now) (sym same) (got_as is_clone now held copied told clones)
+
+  -- a poll of a get
+  pub told_polled : (is_clone : T → T → Type 0) (now : History T W) (w : W) (own : Reply T) (polled got : Result (Poll (Option T)) Refusal) → IsTold rules named seen (PollGet w) own now → UpToClones is_clone (PollGet w) own (poll_reply polled) → got ≡ polled → IsToldUpTo is_clone rules named seen (PollGet w) (poll_reply got) now
+  told_polled is_clone now w own polled got told up same = subst (λ g. IsToldUpTo is_clone rules named seen (PollGet w) (poll_reply g) now) (sym same) (own, told, up)
 
   put_as : {A : Type 0} (now : History T W) (kept : Option T → Option T → Kept T W) (saw put : Option T) (held : Result A Refusal) (P : Option T → Option T → Type 0) → IsTold rules named seen (kept saw put) (done_reply held) now → OnOk held (P saw put)
       → OnOk held ((s : Option T) × (p : Option T) × IsTold rules named seen (kept s p) Done now × P s p)

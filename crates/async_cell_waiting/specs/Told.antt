@@ -15,6 +15,8 @@ use Rattle.async_cell_model.specs.History.{History, after}
 use Rattle.async_cell_model.specs.Legal.{IsLegal, Runs, wakes_after}
 use Rattle.async_cell_core.specs.declared.call.Answer.{Answer}
 use Rattle.async_cell_core.specs.IsStep.{WakerRules}
+use Rattle.futures.specs.declared.task.Poll.{Poll}
+use Rattle.futures.specs.declared.task.Poll.TheVariants as poll
 
 -- how a named cell began: the name of its list of calls, and its first state
 pub record Begun (T W : Type 0) : Type 0 where
@@ -134,3 +136,9 @@ module _ {T : Type 0} where
   abbrev pub get_reply : {A : Type 0} → Option T → Result A Refusal → Reply T
   get_reply held (Ok _) = reply.Value held
   get_reply held (Err why) = reply.Refused why None
+
+  -- of `poll_get`: the machine's own reply, where the cell held this content
+  abbrev pub own_poll : Option T → Result (Poll (Option T)) Refusal → Reply T
+  own_poll held (Ok (poll.Ready _)) = reply.Ready held
+  own_poll held (Ok poll.Pending) = reply.Pending
+  own_poll held (Err why) = reply.Refused why None

@@ -2,9 +2,9 @@
 //! one call of it, and holds what comes out, which the end of a step alone lets go.
 ghost use Rattle.std.specs.Prelude.{◌≡◌, ◌⊎◌, [], Option, IfErr, IfOk, IfSome, IsOk, IsSome, IsSomeAnd, OnOk, IsTrue};
 ghost use Rattle.std.specs.Fn.{FnOnceReturnsAt};
-ghost use Rattle.async_cell_model.specs.Machine.{content, is_vacant, IsSound};
+ghost use Rattle.async_cell_model.specs.Machine.{content, is_vacant, IsSound, UpToClones};
 ghost use Rattle.async_cell_core.specs.Polled.{IsCloneOf, poll_reply};
-ghost use Rattle.async_cell_waiting.specs.Told.{Fits, Leads, Made, start_of, set_reply, write_reply, done_reply, end_reply, get_reply};
+ghost use Rattle.async_cell_waiting.specs.Told.{Fits, Leads, Made, start_of, set_reply, write_reply, done_reply, end_reply, get_reply, own_poll};
 ghost use mathlib.Core.List.{IsPrefix};
 ghost use Rattle.async_cell_model.specs.Refusal.{FailsWithClosed, FailsWithMemory};
 
@@ -353,6 +353,23 @@ impl<T: Drop, W: Wakes, N: Naming<T, W>> CellCore<T, W, N> {
             Ok(Poll::Ready(_)) => {} // It changed nothing.
             _ => asked.enter(&mut self.past, &PollsGet, &polled, &self.inner),
         }
+        Held::of(polled)
+    }
+
+    /// `poll_get`, which is entered with the model's own reply.
+    #[inline(always)]
+    pub(crate) fn poll_own(&mut self, waker: &W) -> Held<Result<Poll<Option<T>>, Refusal>>
+    where
+        T: Clone,
+        ensures up_to_clones { UpToClones T.is_clone (Kept.PollGet waker.now)
+            (own_poll (content self.old.inner.cell) result.answer) (poll_reply result.answer) }
+        ensures refused { FailsWithMemory result.answer }
+        ensures made { Made W.will_wake W.SURE_CLONE self.old (Kept.PollGet waker.now)
+            (own_poll (content self.old.inner.cell) result.answer) self.new }
+    {
+        let asked = Asked::of(&self.inner, waker);
+        let polled = self.inner.poll_get(waker);
+        asked.enter(&mut self.past, &PollsOwn, &polled, &self.inner);
         Held::of(polled)
     }
 

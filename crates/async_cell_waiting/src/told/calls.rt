@@ -217,6 +217,27 @@ impl<T: Drop, W: Wakes, N: Naming<T, W>> Witness<T, W, N> {
         end(step, polled)
     }
 
+    /// `poll_take`, of a clone made during the step. Fails with `Memory` for the clone too.
+    pub fn poll_get<'a, M: Stores<Core = CellCore<T, W, N>>, R: Opens<'a, M>>(
+        &mut self,
+        cell: &'a StoredCore<M>,
+        waker: &W,
+        rt: &R,
+    ) -> Result<Poll<Option<T>>, Refusal>
+    where
+        T: Clone,
+        ensures told { IsTrue R.always → IsToldUpTo T.is_clone W.Wakes N.named self.old
+            (Kept.PollGet waker.now) (poll_reply result) self.new }
+        ensures refused { FailsWithMemory result }
+    {
+        let mut step = rt.open(cell).ok_or(Refusal::Memory)?;
+        let core = step.lend();
+        core.tell(self);
+        let polled = core.poll_own(waker);
+        core.tell(self);
+        end(step, polled)
+    }
+
     /// Adds an owner.
     pub fn add_owner<'a, M: Stores<Core = CellCore<T, W, N>>, R: Opens<'a, M>>(
         &mut self,

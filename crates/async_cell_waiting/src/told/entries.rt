@@ -255,3 +255,17 @@ impl<T, W> Enters<(), bool, T, W> for Looks {
 
     ghost answer = { λ _ is_set. replies (reply.Is is_set) };
 }
+
+/// The entry of a `poll_get`, with the model's own reply.
+pub(crate) struct PollsOwn;
+
+impl<T, W> Enters<W, Result<Poll<Option<T>>, Refusal>, T, W> for PollsOwn {
+    ghost use Rattle.async_cell_model.specs.declared.entry.Kept.TheVariants as kept;
+    ghost use Rattle.async_cell_model.specs.Machine.{content};
+    ghost use Rattle.async_cell_core.specs.IsStep.{replies};
+    ghost use Rattle.async_cell_waiting.specs.Told.{own_poll};
+
+    ghost call = { λ _ waker _. kept.PollGet waker };
+
+    ghost answer = { λ from polled. replies (own_poll (content from.cell) polled) };
+}
