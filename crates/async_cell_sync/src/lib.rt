@@ -15,6 +15,7 @@ mod owner;
 mod reply;
 mod shared;
 mod take;
+mod told;
 mod weak;
 mod weak_owner;
 
@@ -22,7 +23,7 @@ pub use async_cell::AsyncCell;
 pub use async_cell_core::{Core, Poll, Refusal, TaskWaker, Wakers, Wakes};
 #[doc(hidden)]
 pub use async_cell_waiting::Request;
-pub use async_cell_waiting::With;
+pub use async_cell_waiting::{Naming, Unnamed, With, Witness};
 pub use cell_ref::CellRef;
 pub use get::Get;
 pub use guard::Guard;
@@ -32,5 +33,6 @@ pub use owner::Owner;
 pub use reply::{Replier, Reply, reply_slot};
 pub use shared::Shared;
 pub use take::Take;
+pub use told::{Session, ToldGet, ToldOwner, ToldTake, with_told};
 pub use weak::{GetWeak, TakeWeak, Values, Weak};
 pub use weak_owner::WeakOwner;

@@ -1,0 +1,161 @@
+//! Futures of an owner that is told: each gives the value, and the owner back.
+ghost use Rattle.std.specs.Prelude.{◌≡◌, Some, IfOk, IsSomeAnd};
+ghost use Rattle.futures.specs.Poll.{IfReady, OnPending};
+ghost use Rattle.futures.specs.Task.{Covers, Keeps};
+ghost use Rattle.async_cell_model.specs.Refusal.{FailsWithMemoryOrClosed};
+ghost use Rattle.async_cell_model.specs.declared.entry.Kept.TheVariants.{TryTake, TryGet};
+ghost use Rattle.async_cell_model.specs.declared.reply.Reply.TheVariants.{Value};
+ghost use Rattle.async_cell_waiting.specs.Told.{IsTold, IsToldUpTo};
+
+use super::owner::ToldOwner;
+use async_cell_core::{Place, Refusal, TaskWaker, Wakes};
+use async_cell_waiting::{Naming, ToldCloning, ToldTaking, poll};
+use futures::future::Future;
+use futures::task::{Context, Poll};
+use std::sync::Wait;
+
+impl<T: Drop, R: Wait + Drop, N: Naming<T, TaskWaker>> ToldOwner<T, R, N> {
+    /// Makes this owner a future that takes the value, and then gives the owner back.
+    pub fn into_take(self) -> ToldTake<T, R, N>
+        ensures of_this { result.owner ≡ Some self }
+    {
+        ToldTake {
+            owner: Some(self),
+            place: Place::new(),
+        }
+    }
+
+    /// Makes this owner a future that clones the value, and then gives the owner back.
+    pub fn into_get(self) -> ToldGet<T, R, N>
+    where
+        T: Clone,
+        ensures of_this { result.owner ≡ Some self }
+    {
+        ToldGet {
+            owner: Some(self),
+            place: Place::new(),
+        }
+    }
+}
+
+/// Takes the value. The poll that is ready is a `try_take` of the history. It owns the cell while it waits, so it waits forever if nobody
+/// sets a value. Fails with `Memory` if there is no memory to wait, and may then be polled again;
+/// with `Closed` at each poll after it was ready.
+pub struct ToldTake<T: Drop, R: Wait + Drop, N: Naming<T, TaskWaker>> {
+    /// `None` once it was ready.
+    pub(super) owner: Option<ToldOwner<T, R, N>>,
+    pub(super) place: Place,
+}
+
+impl<T: Drop, R: Wait + Drop, N: Naming<T, TaskWaker>> Future for ToldTake<T, R, N> {
+    type Output = Result<(T, ToldOwner<T, R, N>), Refusal>;
+
+    ghost needs = { λ future s. IsSomeAnd future.owner (λ owner. s ≡ owner.cell.value.source.id) };
+
+    ghost gives = { λ future given. IfOk given (λ both. IsSomeAnd future.owner (λ owner.
+        IsTold ⟦<TaskWaker as Wakes>⟧ N.named owner.seen TryTake
+        (Value (Some both.0)) both.1.seen)) };
+
+    fn poll(&mut self, cx: &mut Context<'_>) -> Poll<Self::Output>
+        ensures told { IfReady result (λ given. IfOk given (λ both. IsSomeAnd self.old.owner (λ owner.
+            IsTold ⟦<TaskWaker as Wakes>⟧ N.named owner.seen TryTake
+            (Value (Some both.0)) both.1.seen))) }
+        ensures stays { OnPending result (self.new.owner ≡ self.old.owner) }
+        ensures registered { OnPending result (Covers cx.new (λ s. IsSomeAnd self.new.owner
+            (λ owner. s ≡ owner.cell.value.source.id))) }
+        ensures kept { Keeps cx.old cx.new }
+        ensures refused { IfReady result FailsWithMemoryOrClosed }
+    {
+        let Some(owner) = &self.owner else {
+            return Poll::Ready(Err(Refusal::Closed));
+        };
+        let query = ToldTaking(owner.seen.again());
+        let place = Some(&mut self.place);
+        match poll(
+            &owner.cell.core,
+            &owner.cell.source,
+            query,
+            place,
+            cx,
+            &owner.rt,
+        ) {
+            Poll::Pending => Poll::Pending,
+            Poll::Ready(Err(why)) => Poll::Ready(Err(why)),
+            Poll::Ready(Ok((value, seen))) => match self.owner.take() {
+                Some(owner) => Poll::Ready(Ok((value, owner.having(seen)))),
+                None => Poll::Ready(Err(Refusal::Closed)),
+            },
+        }
+    }
+}
+
+/// Leaves the wait list, and ends the owner. May wait for the lock.
+impl<T: Drop, R: Wait + Drop, N: Naming<T, TaskWaker>> Drop for ToldTake<T, R, N> {
+    fn drop(self) {
+        let ToldTake { owner, place } = self;
+        if let Some(owner) = owner {
+            owner.cell.core.vacate(place, &owner.rt);
+        }
+    }
+}
+
+/// Clones the value. The poll that is ready is a `try_get` of the history. It owns the cell while it waits, so it waits forever if nobody
+/// sets a value. Fails with `Memory` if there is no memory to wait, and may then be polled again;
+/// with `Closed` at each poll after it was ready.
+pub struct ToldGet<T: Drop, R: Wait + Drop, N: Naming<T, TaskWaker>> {
+    /// `None` once it was ready.
+    pub(super) owner: Option<ToldOwner<T, R, N>>,
+    pub(super) place: Place,
+}
+
+impl<T: Clone, R: Wait + Drop, N: Naming<T, TaskWaker>> Future for ToldGet<T, R, N> {
+    type Output = Result<(T, ToldOwner<T, R, N>), Refusal>;
+
+    ghost needs = { λ future s. IsSomeAnd future.owner (λ owner. s ≡ owner.cell.value.source.id) };
+
+    ghost gives = { λ future given. IfOk given (λ both. IsSomeAnd future.owner (λ owner.
+        IsToldUpTo T.is_clone ⟦<TaskWaker as Wakes>⟧ N.named owner.seen TryGet
+        (Value (Some both.0)) both.1.seen)) };
+
+    fn poll(&mut self, cx: &mut Context<'_>) -> Poll<Self::Output>
+        ensures told { IfReady result (λ given. IfOk given (λ both. IsSomeAnd self.old.owner (λ owner.
+            IsToldUpTo T.is_clone ⟦<TaskWaker as Wakes>⟧ N.named owner.seen TryGet
+            (Value (Some both.0)) both.1.seen))) }
+        ensures stays { OnPending result (self.new.owner ≡ self.old.owner) }
+        ensures registered { OnPending result (Covers cx.new (λ s. IsSomeAnd self.new.owner
+            (λ owner. s ≡ owner.cell.value.source.id))) }
+        ensures kept { Keeps cx.old cx.new }
+        ensures refused { IfReady result FailsWithMemoryOrClosed }
+    {
+        let Some(owner) = &self.owner else {
+            return Poll::Ready(Err(Refusal::Closed));
+        };
+        let query = ToldCloning(owner.seen.again());
+        let place = Some(&mut self.place);
+        match poll(
+            &owner.cell.core,
+            &owner.cell.source,
+            query,
+            place,
+            cx,
+            &owner.rt,
+        ) {
+            Poll::Pending => Poll::Pending,
+            Poll::Ready(Err(why)) => Poll::Ready(Err(why)),
+            Poll::Ready(Ok((value, seen))) => match self.owner.take() {
+                Some(owner) => Poll::Ready(Ok((value, owner.having(seen)))),
+                None => Poll::Ready(Err(Refusal::Closed)),
+            },
+        }
+    }
+}
+
+/// Leaves the wait list, and ends the owner. May wait for the lock.
+impl<T: Drop, R: Wait + Drop, N: Naming<T, TaskWaker>> Drop for ToldGet<T, R, N> {
+    fn drop(self) {
+        let ToldGet { owner, place } = self;
+        if let Some(owner) = owner {
+            owner.cell.core.vacate(place, &owner.rt);
+        }
+    }
+}
