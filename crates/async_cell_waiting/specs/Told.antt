@@ -5,7 +5,7 @@ use mathlib.Core.List.{IsPrefix}
 use Rattle.async_cell_model.specs.declared.cell.Cell.TheVariants.{Closed}
 use Rattle.async_cell_model.specs.declared.entry.Entry.{Entry}
 use Rattle.async_cell_model.specs.declared.entry.Kept.{Kept}
-use Rattle.async_cell_model.specs.declared.entry.Kept.TheVariants.{Set, OrSet, Replace, Update, UpdateSome}
+use Rattle.async_cell_model.specs.declared.entry.Kept.TheVariants.{TryGet, IsSet, PollGet, AddOwner, EndOwner}
 use Rattle.async_cell_model.specs.declared.refusal.Refusal.{Refusal}
 use Rattle.async_cell_model.specs.declared.refusal.Refusal.TheVariants as why
 use Rattle.async_cell_model.specs.declared.reply.Reply.{Reply}
@@ -53,18 +53,18 @@ module _ {T W : Type 0} where
   set_answer (Ok (old, woken)) = record { reply = reply.Done; woken = woken }
   set_answer (Err back) = record { reply = reply.Refused why.Closed (Some back); woken = [] }
 
-  -- whether the call writes
-  abbrev pub is_write : Kept T W → Bool
-  is_write (Set x) = true
-  is_write (OrSet x) = true
-  is_write (Replace x) = true
-  is_write (Update saw put) = true
-  is_write (UpdateSome saw put) = true
-  is_write _ = false
+  -- whether the call may change the content: the writes and the takes do
+  abbrev pub is_change : Kept T W → Bool
+  is_change TryGet = false
+  is_change IsSet = false
+  is_change (PollGet w) = false
+  is_change AddOwner = false
+  is_change EndOwner = false
+  is_change _ = true
 
-  -- a write is one that may be made; any other call is
+  -- a change is one that may be made; any other call is
   abbrev pub IsAllowed : (Kept T W → Type 0) → Kept T W → Type 0
-  IsAllowed may call = is_write call ≡ true → may call
+  IsAllowed may call = is_change call ≡ true → may call
 
 module _ {T W : Type 0} (will_wake : W → W → Bool) (sure_wakers : Bool) where
   -- the calls are legal, and lead from the first state to this one
@@ -72,7 +72,7 @@ module _ {T W : Type 0} (will_wake : W → W → Bool) (sure_wakers : Bool) wher
   Leads past at = Runs will_wake sure_wakers past.begun.start past.calls
       (wakes_after will_wake past.begun.start [] past.calls) at
 
-  -- from this state the calls are legal, and the writes among them are allowed
+  -- from this state the calls are legal, and the changes among them are allowed
   pub record IsLawful (may : Kept T W → Type 0) (start : State T W) (calls : History T W)
       : Type 0 where
     pub legal : IsLegal will_wake sure_wakers start calls

@@ -1,11 +1,13 @@
 //! What is told of a cell: its history, which exists in the proofs alone.
 mod calls;
 mod entries;
+mod may_take;
 mod naming;
 mod past;
 mod witness;
 
 pub(crate) use entries::*;
+pub use may_take::MayTake;
 pub use naming::{Naming, Unnamed};
 pub(crate) use past::{Asked, Enters};
 pub use past::{Opened, Past};

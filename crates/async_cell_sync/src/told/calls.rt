@@ -42,6 +42,7 @@ impl<T: Drop, R: Wait + Drop, N: Naming<T, TaskWaker>> ToldOwner<T, R, N> {
 
     /// Takes the value, if there is one.
     pub fn try_take(&mut self) -> Option<T>
+        requires may { N.may Kept.TryTake }
         ensures told { IsTold ⟦<TaskWaker as Wakes>⟧ N.named self.old.seen
             Kept.TryTake (Reply.Value result) self.new.seen }
     {

@@ -21,7 +21,8 @@ pub trait Session {
     /// What the program returns.
     type Outcome;
 
-    /// Which writes may be made to the cell. Each write of an owner requires that it is one.
+    /// Which changes of the content may be made: writes and takes. Each call that makes one requires
+    /// that it may.
     ghost may: { Self → Kept Self.Value TaskWaker → Type 0 };
 
     /// What is known of the outcome.

@@ -9,7 +9,7 @@ ghost use Rattle.async_cell_waiting.specs.Told.{IsTold, IsToldUpTo};
 
 use super::owner::ToldOwner;
 use async_cell_core::{Place, Refusal, TaskWaker, Wakes};
-use async_cell_waiting::{Naming, ToldCloning, ToldTaking, poll};
+use async_cell_waiting::{MayTake, Naming, ToldCloning, ToldTaking, poll};
 use futures::future::Future;
 use futures::task::{Context, Poll};
 use std::sync::Wait;
@@ -17,11 +17,13 @@ use std::sync::Wait;
 impl<T: Drop, R: Wait + Drop, N: Naming<T, TaskWaker>> ToldOwner<T, R, N> {
     /// Makes this owner a future that takes the value, and then gives the owner back.
     pub fn into_take(self) -> ToldTake<T, R, N>
+        requires may { N.may TryTake }
         ensures of_this { result.owner ≡ Some self }
     {
         ToldTake {
             owner: Some(self),
             place: Place::new(),
+            may: MayTake::new(),
         }
     }
 
@@ -45,6 +47,7 @@ pub struct ToldTake<T: Drop, R: Wait + Drop, N: Naming<T, TaskWaker>> {
     /// `None` once it was ready.
     pub(super) owner: Option<ToldOwner<T, R, N>>,
     pub(super) place: Place,
+    pub(super) may: MayTake<T, N>,
 }
 
 impl<T: Drop, R: Wait + Drop, N: Naming<T, TaskWaker>> Future for ToldTake<T, R, N> {
@@ -69,7 +72,7 @@ impl<T: Drop, R: Wait + Drop, N: Naming<T, TaskWaker>> Future for ToldTake<T, R,
         let Some(owner) = &self.owner else {
             return Poll::Ready(Err(Refusal::Closed));
         };
-        let query = ToldTaking(owner.seen.again());
+        let query = ToldTaking(owner.seen.again(), self.may.again());
         let place = Some(&mut self.place);
         match poll(
             &owner.cell.core,
@@ -92,7 +95,11 @@ impl<T: Drop, R: Wait + Drop, N: Naming<T, TaskWaker>> Future for ToldTake<T, R,
 /// Leaves the wait list, and ends the owner. May wait for the lock.
 impl<T: Drop, R: Wait + Drop, N: Naming<T, TaskWaker>> Drop for ToldTake<T, R, N> {
     fn drop(self) {
-        let ToldTake { owner, place } = self;
+        let ToldTake {
+            owner,
+            place,
+            may: _,
+        } = self;
         if let Some(owner) = owner {
             owner.cell.core.vacate(place, &owner.rt);
         }

@@ -291,6 +291,7 @@ impl<T: Drop, W: Wakes, N: Naming<T, W>> CellCore<T, W, N> {
 
     #[inline(always)]
     pub(crate) fn try_take(&mut self) -> Held<Option<T>>
+        requires may { N.may Kept.TryTake }
         ensures made { Made W.will_wake W.SURE_CLONE self.old
             Kept.TryTake (Reply.Value result.answer) self.new }
     {
@@ -331,6 +332,7 @@ impl<T: Drop, W: Wakes, N: Naming<T, W>> CellCore<T, W, N> {
 
     #[inline(always)]
     pub(crate) fn poll_take(&mut self, waker: &W) -> Held<Result<Poll<Option<T>>, Refusal>>
+        requires may { N.may (Kept.PollTake waker.now) }
         ensures refused { FailsWithMemory result.answer }
         ensures made { Made W.will_wake W.SURE_CLONE self.old
             (Kept.PollTake waker.now) (poll_reply result.answer) self.new }
@@ -444,6 +446,7 @@ impl<T: Drop, W: Wakes, N: Naming<T, W>> CellCore<T, W, N> {
     #[inline(always)]
     #[tactic(auto, using(crate::proofs::Entered::made_end))]
     pub(crate) fn take_inner(&mut self) -> Held<Result<Option<T>, Refusal>, Option<Wakers<W>>>
+        requires may { N.may Kept.TakeInner }
         ensures refused { IfErr result.answer (λ why.
             (why ≡ Refusal.Closed) ⊎ (why ≡ Refusal.StillShared)) }
         ensures made { Made W.will_wake W.SURE_CLONE self.old

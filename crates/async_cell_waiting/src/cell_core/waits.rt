@@ -2,7 +2,7 @@
 use super::CellCore;
 use crate::ended::Held;
 use crate::query::Query;
-use crate::told::{Naming, Witness};
+use crate::told::{MayTake, Naming, Witness};
 use async_cell_core::{Refusal, TaskWaker, Wakes};
 
 /// Takes the value of a cell.
@@ -43,7 +43,7 @@ impl<T: Clone> Query<CellCore<T, TaskWaker>> for Cloning {
 
 /// `Taking`, of a cell that this is a witness of.
 #[derive(Drop)]
-pub struct ToldTaking<T, N: Naming<T, TaskWaker>>(pub Witness<T, TaskWaker, N>);
+pub struct ToldTaking<T, N: Naming<T, TaskWaker>>(pub Witness<T, TaskWaker, N>, pub MayTake<T, N>);
 
 /// `Cloning`, of a cell that this is a witness of.
 #[derive(Drop)]
@@ -72,7 +72,8 @@ impl<T: Drop, N: Naming<T, TaskWaker>> Query<CellCore<T, TaskWaker, N>> for Told
         self,
         core: &mut CellCore<T, TaskWaker, N>,
     ) -> Held<Result<(T, Witness<T, TaskWaker, N>), Refusal>> {
-        let ToldTaking(mut seen) = self;
+        let ToldTaking(mut seen, may) = self;
+        may.allows();
         core.tell(&mut seen);
         let taken = core.try_take();
         core.tell(&mut seen);

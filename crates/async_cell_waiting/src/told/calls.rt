@@ -90,6 +90,7 @@ impl<T: Drop, W: Wakes, N: Naming<T, W>> Witness<T, W, N> {
         cell: &'a StoredCore<M>,
         rt: &R,
     ) -> Option<T>
+        requires may { N.may Kept.TryTake }
         ensures told { IsTrue R.always → IsTold W.Wakes N.named self.old
             Kept.TryTake (Reply.Value result) self.new }
     {
@@ -206,6 +207,7 @@ impl<T: Drop, W: Wakes, N: Naming<T, W>> Witness<T, W, N> {
         waker: &W,
         rt: &R,
     ) -> Result<Poll<Option<T>>, Refusal>
+        requires may { N.may (Kept.PollTake waker.now) }
         ensures told { IsTrue R.always → IsTold W.Wakes N.named self.old
             (Kept.PollTake waker.now) (poll_reply result) self.new }
     {
@@ -278,6 +280,7 @@ impl<T: Drop, W: Wakes, N: Naming<T, W>> Witness<T, W, N> {
         cell: &'a StoredCore<M>,
         rt: &R,
     ) -> Result<Option<T>, Refusal>
+        requires may { N.may Kept.TakeInner }
         ensures told { IsTrue R.always → IsTold W.Wakes N.named self.old
             Kept.TakeInner (end_reply result) self.new }
     {

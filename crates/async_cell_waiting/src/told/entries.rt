@@ -141,7 +141,7 @@ impl<T, W> Enters<W, Result<Poll<Option<T>>, Refusal>, T, W> for PollsGet {
     ghost answer = { λ _ polled. poll_answer polled };
 }
 
-/// The entry of a poll that has to wait.
+/// The entry of a future that begins to wait: of a poll that takes nothing.
 pub(crate) struct Waits;
 
 impl<T, W> Enters<W, (), T, W> for Waits {
@@ -149,7 +149,7 @@ impl<T, W> Enters<W, (), T, W> for Waits {
     ghost use Rattle.async_cell_model.specs.declared.reply.Reply.TheVariants as reply;
     ghost use Rattle.async_cell_core.specs.IsStep.{replies};
 
-    ghost call = { λ _ waker _. kept.PollTake waker };
+    ghost call = { λ _ waker _. kept.PollGet waker };
 
     ghost answer = { λ _ _. replies reply.Pending };
 }

@@ -4,16 +4,16 @@ ghost use Rattle.async_cell_waiting.specs.Told.{Begun};
 
 use std::marker::Brand;
 
-/// Which cell it is, and which writes may be made to it. Only contracts read it.
+/// Which cell it is, and which changes of its content may be made. Only contracts read it.
 pub trait Naming<T, W> {
     /// How the cell began. `None`: it has no name, and nobody can be told of it.
     ghost named: { Option (Begun T W) };
 
-    /// The writes that may be made.
+    /// The changes that may be made: writes and takes.
     ghost may: { Kept T W → Type 0 };
 }
 
-/// A cell without a name, to which every write may be made.
+/// A cell without a name, to which every change may be made.
 pub struct Unnamed;
 
 impl<T, W> Naming<T, W> for Unnamed {
