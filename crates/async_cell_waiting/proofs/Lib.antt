@@ -1,5 +1,7 @@
 pub mod Entered
 pub mod Found
 pub mod Leading
+pub mod PutIn
 pub mod Setting
 pub mod Telling
+pub mod Waking

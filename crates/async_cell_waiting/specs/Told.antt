@@ -1,17 +1,18 @@
 -- What is told of a cell: which cell it is, its history, and what a call adds to it.
-use Rattle.std.specs.Prelude.{◌≡◌, ℕ, Bool, true, false, List, [], ◌∷◌, ◌++◌, ⊤, Option, Some, None, Result, Ok, Err}
+use Rattle.std.specs.Prelude.{◌≡◌, ℕ, Bool, true, false, List, [], ◌∷◌, ◌++◌, ⊤, Option, Some, None, IfSome, Result, Ok, Err}
 use Rattle.std.specs.List.{All}
 use mathlib.Core.List.{IsPrefix}
+use Rattle.async_cell_model.specs.declared.cell.Cell.{Cell}
 use Rattle.async_cell_model.specs.declared.cell.Cell.TheVariants.{Closed}
 use Rattle.async_cell_model.specs.declared.entry.Entry.{Entry}
 use Rattle.async_cell_model.specs.declared.entry.Kept.{Kept}
-use Rattle.async_cell_model.specs.declared.entry.Kept.TheVariants.{TryGet, IsSet, PollGet, AddOwner, EndOwner}
+use Rattle.async_cell_model.specs.declared.entry.Kept.TheVariants.{Set, OrSet, Replace, Update, UpdateSome, TryGet, IsSet, PollGet, AddOwner, EndOwner}
 use Rattle.async_cell_model.specs.declared.refusal.Refusal.{Refusal}
 use Rattle.async_cell_model.specs.declared.refusal.Refusal.TheVariants as why
 use Rattle.async_cell_model.specs.declared.reply.Reply.{Reply}
 use Rattle.async_cell_model.specs.declared.reply.Reply.TheVariants as reply
-use Rattle.async_cell_model.specs.Machine.{State, Does, UpToClones}
-use Rattle.async_cell_model.specs.History.{History, after}
+use Rattle.async_cell_model.specs.Machine.{State, Does, UpToClones, pending_waker}
+use Rattle.async_cell_model.specs.History.{History, after, cell_after, has_fill_or_close}
 use Rattle.async_cell_model.specs.Legal.{IsLegal, Runs, wakes_after}
 use Rattle.async_cell_core.specs.declared.call.Answer.{Answer}
 use Rattle.async_cell_core.specs.IsStep.{WakerRules}
@@ -142,3 +143,28 @@ module _ {T : Type 0} where
   own_poll held (Ok (poll.Ready _)) = reply.Ready held
   own_poll held (Ok poll.Pending) = reply.Pending
   own_poll held (Err why) = reply.Refused why None
+
+-- The values of a cell.
+module _ {T W : Type 0} where
+  -- the values that the call puts in satisfy `P`
+  abbrev pub Puts : (T → Type 0) → Kept T W → Type 0
+  Puts P (Set x) = P x
+  Puts P (OrSet x) = P x
+  Puts P (Replace x) = P x
+  Puts P (Update saw put) = IfSome put P
+  Puts P (UpdateSome saw put) = IfSome put P
+  Puts P _ = ⊤
+
+  -- each value that a change may put in, a `set` may put in too
+  abbrev pub PutsWhatSetsMay : (Kept T W → Type 0) → Type 0
+  PutsWhatSetsMay may = (call : Kept T W) → may call → Puts (λ v. may (Set v)) call
+
+-- Who waits. A poll with this waker has returned `Pending`, and nothing filled or closed the cell
+-- since.
+pub record StillWaits {T W : Type 0} (start : Cell T) (w : W) (calls : History T W) : Type 0 where
+  pub before : History T W
+  pub poll : Entry T W
+  pub later : History T W
+  pub split : calls ≡ before ++ poll ∷ later
+  pub pending : pending_waker poll ≡ Some w
+  pub none : has_fill_or_close (cell_after start (before ++ poll ∷ [])) later ≡ false

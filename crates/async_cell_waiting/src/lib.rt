@@ -5,6 +5,7 @@
 
 mod cell_core;
 mod ended;
+pub mod laws;
 mod places;
 mod polls;
 mod query;
