@@ -3,7 +3,7 @@ use Rattle.std.specs.Prelude.{◌≡◌, ℕ, Bool, true, false, List, [], ◌�
 use Rattle.std.specs.List.{All}
 use mathlib.Core.List.{IsPrefix}
 use Rattle.async_cell_model.specs.declared.cell.Cell.{Cell}
-use Rattle.async_cell_model.specs.declared.cell.Cell.TheVariants.{Closed}
+use Rattle.async_cell_model.specs.declared.cell.Cell.TheVariants.{Closed, Open}
 use Rattle.async_cell_model.specs.declared.entry.Entry.{Entry}
 use Rattle.async_cell_model.specs.declared.entry.Kept.{Kept}
 use Rattle.async_cell_model.specs.declared.entry.Kept.TheVariants.{Set, OrSet, Replace, Update, UpdateSome, TryGet, IsSet, PollGet, AddOwner, EndOwner}
@@ -40,6 +40,11 @@ module _ {T W : Type 0} where
   Fits None begun = ⊤
   Fits (Some named) begun = begun ≡ named
 
+  -- the first of these states
+  abbrev pub first_of : List (State T W) → State T W
+  first_of [] = record { cell = Closed; waiting = []; room = 0 }
+  first_of (first ∷ rest) = first
+
   -- the first state of a named cell
   abbrev pub start_of : Option (Begun T W) → State T W
   start_of None = record { cell = Closed; waiting = []; room = 0 }
@@ -66,6 +71,14 @@ module _ {T W : Type 0} where
   -- a change is one that may be made; any other call is
   abbrev pub IsAllowed : (Kept T W → Type 0) → Kept T W → Type 0
   IsAllowed may call = is_change call ≡ true → may call
+
+  -- the same changes may be made by both
+  abbrev pub Agree : (Kept T W → Type 0) → (Kept T W → Type 0) → Type 0
+  Agree may also = (call : Kept T W) → (may call → also call) × (also call → may call)
+
+  -- the cell began open, with one owner and no value
+  abbrev pub BeganEmpty : Option (Begun T W) → Type 0
+  BeganEmpty named = start_of named ≡ record { cell = Open None 1; waiting = []; room = 0 }
 
 module _ {T W : Type 0} (will_wake : W → W → Bool) (sure_wakers : Bool) where
   -- the calls are legal, and lead from the first state to this one

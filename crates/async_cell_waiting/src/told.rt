@@ -4,6 +4,7 @@ mod entries;
 mod may_take;
 mod naming;
 mod past;
+mod start;
 mod witness;
 
 pub(crate) use entries::*;
@@ -11,4 +12,5 @@ pub use may_take::MayTake;
 pub use naming::{Naming, Unnamed};
 pub(crate) use past::{Asked, Enters};
 pub use past::{Opened, Past};
+use start::Start;
 pub use witness::Witness;

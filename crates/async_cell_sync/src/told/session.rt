@@ -1,76 +1,113 @@
-//! A program that is told of a cell, without a proof by the caller of which cell it is.
-ghost use Rattle.std.specs.Prelude.{◌≡◌, ◌↔◌, [], None, Some, IfOk};
+//! Two threads that share a cell of which each call is told, without a proof by the caller of which
+//! cell it is.
+ghost use Rattle.std.specs.Prelude.{◌≡◌, [], None, Some, IfOk, IfErr};
 ghost use Rattle.async_cell_model.specs.declared.cell.Cell.TheVariants.{Open};
 ghost use Rattle.async_cell_model.specs.declared.entry.Kept.{Kept};
-ghost use Rattle.async_cell_model.specs.Refusal.{FailsWithMemory};
-ghost use Rattle.async_cell_waiting.specs.Told.{start_of};
+ghost use Rattle.async_cell_model.specs.Refusal.{IsOwnerRefusal};
+ghost use Rattle.async_cell_waiting.specs.Told.{Agree, BeganEmpty};
 ghost use Rattle.async_cell_wakers.specs.declared.task_waker.TaskWaker.{TaskWaker};
 
 use super::owner::ToldOwner;
 use async_cell_core::{Core, Refusal, TaskWaker};
 use async_cell_waiting::{Naming, Opened};
-use std::alloc::Global;
+use std::alloc::AllocGlobal;
 use std::marker::Brand;
+use std::random::RandomSource;
 use std::sync::Wait;
+use std::thread::{Threads, join};
 
-/// What a program does with a cell of which each call is told.
+/// What two threads do with a cell of which each call is told.
 pub trait Session {
     /// The type of the values of the cell.
     type Value: Drop;
 
-    /// What the program returns.
-    type Outcome;
+    /// What the first thread returns.
+    type First;
+
+    /// What the second thread returns.
+    type Second;
 
     /// Which changes of the content may be made: writes and takes. Each call that makes one requires
     /// that it may.
     ghost may: { Self → Kept Self.Value TaskWaker → Type 0 };
 
-    /// What is known of the outcome.
-    ghost describes: { Self → Self.Outcome → Type 0 };
+    /// What is known of what the first thread returns.
+    ghost first_gives: { Self → Self.First → Type 0 };
 
-    /// What the program does, with the first owner of a new cell, which holds no value.
-    fn run<N: Naming<Self::Value, TaskWaker>, R: Wait + Copy>(
-        &self,
-        rt: R,
-        owner: ToldOwner<Self::Value, R, N>,
-    ) -> Self::Outcome
-        requires may { (call : Kept Self.Value TaskWaker) → N.may call ↔ may self.now call }
-        requires begins { start_of N.named
-            ≡ record { cell = Open None 1; waiting = []; room = 0 } }
-        requires new { owner.seen ≡ [] }
-        ensures described { describes self.now result };
+    /// What is known of what the second thread returns.
+    ghost second_gives: { Self → Self.Second → Type 0 };
+
+    /// What the first thread does. The cell began without a value.
+    fn first<N, R>(&self, rt: R, owner: &mut ToldOwner<Self::Value, R, N>) -> Self::First
+    where
+        N: Naming<Self::Value, TaskWaker> + Send + Sync,
+        R: Threads + Wait + RandomSource + AllocGlobal + Copy + Send + Sync,
+        requires may { Agree N.may (may self.now) }
+        requires begins { BeganEmpty N.named }
+        ensures gives { first_gives self.now result };
+
+    /// What the second thread does.
+    fn second<N, R>(&self, rt: R, owner: &mut ToldOwner<Self::Value, R, N>) -> Self::Second
+    where
+        N: Naming<Self::Value, TaskWaker> + Send + Sync,
+        R: Threads + Wait + RandomSource + AllocGlobal + Copy + Send + Sync,
+        requires may { Agree N.may (may self.now) }
+        requires begins { BeganEmpty N.named }
+        ensures gives { second_gives self.now result };
 }
 
-/// Runs the session on a new cell without a value. Fails with `Memory` if there is none for the
-/// cell.
-pub fn with_told<S: Session, R: Wait + Copy>(
-    rt: R,
-    alloc: Global,
-    session: &S,
-) -> Result<S::Outcome, Refusal>
-    ensures described { IfOk result (S.describes session.now) }
-    ensures refused { FailsWithMemory result }
+/// Runs both threads on a new cell without a value, and returns what they returned. Each has an
+/// owner of its own, which ends with both. Fails if there is no memory for the cell or its owners.
+/// If no thread can be made, the two come one after another, so neither may wait for the other then.
+pub fn with_told<T, A, B, S, R>(rt: R, session: &S) -> Result<(A, B), Refusal>
+where
+    T: Drop + Send,
+    A: Send,
+    B: Send,
+    S: Session<Value = T, First = A, Second = B> + Sync,
+    R: Threads + Wait + RandomSource + AllocGlobal + Copy + Send + Sync,
+    ensures first { IfOk result (λ both. S.first_gives session.now both.0) }
+    ensures second { IfOk result (λ both. S.second_gives session.now both.1) }
+    ensures refused { IfErr result IsOwnerRefusal }
 {
-    let core = Core::new(alloc);
+    let core = Core::new(rt.alloc());
     let opened = Opened::of(&core);
-    run_named::<S, R, Brand>(rt, alloc, core, opened, session)
+    run_named::<T, A, B, S, R, Brand>(rt, core, opened, session)
 }
 
 /// Does the same on the cell that `N` names.
-fn run_named<S: Session, R: Wait + Copy, N: Naming<S::Value, TaskWaker>>(
+fn run_named<T, A, B, S, R, N>(
     rt: R,
-    alloc: Global,
-    core: Core<S::Value, TaskWaker>,
-    opened: Opened<S::Value, TaskWaker>,
+    core: Core<T, TaskWaker>,
+    opened: Opened<T, TaskWaker>,
     session: &S,
-) -> Result<S::Outcome, Refusal>
+) -> Result<(A, B), Refusal>
+where
+    T: Drop + Send,
+    A: Send,
+    B: Send,
+    S: Session<Value = T, First = A, Second = B> + Sync,
+    R: Threads + Wait + RandomSource + AllocGlobal + Copy + Send + Sync,
+    N: Naming<T, TaskWaker> + Send + Sync,
     requires named { N.named ≡ Some opened }
     requires begins { opened.start ≡ core }
     requires new { core ≡ record { cell = Open None 1; waiting = []; room = 0 } }
-    requires may { (call : Kept S.Value TaskWaker) → N.may call ↔ S.may session.now call }
-    ensures described { IfOk result (S.describes session.now) }
-    ensures refused { FailsWithMemory result }
+    requires may { Agree N.may (S.may session.now) }
+    ensures first { IfOk result (λ both. S.first_gives session.now both.0) }
+    ensures second { IfOk result (λ both. S.second_gives session.now both.1) }
+    ensures refused { IfErr result IsOwnerRefusal }
 {
-    let owner = ToldOwner::<S::Value, R, N>::begin(alloc, core, opened, rt)?;
-    Ok(session.run::<N, R>(rt, owner))
+    let mut owner = ToldOwner::<T, R, N>::begin(rt.alloc(), core, opened, rt)?;
+    let mut another = owner.another()?;
+    Ok(join(
+        &rt,
+        || -> A
+            requires { Agree N.may (S.may session.now) × BeganEmpty N.named }
+            ensures { S.first_gives session.entry.now result }
+        { session.first::<N, R>(rt, &mut owner) },
+        || -> B
+            requires { Agree N.may (S.may session.now) × BeganEmpty N.named }
+            ensures { S.second_gives session.entry.now result }
+        { session.second::<N, R>(rt, &mut another) },
+    ))
 }

@@ -2,7 +2,7 @@ ghost use Rattle.std.specs.Prelude.{◌≡◌, [], ◌∷◌, ◌++◌};
 ghost use Rattle.async_cell_core.specs.IsStep.{IsStep};
 ghost use Rattle.async_cell_waiting.specs.Told.{Fits, IsAllowed, Leads, entry_of};
 
-use crate::told::Naming;
+use crate::told::{Naming, Start};
 use async_cell_core::{Core, Wakes};
 use async_cell_model::Entry;
 use ghost_log::{Log, Makes};
@@ -25,7 +25,7 @@ pub(crate) trait Enters<C, A, T, W> {
 #[derive(Drop)]
 pub struct Opened<T, W: Wakes> {
     log: Log<Entry<T, W>>,
-    start: Snapshot<Core<T, W>>,
+    start: Start<T, W>,
 }
 
 /// Contracts see how it begins.
@@ -35,7 +35,7 @@ impl<T, W: Wakes> Model for Opened<T, W> {
 
     ghost Value = { Begun T W };
 
-    ghost view = { λ o. record { name = o.log.name; start = o.start.value } };
+    ghost view = { λ o. record { name = o.log.name; start = o.start } };
 
     ghost invariant = { λ o. o.log.list ≡ [] };
 }
@@ -48,7 +48,7 @@ impl<T, W: Wakes> Opened<T, W> {
     {
         Opened {
             log: Log::open(),
-            start: Snapshot::of(core),
+            start: Start::of(core),
         }
     }
 }
@@ -59,7 +59,7 @@ impl<T, W: Wakes> Opened<T, W> {
 pub struct Past<T, W: Wakes, N: Naming<T, W>> {
     pub(super) log: Log<Entry<T, W>>,
     of: PhantomData<N>,
-    start: Snapshot<Core<T, W>>,
+    start: Start<T, W>,
 }
 
 /// Contracts see how the cell began, and its calls so far.
@@ -69,12 +69,12 @@ impl<T, W: Wakes, N: Naming<T, W>> Model for Past<T, W, N> {
     ghost Value = { PastCalls T W };
 
     ghost view = { λ p. record {
-      begun = record { name = p.log.name; start = p.start.value };
+      begun = record { name = p.log.name; start = p.start };
       calls = p.log.list;
     } };
 
-    ghost invariant = { λ p. Fits N.named (record { name = p.log.name; start = p.start.value })
-        × IsLawful W.will_wake W.SURE_CLONE N.may p.start.value p.log.list };
+    ghost invariant = { λ p. Fits N.named (record { name = p.log.name; start = p.start })
+        × IsLawful W.will_wake W.SURE_CLONE N.may p.start p.log.list };
 }
 
 impl<T, W: Wakes, N: Naming<T, W>> Past<T, W, N> {
