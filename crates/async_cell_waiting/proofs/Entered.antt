@@ -5,9 +5,9 @@ use Rattle.async_cell_model.specs.declared.refusal.Refusal.{Refusal}
 use Rattle.async_cell_model.specs.declared.reply.Reply.{Reply}
 use Rattle.async_cell_model.specs.Machine.{State}
 use Rattle.async_cell_core.specs.declared.call.Answer.{Answer}
-use Rattle.async_cell_core.specs.IsStep.{WakerRules, IsStep, replace_answer, end_answer}
+use Rattle.async_cell_core.specs.IsStep.{WakerRules, IsStep, end_answer}
 use Rattle.async_cell_waiting.specs.Held.{answer_of}
-use Rattle.async_cell_waiting.specs.Told.{Desk, Made, entry_of, set_answer, set_reply, write_reply, end_reply}
+use Rattle.async_cell_waiting.specs.Told.{Desk, Made, entry_of, set_answer, set_reply, end_reply}
 
 module _ {T W : Type 0} (rules : WakerRules W) where
   -- a call was entered with this answer, and its reply is this
@@ -20,10 +20,6 @@ module _ {T W : Type 0} (rules : WakerRules W) where
   set_as (Ok (old, woken)) = refl
   set_as (Err back) = refl
 
-  write_as : (r : Result (Option T × List W) T) → (replace_answer {T = T} {W = W} r).reply ≡ write_reply (answer_of r)
-  write_as (Ok (old, woken)) = refl
-  write_as (Err back) = refl
-
   end_as : (r : Result (Option T × List W) Refusal) → (end_answer {T = T} {W = W} r).reply ≡ end_reply (answer_of r)
   end_as (Ok (value, woken)) = refl
   end_as (Err why) = refl
@@ -31,10 +27,6 @@ module _ {T W : Type 0} (rules : WakerRules W) where
   pub made_set : (old new : Desk T W) (call : Kept T W) (r : Result (Option T × List W) T) (held : Result (Option T) T) → IsStep rules old.inner call (set_answer r) new.inner → new.past.begun ≡ old.past.begun → new.past.calls ≡ old.past.calls ++ entry_of call (set_answer r) ∷ []
       → held ≡ answer_of r → Made rules.will_wake rules.SURE_CLONE old call (set_reply held) new
   made_set old new call r held does begun entered is = made_as old new call (set_answer r) (set_reply held) does begun entered (set_as r ∙ ap set_reply (sym is))
-
-  pub made_write : (old new : Desk T W) (call : Kept T W) (r : Result (Option T × List W) T) (held : Result (Option T) T) → IsStep rules old.inner call (replace_answer r) new.inner → new.past.begun ≡ old.past.begun → new.past.calls ≡ old.past.calls ++ entry_of call (replace_answer r) ∷ []
-      → held ≡ answer_of r → Made rules.will_wake rules.SURE_CLONE old call (write_reply held) new
-  made_write old new call r held does begun entered is = made_as old new call (replace_answer r) (write_reply held) does begun entered (write_as r ∙ ap write_reply (sym is))
 
   pub made_end : (old new : Desk T W) (call : Kept T W) (r : Result (Option T × List W) Refusal) (held : Result (Option T) Refusal) → IsStep rules old.inner call (end_answer r) new.inner → new.past.begun ≡ old.past.begun → new.past.calls ≡ old.past.calls ++ entry_of call (end_answer r) ∷ []
       → held ≡ answer_of r → Made rules.will_wake rules.SURE_CLONE old call (end_reply held) new

@@ -203,7 +203,6 @@ impl<T: Drop, W: Wakes, N: Naming<T, W>> CellCore<T, W, N> {
     }
 
     #[inline(always)]
-    #[tactic(auto, using(crate::proofs::Entered::made_write))]
     pub(crate) fn replace(&mut self, value: T) -> Held<Result<Option<T>, T>, Option<Wakers<W>>>
         requires may { N.may (Kept.Replace value) }
         ensures comes_back { IfErr result.answer (λ back. back ≡ value) }
@@ -213,7 +212,10 @@ impl<T: Drop, W: Wakes, N: Naming<T, W>> CellCore<T, W, N> {
         let asked = Asked::of(&self.inner, &value);
         let written = self.inner.replace(value);
         asked.enter(&mut self.past, &Replaces, &written, &self.inner);
-        Held::of_result(written)
+        match written {
+            Ok((old, woken)) => Held::waking(Ok(old), Some(woken)),
+            Err(value) => Held::waking(Err(value), None),
+        }
     }
 
     /// `replace`, entered as a `set`.
@@ -518,10 +520,7 @@ impl<T: Drop, N: Naming<T, TaskWaker>> Room for CellCore<T, TaskWaker, N> {
     ) -> Held<Result<Option<TaskWaker>, TaskWaker>> {
         let asked = Asked::of(&self.inner, &waker);
         let stored = self.inner.store(place, waker);
-        // If another one stood in the place, the future waited already.
-        if let Ok(None) = &stored {
-            asked.enter(&mut self.past, &Waits, &(), &self.inner);
-        }
+        asked.enter_stored(&mut self.past, &Waits, &stored, &self.inner);
         Held::of(stored)
     }
 

@@ -1,4 +1,4 @@
-ghost use Rattle.std.specs.Prelude.{◌≡◌, [], ◌∷◌, ◌++◌};
+ghost use Rattle.std.specs.Prelude.{◌≡◌, [], ◌∷◌, ◌++◌, IfOk, IfSome, OnErr, MatchOption};
 ghost use Rattle.async_cell_core.specs.IsStep.{IsStep};
 ghost use Rattle.async_cell_waiting.specs.Told.{Fits, IsAllowed, Leads, entry_of};
 
@@ -139,6 +139,34 @@ impl<C, T, W: Wakes> Asked<C, T, W> {
             returned,
             to,
         });
+    }
+
+    /// `enter`, of a call that stores a waker, if none stood in its place: where one did, its
+    /// future waited already. It is not inlined always, so the compiler finds it empty before it
+    /// inlines it: in its caller the branch would cost an instruction.
+    pub(crate) fn enter_stored<N: Naming<T, W>, M: Enters<C, (), T, W>>(
+        &self,
+        past: &mut Past<T, W, N>,
+        waits: &M,
+        stored: &Result<Option<W>, W>,
+        to: &Core<T, W>,
+    )
+        requires led { Leads W.will_wake W.SURE_CLONE past.old self.now.from.value }
+        requires step { IfOk stored.now (λ before. MatchOption before
+            (IsStep W.Wakes self.now.from.value
+            (M.call self.now.from.value self.now.passed.value to.now)
+            (M.answer self.now.from.value tt) to.now)
+            (λ _. to.now ≡ self.now.from.value)) }
+        requires allowed { IsAllowed N.may
+            (M.call self.now.from.value self.now.passed.value to.now) }
+        requires unchanged { OnErr stored.now (to.now ≡ self.now.from.value) }
+        ensures leads { Leads W.will_wake W.SURE_CLONE past.new to.now }
+        ensures stands { IfOk stored.now (λ before. IfSome before (λ _. past.new ≡ past.old)) }
+        ensures unchanged { OnErr stored.now (past.new ≡ past.old) }
+    {
+        if let Ok(None) = stored {
+            self.enter(past, waits, &(), to);
+        }
     }
 }
 
