@@ -39,7 +39,7 @@ module _ {T W : Type 0} (MayReply : Kept T W → Reply T → Reply T → Type 0)
   pub record MayFollowBy (at : State T W) (e : Entry T W) : Type 0 where
     pub replied : MayReply e.call (reply at.cell e.call) e.reply
         ⊎ ((e.reply ≡ Refused why.Memory None)
-            × (may_refuse will_wake sure_wakers at e.call ≡ true))
+        × (may_refuse will_wake sure_wakers at e.call ≡ true))
     pub updated : FitsUpdate at.cell e.call
 
   -- each of these entries is legal after those before it, if the entries h come first
