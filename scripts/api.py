@@ -110,13 +110,13 @@ class Crate:
                 yield "::".join([it for it in path if it != "lib"] + [it.name]), self, it
 
     def find(self, first, name):
-        """Returns the crate that declares the name, and its item; a whole crate has none."""
+        """Returns the crate that declares the name, and its item; a crate or a module has none."""
         other = self if os.path.isfile(f"{self.folder}/src/{first}.rt") else crate(first)
         if other in (self, None) or name == first or name in other.named:
             found = other and other.named.get(name)
             return (None if other == self and not found else other), found
         found = [(of, it) for exported, of, it in other.exports() if exported == name]
-        return (found or [(None, None)])[0]
+        return (found or [(other if name in other.modules else None, None)])[0]
 
     def impls(self, item):
         """Returns the impls of a type or a trait: its own first, and those of its file."""
