@@ -4,23 +4,17 @@ use Rattle.std.specs.Prelude.{nat_lt, IfOk, MatchOption}
 use Rattle.std.proofs.lemmas.Bool.Decides.{nat_tests}
 use Rattle.async_cell_model.specs.declared.entry.Kept.TheVariants.{PollTake, PollGet}
 use Rattle.async_cell_model.specs.Machine.{is_vacant, is_empty, State, IsSound, needs_no_memory, Does}
-use Rattle.async_cell_model.proofs.OneMoreWaker.{never_skipped}
+use Rattle.async_cell_model.proofs.OneMoreWaker.{may_lack_memory, never_skipped}
 use Rattle.async_cell_model.proofs.WaitingPoll as poll
 use Rattle.async_cell_wakers.specs.Place.{displaced}
 use Rattle.async_cell_wakers.specs.WaitList.{ListState}
 use Rattle.async_cell_core.specs.IsStep.{wait_answer}
 use Rattle.async_cell_core.specs.Stored.{cell_of, state_of}
 
--- a list that may have found no memory holds a waker and has no room
-needs : {W : Type 0} (sure : Bool) (l : List W) (room : ℕ) → (l ≡ [] → ⊥) → (0 < room → ⊥) → (sure && (is_empty l || nat_lt 0 room)) ≡ false
-needs false l room first more = refl
-needs true [] room first more = absurd (first refl)
-needs true (x ∷ xs) room first more = search (rules, nat_tests)
-
 module _ {T W : Type 0} (will_wake : W → W → Bool) (sure : Bool) (never : (a b : W) → will_wake a b ≡ false) (b to : State T W) (w : W)
     (sound : IsSound will_wake b) (vacant : is_vacant b.cell ≡ true) where
   refused : (first : b.waiting ≡ [] → ⊥) (more : 0 < b.room → ⊥) → needs_no_memory will_wake sure b w ≡ false
-  refused first more = rw (never_skipped will_wake b.waiting w never) (needs sure b.waiting b.room first more)
+  refused first more = rw (never_skipped will_wake b.waiting w never) (may_lack_memory sure b.waiting b.room first more)
 
   pub take_added : {A : Type 0} (result : Result A W) → to.cell ≡ b.cell → OnOk result (to.waiting ≡ b.waiting ++ w ∷ []) → OnOk result (b.room - 1 ≤ to.room) → OnErr result (to ≡ b)
       → (b.waiting ≡ [] → IsOk result) → (0 < b.room → IsOk result) → Does will_wake sure b (record { call = PollTake w; reply = (wait_answer {T = T} {W = W} result).reply }) (wait_answer {T = T} {W = W} result).woken to

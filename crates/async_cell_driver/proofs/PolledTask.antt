@@ -111,10 +111,6 @@ waiting_or_asked i j false is l old ready waits named =
     let before : (is_named j l || false) ≡ true = rw is at either in
     waits (sym (or-false (is_named j l)) ∙ before)
 
-unnamed_if : (b : Bool) (old : Option Mark) → (b ≡ true → old ≡ Some mark.Waiting) → is_ready_mark old ≡ true → b ≡ false
-unnamed_if true old waits ready = let no : false ≡ true = sym (ap is_ready_mark (waits refl)) ∙ ready in cc
-unnamed_if false old waits ready = refl
-
 pub same_kind : (k l : Kind) → Some k ≡ Some l → k ≡ l
 same_kind k l same = cc
 
@@ -196,10 +192,6 @@ module _ {T : Type 0} where
     waiting_polled from core i asked covered.1 ready refused waits,
   )
 
-  -- the name of a ready task is not in the wait list
-  pub ready_unnamed : (from : DriverState T) (i : ℕ) → NamesMatch from → is_ready_mark (mark_at from.tasks i) ≡ true → is_named i from.core.waiting ≡ false
-  ready_unnamed from i covered ready = unnamed_if (is_named i from.core.waiting) (mark_at from.tasks i) (covered.1 i) ready
-
   -- where the poll of a ready task leads
   pub poll_drives : (is_clone : T → T → Type 0) (from : DriverState T) (core : State T Named) (i : ℕ) (kind : Kind) (asked : Result (Poll (Option T)) Refusal)
       → IsSound same_name core → NamesMatch from → kind_at from.tasks i ≡ Some kind → is_ready_mark (mark_at from.tasks i) ≡ true
@@ -220,16 +212,6 @@ module _ {T : Type 0} where
   pub sure_anyway : (o : Option T) (P : Type 0) (Q : T → Type 0) → P → MatchOption o P (λ value. Q value → P)
   sure_anyway None P Q holds = holds
   sure_anyway (Some value) P Q holds = λ q. holds
-
-  sure_after : (o : Option T) (P R : Type 0) (Q : T → Type 0) → (P → R) → MatchOption o P (λ value. Q value → P) → MatchOption o R (λ value. Q value → R)
-  sure_after None P R Q follows sure = follows sure
-  sure_after (Some value) P R Q follows sure = λ q. follows (sure q)
-
-  -- where a poll cannot fail, a refusal of it is spared
-  pub spared_refused : (is_infallible : T → Type 0) (c : Cell T) (i : ℕ) (why : Refusal) (result : Result (Polled T) Refusal) → result ≡ Err why
-      → (is_vacant c ≡ false → MatchOption (content c) (IsOk result) (λ value. is_infallible value → IsOk result))
-      → IsSpared is_infallible c (event.Poll i) (told.Refused why)
-  spared_refused is_infallible c i why result is sure = λ not_vacant. sure_after (content c) _ ⊥ is_infallible (λ ok. cc) (sure not_vacant)
 
   ok_polled : (asked : Result (Poll (Option T)) Refusal) → IsOk asked → IsOk (polled_of asked)
   ok_polled (Ok (Ready value)) ok = refl

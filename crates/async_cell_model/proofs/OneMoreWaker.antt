@@ -1,12 +1,19 @@
 -- What one more waker makes of a wait list, and the wait lists of longer lists.
-use Rattle.std.proofs.Common.{◌≡◌, ◌≤◌, ◌<◌, inl, inr, ℕ, Bool, true, false, not, ◌||◌, List, [], ◌∷◌, ◌++◌, length, get_or, refl, ap, sym, subst, ◌∙◌, arith, le_refl, le_trans, length-append}
-use Rattle.std.specs.Prelude.{◌≢◌, if◌then◌else◌, filter, fold, AllPairs}
+use Rattle.std.proofs.Common.{◌≡◌, ◌≤◌, ◌<◌, inl, inr, ℕ, Bool, true, false, not, ◌&&◌, ◌||◌, List, [], ◌∷◌, ◌++◌, length, get_or, refl, ap, sym, subst, ◌∙◌, arith, rules, le_refl, le_trans, length-append}
+use Rattle.std.specs.Prelude.{◌≢◌, nat_lt, if◌then◌else◌, filter, fold, AllPairs}
+use Rattle.std.proofs.lemmas.Bool.Decides.{nat_tests}
 use Rattle.std.proofs.lemmas.List.Sums.{fold-append}
 use Rattle.std.proofs.lemmas.List.Folds.{list_any-append, list_any_at}
 use Rattle.std.proofs.lemmas.List.Elements.{Contains-append_left, Contains-push}
 use Rattle.std.proofs.lemmas.List.Quantifiers.{all_pairs_push}
-use Rattle.async_cell_model.specs.Machine.{wait_list, skips, with_one_more}
+use Rattle.async_cell_model.specs.Machine.{is_empty, wait_list, skips, with_one_more}
 use Rattle.async_cell_model.specs.History.{IsCovered}
+
+-- a list that may have found no memory holds a waker and has no room
+pub may_lack_memory : {W : Type 0} (sure : Bool) (l : List W) (room : ℕ) → (l ≡ [] → ⊥) → (0 < room → ⊥) → (sure && (is_empty l || nat_lt 0 room)) ≡ false
+may_lack_memory false l room first more = refl
+may_lack_memory true [] room first more = absurd (first refl)
+may_lack_memory true (x ∷ xs) room first more = search (rules, nat_tests)
 
 module _ {W : Type 0} (will_wake : W → W → Bool) where
   -- the wait list of a longer list goes on from that of the shorter one

@@ -19,6 +19,7 @@ pub fn of_histories() {
     laws::a_refused_call_changes_nothing::<String, u64>();
     laws::a_fill_or_close_ends_all_waiting::<String, u64>();
     laws::with_exact_clones_a_history_is_exact::<i64, u64>();
+    laws::a_step_is_the_machines::<String, u64>();
 }
 
 /// The laws of exact histories.
@@ -32,6 +33,7 @@ pub fn of_exact_histories() {
     exact::a_history_ends_in_a_sound_state::<Uncloned, u64>();
     exact::a_refused_call_changes_nothing::<Uncloned, u64>();
     exact::a_fill_or_close_ends_all_waiting::<Uncloned, u64>();
+    exact::a_step_is_the_machines::<Uncloned, u64>();
 }
 
 /// The laws of wait lists.

@@ -18,7 +18,7 @@ impl<T: Drop, W: Wakes> Core<T, W> {
     #[tactic(auto, using(async_cell_model::proofs::OneMoreWaker::keep_added, async_cell_model::proofs::OneMoreWaker::never_skipped, async_cell_model::proofs::WaitingPoll::get_added, async_cell_model::proofs::WaitingPoll::get_refused, async_cell_model::proofs::WaitingPoll::take_added, async_cell_model::proofs::WaitingPoll::take_refused))]
     pub fn add(&mut self, waker: W) -> Result<(), W>
         requires vacant { is_vacant self.old.cell ≡ true }
-        requires none_skipped { (a b : W) → W.will_wake a b ≡ false }
+        requires none_alike { (a b : W) → W.will_wake a b ≡ false }
         ensures take { IsStep W.Wakes self.old (Kept.PollTake waker) (wait_answer result) self.new }
         ensures get { IsStep W.Wakes self.old (Kept.PollGet waker) (wait_answer result) self.new }
 

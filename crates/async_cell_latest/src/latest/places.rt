@@ -17,7 +17,7 @@ impl<T: Drop, W: Wakes> Latest<T, W> {
     #[tactic(auto, using(async_cell_model::proofs::OneMoreWaker::keep_added, async_cell_model::proofs::OneMoreWaker::never_skipped))]
     pub fn add(&mut self, waker: W) -> Result<(), W>
         requires open { is_closed self.old ≡ false }
-        requires none_skipped { (a b : W) → W.will_wake a b ≡ false }
+        requires none_alike { (a b : W) → W.will_wake a b ≡ false }
         ensures model { IsStep W.Wakes self.old
             (PollChanged self.old.version waker) (wait_answer result) self.new }
 
