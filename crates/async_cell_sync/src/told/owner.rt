@@ -75,8 +75,8 @@ impl<T: Drop, R: Wait + Copy, N: Naming<T, TaskWaker>> ToldOwner<T, R, N> {
 
     /// Ensures what holds of all that was seen: its calls are legal, and its changes may be made.
     pub fn lawful(&self)
-        ensures { IsLawful ⟦<TaskWaker as Wakes>⟧.will_wake ⟦<TaskWaker as Wakes>⟧.SURE_CLONE N.may (start_of N.named)
-            self.now.seen }
+        ensures { IsLawful ⟦<TaskWaker as Wakes>⟧.will_wake ⟦<TaskWaker as Wakes>⟧.SURE_CLONE N.may
+            (start_of N.named) self.now.seen }
     {
         self.seen.lawful();
     }

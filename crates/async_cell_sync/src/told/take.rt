@@ -40,8 +40,8 @@ impl<T: Drop, R: Wait + Drop, N: Naming<T, TaskWaker>> ToldOwner<T, R, N> {
     }
 }
 
-/// Takes the value. The poll that is ready is a `try_take` of the history. It owns the cell while it waits, so it waits forever if nobody
-/// sets a value. Fails with `Memory` if there is no memory to wait, and may then be polled again;
+/// Takes the value. The poll that is ready is a `try_take` of the history. It owns the cell while
+/// it waits, so it waits forever if nobody sets a value. Fails with `Memory` if there is no memory to wait, and may then be polled again;
 /// with `Closed` at each poll after it was ready.
 pub struct ToldTake<T: Drop, R: Wait + Drop, N: Naming<T, TaskWaker>> {
     /// `None` once it was ready.
@@ -60,8 +60,8 @@ impl<T: Drop, R: Wait + Drop, N: Naming<T, TaskWaker>> Future for ToldTake<T, R,
         (Value (Some both.0)) both.1.seen)) };
 
     fn poll(&mut self, cx: &mut Context<'_>) -> Poll<Self::Output>
-        ensures told { IfReady result (λ given. IfOk given (λ both. IsSomeAnd self.old.owner (λ owner.
-            IsTold ⟦<TaskWaker as Wakes>⟧ N.named owner.seen TryTake
+        ensures told { IfReady result (λ given. IfOk given (λ both.
+            IsSomeAnd self.old.owner (λ owner. IsTold ⟦<TaskWaker as Wakes>⟧ N.named owner.seen TryTake
             (Value (Some both.0)) both.1.seen))) }
         ensures stays { OnPending result (self.new.owner ≡ self.old.owner) }
         ensures registered { OnPending result (Covers cx.new (λ s. IsSomeAnd self.new.owner
@@ -106,8 +106,8 @@ impl<T: Drop, R: Wait + Drop, N: Naming<T, TaskWaker>> Drop for ToldTake<T, R, N
     }
 }
 
-/// Clones the value. The poll that is ready is a `try_get` of the history. It owns the cell while it waits, so it waits forever if nobody
-/// sets a value. Fails with `Memory` if there is no memory to wait, and may then be polled again;
+/// Clones the value. The poll that is ready is a `try_get` of the history. It owns the cell while
+/// it waits, so it waits forever if nobody sets a value. Fails with `Memory` if there is no memory to wait, and may then be polled again;
 /// with `Closed` at each poll after it was ready.
 pub struct ToldGet<T: Drop, R: Wait + Drop, N: Naming<T, TaskWaker>> {
     /// `None` once it was ready.
@@ -125,8 +125,8 @@ impl<T: Clone, R: Wait + Drop, N: Naming<T, TaskWaker>> Future for ToldGet<T, R,
         (Value (Some both.0)) both.1.seen)) };
 
     fn poll(&mut self, cx: &mut Context<'_>) -> Poll<Self::Output>
-        ensures told { IfReady result (λ given. IfOk given (λ both. IsSomeAnd self.old.owner (λ owner.
-            IsToldUpTo T.is_clone ⟦<TaskWaker as Wakes>⟧ N.named owner.seen TryGet
+        ensures told { IfReady result (λ given. IfOk given (λ both.
+            IsSomeAnd self.old.owner (λ owner. IsToldUpTo T.is_clone ⟦<TaskWaker as Wakes>⟧ N.named owner.seen TryGet
             (Value (Some both.0)) both.1.seen))) }
         ensures stays { OnPending result (self.new.owner ≡ self.old.owner) }
         ensures registered { OnPending result (Covers cx.new (λ s. IsSomeAnd self.new.owner

@@ -51,7 +51,7 @@ impl<T, W: Wakes, N: Naming<T, W>> Witness<T, W, N> {
         self.seen.learn(&past.log);
     }
 
-    /// Ensures what holds of all that was seen: its calls are legal, and its writes may be made.
+    /// Ensures what holds of all that was seen: its calls are legal, and its changes may be made.
     pub fn lawful(&self)
         ensures { IsLawful W.will_wake W.SURE_CLONE N.may (start_of N.named) self.now }
     {
