@@ -3,7 +3,6 @@ use Rattle.std.proofs.Common.{◌≡◌, ◌∷◌, ◌++◌, [], List, Option, 
 use Rattle.async_cell_model.specs.declared.entry.Kept.{Kept}
 use Rattle.async_cell_model.specs.declared.refusal.Refusal.{Refusal}
 use Rattle.async_cell_model.specs.declared.reply.Reply.{Reply}
-use Rattle.async_cell_model.specs.Machine.{State}
 use Rattle.async_cell_core.specs.declared.call.Answer.{Answer}
 use Rattle.async_cell_core.specs.IsStep.{WakerRules, IsStep, end_answer}
 use Rattle.async_cell_waiting.specs.Held.{answer_of}

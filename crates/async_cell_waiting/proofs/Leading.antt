@@ -1,5 +1,5 @@
 -- What one more call makes of a past that leads to a core.
-use Rattle.std.proofs.Common.{◌≡◌, ◌≤◌, ℕ, Bool, true, List, [], ◌∷◌, ◌++◌, refl, ap, sym, subst, ◌∙◌}
+use Rattle.std.proofs.Common.{◌≡◌, Bool, List, [], ◌∷◌, ◌++◌, refl}
 use Rattle.async_cell_model.specs.declared.entry.Entry.{Entry}
 use Rattle.async_cell_model.specs.Machine.{State, IsSound, Does}
 use Rattle.async_cell_model.specs.History.{History}
@@ -7,7 +7,6 @@ use Rattle.async_cell_model.specs.Legal.{IsLegal, Runs, wakes_after}
 use Rattle.async_cell_model.proofs.LegalHistories.{Runs-join, Runs-nil}
 use Rattle.async_cell_model.proofs.Machine.{model_of}
 use Rattle.async_cell_waiting.specs.Told.{Past, Leads, IsAllowed, IsLawful}
-use Rattle.std.specs.List.{All}
 use Rattle.std.proofs.lemmas.List.Elements.{All-append, All-cons, All-nil}
 use Rattle.async_cell_model.specs.declared.entry.Kept.{Kept}
 

@@ -1,5 +1,6 @@
 pub mod Entered
 pub mod Found
+pub mod GoingOn
 pub mod Leading
 pub mod PutIn
 pub mod Setting

@@ -1,5 +1,5 @@
 -- A `replace` entered as a `set`, and a get entered with the machine's own reply.
-use Rattle.std.proofs.Common.{◌≡◌, ◌≤◌, ℕ, Bool, true, false, inl, inr, List, [], Option, Some, None, Result, Ok, Err, refl, arith}
+use Rattle.std.proofs.Common.{ℕ, inl, inr, List, Option, Some, None, Result, Ok, Err, refl, arith}
 use Rattle.async_cell_model.specs.declared.cell.Cell.{Cell}
 use Rattle.async_cell_model.specs.declared.cell.Cell.TheVariants.{Closed, Open}
 use Rattle.async_cell_model.specs.declared.entry.Kept.TheVariants.{Set, Replace, TryGet}

@@ -1,5 +1,5 @@
 -- What a thread knows after a call that it was told of.
-use Rattle.std.proofs.Common.{◌≡◌, ℕ, Bool, List, [], ◌∷◌, ◌++◌, Option, Some, None, IsSome, refl, ap, sym, subst, ◌∙◌, append-nil, append_assoc, arith}
+use Rattle.std.proofs.Common.{◌≡◌, ℕ, Bool, [], ◌∷◌, ◌++◌, Option, Some, None, IsSome, refl, ap, sym, subst, ◌∙◌, append-nil, append_assoc, arith}
 use mathlib.Core.List.{IsPrefix}
 use Rattle.async_cell_model.specs.declared.entry.Entry.{Entry}
 use Rattle.async_cell_model.specs.declared.entry.Kept.{Kept}
@@ -38,7 +38,7 @@ module _ {T W : Type 0} where
 
 module _ {T W : Type 0} (will_wake : W → W → Bool) (sure : Bool) where
   -- the second part of legal calls is legal after the first
-  second : (b : State T W) (g xs ys : History T W) → IsLegalAfterBy Exactly will_wake sure b g (xs ++ ys) → IsLegalAfterBy Exactly will_wake sure b (g ++ xs) ys
+  pub second : (b : State T W) (g xs ys : History T W) → IsLegalAfterBy Exactly will_wake sure b g (xs ++ ys) → IsLegalAfterBy Exactly will_wake sure b (g ++ xs) ys
   second b g [] ys legal = subst (λ (l : History T W). IsLegalAfterBy Exactly will_wake sure b l ys) (sym (append-nil g)) legal
   second b g (x ∷ xs) ys legal =
       subst (λ (l : History T W). IsLegalAfterBy Exactly will_wake sure b l ys) (append_assoc g (x ∷ []) xs) (second b (g ++ x ∷ []) xs ys legal.1)

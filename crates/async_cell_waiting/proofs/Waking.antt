@@ -1,12 +1,10 @@
 -- No waiting poll is forgotten: its waker waits at the end of the history, or the first fill or close after it wakes it.
-use Rattle.std.proofs.Common.{◌≡◌, true, List, [], ◌∷◌, ◌++◌, Option, Some, None, refl, ap, sym, subst, ◌∙◌}
-use Rattle.std.specs.Prelude.{if◌then◌else◌}
-use Rattle.async_cell_model.specs.declared.cell.Cell.{Cell}
+use Rattle.std.proofs.Common.{◌≡◌, true, List, [], ◌∷◌, ◌++◌, Option, refl, sym, subst, ◌∙◌}
 use Rattle.async_cell_model.specs.declared.entry.Entry.{Entry}
 use Rattle.async_cell_model.specs.declared.entry.Kept.{Kept}
 use Rattle.async_cell_model.specs.declared.reply.Reply.{Reply}
 use Rattle.async_cell_model.specs.Machine.{State, ends_waiting}
-use Rattle.async_cell_model.specs.History.{History, IsCovered, cell_after, waiting, after}
+use Rattle.async_cell_model.specs.History.{History, IsCovered, cell_after, waiting}
 use Rattle.async_cell_model.specs.Legal.{IsLegal, IsLegalUpTo}
 use Rattle.async_cell_model.proofs.Exact.{NoClone, legal_of_exact}
 use Rattle.async_cell_model.proofs.Whole.{stays_covered, IsLegalAfter-first}

@@ -1,5 +1,5 @@
 -- What is told of a cell: which cell it is, its history, and what a call adds to it.
-use Rattle.std.specs.Prelude.{◌≡◌, ℕ, Bool, true, false, List, [], ◌∷◌, ◌++◌, ⊤, Option, Some, None, IfSome, Result, Ok, Err}
+use Rattle.std.specs.Prelude.{◌≡◌, ℕ, Bool, true, false, List, [], ◌∷◌, ◌++◌, Contains, ⊤, Option, Some, None, IfSome, IsSomeAnd, Result, Ok, Err}
 use Rattle.std.specs.List.{All}
 use mathlib.Core.List.{IsPrefix}
 use Rattle.async_cell_model.specs.declared.cell.Cell.{Cell}
@@ -171,6 +171,32 @@ module _ {T W : Type 0} where
   -- each value that a change may put in, a `set` may put in too
   abbrev pub PutsWhatSetsMay : (Kept T W → Type 0) → Type 0
   PutsWhatSetsMay may = (call : Kept T W) → may call → Puts (λ v. may (Set v)) call
+
+  -- the call was made, with this reply
+  abbrev pub HasEntry : History T W → Kept T W → Reply T → Type 0
+  HasEntry calls call reply = Contains calls (record { call = call; reply = reply })
+
+  -- P holds of a beginning of these calls
+  abbrev pub IsPartOf : History T W → (History T W → Type 0) → Type 0
+  IsPartOf calls P = (part : History T W) × IsPrefix part calls × P part
+
+  -- the call is an `or_set`
+  abbrev pub IsOrSet : Kept T W → Type 0
+  IsOrSet (OrSet x) = ⊤
+  IsOrSet call = ⊥
+
+  -- of a full cell, the call makes one with a value that follows the one that was there
+  abbrev pub GoesOn : (T → T → Type 0) → Kept T W → Type 0
+  GoesOn Follows (OrSet x) = ⊤
+  GoesOn Follows (Update (Some old) put) = IsSomeAnd put (Follows old)
+  GoesOn Follows (Update None put) = ⊤
+  GoesOn Follows (UpdateSome (Some old) put) = IsSomeAnd put (Follows old)
+  GoesOn Follows (UpdateSome None put) = ⊤
+  GoesOn Follows call = ⊥
+
+  -- the changes that may be made are such calls
+  abbrev pub OnlyMakes : (Kept T W → Type 0) → (Kept T W → Type 0) → Type 0
+  OnlyMakes may Such = (call : Kept T W) → may call → IsAllowed Such call
 
 -- Who waits. A poll with this waker has returned `Pending`, and nothing filled or closed the cell
 -- since.

@@ -1,10 +1,12 @@
 //! Laws of what is told of a cell. Each is the contract of a function that does nothing.
-ghost use Rattle.std.specs.Prelude.{◌≡◌, true, Some, IfSome};
+ghost use Rattle.std.specs.Prelude.{◌≡◌, Bool, true, Some, IfSome};
+ghost use mathlib.Core.List.{IsPrefix};
 ghost use Rattle.async_cell_model.specs.declared.reply.Reply.{Reply as Replied};
 ghost use Rattle.async_cell_model.specs.declared.entry.Kept.{Kept as Called};
 ghost use Rattle.async_cell_model.specs.Machine.{content, ends_waiting};
+ghost use Rattle.async_cell_model.specs.Legal.{IsExact};
 ghost use Rattle.async_cell_model.specs.History.{History, IsCovered, cell_after};
-ghost use Rattle.async_cell_waiting.specs.Told.{IsLawful, IsTold, PutsWhatSetsMay, StillWaits, start_of};
+ghost use Rattle.async_cell_waiting.specs.Told.{GoesOn, HasEntry, IsLawful, IsOrSet, IsTold, IsToldUpTo, OnlyMakes, PutsWhatSetsMay, StillWaits, start_of};
 
 use crate::told::Naming;
 use async_cell_core::Wakes;
@@ -37,4 +39,41 @@ pub fn a_fill_or_close_wakes_who_waits<T, W: Wakes, N: Naming<T, W>>()
         → ends_waiting (cell_after (start_of N.named).cell told.before)
         (cell_after (start_of N.named).cell now) ≡ true
         → IsCovered W.will_wake told.woken w }
+{}
+
+/// What was told stays in the history, whatever comes later.
+pub fn what_was_told_stays<T, W: Wakes, N: Naming<T, W>>()
+    ensures { (seen now later : History T W) (call : Called T W) (reply : Replied T)
+        → IsTold W.Wakes N.named seen call reply now → IsPrefix now later
+        → HasEntry later call reply }
+{}
+
+/// Where clones are exact, what was got is what the cell held.
+pub fn an_exact_get_is_told<T: Clone, W: Wakes, N: Naming<T, W>>()
+    ensures { IsExact T.is_clone → (seen now : History T W) (v : T)
+        → IsToldUpTo T.is_clone W.Wakes N.named seen Kept.TryGet (Reply.Value (Some v)) now
+        → IsTold W.Wakes N.named seen Kept.TryGet (Reply.Value (Some v)) now }
+{}
+
+/// If an `or_set` is the only change that may be made, all who get a value get the same one.
+pub fn what_is_set_once_all_get<T, W: Wakes, N: Naming<T, W>>()
+    ensures { (now : History T W) (v w : T)
+        → OnlyMakes N.may IsOrSet
+        → IsLawful W.will_wake W.SURE_CLONE N.may (start_of N.named) now
+        → HasEntry now Kept.TryGet (Reply.Value (Some v))
+        → HasEntry now Kept.TryGet (Reply.Value (Some w)) → v ≡ w }
+{}
+
+/// What is got never goes back. If each change that may be made of a full cell puts in a value that
+/// follows the one that was there, a value that is got later follows one that was got before.
+pub fn what_is_got_never_goes_back<T, W: Wakes, N: Naming<T, W>>()
+    ensures { (follows : T → T → Bool) (seen first later now : History T W) (v w : T)
+        → ((a : T) → follows a a ≡ true)
+        → ((a b c : T) → follows a b ≡ true → follows b c ≡ true → follows a c ≡ true)
+        → OnlyMakes N.may (GoesOn (λ a b. follows a b ≡ true))
+        → IsLawful W.will_wake W.SURE_CLONE N.may (start_of N.named) now
+        → IsTold W.Wakes N.named seen Kept.TryGet (Reply.Value (Some v)) first
+        → IsPrefix first later
+        → IsTold W.Wakes N.named later Kept.TryGet (Reply.Value (Some w)) now
+        → follows v w ≡ true }
 {}

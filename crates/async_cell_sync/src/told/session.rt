@@ -3,13 +3,14 @@
 ghost use Rattle.std.specs.Prelude.{◌≡◌, [], None, Some, IfOk, IfErr};
 ghost use Rattle.async_cell_model.specs.declared.cell.Cell.TheVariants.{Open};
 ghost use Rattle.async_cell_model.specs.declared.entry.Kept.{Kept};
+ghost use Rattle.async_cell_model.specs.History.{History};
 ghost use Rattle.async_cell_model.specs.Refusal.{IsOwnerRefusal};
-ghost use Rattle.async_cell_waiting.specs.Told.{Agree, BeganEmpty};
+ghost use Rattle.async_cell_waiting.specs.Told.{Agree, BeganEmpty, IsPartOf};
 ghost use Rattle.async_cell_wakers.specs.declared.task_waker.TaskWaker.{TaskWaker};
 
 use super::owner::ToldOwner;
 use async_cell_core::{Core, Refusal, TaskWaker};
-use async_cell_waiting::{Naming, Opened};
+use async_cell_waiting::{Naming, Opened, Witness};
 use std::alloc::AllocGlobal;
 use std::marker::Brand;
 use std::random::RandomSource;
@@ -31,11 +32,14 @@ pub trait Session {
     /// that it may.
     ghost may: { Self → Kept Self.Value TaskWaker → Type 0 };
 
-    /// What is known of what the first thread returns.
-    ghost first_gives: { Self → Self.First → Type 0 };
+    /// What the first thread knows at its end: of what it returns, and of what its owner has seen.
+    ghost first_knows: { Self → Self.First → History Self.Value TaskWaker → Type 0 };
 
-    /// What is known of what the second thread returns.
-    ghost second_gives: { Self → Self.Second → Type 0 };
+    /// What the second thread knows at its end.
+    ghost second_knows: { Self → Self.Second → History Self.Value TaskWaker → Type 0 };
+
+    /// What is known of what both return.
+    ghost gives: { Self → Self.First → Self.Second → Type 0 };
 
     /// What the first thread does. The cell began without a value.
     fn first<N, R>(&self, rt: R, owner: &mut ToldOwner<Self::Value, R, N>) -> Self::First
@@ -44,7 +48,7 @@ pub trait Session {
         R: Threads + Wait + RandomSource + AllocGlobal + Copy + Send + Sync,
         requires may { Agree N.may (may self.now) }
         requires begins { BeganEmpty N.named }
-        ensures gives { first_gives self.now result };
+        ensures knows { first_knows self.now result owner.new.seen };
 
     /// What the second thread does.
     fn second<N, R>(&self, rt: R, owner: &mut ToldOwner<Self::Value, R, N>) -> Self::Second
@@ -53,7 +57,23 @@ pub trait Session {
         R: Threads + Wait + RandomSource + AllocGlobal + Copy + Send + Sync,
         requires may { Agree N.may (may self.now) }
         requires begins { BeganEmpty N.named }
-        ensures gives { second_gives self.now result };
+        ensures knows { second_knows self.now result owner.new.seen };
+
+    /// Makes what is known of both out of what each knows, and of one history that both have seen a
+    /// part of. The laws serve here. At run time it does nothing.
+    fn join<N>(
+        &self,
+        first: &Self::First,
+        second: &Self::Second,
+        seen: &Witness<Self::Value, TaskWaker, N>,
+    )
+    where
+        N: Naming<Self::Value, TaskWaker>,
+        requires may { Agree N.may (may self.now) }
+        requires begins { BeganEmpty N.named }
+        requires first { IsPartOf seen.now (first_knows self.now first.now) }
+        requires second { IsPartOf seen.now (second_knows self.now second.now) }
+        ensures gives { gives self.now first.now second.now };
 }
 
 /// Runs both threads on a new cell without a value, and returns what they returned. Each has an
@@ -66,8 +86,7 @@ where
     B: Send,
     S: Session<Value = T, First = A, Second = B> + Sync,
     R: Threads + Wait + RandomSource + AllocGlobal + Copy + Send + Sync,
-    ensures first { IfOk result (λ both. S.first_gives session.now both.0) }
-    ensures second { IfOk result (λ both. S.second_gives session.now both.1) }
+    ensures gives { IfOk result (λ both. S.gives session.now both.0 both.1) }
     ensures refused { IfErr result IsOwnerRefusal }
 {
     let core = Core::new(rt.alloc());
@@ -93,21 +112,29 @@ where
     requires begins { opened.start ≡ core }
     requires new { core ≡ record { cell = Open None 1; waiting = []; room = 0 } }
     requires may { Agree N.may (S.may session.now) }
-    ensures first { IfOk result (λ both. S.first_gives session.now both.0) }
-    ensures second { IfOk result (λ both. S.second_gives session.now both.1) }
+    ensures gives { IfOk result (λ both. S.gives session.now both.0 both.1) }
     ensures refused { IfErr result IsOwnerRefusal }
 {
-    let mut owner = ToldOwner::<T, R, N>::begin(rt.alloc(), core, opened, rt)?;
-    let mut another = owner.another()?;
-    Ok(join(
+    let mut first_owner = ToldOwner::<T, R, N>::begin(rt.alloc(), core, opened, rt)?;
+    let mut second_owner = first_owner.another()?;
+    let ((first, mut owner), (second, other)) = join(
         &rt,
-        || -> A
+        move || -> (A, ToldOwner<T, R, N>)
             requires { Agree N.may (S.may session.now) × BeganEmpty N.named }
-            ensures { S.first_gives session.entry.now result }
-        { session.first::<N, R>(rt, &mut owner) },
-        || -> B
+            ensures { S.first_knows session.entry.now result.0 result.1.seen }
+        {
+            let first = session.first::<N, R>(rt, &mut first_owner);
+            (first, first_owner)
+        },
+        move || -> (B, ToldOwner<T, R, N>)
             requires { Agree N.may (S.may session.now) × BeganEmpty N.named }
-            ensures { S.second_gives session.entry.now result }
-        { session.second::<N, R>(rt, &mut another) },
-    ))
+            ensures { S.second_knows session.entry.now result.0 result.1.seen }
+        {
+            let second = session.second::<N, R>(rt, &mut second_owner);
+            (second, second_owner)
+        },
+    );
+    owner.learn(&other);
+    session.join::<N>(&first, &second, &owner.seen);
+    Ok((first, second))
 }

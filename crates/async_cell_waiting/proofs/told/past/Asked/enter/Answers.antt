@@ -1,4 +1,4 @@
-use Rattle.std.proofs.Common.{◌≡◌, [], ◌∷◌, ◌++◌, refl, ap, sym, subst, ◌∙◌}
+use Rattle.std.proofs.Common.{[], ◌∷◌, ◌++◌, refl, ap, sym, subst}
 use Rattle.async_cell_model.specs.History.{History}
 use Rattle.async_cell_waiting.specs.Told.{Past, Fits, Leads, IsLawful, entry_of}
 use Rattle.async_cell_waiting.proofs.Leading.{leads_more, lawful_more}
