@@ -39,6 +39,12 @@ full_at W Closed v is = absurd (cc is)
 full_at W (Open None n) v is = absurd (cc is)
 full_at W (Open (Some x) n) v is = cc is
 
+-- what is in a history stays there
+pub stays : {T W : Type 0} (seen now : History T W) (call : Kept T W) (answer : Reply T) → IsPrefix seen now → HasEntry seen call answer → HasEntry now call answer
+stays {T} {W} seen now call answer on has =
+    let e : Entry T W = record { call = call; reply = answer } in
+    record { there = subst (λ (h : History T W). Contains h e) on.1 (Contains-append_left seen on.0 e has.there) }
+
 -- where clones are exact, a get gave the machine's own reply
 own_if : {T : Type 0} (W : Type 0) (is_clone : T → T → Type 0) → IsExact is_clone → (own : Reply T) (v : T) → IsCloned {W = W} is_clone TryGet own (Value (Some v)) → own ≡ Value (Some v)
 own_if W is_clone exact (Value (Some a)) v cloned = ap (λ x. Value (Some x)) (sym (exact a v cloned))
@@ -167,14 +173,14 @@ module _ {T W : Type 0} (will_wake : W → W → Bool) (sure : Bool) (may : Kept
   pub all_get : (now : History T W) (v w : T) → OnlyMakes may IsOrSet → IsLawful will_wake sure may (start_of named) now → HasEntry now TryGet (Value (Some v)) → HasEntry now TryGet (Value (Some w)) → v ≡ w
   all_get now v w only lawful first other =
       alike will_wake sure (start_of named) v w [] now lawful.legal
-      (All-weaker (λ (e : Entry T W). IsAllowed may e.call) (λ (e : Entry T W). IsAllowed (GoesOn (λ (x y : T). x ≡ y)) e.call) (λ e allowed change. goes_on (λ (x y : T). x ≡ y) e.call (only e.call (allowed change) change)) now lawful.allowed) first other
+      (All-weaker (λ (e : Entry T W). IsAllowed may e.call) (λ (e : Entry T W). IsAllowed (GoesOn (λ (x y : T). x ≡ y)) e.call) (λ e allowed change. goes_on (λ (x y : T). x ≡ y) e.call (only e.call (allowed change) change)) now lawful.allowed) first.there other.there
 
 module _ {T W : Type 0} (rules : WakerRules W) (may : Kept T W → Type 0) (named : Option (Begun T W)) where
-  -- what was told stays
-  pub stays : (seen now later : History T W) (call : Kept T W) (answer : Reply T) → IsTold rules named seen call answer now → IsPrefix now later → HasEntry later call answer
-  stays seen now later call answer told on =
+  -- what was told is in the history
+  pub told_in : (seen now : History T W) (call : Kept T W) (answer : Reply T) → IsTold rules named seen call answer now → HasEntry now call answer
+  told_in seen now call answer told =
       let e : Entry T W = record { call = call; reply = answer } in
-      subst (λ (h : History T W). Contains h e) on.1 (Contains-append_left now on.0 e (subst (λ (h : History T W). Contains h e) (sym told.ends) (Contains-push told.before e)))
+      record { there = subst (λ (h : History T W). Contains h e) (sym told.ends) (Contains-push told.before e) }
 
   -- what is got never goes back
   pub never_back : (Follows : T → T → Type 0) (itself : (a : T) → Follows a a) (on : (a b c : T) → Follows a b → Follows b c → Follows a c) (seen first later now : History T W) (v w : T) → OnlyMakes may (GoesOn Follows) → IsLawful rules.will_wake rules.SURE_CLONE may (start_of named) now

@@ -172,9 +172,9 @@ module _ {T W : Type 0} where
   abbrev pub PutsWhatSetsMay : (Kept T W → Type 0) → Type 0
   PutsWhatSetsMay may = (call : Kept T W) → may call → Puts (λ v. may (Set v)) call
 
-  -- the call was made, with this reply
-  abbrev pub HasEntry : History T W → Kept T W → Reply T → Type 0
-  HasEntry calls call reply = Contains calls (record { call = call; reply = reply })
+  -- among these calls is this one, with this reply
+  pub record HasEntry (calls : History T W) (call : Kept T W) (reply : Reply T) : Type 0 where
+    pub there : Contains calls (record { call = call; reply = reply })
 
   -- P holds of a beginning of these calls
   abbrev pub IsPartOf : History T W → (History T W → Type 0) → Type 0

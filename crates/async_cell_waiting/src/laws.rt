@@ -41,11 +41,12 @@ pub fn a_fill_or_close_wakes_who_waits<T, W: Wakes, N: Naming<T, W>>()
         → IsCovered W.will_wake told.woken w }
 {}
 
-/// What was told stays in the history, whatever comes later.
+/// What was told is in the history, and stays there.
 pub fn what_was_told_stays<T, W: Wakes, N: Naming<T, W>>()
-    ensures { (seen now later : History T W) (call : Called T W) (reply : Replied T)
-        → IsTold W.Wakes N.named seen call reply now → IsPrefix now later
-        → HasEntry later call reply }
+    ensures told { (seen now : History T W) (call : Called T W) (reply : Replied T)
+        → IsTold W.Wakes N.named seen call reply now → HasEntry now call reply }
+    ensures stays { (seen now : History T W) (call : Called T W) (reply : Replied T)
+        → IsPrefix seen now → HasEntry seen call reply → HasEntry now call reply }
 {}
 
 /// Where clones are exact, what was got is what the cell held.
