@@ -23,7 +23,7 @@ pub use async_cell::AsyncCell;
 pub use async_cell_core::{Core, Poll, Refusal, TaskWaker, Wakers, Wakes};
 #[doc(hidden)]
 pub use async_cell_waiting::Request;
-pub use async_cell_waiting::{Naming, Unnamed, With, Witness, laws};
+pub use async_cell_waiting::{Author, Naming, Unnamed, With, Witness, laws};
 pub use cell_ref::CellRef;
 pub use get::Get;
 pub use guard::Guard;

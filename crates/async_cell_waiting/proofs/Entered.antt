@@ -10,10 +10,10 @@ use Rattle.async_cell_waiting.specs.Told.{Desk, Made, entry_of, set_answer, set_
 
 module _ {T W : Type 0} (rules : WakerRules W) where
   -- a call was entered with this answer, and its reply is this
-  made_as : (old new : Desk T W) (call : Kept T W) (answer : Answer T W) (reply : Reply T) → IsStep rules old.inner call answer new.inner → new.past.begun ≡ old.past.begun → new.past.calls ≡ old.past.calls ++ entry_of call answer ∷ [] → answer.reply ≡ reply
+  made_as : (old new : Desk T W) (call : Kept T W) (answer : Answer T W) (reply : Reply T) → IsStep rules old.inner call answer new.inner → new.past.begun ≡ old.past.begun → new.past.calls ≡ old.past.calls ++ entry_of call answer ∷ [] → new.past.authors ≡ old.past.authors ++ old.past.hand ∷ [] → answer.reply ≡ reply
       → Made rules.will_wake rules.SURE_CLONE old call reply new
-  made_as old new call answer reply does begun entered is =
-      subst (λ r. Made rules.will_wake rules.SURE_CLONE old call r new) is (record { woken = answer.woken; does = does; begun = begun; entered = entered })
+  made_as old new call answer reply does begun entered signed is =
+      subst (λ r. Made rules.will_wake rules.SURE_CLONE old call r new) is (record { woken = answer.woken; does = does; begun = begun; entered = entered; signed = signed })
 
   set_as : (r : Result (Option T × List W) T) → (set_answer {T = T} {W = W} r).reply ≡ set_reply (answer_of r)
   set_as (Ok (old, woken)) = refl
@@ -24,9 +24,9 @@ module _ {T W : Type 0} (rules : WakerRules W) where
   end_as (Err why) = refl
 
   pub made_set : (old new : Desk T W) (call : Kept T W) (r : Result (Option T × List W) T) (held : Result (Option T) T) → IsStep rules old.inner call (set_answer r) new.inner → new.past.begun ≡ old.past.begun → new.past.calls ≡ old.past.calls ++ entry_of call (set_answer r) ∷ []
-      → held ≡ answer_of r → Made rules.will_wake rules.SURE_CLONE old call (set_reply held) new
-  made_set old new call r held does begun entered is = made_as old new call (set_answer r) (set_reply held) does begun entered (set_as r ∙ ap set_reply (sym is))
+      → new.past.authors ≡ old.past.authors ++ old.past.hand ∷ [] → held ≡ answer_of r → Made rules.will_wake rules.SURE_CLONE old call (set_reply held) new
+  made_set old new call r held does begun entered signed is = made_as old new call (set_answer r) (set_reply held) does begun entered signed (set_as r ∙ ap set_reply (sym is))
 
   pub made_end : (old new : Desk T W) (call : Kept T W) (r : Result (Option T × List W) Refusal) (held : Result (Option T) Refusal) → IsStep rules old.inner call (end_answer r) new.inner → new.past.begun ≡ old.past.begun → new.past.calls ≡ old.past.calls ++ entry_of call (end_answer r) ∷ []
-      → held ≡ answer_of r → Made rules.will_wake rules.SURE_CLONE old call (end_reply held) new
-  made_end old new call r held does begun entered is = made_as old new call (end_answer r) (end_reply held) does begun entered (end_as r ∙ ap end_reply (sym is))
+      → new.past.authors ≡ old.past.authors ++ old.past.hand ∷ [] → held ≡ answer_of r → Made rules.will_wake rules.SURE_CLONE old call (end_reply held) new
+  made_end old new call r held does begun entered signed is = made_as old new call (end_answer r) (end_reply held) does begun entered signed (end_as r ∙ ap end_reply (sym is))

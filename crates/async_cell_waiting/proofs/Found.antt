@@ -10,29 +10,12 @@ use Rattle.async_cell_core.specs.Polled.{IsCloneOf, poll_reply}
 use Rattle.async_cell_model.specs.declared.reply.Reply.{Reply}
 use Rattle.async_cell_model.specs.Machine.{UpToClones}
 use Rattle.futures.specs.declared.task.Poll.{Poll}
-use Rattle.async_cell_waiting.specs.Told.{Begun, IsTold, IsToldUpTo, get_reply, end_reply, done_reply}
+use Rattle.async_cell_waiting.specs.Told.{Begun, Seen, IsSigned, IsTold, IsToldUpTo, get_reply, end_reply, done_reply}
 
 module _ {T W : Type 0} (rules : WakerRules W) (named : Option (Begun T W)) (seen : History T W) where
-  -- a take that found a value
-  pub told_taken : (now : History T W) (taken : Option T) (found : Result T Refusal) (given : Result (T × History T W) Refusal) → IsTold rules named seen TryTake (Value taken) now → IfOk found (λ it. taken ≡ Some it)
-      → IfOk given (λ both. (found ≡ Ok both.0) × (both.1 ≡ now)) → IfOk given (λ both. IsTold rules named seen TryTake (Value (Some both.0)) both.1)
-  told_taken now taken found (Err why) told is both = tt
-  told_taken now taken found (Ok (x, h)) told is (same, whole) =
-      let some : taken ≡ Some x = subst (λ f. IfOk f (λ it. taken ≡ Some it)) same is in
-      subst (λ t. IsTold rules named seen TryTake (Value t) h) some (subst (λ (l : History T W). IsTold rules named seen TryTake (Value taken) l) (sym whole) told)
-
   copied_as : (is_clone : T → T → Type 0) (h : History T W) (held : Option T) (x : T) → IsTold rules named seen TryGet (Value held) h → IsCloneOf is_clone held (Some x) → IsToldUpTo is_clone rules named seen TryGet (Value (Some x)) h
   copied_as is_clone h None x told cloned = absurd cloned
   copied_as is_clone h (Some a) x told cloned = (Value (Some a), told, inr cloned)
-
-  -- a get that found one
-  pub told_copied : (is_clone : T → T → Type 0) (now : History T W) (held : Option T) (copied : Result (Option T) Refusal) (found : Result T Refusal) (given : Result (T × History T W) Refusal) → IsTold rules named seen TryGet (get_reply held copied) now → IfOk copied (IsCloneOf is_clone held)
-      → IfOk found (λ it. copied ≡ Ok (Some it)) → IfOk given (λ both. (found ≡ Ok both.0) × (both.1 ≡ now)) → IfOk given (λ both. IsToldUpTo is_clone rules named seen TryGet (Value (Some both.0)) both.1)
-  told_copied is_clone now held copied found (Err why) told clones is both = tt
-  told_copied is_clone now held copied found (Ok (x, h)) told clones is (same, whole) =
-      let some : copied ≡ Ok (Some x) = subst (λ f. IfOk f (λ it. copied ≡ Ok (Some it))) same is in
-      copied_as is_clone h held x (subst (λ c. IsTold rules named seen TryGet (get_reply held c) h) some (subst (λ (l : History T W). IsTold rules named seen TryGet (get_reply held copied) l) (sym whole) told))
-      (subst (λ c. IfOk c (IsCloneOf is_clone held)) some clones)
 
   got_as : (is_clone : T → T → Type 0) (now : History T W) (held : Option T) (copied : Result (Option T) Refusal) → IsTold rules named seen TryGet (get_reply held copied) now → IfOk copied (IsCloneOf is_clone held) → IsToldUpTo is_clone rules named seen TryGet (end_reply copied) now
   got_as is_clone now held (Err why) told clones = (end_reply (Err why), told, inl refl)
@@ -60,6 +43,26 @@ module _ {T W : Type 0} (rules : WakerRules W) (named : Option (Begun T W)) (see
       → OnOk got ((s : Option T) × (p : Option T) × IsTold rules named seen (kept s p) Done now × P s p)
   told_put now kept saw put held got P told called same =
       subst (λ r. OnOk r ((s : Option T) × (p : Option T) × IsTold rules named seen (kept s p) Done now × P s p)) (sym same) (put_as now kept saw put held P told called)
+
+module _ {T W : Type 0} (rules : WakerRules W) (named : Option (Begun T W)) (old : Seen T W) where
+  -- a take that found a value
+  pub told_taken : (now : Seen T W) (taken : Option T) (found : Result T Refusal) (given : Result (T × Seen T W) Refusal) → IsTold rules named old.calls TryTake (Value taken) now.calls → IsSigned old now → IfOk found (λ it. taken ≡ Some it)
+      → IfOk given (λ both. (found ≡ Ok both.0) × (both.1 ≡ now)) → IfOk given (λ both. IsTold rules named old.calls TryTake (Value (Some both.0)) both.1.calls × IsSigned old both.1)
+  told_taken now taken found (Err why) told signed is both = tt
+  told_taken now taken found (Ok (x, h)) told signed is (same, whole) =
+      let some : taken ≡ Some x = subst (λ f. IfOk f (λ it. taken ≡ Some it)) same is in
+      (subst (λ t. IsTold rules named old.calls TryTake (Value t) h.calls) some (subst (λ (l : Seen T W). IsTold rules named old.calls TryTake (Value taken) l.calls) (sym whole) told), subst (λ (l : Seen T W). IsSigned old l) (sym whole) signed)
+
+  -- a get that found one
+  pub told_copied : (is_clone : T → T → Type 0) (now : Seen T W) (held : Option T) (copied : Result (Option T) Refusal) (found : Result T Refusal) (given : Result (T × Seen T W) Refusal) → IsTold rules named old.calls TryGet (get_reply held copied) now.calls → IsSigned old now → IfOk copied (IsCloneOf is_clone held)
+      → IfOk found (λ it. copied ≡ Ok (Some it)) → IfOk given (λ both. (found ≡ Ok both.0) × (both.1 ≡ now)) → IfOk given (λ both. IsToldUpTo is_clone rules named old.calls TryGet (Value (Some both.0)) both.1.calls × IsSigned old both.1)
+  told_copied is_clone now held copied found (Err why) told signed clones is both = tt
+  told_copied is_clone now held copied found (Ok (x, h)) told signed clones is (same, whole) =
+      let some : copied ≡ Ok (Some x) = subst (λ f. IfOk f (λ it. copied ≡ Ok (Some it))) same is in (
+        copied_as rules named old.calls is_clone h.calls held x (subst (λ c. IsTold rules named old.calls TryGet (get_reply held c) h.calls) some (subst (λ (l : Seen T W). IsTold rules named old.calls TryGet (get_reply held copied) l.calls) (sym whole) told))
+            (subst (λ c. IfOk c (IsCloneOf is_clone held)) some clones),
+        subst (λ (l : Seen T W). IsSigned old l) (sym whole) signed,
+      )
 
 pub on_ok : {A E P : Type 0} (r : Result A E) → P → OnOk r P
 on_ok (Ok it) p = p

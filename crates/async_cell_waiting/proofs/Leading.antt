@@ -32,7 +32,7 @@ module _ {T W : Type 0} (will_wake : W → W → Bool) (sure : Bool) where
   -- and they are legal
   pub legal_more : (past : Past T W) (from to : State T W) (e : Entry T W) (woken : List W) → Leads will_wake sure past from → Does will_wake sure from e woken to → IsLegal will_wake sure past.begun.start (past.calls ++ e ∷ [])
   legal_more past from to e woken led does =
-      (leads_more past (record { begun = past.begun; calls = past.calls ++ e ∷ [] }) from to e woken led does refl refl).legal
+      (leads_more past (record { begun = past.begun; calls = past.calls ++ e ∷ []; authors = past.authors; hand = past.hand }) from to e woken led does refl refl).legal
 
 module _ {T W : Type 0} (may : Kept T W → Type 0) where
   -- lawful calls, and one more that is legal and allowed

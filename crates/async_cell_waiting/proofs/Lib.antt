@@ -4,5 +4,7 @@ pub mod GoingOn
 pub mod Leading
 pub mod PutIn
 pub mod Setting
+pub mod Signing
 pub mod Telling
+pub mod TwoTakers
 pub mod Waking

@@ -1,12 +1,12 @@
 -- What is told of a cell: which cell it is, its history, and what a call adds to it.
-use Rattle.std.specs.Prelude.{◌≡◌, ℕ, Bool, true, false, List, [], ◌∷◌, ◌++◌, Contains, ⊤, Option, Some, None, IfSome, IsSomeAnd, Result, Ok, Err}
+use Rattle.std.specs.Prelude.{◌≡◌, ℕ, Bool, true, false, List, [], ◌∷◌, ◌++◌, Contains, length, ⊤, Option, Some, None, IfSome, IsSomeAnd, Result, Ok, Err}
 use Rattle.std.specs.List.{All}
 use mathlib.Core.List.{IsPrefix}
 use Rattle.async_cell_model.specs.declared.cell.Cell.{Cell}
 use Rattle.async_cell_model.specs.declared.cell.Cell.TheVariants.{Closed, Open}
 use Rattle.async_cell_model.specs.declared.entry.Entry.{Entry}
 use Rattle.async_cell_model.specs.declared.entry.Kept.{Kept}
-use Rattle.async_cell_model.specs.declared.entry.Kept.TheVariants.{Set, OrSet, Replace, Update, UpdateSome, TryGet, IsSet, PollGet, AddOwner, EndOwner}
+use Rattle.async_cell_model.specs.declared.entry.Kept.TheVariants.{Set, OrSet, Replace, Update, UpdateSome, TryTake, TryGet, IsSet, PollGet, AddOwner, EndOwner}
 use Rattle.async_cell_model.specs.declared.refusal.Refusal.{Refusal}
 use Rattle.async_cell_model.specs.declared.refusal.Refusal.TheVariants as why
 use Rattle.async_cell_model.specs.declared.reply.Reply.{Reply}
@@ -24,15 +24,29 @@ pub record Begun (T W : Type 0) : Type 0 where
   pub name : ℕ
   pub start : State T W
 
--- how a cell began, and the calls on it so far
+-- how a cell began, the calls on it so far, the number of who made each, and of who makes the next
+-- one: 0 is nobody
 pub record Past (T W : Type 0) : Type 0 where
   pub begun : Begun T W
   pub calls : History T W
+  pub authors : List ℕ
+  pub hand : ℕ
+
+-- the calls that one thread has seen, the number of who made each, and its own
+pub record Seen (T W : Type 0) : Type 0 where
+  pub calls : History T W
+  pub authors : List ℕ
+  pub author : ℕ
 
 -- a core, beside its past
 pub record Desk (T W : Type 0) : Type 0 where
   pub inner : State T W
   pub past : Past T W
+
+-- the first of these numbers: 0 if there is none
+abbrev pub first_number : List ℕ → ℕ
+first_number [] = 0
+first_number (first ∷ rest) = first
 
 module _ {T W : Type 0} where
   -- a cell without a name can have begun anyhow
@@ -106,6 +120,7 @@ module _ {T W : Type 0} (will_wake : W → W → Bool) (sure_wakers : Bool) wher
         (record { call = call; reply = reply }) woken new.inner
     pub begun : new.past.begun ≡ old.past.begun
     pub entered : new.past.calls ≡ old.past.calls ++ record { call = call; reply = reply } ∷ []
+    pub signed : new.past.authors ≡ old.past.authors ++ old.past.hand ∷ []
 
 -- The calls that were seen have gone on, and end with this call and its reply. There it is a step of
 -- the machine: on the state after all calls before it.
@@ -118,7 +133,23 @@ pub record IsTold {T W : Type 0} (rules : WakerRules W) (named : Option (Begun T
   pub does : Does rules.will_wake rules.SURE_CLONE (after rules.will_wake (start_of named) before)
       (record { call = call; reply = reply }) woken (after rules.will_wake (start_of named) now)
 
--- the same up to clones: where the machine gives a value, a get may return a clone of it
+-- The authors that were seen have gone on, and end with the thread's own number, which stays.
+pub record IsSigned {T W : Type 0} (seen now : Seen T W) : Type 0 where
+  pub before : List ℕ
+  pub goes_on : IsPrefix seen.authors before
+  pub ends : now.authors ≡ before ++ seen.author ∷ []
+  pub stays : now.author ≡ seen.author
+
+-- In all that was seen, a `try_take` that this author signed took this value, at some place.
+pub record Took {T W : Type 0} (author : ℕ) (value : T) (seen : Seen T W) : Type 0 where
+  pub before : History T W
+  pub authors_before : List ℕ
+  pub as_many : length authors_before ≡ length before
+  pub calls : IsPrefix
+      (before ++ record { call = TryTake; reply = reply.Value (Some value) } ∷ []) seen.calls
+  pub authors : IsPrefix (authors_before ++ author ∷ []) seen.authors
+
+-- `IsTold` up to clones: where the machine gives a value, a get may return a clone of it
 abbrev pub IsToldUpTo : {T W : Type 0} → (T → T → Type 0) → WakerRules W → Option (Begun T W)
     → History T W → Kept T W → Reply T → History T W → Type 0
 IsToldUpTo {T} is_clone rules named seen call reply now = (own : Reply T)
@@ -176,9 +207,10 @@ module _ {T W : Type 0} where
   pub record HasEntry (calls : History T W) (call : Kept T W) (reply : Reply T) : Type 0 where
     pub there : Contains calls (record { call = call; reply = reply })
 
-  -- P holds of a beginning of these calls
-  abbrev pub IsPartOf : History T W → (History T W → Type 0) → Type 0
-  IsPartOf calls P = (part : History T W) × IsPrefix part calls × P part
+  -- P holds of a part of what was seen: of a beginning of its calls, with their authors
+  abbrev pub IsPartOf : Seen T W → (Seen T W → Type 0) → Type 0
+  IsPartOf all P = (part : Seen T W)
+      × IsPrefix part.calls all.calls × IsPrefix part.authors all.authors × P part
 
   -- the call is an `or_set`
   abbrev pub IsOrSet : Kept T W → Type 0

@@ -1,12 +1,13 @@
 //! Laws of what is told of a cell. Each is the contract of a function that does nothing.
-ghost use Rattle.std.specs.Prelude.{◌≡◌, Bool, true, Some, IfSome};
+ghost use Rattle.std.specs.Prelude.{◌≡◌, ◌≢◌, ◌⊎◌, ◌++◌, ◌∷◌, [], ℕ, Bool, true, false, length, Some, IfSome, option_to_list};
 ghost use mathlib.Core.List.{IsPrefix};
 ghost use Rattle.async_cell_model.specs.declared.reply.Reply.{Reply as Replied};
 ghost use Rattle.async_cell_model.specs.declared.entry.Kept.{Kept as Called};
 ghost use Rattle.async_cell_model.specs.Machine.{content, ends_waiting};
 ghost use Rattle.async_cell_model.specs.Legal.{IsExact};
 ghost use Rattle.async_cell_model.specs.History.{History, IsCovered, cell_after};
-ghost use Rattle.async_cell_waiting.specs.Told.{GoesOn, HasEntry, IsLawful, IsOrSet, IsTold, IsToldUpTo, OnlyMakes, PutsWhatSetsMay, StillWaits, start_of};
+ghost use Rattle.async_cell_model.specs.Taken.{IsDistinct, IsSubsequence, has_update, put_in};
+ghost use Rattle.async_cell_waiting.specs.Told.{GoesOn, HasEntry, IsLawful, IsOrSet, IsSigned, IsTold, IsToldUpTo, OnlyMakes, PutsWhatSetsMay, Seen, StillWaits, Took, start_of};
 
 use crate::told::Naming;
 use async_cell_core::Wakes;
@@ -77,4 +78,31 @@ pub fn what_is_got_never_goes_back<T, W: Wakes, N: Naming<T, W>>()
         → IsPrefix first later
         → IsTold W.Wakes N.named later Kept.TryGet (Reply.Value (Some w)) now
         → follows v w ≡ true }
+{}
+
+/// A take that an author was told of is one of its own, for ever: also in all that was seen later.
+pub fn a_told_take_is_of_its_author<T, W: Wakes, N: Naming<T, W>>()
+    ensures told { (seen now : Seen T W) (v : T)
+        → IsTold W.Wakes N.named seen.calls Kept.TryTake (Reply.Value (Some v)) now.calls
+        → IsSigned seen now → length now.authors ≡ length now.calls → Took seen.author v now }
+    ensures later { (seen all : Seen T W) (n : ℕ) (v : T) → Took n v seen
+        → IsPrefix seen.calls all.calls → IsPrefix seen.authors all.authors → Took n v all }
+{}
+
+/// Two authors take two values. In a history without updates, what they took are two of the values
+/// that the cell held at the start and that were passed to the writes, in the one order or the
+/// other. So if all of those differ, the two values do.
+pub fn two_takers_take_two_values<T, W: Wakes, N: Naming<T, W>>()
+    ensures two_put { (all : Seen T W) (m n : ℕ) (v w : T)
+        → IsLawful W.will_wake W.SURE_CLONE N.may (start_of N.named) all.calls
+        → has_update all.calls ≡ false → Took m v all → Took n w all → m ≢ n
+        → IsSubsequence (v ∷ w ∷ [])
+        (option_to_list (content (start_of N.named).cell) ++ put_in all.calls)
+        ⊎ IsSubsequence (w ∷ v ∷ [])
+        (option_to_list (content (start_of N.named).cell) ++ put_in all.calls) }
+    ensures differ { (all : Seen T W) (m n : ℕ) (v w : T)
+        → IsLawful W.will_wake W.SURE_CLONE N.may (start_of N.named) all.calls
+        → has_update all.calls ≡ false
+        → IsDistinct (option_to_list (content (start_of N.named).cell) ++ put_in all.calls)
+        → Took m v all → Took n w all → m ≢ n → v ≢ w }
 {}

@@ -20,5 +20,5 @@ pub use polls::poll;
 pub use query::Query;
 pub use room::Room;
 pub use store::{Lender, Lent, Lock, Locked, OneThread, Opens, Step, StoredCore, Stores};
-pub use told::{MayTake, Naming, Opened, Unnamed, Witness};
+pub use told::{Author, MayTake, Naming, Opened, Unnamed, Witness};
 pub use with::{At, Places, Polled, Request, Takes, Upgrade, Values, With, weakly};

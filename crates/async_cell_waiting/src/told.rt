@@ -1,6 +1,7 @@
 //! What is told of a cell: its history, which exists in the proofs alone.
 mod calls;
 mod entries;
+mod hand;
 mod may_take;
 mod naming;
 mod past;
@@ -8,6 +9,8 @@ mod start;
 mod witness;
 
 pub(crate) use entries::*;
+pub use hand::Author;
+use hand::{Hand, Signed};
 pub use may_take::MayTake;
 pub use naming::{Naming, Unnamed};
 pub(crate) use past::{Asked, Enters};

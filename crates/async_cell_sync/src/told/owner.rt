@@ -1,12 +1,12 @@
-ghost use Rattle.std.specs.Prelude.{◌≡◌, [], Some, IfOk, IfErr, OnOk};
+ghost use Rattle.std.specs.Prelude.{◌≡◌, [], Some, IfOk, IfErr, OnOk, length};
 ghost use mathlib.Core.List.{IsPrefix};
 ghost use Rattle.async_cell_model.specs.Refusal.{FailsWithMemory, IsOwnerRefusal};
-ghost use Rattle.async_cell_waiting.specs.Told.{IsLawful, IsTold, start_of};
+ghost use Rattle.async_cell_waiting.specs.Told.{IsLawful, IsSigned, IsTold, start_of};
 
 use crate::locked_core::LockedCore;
 use async_cell_core::{Core, Refusal, TaskWaker, Wakes};
 use async_cell_model::{Kept, Reply};
-use async_cell_waiting::{Naming, Opened, Witness};
+use async_cell_waiting::{Author, Naming, Opened, Witness};
 use futures::task::Source;
 use std::alloc::Global;
 use std::sync::{Arc, Wait};
@@ -42,7 +42,7 @@ impl<T: Drop, R: Wait + Copy, N: Naming<T, TaskWaker>> ToldOwner<T, R, N> {
     ) -> Result<Self, Refusal>
         requires named { N.named ≡ Some opened }
         requires begins { opened.start ≡ core }
-        ensures new { IfOk result (λ owner. owner.seen ≡ []) }
+        ensures new { IfOk result (λ owner. owner.seen.calls ≡ []) }
         ensures refused { FailsWithMemory result }
     {
         let (core, seen) = LockedCore::<T, TaskWaker, N>::named(core, opened);
@@ -59,8 +59,9 @@ impl<T: Drop, R: Wait + Copy, N: Naming<T, TaskWaker>> ToldOwner<T, R, N> {
     /// Adds an owner, which has seen as much. Fails with `Memory` if the pointer cannot be counted,
     /// or with `OwnersFull`; `Closed` is in the contract, but cannot happen while this owner lives.
     pub fn another(&mut self) -> Result<Self, Refusal>
-        ensures told { OnOk result (IsTold ⟦<TaskWaker as Wakes>⟧ N.named self.old.seen
-            Kept.AddOwner Reply.Done self.new.seen) }
+        ensures told { OnOk result (IsTold ⟦<TaskWaker as Wakes>⟧ N.named self.old.seen.calls
+            Kept.AddOwner Reply.Done self.new.seen.calls) }
+        ensures signed { OnOk result (IsSigned self.old.seen self.new.seen) }
         ensures seen { IfOk result (λ owner. owner.seen ≡ self.new.seen) }
         ensures refused { IfErr result IsOwnerRefusal }
     {
@@ -73,18 +74,33 @@ impl<T: Drop, R: Wait + Copy, N: Naming<T, TaskWaker>> ToldOwner<T, R, N> {
         })
     }
 
-    /// Ensures what holds of all that was seen: its calls are legal, and its changes may be made.
+    /// Signs the calls from now on with the number of `A`: 0 is nobody's, with which it began. What
+    /// an owner that is made of this one signs with is the same number, until it signs as another.
+    pub fn sign_as<A: Author>(&mut self)
+        ensures calls { self.new.seen.calls ≡ self.old.seen.calls }
+        ensures authors { self.new.seen.authors ≡ self.old.seen.authors }
+        ensures author { self.new.seen.author ≡ A.number }
+    {
+        self.seen.sign_as::<A>();
+    }
+
+    /// Ensures what holds of all that was seen: its calls are legal, its changes may be made, and
+    /// each call has one author.
     pub fn lawful(&self)
-        ensures { IsLawful ⟦<TaskWaker as Wakes>⟧.will_wake ⟦<TaskWaker as Wakes>⟧.SURE_CLONE N.may
-            (start_of N.named) self.now.seen }
+        ensures lawful { IsLawful ⟦<TaskWaker as Wakes>⟧.will_wake ⟦<TaskWaker as Wakes>⟧.SURE_CLONE
+            N.may (start_of N.named) self.now.seen.calls }
+        ensures as_many { length self.now.seen.authors ≡ length self.now.seen.calls }
     {
         self.seen.lawful();
     }
 
     /// Sees what the other owner has seen, if that is more. What either had seen before begins it.
     pub fn learn(&mut self, other: &Self)
-        ensures begins { IsPrefix self.old.seen self.new.seen }
-        ensures other_begins { IsPrefix other.now.seen self.new.seen }
+        ensures begins { IsPrefix self.old.seen.calls self.new.seen.calls }
+        ensures other_begins { IsPrefix other.now.seen.calls self.new.seen.calls }
+        ensures authors_begin { IsPrefix self.old.seen.authors self.new.seen.authors }
+        ensures others_begin { IsPrefix other.now.seen.authors self.new.seen.authors }
+        ensures author { self.new.seen.author ≡ self.old.seen.author }
     {
         self.seen = self.seen.longer(&other.seen);
     }

@@ -3,14 +3,13 @@
 ghost use Rattle.std.specs.Prelude.{◌≡◌, [], None, Some, IfOk, IfErr};
 ghost use Rattle.async_cell_model.specs.declared.cell.Cell.TheVariants.{Open};
 ghost use Rattle.async_cell_model.specs.declared.entry.Kept.{Kept};
-ghost use Rattle.async_cell_model.specs.History.{History};
 ghost use Rattle.async_cell_model.specs.Refusal.{IsOwnerRefusal};
-ghost use Rattle.async_cell_waiting.specs.Told.{Agree, BeganEmpty, IsPartOf};
+ghost use Rattle.async_cell_waiting.specs.Told.{Agree, BeganEmpty, IsPartOf, Seen};
 ghost use Rattle.async_cell_wakers.specs.declared.task_waker.TaskWaker.{TaskWaker};
 
 use super::owner::ToldOwner;
 use async_cell_core::{Core, Refusal, TaskWaker};
-use async_cell_waiting::{Naming, Opened, Witness};
+use async_cell_waiting::{Author, Naming, Opened, Witness};
 use std::alloc::AllocGlobal;
 use std::marker::Brand;
 use std::random::RandomSource;
@@ -33,30 +32,32 @@ pub trait Session {
     ghost may: { Self → Kept Self.Value TaskWaker → Type 0 };
 
     /// What the first thread knows at its end: of what it returns, and of what its owner has seen.
-    ghost first_knows: { Self → Self.First → History Self.Value TaskWaker → Type 0 };
+    ghost first_knows: { Self → Self.First → Seen Self.Value TaskWaker → Type 0 };
 
     /// What the second thread knows at its end.
-    ghost second_knows: { Self → Self.Second → History Self.Value TaskWaker → Type 0 };
+    ghost second_knows: { Self → Self.Second → Seen Self.Value TaskWaker → Type 0 };
 
     /// What is known of what both return.
     ghost gives: { Self → Self.First → Self.Second → Type 0 };
 
-    /// What the first thread does. The cell began without a value.
+    /// What the first thread does. The cell began without a value. Its owner signs as 1.
     fn first<N, R>(&self, rt: R, owner: &mut ToldOwner<Self::Value, R, N>) -> Self::First
     where
         N: Naming<Self::Value, TaskWaker> + Send + Sync,
         R: Threads + Wait + RandomSource + AllocGlobal + Copy + Send + Sync,
         requires may { Agree N.may (may self.now) }
         requires begins { BeganEmpty N.named }
+        requires author { owner.old.seen.author ≡ 1 }
         ensures knows { first_knows self.now result owner.new.seen };
 
-    /// What the second thread does.
+    /// What the second thread does. Its owner signs as 2.
     fn second<N, R>(&self, rt: R, owner: &mut ToldOwner<Self::Value, R, N>) -> Self::Second
     where
         N: Naming<Self::Value, TaskWaker> + Send + Sync,
         R: Threads + Wait + RandomSource + AllocGlobal + Copy + Send + Sync,
         requires may { Agree N.may (may self.now) }
         requires begins { BeganEmpty N.named }
+        requires author { owner.old.seen.author ≡ 2 }
         ensures knows { second_knows self.now result owner.new.seen };
 
     /// Makes what is known of both out of what each knows, and of one history that both have seen a
@@ -74,6 +75,20 @@ pub trait Session {
         requires first { IsPartOf seen.now (first_knows self.now first.now) }
         requires second { IsPartOf seen.now (second_knows self.now second.now) }
         ensures gives { gives self.now first.now second.now };
+}
+
+/// The number that the first thread signs with.
+struct First;
+
+impl Author for First {
+    ghost number = { 1 };
+}
+
+/// The number that the second thread signs with.
+struct Second;
+
+impl Author for Second {
+    ghost number = { 2 };
 }
 
 /// Runs both threads on a new cell without a value, and returns what they returned. Each has an
@@ -117,17 +132,21 @@ where
 {
     let mut first_owner = ToldOwner::<T, R, N>::begin(rt.alloc(), core, opened, rt)?;
     let mut second_owner = first_owner.another()?;
+    first_owner.sign_as::<First>();
+    second_owner.sign_as::<Second>();
     let ((first, mut owner), (second, other)) = join(
         &rt,
         move || -> (A, ToldOwner<T, R, N>)
-            requires { Agree N.may (S.may session.now) × BeganEmpty N.named }
+            requires { Agree N.may (S.may session.now) × BeganEmpty N.named
+                × (first_owner.seen.author ≡ 1) }
             ensures { S.first_knows session.entry.now result.0 result.1.seen }
         {
             let first = session.first::<N, R>(rt, &mut first_owner);
             (first, first_owner)
         },
         move || -> (B, ToldOwner<T, R, N>)
-            requires { Agree N.may (S.may session.now) × BeganEmpty N.named }
+            requires { Agree N.may (S.may session.now) × BeganEmpty N.named
+                × (second_owner.seen.author ≡ 2) }
             ensures { S.second_knows session.entry.now result.0 result.1.seen }
         {
             let second = session.second::<N, R>(rt, &mut second_owner);

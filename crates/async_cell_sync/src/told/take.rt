@@ -5,7 +5,7 @@ ghost use Rattle.futures.specs.Task.{Covers, Keeps};
 ghost use Rattle.async_cell_model.specs.Refusal.{FailsWithMemoryOrClosed};
 ghost use Rattle.async_cell_model.specs.declared.entry.Kept.TheVariants.{TryTake, TryGet};
 ghost use Rattle.async_cell_model.specs.declared.reply.Reply.TheVariants.{Value};
-ghost use Rattle.async_cell_waiting.specs.Told.{IsTold, IsToldUpTo};
+ghost use Rattle.async_cell_waiting.specs.Told.{IsSigned, IsTold, IsToldUpTo};
 
 use super::owner::ToldOwner;
 use async_cell_core::{Place, Refusal, TaskWaker, Wakes};
@@ -56,13 +56,14 @@ impl<T: Drop, R: Wait + Drop, N: Naming<T, TaskWaker>> Future for ToldTake<T, R,
     ghost needs = { λ future s. IsSomeAnd future.owner (λ owner. s ≡ owner.cell.value.source.id) };
 
     ghost gives = { λ future given. IfOk given (λ both. IsSomeAnd future.owner (λ owner.
-        IsTold ⟦<TaskWaker as Wakes>⟧ N.named owner.seen TryTake
-        (Value (Some both.0)) both.1.seen)) };
+        IsTold ⟦<TaskWaker as Wakes>⟧ N.named owner.seen.calls TryTake
+        (Value (Some both.0)) both.1.seen.calls × IsSigned owner.seen both.1.seen)) };
 
     fn poll(&mut self, cx: &mut Context<'_>) -> Poll<Self::Output>
         ensures told { IfReady result (λ given. IfOk given (λ both.
-            IsSomeAnd self.old.owner (λ owner. IsTold ⟦<TaskWaker as Wakes>⟧ N.named owner.seen TryTake
-            (Value (Some both.0)) both.1.seen))) }
+            IsSomeAnd self.old.owner (λ owner. IsTold ⟦<TaskWaker as Wakes>⟧ N.named
+            owner.seen.calls TryTake (Value (Some both.0)) both.1.seen.calls
+            × IsSigned owner.seen both.1.seen))) }
         ensures stays { OnPending result (self.new.owner ≡ self.old.owner) }
         ensures registered { OnPending result (Covers cx.new (λ s. IsSomeAnd self.new.owner
             (λ owner. s ≡ owner.cell.value.source.id))) }
@@ -121,13 +122,14 @@ impl<T: Clone, R: Wait + Drop, N: Naming<T, TaskWaker>> Future for ToldGet<T, R,
     ghost needs = { λ future s. IsSomeAnd future.owner (λ owner. s ≡ owner.cell.value.source.id) };
 
     ghost gives = { λ future given. IfOk given (λ both. IsSomeAnd future.owner (λ owner.
-        IsToldUpTo T.is_clone ⟦<TaskWaker as Wakes>⟧ N.named owner.seen TryGet
-        (Value (Some both.0)) both.1.seen)) };
+        IsToldUpTo T.is_clone ⟦<TaskWaker as Wakes>⟧ N.named owner.seen.calls TryGet
+        (Value (Some both.0)) both.1.seen.calls × IsSigned owner.seen both.1.seen)) };
 
     fn poll(&mut self, cx: &mut Context<'_>) -> Poll<Self::Output>
         ensures told { IfReady result (λ given. IfOk given (λ both.
-            IsSomeAnd self.old.owner (λ owner. IsToldUpTo T.is_clone ⟦<TaskWaker as Wakes>⟧ N.named owner.seen TryGet
-            (Value (Some both.0)) both.1.seen))) }
+            IsSomeAnd self.old.owner (λ owner. IsToldUpTo T.is_clone ⟦<TaskWaker as Wakes>⟧ N.named
+            owner.seen.calls TryGet (Value (Some both.0)) both.1.seen.calls
+            × IsSigned owner.seen both.1.seen))) }
         ensures stays { OnPending result (self.new.owner ≡ self.old.owner) }
         ensures registered { OnPending result (Covers cx.new (λ s. IsSomeAnd self.new.owner
             (λ owner. s ≡ owner.cell.value.source.id))) }

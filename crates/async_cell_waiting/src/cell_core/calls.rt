@@ -1,6 +1,6 @@
 //! The calls that a step may make of a core. Only this module sees the core: each function makes
 //! one call of it, and holds what comes out, which the end of a step alone lets go.
-ghost use Rattle.std.specs.Prelude.{◌≡◌, ◌⊎◌, [], Option, IfErr, IfOk, IfSome, IsOk, IsSome, IsSomeAnd, OnOk, IsTrue};
+ghost use Rattle.std.specs.Prelude.{◌≡◌, ◌⊎◌, [], Option, Some, None, IfErr, IfOk, IfSome, IsOk, IsSome, IsSomeAnd, OnOk, IsTrue};
 ghost use Rattle.std.specs.Fn.{FnOnceReturnsAt};
 ghost use Rattle.async_cell_model.specs.Machine.{content, is_vacant, IsSound, UpToClones};
 ghost use Rattle.async_cell_core.specs.Polled.{IsCloneOf, poll_reply};
@@ -82,20 +82,35 @@ impl<T: Drop, W: Wakes, N: Naming<T, W>> CellCore<T, W, N> {
     /// Makes a witness of the past.
     pub(crate) fn witness(&self) -> Witness<T, W, N>
         requires { IsSome N.named }
-        ensures { result ≡ self.now.past.calls }
+        ensures calls { result.calls ≡ self.now.past.calls }
+        ensures authors { result.authors ≡ self.now.past.authors }
+        ensures nobody { result.author ≡ 0 }
     {
         Witness::of(&self.past)
     }
 
-    /// Lets a witness see the past.
+    /// Lets a witness see the past, and sign the next call.
     #[inline(always)]
-    pub(crate) fn tell(&self, witness: &mut Witness<T, W, N>)
-        ensures whole { witness.new ≡ self.now.past.calls }
-        ensures goes_on { IsPrefix witness.old self.now.past.calls }
-        ensures begun { self.now.past.begun.start ≡ start_of N.named }
-        ensures led { Leads W.will_wake W.SURE_CLONE self.now.past self.now.inner }
+    pub(crate) fn hand_to(&mut self, witness: &mut Witness<T, W, N>)
+        ensures goes_on { IsPrefix witness.old.calls self.new.past.calls }
+        ensures authors_go_on { IsPrefix witness.old.authors self.new.past.authors }
+        ensures hand { self.new.past.hand ≡ witness.old.author }
+        ensures author { witness.new.author ≡ witness.old.author }
+        ensures begun { self.new.past.begun.start ≡ start_of N.named }
+        ensures led { Leads W.will_wake W.SURE_CLONE self.new.past self.new.inner }
     {
-        witness.learn(&self.past);
+        witness.take_hand(&mut self.past);
+    }
+
+    /// Lets a witness see the past, in which nobody signs the next call.
+    #[inline(always)]
+    pub(crate) fn tell(&mut self, witness: &mut Witness<T, W, N>)
+        ensures whole { witness.new.calls ≡ self.old.past.calls }
+        ensures authors { witness.new.authors ≡ self.old.past.authors }
+        ensures author { witness.new.author ≡ witness.old.author }
+        ensures nobody { self.new.past.hand ≡ 0 }
+    {
+        witness.leave_hand(&mut self.past);
     }
 
     #[inline(always)]
@@ -255,7 +270,8 @@ impl<T: Drop, W: Wakes, N: Naming<T, W>> CellCore<T, W, N> {
     where
         F: FnOnce(Option<T>) -> Option<T> + Drop,
         requires callable { F.IsAlwaysCallable change }
-        requires may { (saw put : Option T) → N.may (Kept.Update saw put) }
+        requires may { (saw put : Option T) → F.post change saw put → N.may (Kept.Update saw put) }
+        requires may_fail { N.may (Kept.Update None None) }
         ensures called { OnOk result.answer
             (F.post change (content self.old.inner.cell) (content self.new.inner.cell)) }
         ensures refused { FailsWithClosed result.answer }
@@ -277,7 +293,9 @@ impl<T: Drop, W: Wakes, N: Naming<T, W>> CellCore<T, W, N> {
     where
         F: FnOnce(T) -> T + Drop,
         requires callable { F.IsAlwaysCallable change }
-        requires may { (saw put : Option T) → N.may (Kept.UpdateSome saw put) }
+        requires may { (old new : T) → F.post change old new
+            → N.may (Kept.UpdateSome (Some old) (Some new)) }
+        requires may_fail { N.may (Kept.UpdateSome None None) }
         ensures called { IfSome (content self.old.inner.cell) (λ old.
             IsSomeAnd (content self.new.inner.cell) (λ new. F.post change old new)) }
         ensures refused { FailsWithClosed result.answer }

@@ -228,7 +228,7 @@ impl<M: Stores<Core = CellCore<T, W, N>>, T: Drop, W: Wakes, N: Naming<T, W>> St
     pub fn named(core: Core<T, W>, opened: Opened<T, W>) -> (Self, Witness<T, W, N>)
         requires named { N.named ≡ Some opened }
         requires begins { opened.start ≡ core }
-        ensures new { result.1 ≡ [] }
+        ensures new { result.1.calls ≡ [] }
     {
         let core = CellCore::begin(core, opened);
         let witness = core.witness();

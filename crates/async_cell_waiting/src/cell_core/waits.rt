@@ -54,12 +54,12 @@ impl<T: Drop, N: Naming<T, TaskWaker>> Query<CellCore<T, TaskWaker, N>> for Told
     ghost use Rattle.std.specs.Prelude.{Some};
     ghost use Rattle.async_cell_model.specs.declared.entry.Kept.TheVariants.{TryTake};
     ghost use Rattle.async_cell_model.specs.declared.reply.Reply.TheVariants.{Value};
-    ghost use Rattle.async_cell_waiting.specs.Told.{IsTold};
+    ghost use Rattle.async_cell_waiting.specs.Told.{IsSigned, IsTold};
 
     type Answer = (T, Witness<T, TaskWaker, N>);
 
-    ghost gives = { λ asked given. IsTold ⟦<TaskWaker as Wakes>⟧ N.named asked.0
-        TryTake (Value (Some given.0)) given.1 };
+    ghost gives = { λ asked given. IsTold ⟦<TaskWaker as Wakes>⟧ N.named asked.0.calls
+        TryTake (Value (Some given.0)) given.1.calls × IsSigned asked.0 given.1 };
 
     #[inline(always)]
     fn must_wait(&self, core: &CellCore<T, TaskWaker, N>) -> bool {
@@ -74,7 +74,7 @@ impl<T: Drop, N: Naming<T, TaskWaker>> Query<CellCore<T, TaskWaker, N>> for Told
     ) -> Held<Result<(T, Witness<T, TaskWaker, N>), Refusal>> {
         let ToldTaking(mut seen, may) = self;
         may.allows();
-        core.tell(&mut seen);
+        core.hand_to(&mut seen);
         let taken = core.try_take();
         core.tell(&mut seen);
         taken.or_closed().beside(seen)
@@ -86,12 +86,12 @@ impl<T: Clone, N: Naming<T, TaskWaker>> Query<CellCore<T, TaskWaker, N>> for Tol
     ghost use Rattle.std.specs.Prelude.{Some};
     ghost use Rattle.async_cell_model.specs.declared.entry.Kept.TheVariants.{TryGet};
     ghost use Rattle.async_cell_model.specs.declared.reply.Reply.TheVariants.{Value};
-    ghost use Rattle.async_cell_waiting.specs.Told.{IsToldUpTo};
+    ghost use Rattle.async_cell_waiting.specs.Told.{IsSigned, IsToldUpTo};
 
     type Answer = (T, Witness<T, TaskWaker, N>);
 
-    ghost gives = { λ asked given. IsToldUpTo T.is_clone ⟦<TaskWaker as Wakes>⟧ N.named asked.0
-        TryGet (Value (Some given.0)) given.1 };
+    ghost gives = { λ asked given. IsToldUpTo T.is_clone ⟦<TaskWaker as Wakes>⟧ N.named asked.0.calls
+        TryGet (Value (Some given.0)) given.1.calls × IsSigned asked.0 given.1 };
 
     #[inline(always)]
     fn must_wait(&self, core: &CellCore<T, TaskWaker, N>) -> bool {
@@ -105,7 +105,7 @@ impl<T: Clone, N: Naming<T, TaskWaker>> Query<CellCore<T, TaskWaker, N>> for Tol
         core: &mut CellCore<T, TaskWaker, N>,
     ) -> Held<Result<(T, Witness<T, TaskWaker, N>), Refusal>> {
         let ToldCloning(mut seen) = self;
-        core.tell(&mut seen);
+        core.hand_to(&mut seen);
         let copied = core.get();
         core.tell(&mut seen);
         copied.or_closed().beside(seen)

@@ -1,8 +1,8 @@
 //! The calls of the model, for a thread that is told of the cell's history.
-ghost use Rattle.std.specs.Prelude.{◌≡◌, Option, IfErr, IfSome, IsSomeAnd, OnOk, IsTrue};
+ghost use Rattle.std.specs.Prelude.{◌≡◌, Option, Some, None, IfErr, IfSome, IsSomeAnd, OnOk, IsTrue};
 ghost use Rattle.async_cell_model.specs.Refusal.{FailsWithClosed, FailsWithMemory};
 ghost use Rattle.async_cell_core.specs.Polled.{poll_reply};
-ghost use Rattle.async_cell_waiting.specs.Told.{IsTold, IsToldUpTo, set_reply, write_reply, done_reply, end_reply};
+ghost use Rattle.async_cell_waiting.specs.Told.{IsSigned, IsTold, IsToldUpTo, set_reply, write_reply, done_reply, end_reply};
 
 use crate::cell_core::CellCore;
 use crate::ended::{Held, end, end_and_wake};
@@ -20,15 +20,16 @@ impl<T: Drop, W: Wakes, N: Naming<T, W>> Witness<T, W, N> {
         rt: &R,
     ) -> Result<(), T>
         requires may { N.may (Kept.Set value) }
-        ensures told { IsTrue R.always → IsTold W.Wakes N.named self.old
-            (Kept.Set value) (set_reply result) self.new }
+        ensures told { IsTrue R.always → IsTold W.Wakes N.named self.old.calls
+            (Kept.Set value) (set_reply result) self.new.calls }
+        ensures signed { IsTrue R.always → IsSigned self.old self.new }
         ensures comes_back { IfErr result (λ back. back ≡ value) }
     {
         let Some(mut step) = rt.open(cell) else {
             return Err(value);
         };
         let core = step.lend();
-        core.tell(self);
+        core.hand_to(self);
         let written = core.set(value);
         core.tell(self);
         match end_and_wake(step, written) {
@@ -48,15 +49,16 @@ impl<T: Drop, W: Wakes, N: Naming<T, W>> Witness<T, W, N> {
         rt: &R,
     ) -> Result<Option<T>, T>
         requires may { N.may (Kept.Replace value) }
-        ensures told { IsTrue R.always → IsTold W.Wakes N.named self.old
-            (Kept.Replace value) (write_reply result) self.new }
+        ensures told { IsTrue R.always → IsTold W.Wakes N.named self.old.calls
+            (Kept.Replace value) (write_reply result) self.new.calls }
+        ensures signed { IsTrue R.always → IsSigned self.old self.new }
         ensures comes_back { IfErr result (λ back. back ≡ value) }
     {
         let Some(mut step) = rt.open(cell) else {
             return Err(value);
         };
         let core = step.lend();
-        core.tell(self);
+        core.hand_to(self);
         let written = core.replace(value);
         core.tell(self);
         end_and_wake(step, written)
@@ -70,15 +72,16 @@ impl<T: Drop, W: Wakes, N: Naming<T, W>> Witness<T, W, N> {
         rt: &R,
     ) -> Result<Option<T>, T>
         requires may { N.may (Kept.OrSet value) }
-        ensures told { IsTrue R.always → IsTold W.Wakes N.named self.old
-            (Kept.OrSet value) (write_reply result) self.new }
+        ensures told { IsTrue R.always → IsTold W.Wakes N.named self.old.calls
+            (Kept.OrSet value) (write_reply result) self.new.calls }
+        ensures signed { IsTrue R.always → IsSigned self.old self.new }
         ensures comes_back { IfErr result (λ back. back ≡ value) }
     {
         let Some(mut step) = rt.open(cell) else {
             return Err(value);
         };
         let core = step.lend();
-        core.tell(self);
+        core.hand_to(self);
         let written = core.or_set(value);
         core.tell(self);
         end_and_wake(step, written)
@@ -91,12 +94,13 @@ impl<T: Drop, W: Wakes, N: Naming<T, W>> Witness<T, W, N> {
         rt: &R,
     ) -> Option<T>
         requires may { N.may Kept.TryTake }
-        ensures told { IsTrue R.always → IsTold W.Wakes N.named self.old
-            Kept.TryTake (Reply.Value result) self.new }
+        ensures told { IsTrue R.always → IsTold W.Wakes N.named self.old.calls
+            Kept.TryTake (Reply.Value result) self.new.calls }
+        ensures signed { IsTrue R.always → IsSigned self.old self.new }
     {
         let mut step = rt.open(cell)?;
         let core = step.lend();
-        core.tell(self);
+        core.hand_to(self);
         let taken = core.try_take();
         core.tell(self);
         end(step, taken)
@@ -111,13 +115,14 @@ impl<T: Drop, W: Wakes, N: Naming<T, W>> Witness<T, W, N> {
     ) -> Result<Option<T>, Refusal>
     where
         T: Clone,
-        ensures told { IsTrue R.always → IsToldUpTo T.is_clone W.Wakes N.named self.old
-            Kept.TryGet (end_reply result) self.new }
+        ensures told { IsTrue R.always → IsToldUpTo T.is_clone W.Wakes N.named self.old.calls
+            Kept.TryGet (end_reply result) self.new.calls }
+        ensures signed { IsTrue R.always → IsSigned self.old self.new }
         ensures refused { FailsWithMemory result }
     {
         let mut step = rt.open(cell).ok_or(Refusal::Memory)?;
         let core = step.lend();
-        core.tell(self);
+        core.hand_to(self);
         let copied = core.get();
         core.tell(self);
         end(step, copied)
@@ -134,10 +139,12 @@ impl<T: Drop, W: Wakes, N: Naming<T, W>> Witness<T, W, N> {
     where
         F: FnOnce(Option<T>) -> Option<T> + Drop,
         requires callable { F.IsAlwaysCallable change }
-        requires may { (saw put : Option T) → N.may (Kept.Update saw put) }
+        requires may { (saw put : Option T) → F.post change saw put → N.may (Kept.Update saw put) }
+        requires may_fail { N.may (Kept.Update None None) }
         ensures told { IsTrue R.always → OnOk result ((saw put : Option T)
-            × IsTold W.Wakes N.named self.old (Kept.Update saw put) Reply.Done self.new
-            × F.post change saw put) }
+            × IsTold W.Wakes N.named self.old.calls (Kept.Update saw put)
+            Reply.Done self.new.calls × F.post change saw put) }
+        ensures signed { IsTrue R.always → OnOk result (IsSigned self.old self.new) }
         ensures refused { FailsWithClosed result }
     {
         let mut step = rt.open(cell).ok_or(Refusal::Closed)?;
@@ -146,7 +153,7 @@ impl<T: Drop, W: Wakes, N: Naming<T, W>> Witness<T, W, N> {
             return Err(Refusal::Closed);
         }
         let core = step.lend();
-        core.tell(self);
+        core.hand_to(self);
         let updated = core.update(change);
         core.tell(self);
         end_and_wake(step, updated)
@@ -163,10 +170,14 @@ impl<T: Drop, W: Wakes, N: Naming<T, W>> Witness<T, W, N> {
     where
         F: FnOnce(T) -> T + Drop,
         requires callable { F.IsAlwaysCallable change }
-        requires may { (saw put : Option T) → N.may (Kept.UpdateSome saw put) }
+        requires may { (old new : T) → F.post change old new
+            → N.may (Kept.UpdateSome (Some old) (Some new)) }
+        requires may_fail { N.may (Kept.UpdateSome None None) }
         ensures told { IsTrue R.always → OnOk result ((saw put : Option T)
-            × IsTold W.Wakes N.named self.old (Kept.UpdateSome saw put) Reply.Done self.new
+            × IsTold W.Wakes N.named self.old.calls (Kept.UpdateSome saw put)
+            Reply.Done self.new.calls
             × IfSome saw (λ old. IsSomeAnd put (λ new. F.post change old new))) }
+        ensures signed { IsTrue R.always → OnOk result (IsSigned self.old self.new) }
         ensures refused { FailsWithClosed result }
     {
         let mut step = rt.open(cell).ok_or(Refusal::Closed)?;
@@ -175,7 +186,7 @@ impl<T: Drop, W: Wakes, N: Naming<T, W>> Witness<T, W, N> {
             return Err(Refusal::Closed);
         }
         let core = step.lend();
-        core.tell(self);
+        core.hand_to(self);
         let updated = core.update_some(change);
         core.tell(self);
         end(step, updated)
@@ -187,14 +198,15 @@ impl<T: Drop, W: Wakes, N: Naming<T, W>> Witness<T, W, N> {
         cell: &'a StoredCore<M>,
         rt: &R,
     ) -> bool
-        ensures told { IsTrue R.always → IsTold W.Wakes N.named self.old
-            Kept.IsSet (Reply.Is result) self.new }
+        ensures told { IsTrue R.always → IsTold W.Wakes N.named self.old.calls
+            Kept.IsSet (Reply.Is result) self.new.calls }
+        ensures signed { IsTrue R.always → IsSigned self.old self.new }
     {
         let Some(mut step) = rt.open(cell) else {
             return false;
         };
         let core = step.lend();
-        core.tell(self);
+        core.hand_to(self);
         let is_set = core.has_value();
         core.tell(self);
         end(step, Held::of(is_set))
@@ -208,12 +220,13 @@ impl<T: Drop, W: Wakes, N: Naming<T, W>> Witness<T, W, N> {
         rt: &R,
     ) -> Result<Poll<Option<T>>, Refusal>
         requires may { N.may (Kept.PollTake waker.now) }
-        ensures told { IsTrue R.always → IsTold W.Wakes N.named self.old
-            (Kept.PollTake waker.now) (poll_reply result) self.new }
+        ensures told { IsTrue R.always → IsTold W.Wakes N.named self.old.calls
+            (Kept.PollTake waker.now) (poll_reply result) self.new.calls }
+        ensures signed { IsTrue R.always → IsSigned self.old self.new }
     {
         let mut step = rt.open(cell).ok_or(Refusal::Memory)?;
         let core = step.lend();
-        core.tell(self);
+        core.hand_to(self);
         let polled = core.poll_take(waker);
         core.tell(self);
         end(step, polled)
@@ -228,13 +241,14 @@ impl<T: Drop, W: Wakes, N: Naming<T, W>> Witness<T, W, N> {
     ) -> Result<Poll<Option<T>>, Refusal>
     where
         T: Clone,
-        ensures told { IsTrue R.always → IsToldUpTo T.is_clone W.Wakes N.named self.old
-            (Kept.PollGet waker.now) (poll_reply result) self.new }
+        ensures told { IsTrue R.always → IsToldUpTo T.is_clone W.Wakes N.named self.old.calls
+            (Kept.PollGet waker.now) (poll_reply result) self.new.calls }
+        ensures signed { IsTrue R.always → IsSigned self.old self.new }
         ensures refused { FailsWithMemory result }
     {
         let mut step = rt.open(cell).ok_or(Refusal::Memory)?;
         let core = step.lend();
-        core.tell(self);
+        core.hand_to(self);
         let polled = core.poll_own(waker);
         core.tell(self);
         end(step, polled)
@@ -246,12 +260,13 @@ impl<T: Drop, W: Wakes, N: Naming<T, W>> Witness<T, W, N> {
         cell: &'a StoredCore<M>,
         rt: &R,
     ) -> Result<(), Refusal>
-        ensures told { IsTrue R.always → IsTold W.Wakes N.named self.old
-            Kept.AddOwner (done_reply result) self.new }
+        ensures told { IsTrue R.always → IsTold W.Wakes N.named self.old.calls
+            Kept.AddOwner (done_reply result) self.new.calls }
+        ensures signed { IsTrue R.always → IsSigned self.old self.new }
     {
         let mut step = rt.open(cell).ok_or(Refusal::Closed)?;
         let core = step.lend();
-        core.tell(self);
+        core.hand_to(self);
         let added = core.add_owner();
         core.tell(self);
         end(step, added)
@@ -263,12 +278,13 @@ impl<T: Drop, W: Wakes, N: Naming<T, W>> Witness<T, W, N> {
         cell: &'a StoredCore<M>,
         rt: &R,
     ) -> Result<Option<T>, Refusal>
-        ensures told { IsTrue R.always → IsTold W.Wakes N.named self.old
-            Kept.EndOwner (end_reply result) self.new }
+        ensures told { IsTrue R.always → IsTold W.Wakes N.named self.old.calls
+            Kept.EndOwner (end_reply result) self.new.calls }
+        ensures signed { IsTrue R.always → IsSigned self.old self.new }
     {
         let mut step = rt.open(cell).ok_or(Refusal::Closed)?;
         let core = step.lend();
-        core.tell(self);
+        core.hand_to(self);
         let ended = core.end_owner();
         core.tell(self);
         end_and_wake(step, ended)
@@ -281,12 +297,13 @@ impl<T: Drop, W: Wakes, N: Naming<T, W>> Witness<T, W, N> {
         rt: &R,
     ) -> Result<Option<T>, Refusal>
         requires may { N.may Kept.TakeInner }
-        ensures told { IsTrue R.always → IsTold W.Wakes N.named self.old
-            Kept.TakeInner (end_reply result) self.new }
+        ensures told { IsTrue R.always → IsTold W.Wakes N.named self.old.calls
+            Kept.TakeInner (end_reply result) self.new.calls }
+        ensures signed { IsTrue R.always → IsSigned self.old self.new }
     {
         let mut step = rt.open(cell).ok_or(Refusal::Closed)?;
         let core = step.lend();
-        core.tell(self);
+        core.hand_to(self);
         let taken = core.take_inner();
         core.tell(self);
         end_and_wake(step, taken)

@@ -2,9 +2,8 @@ ghost use Rattle.std.specs.Prelude.{◌≡◌, [], ◌∷◌, ◌++◌, IfOk, If
 ghost use Rattle.async_cell_core.specs.IsStep.{IsStep};
 ghost use Rattle.async_cell_waiting.specs.Told.{Fits, IsAllowed, Leads, entry_of};
 
-use crate::told::{Naming, Start};
+use crate::told::{Hand, Naming, Signed, Start};
 use async_cell_core::{Core, Wakes};
-use async_cell_model::Entry;
 use ghost_log::{Log, Makes};
 use std::marker::{Model, PhantomData};
 use std::snapshot::Snapshot;
@@ -24,7 +23,7 @@ pub(crate) trait Enters<C, A, T, W> {
 /// A core that begins a history, which no type names yet.
 #[derive(Drop)]
 pub struct Opened<T, W: Wakes> {
-    log: Log<Entry<T, W>>,
+    log: Log<Signed<T, W>>,
     start: Start<T, W>,
 }
 
@@ -57,24 +56,28 @@ impl<T, W: Wakes> Opened<T, W> {
 /// bytes.
 #[derive(Drop)]
 pub struct Past<T, W: Wakes, N: Naming<T, W>> {
-    pub(super) log: Log<Entry<T, W>>,
+    pub(super) log: Log<Signed<T, W>>,
     of: PhantomData<N>,
     start: Start<T, W>,
+    hand: Hand,
 }
 
-/// Contracts see how the cell began, and its calls so far.
+/// Contracts see how the cell began, its calls so far, who made each, and who signs the next one.
 impl<T, W: Wakes, N: Naming<T, W>> Model for Past<T, W, N> {
+    ghost use Rattle.std.specs.Prelude.{map};
     ghost use Rattle.async_cell_waiting.specs.Told.{Fits, IsLawful, Past as PastCalls};
 
     ghost Value = { PastCalls T W };
 
     ghost view = { λ p. record {
       begun = record { name = p.log.name; start = p.start };
-      calls = p.log.list;
+      calls = map (λ s. s.entry) p.log.list;
+      authors = map (λ s. s.who) p.log.list;
+      hand = p.hand;
     } };
 
     ghost invariant = { λ p. Fits N.named (record { name = p.log.name; start = p.start })
-        × IsLawful W.will_wake W.SURE_CLONE N.may p.start p.log.list };
+        × IsLawful W.will_wake W.SURE_CLONE N.may p.start (map (λ s. s.entry) p.log.list) };
 }
 
 impl<T, W: Wakes, N: Naming<T, W>> Past<T, W, N> {
@@ -89,7 +92,19 @@ impl<T, W: Wakes, N: Naming<T, W>> Past<T, W, N> {
             log,
             of: PhantomData,
             start,
+            hand: Hand::nobody(),
         }
+    }
+
+    /// Lets this author sign the next calls.
+    #[inline(always)]
+    pub(super) fn hand_to(&mut self, hand: Hand)
+        ensures begun { self.new.begun ≡ self.old.begun }
+        ensures calls { self.new.calls ≡ self.old.calls }
+        ensures authors { self.new.authors ≡ self.old.authors }
+        ensures hand { self.new.hand ≡ hand }
+    {
+        self.hand = hand;
     }
 }
 
@@ -115,6 +130,7 @@ impl<C, T, W: Wakes> Asked<C, T, W> {
 
     /// Adds the call at the end of the past, as `M` enters it: it returned this, and left this core.
     #[inline(always)]
+    #[tactic(auto, using(crate::proofs::Signing::map_more))]
     pub(crate) fn enter<N: Naming<T, W>, M: Enters<C, A, T, W>, A>(
         &self,
         past: &mut Past<T, W, N>,
@@ -133,11 +149,13 @@ impl<C, T, W: Wakes> Asked<C, T, W> {
         ensures entered { past.new.calls ≡ past.old.calls ++ entry_of
             (M.call self.now.from.value self.now.passed.value to.now)
             (M.answer self.now.from.value returned.now) ∷ [] }
+        ensures signed { past.new.authors ≡ past.old.authors ++ past.old.hand ∷ [] }
     {
         past.log.push::<_, By<M>>(&Made {
             asked: self,
             returned,
             to,
+            by: &past.hand,
         });
     }
 
@@ -170,24 +188,28 @@ impl<C, T, W: Wakes> Asked<C, T, W> {
     }
 }
 
-/// A call that was made: what it returned, and the core that it left.
+/// A call that was made: what it returned, the core that it left, and who made it.
 #[derive(Drop)]
-struct Made<'a, 'b, 'c, C, A, T, W: Wakes> {
+struct Made<'a, 'b, 'c, 'd, C, A, T, W: Wakes> {
     asked: &'a Asked<C, T, W>,
     returned: &'b A,
     to: &'c Core<T, W>,
+    by: &'d Hand,
 }
 
 /// The entry that `M` makes of a call.
 struct By<M>(PhantomData<M>);
 
-impl<'a, 'b, 'c, C, A, T, W: Wakes, M: Enters<C, A, T, W>> Makes<
-    Made<'a, 'b, 'c, C, A, T, W>,
-    Entry<T, W>,
+impl<'a, 'b, 'c, 'd, C, A, T, W: Wakes, M: Enters<C, A, T, W>> Makes<
+    Made<'a, 'b, 'c, 'd, C, A, T, W>,
+    Signed<T, W>,
 > for By<M> {
     ghost use Rattle.async_cell_waiting.specs.Told.{entry_of};
 
-    ghost entry = { λ made. entry_of
-        (M.call made.asked.now.from.value made.asked.now.passed.value made.to.now)
-        (M.answer made.asked.now.from.value made.returned.now) };
+    ghost entry = { λ made. record {
+      who = made.by.now;
+      entry = entry_of
+          (M.call made.asked.now.from.value made.asked.now.passed.value made.to.now)
+          (M.answer made.asked.now.from.value made.returned.now);
+    } };
 }

@@ -3,8 +3,6 @@ use Rattle.async_cell_waiting.specs.Told.{done_reply}
 use Rattle.async_cell_waiting.proofs.Telling.{told_held}
 use Rattle.async_cell_waiting.proofs.told.witness.Witness.add_owner.Goals as goal
 
-pub returns : goal.returns
-returns g c = record {
-  told = λ always.
-      told_held _ g.N.Naming.named c.lend-core.result.now c.add_owner-added.new.self c.args.self.now c.tell-2.new.witness AddOwner done_reply c.add_owner-added.result.answer c.end.result c.tell.ensures.led c.add_owner-added.ensures.made c.tell.ensures.begun c.tell.ensures.goes_on c.tell-2.ensures.whole c.end.ensures.answers;
-}
+pub returns-clause-told : goal.returns-clause-told
+returns-clause-told g c always =
+    told_held _ g.N.Naming.named c.hand_to.new.self c.add_owner-added.new.self c.args.self.now.calls c.tell.new.witness.calls AddOwner done_reply c.add_owner-added.result.answer c.end.result c.hand_to.ensures.led c.add_owner-added.ensures.made c.hand_to.ensures.begun c.hand_to.ensures.goes_on c.tell.ensures.whole c.end.ensures.answers

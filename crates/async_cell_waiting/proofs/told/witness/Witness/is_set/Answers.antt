@@ -4,8 +4,6 @@ use Rattle.async_cell_model.specs.declared.reply.Reply.TheVariants.{Is}
 use Rattle.async_cell_waiting.proofs.Telling.{told_held}
 use Rattle.async_cell_waiting.proofs.told.witness.Witness.is_set.Goals as goal
 
-pub returns : goal.returns
-returns g c = record {
-  told = λ always.
-      told_held _ g.N.Naming.named c.lend-core.result.now c.has_value-is_set.new.self c.args.self.now c.tell-2.new.witness IsSet Is c.has_value-is_set.result c.end.result c.tell.ensures.led c.has_value-is_set.ensures.made c.tell.ensures.begun c.tell.ensures.goes_on c.tell-2.ensures.whole (c.end.ensures.answers ∙ c.of.ensures);
-}
+pub returns-clause-told : goal.returns-clause-told
+returns-clause-told g c always =
+    told_held _ g.N.Naming.named c.hand_to.new.self c.has_value-is_set.new.self c.args.self.now.calls c.tell.new.witness.calls IsSet Is c.has_value-is_set.result c.end.result c.hand_to.ensures.led c.has_value-is_set.ensures.made c.hand_to.ensures.begun c.hand_to.ensures.goes_on c.tell.ensures.whole (c.end.ensures.answers ∙ c.of.ensures)

@@ -3,8 +3,6 @@ use Rattle.async_cell_core.specs.Polled.{poll_reply}
 use Rattle.async_cell_waiting.proofs.Telling.{told_held}
 use Rattle.async_cell_waiting.proofs.told.witness.Witness.poll_take.Goals as goal
 
-pub returns : goal.returns
-returns g c = record {
-  told = λ always.
-      told_held _ g.N.Naming.named c.lend-core.result.now c.poll_take-polled.new.self c.args.self.now c.tell-2.new.witness (PollTake c.args.waker.now) poll_reply c.poll_take-polled.result.answer c.end.result c.tell.ensures.led c.poll_take-polled.ensures.made c.tell.ensures.begun c.tell.ensures.goes_on c.tell-2.ensures.whole c.end.ensures.answers;
-}
+pub returns-clause-told : goal.returns-clause-told
+returns-clause-told g c always =
+    told_held _ g.N.Naming.named c.hand_to.new.self c.poll_take-polled.new.self c.args.self.now.calls c.tell.new.witness.calls (PollTake c.args.waker.now) poll_reply c.poll_take-polled.result.answer c.end.result c.hand_to.ensures.led c.poll_take-polled.ensures.made c.hand_to.ensures.begun c.hand_to.ensures.goes_on c.tell.ensures.whole c.end.ensures.answers

@@ -7,6 +7,6 @@ use Rattle.async_cell_waiting.proofs.told.witness.Witness.try_get.Goals as goal
 
 pub returns-clause-told : goal.returns-clause-told
 returns-clause-told g c always =
-    let held = content c.lend-core.result.now.inner.cell in
-    let told = told_of _ g.N.Naming.named c.lend-core.result.now c.get-copied.new.self c.args.self.now c.tell-2.new.witness TryGet (get_reply held c.get-copied.result.answer) c.tell.ensures.led c.get-copied.ensures.made c.tell.ensures.begun c.tell.ensures.goes_on c.tell-2.ensures.whole in
-    told_got _ g.N.Naming.named c.args.self.now _ c.tell-2.new.witness held c.get-copied.result.answer c.end.result told c.get-copied.ensures.clones c.end.ensures.answers
+    let held = content c.hand_to.new.self.inner.cell in
+    let told = told_of _ g.N.Naming.named c.hand_to.new.self c.get-copied.new.self c.args.self.now.calls c.tell.new.witness.calls TryGet (get_reply held c.get-copied.result.answer) c.hand_to.ensures.led c.get-copied.ensures.made c.hand_to.ensures.begun c.hand_to.ensures.goes_on c.tell.ensures.whole in
+    told_got _ g.N.Naming.named c.args.self.now.calls _ c.tell.new.witness.calls held c.get-copied.result.answer c.end.result told c.get-copied.ensures.clones c.end.ensures.answers

@@ -3,8 +3,6 @@ use Rattle.async_cell_model.specs.declared.reply.Reply.TheVariants.{Value}
 use Rattle.async_cell_waiting.proofs.Telling.{told_held}
 use Rattle.async_cell_waiting.proofs.told.witness.Witness.try_take.Goals as goal
 
-pub returns : goal.returns
-returns g c = record {
-  told = λ always.
-      told_held _ g.N.Naming.named c.lend-core.result.now c.try_take-taken.new.self c.args.self.now c.tell-2.new.witness TryTake Value c.try_take-taken.result.answer c.end.result c.tell.ensures.led c.try_take-taken.ensures.made c.tell.ensures.begun c.tell.ensures.goes_on c.tell-2.ensures.whole c.end.ensures.answers;
-}
+pub returns-clause-told : goal.returns-clause-told
+returns-clause-told g c always =
+    told_held _ g.N.Naming.named c.hand_to.new.self c.try_take-taken.new.self c.args.self.now.calls c.tell.new.witness.calls TryTake Value c.try_take-taken.result.answer c.end.result c.hand_to.ensures.led c.try_take-taken.ensures.made c.hand_to.ensures.begun c.hand_to.ensures.goes_on c.tell.ensures.whole c.end.ensures.answers
