@@ -6,7 +6,7 @@ use Rattle.async_cell_model.specs.declared.cell.Cell.{Cell}
 use Rattle.async_cell_model.specs.declared.cell.Cell.TheVariants.{Closed, Open}
 use Rattle.async_cell_model.specs.declared.entry.Entry.{Entry}
 use Rattle.async_cell_model.specs.declared.entry.Kept.{Kept}
-use Rattle.async_cell_model.specs.declared.entry.Kept.TheVariants.{Set, OrSet, Replace, Update, UpdateSome, TryTake, TryGet, IsSet, PollGet, AddOwner, EndOwner}
+use Rattle.async_cell_model.specs.declared.entry.Kept.TheVariants.{Set, OrSet, Replace, Update, UpdateSome, TryTake, TryGet, IsSet, PollTake, PollGet, AddOwner, EndOwner, TakeInner}
 use Rattle.async_cell_model.specs.declared.refusal.Refusal.{Refusal}
 use Rattle.async_cell_model.specs.declared.refusal.Refusal.TheVariants as why
 use Rattle.async_cell_model.specs.declared.reply.Reply.{Reply}
@@ -90,9 +90,9 @@ module _ {T W : Type 0} where
   abbrev pub Agree : (Kept T W → Type 0) → (Kept T W → Type 0) → Type 0
   Agree may also = (call : Kept T W) → (may call → also call) × (also call → may call)
 
-  -- the cell began open, with one owner and no value
-  abbrev pub BeganEmpty : Option (Begun T W) → Type 0
-  BeganEmpty named = start_of named ≡ record { cell = Open None 1; waiting = []; room = 0 }
+  -- the cell began open, with this content, one owner, and nobody waiting
+  abbrev pub BeganWith : Option T → Option (Begun T W) → Type 0
+  BeganWith held named = start_of named ≡ record { cell = Open held 1; waiting = []; room = 0 }
 
 module _ {T W : Type 0} (will_wake : W → W → Bool) (sure_wakers : Bool) where
   -- the calls are legal, and lead from the first state to this one
@@ -216,6 +216,13 @@ module _ {T W : Type 0} where
   abbrev pub IsOrSet : Kept T W → Type 0
   IsOrSet (OrSet x) = ⊤
   IsOrSet call = ⊥
+
+  -- the call takes the value
+  abbrev pub IsTake : Kept T W → Type 0
+  IsTake TryTake = ⊤
+  IsTake (PollTake w) = ⊤
+  IsTake TakeInner = ⊤
+  IsTake call = ⊥
 
   -- of a full cell, the call makes one with a value that follows the one that was there
   abbrev pub GoesOn : (T → T → Type 0) → Kept T W → Type 0

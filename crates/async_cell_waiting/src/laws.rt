@@ -7,7 +7,7 @@ ghost use Rattle.async_cell_model.specs.Machine.{content, ends_waiting};
 ghost use Rattle.async_cell_model.specs.Legal.{IsExact};
 ghost use Rattle.async_cell_model.specs.History.{History, IsCovered, cell_after};
 ghost use Rattle.async_cell_model.specs.Taken.{IsDistinct, IsSubsequence, has_update, put_in};
-ghost use Rattle.async_cell_waiting.specs.Told.{GoesOn, HasEntry, IsLawful, IsOrSet, IsSigned, IsTold, IsToldUpTo, OnlyMakes, PutsWhatSetsMay, Seen, StillWaits, Took, start_of};
+ghost use Rattle.async_cell_waiting.specs.Told.{GoesOn, HasEntry, IsLawful, IsOrSet, IsSigned, IsTake, IsTold, IsToldUpTo, OnlyMakes, PutsWhatSetsMay, Seen, StillWaits, Took, start_of};
 
 use crate::told::Naming;
 use async_cell_core::Wakes;
@@ -105,4 +105,12 @@ pub fn two_takers_take_two_values<T, W: Wakes, N: Naming<T, W>>()
         → has_update all.calls ≡ false
         → IsDistinct (option_to_list (content (start_of N.named).cell) ++ put_in all.calls)
         → Took m v all → Took n w all → m ≢ n → v ≢ w }
+{}
+
+/// Of takers alone one gets a value. If takes are the only changes that may be made, all takes of a
+/// value are signed by one author.
+pub fn of_takers_alone_one_gets<T, W: Wakes, N: Naming<T, W>>()
+    ensures { (all : Seen T W) (m n : ℕ) (v w : T) → OnlyMakes N.may IsTake
+        → IsLawful W.will_wake W.SURE_CLONE N.may (start_of N.named) all.calls
+        → Took m v all → Took n w all → m ≡ n }
 {}

@@ -1,10 +1,10 @@
 //! Two threads that share a cell of which each call is told, without a proof by the caller of which
 //! cell it is.
-ghost use Rattle.std.specs.Prelude.{◌≡◌, [], None, Some, IfOk, IfErr};
+ghost use Rattle.std.specs.Prelude.{◌≡◌, [], Option, None, Some, IfOk, IfErr};
 ghost use Rattle.async_cell_model.specs.declared.cell.Cell.TheVariants.{Open};
 ghost use Rattle.async_cell_model.specs.declared.entry.Kept.{Kept};
 ghost use Rattle.async_cell_model.specs.Refusal.{IsOwnerRefusal};
-ghost use Rattle.async_cell_waiting.specs.Told.{Agree, BeganEmpty, IsPartOf, Seen};
+ghost use Rattle.async_cell_waiting.specs.Told.{Agree, BeganWith, IsPartOf, Seen};
 ghost use Rattle.async_cell_wakers.specs.declared.task_waker.TaskWaker.{TaskWaker};
 
 use super::owner::ToldOwner;
@@ -31,6 +31,9 @@ pub trait Session {
     /// that it may.
     ghost may: { Self → Kept Self.Value TaskWaker → Type 0 };
 
+    /// The content that the cell begins with.
+    ghost holds: { Self → Option Self.Value } = { λ _. None };
+
     /// What the first thread knows at its end: of what it returns, and of what its owner has seen.
     ghost first_knows: { Self → Self.First → Seen Self.Value TaskWaker → Type 0 };
 
@@ -40,13 +43,13 @@ pub trait Session {
     /// What is known of what both return.
     ghost gives: { Self → Self.First → Self.Second → Type 0 };
 
-    /// What the first thread does. The cell began without a value. Its owner signs as 1.
+    /// What the first thread does. Its owner signs as 1.
     fn first<N, R>(&self, rt: R, owner: &mut ToldOwner<Self::Value, R, N>) -> Self::First
     where
         N: Naming<Self::Value, TaskWaker> + Send + Sync,
         R: Threads + Wait + RandomSource + AllocGlobal + Copy + Send + Sync,
         requires may { Agree N.may (may self.now) }
-        requires begins { BeganEmpty N.named }
+        requires begins { BeganWith (holds self.now) N.named }
         requires author { owner.old.seen.author ≡ 1 }
         ensures knows { first_knows self.now result owner.new.seen };
 
@@ -56,7 +59,7 @@ pub trait Session {
         N: Naming<Self::Value, TaskWaker> + Send + Sync,
         R: Threads + Wait + RandomSource + AllocGlobal + Copy + Send + Sync,
         requires may { Agree N.may (may self.now) }
-        requires begins { BeganEmpty N.named }
+        requires begins { BeganWith (holds self.now) N.named }
         requires author { owner.old.seen.author ≡ 2 }
         ensures knows { second_knows self.now result owner.new.seen };
 
@@ -71,7 +74,7 @@ pub trait Session {
     where
         N: Naming<Self::Value, TaskWaker>,
         requires may { Agree N.may (may self.now) }
-        requires begins { BeganEmpty N.named }
+        requires begins { BeganWith (holds self.now) N.named }
         requires first { IsPartOf seen.now (first_knows self.now first.now) }
         requires second { IsPartOf seen.now (second_knows self.now second.now) }
         ensures gives { gives self.now first.now second.now };
@@ -91,20 +94,25 @@ impl Author for Second {
     ghost number = { 2 };
 }
 
-/// Runs both threads on a new cell without a value, and returns what they returned. Each has an
-/// owner of its own, which ends with both. Fails if there is no memory for the cell or its owners.
+/// Runs both threads on a new cell with this content, and returns what they returned. Each has an
+/// owner of its own; both end after the threads. Fails if there is no memory for the cell or its owners.
 /// If no thread can be made, the two come one after another, so neither may wait for the other then.
-pub fn with_told<T, A, B, S, R>(rt: R, session: &S) -> Result<(A, B), Refusal>
+pub fn with_told<T, A, B, S, R>(
+    rt: R,
+    content: Option<T>,
+    session: &S,
+) -> Result<(A, B), Refusal>
 where
     T: Drop + Send,
     A: Send,
     B: Send,
     S: Session<Value = T, First = A, Second = B> + Sync,
     R: Threads + Wait + RandomSource + AllocGlobal + Copy + Send + Sync,
+    requires begins { content ≡ S.holds session.now }
     ensures gives { IfOk result (λ both. S.gives session.now both.0 both.1) }
     ensures refused { IfErr result IsOwnerRefusal }
 {
-    let core = Core::new(rt.alloc());
+    let core = Core::owned_by(rt.alloc(), content, 1);
     let opened = Opened::of(&core);
     run_named::<T, A, B, S, R, Brand>(rt, core, opened, session)
 }
@@ -125,7 +133,8 @@ where
     N: Naming<T, TaskWaker> + Send + Sync,
     requires named { N.named ≡ Some opened }
     requires begins { opened.start ≡ core }
-    requires new { core ≡ record { cell = Open None 1; waiting = []; room = 0 } }
+    requires new { core
+        ≡ record { cell = Open (S.holds session.now) 1; waiting = []; room = 0 } }
     requires may { Agree N.may (S.may session.now) }
     ensures gives { IfOk result (λ both. S.gives session.now both.0 both.1) }
     ensures refused { IfErr result IsOwnerRefusal }
@@ -137,7 +146,7 @@ where
     let ((first, mut owner), (second, other)) = join(
         &rt,
         move || -> (A, ToldOwner<T, R, N>)
-            requires { Agree N.may (S.may session.now) × BeganEmpty N.named
+            requires { Agree N.may (S.may session.now) × BeganWith (S.holds session.now) N.named
                 × (first_owner.seen.author ≡ 1) }
             ensures { S.first_knows session.entry.now result.0 result.1.seen }
         {
@@ -145,7 +154,7 @@ where
             (first, first_owner)
         },
         move || -> (B, ToldOwner<T, R, N>)
-            requires { Agree N.may (S.may session.now) × BeganEmpty N.named
+            requires { Agree N.may (S.may session.now) × BeganWith (S.holds session.now) N.named
                 × (second_owner.seen.author ≡ 2) }
             ensures { S.second_knows session.entry.now result.0 result.1.seen }
         {
