@@ -2,12 +2,18 @@
 //! contract: what is known of what the two threads returned, on every schedule.
 #![tactic(auto)]
 
+mod job;
 mod startup;
+mod watcher;
 
 use anyhow::Result;
 
 fn main(rt: HostRuntime) -> Result<()> {
     let (first, second) = startup::start(rt)?;
     println!(rt; "two threads got one start-up value: {}", first? == second?)?;
+    let (first, second) = job::share(rt)?;
+    println!(rt; "both threads got the job: {}", first.is_some() && second.is_some())?;
+    let (low, high) = watcher::watch(rt)?.1?;
+    println!(rt; "the level fell: {}", low > high)?;
     Ok(())
 }

@@ -29,9 +29,9 @@ impl Session for Offers {
 
     ghost may = { λ _ call. IsOrSet call };
 
-    ghost first_knows = { λ _ got seen. IfOk got (λ v. HasEntry seen TryGet (Value (Some v))) };
+    ghost first_knows = { λ _ got seen. IfOk got (λ v. HasEntry seen.calls TryGet (Value (Some v))) };
 
-    ghost second_knows = { λ _ got seen. IfOk got (λ v. HasEntry seen TryGet (Value (Some v))) };
+    ghost second_knows = { λ _ got seen. IfOk got (λ v. HasEntry seen.calls TryGet (Value (Some v))) };
 
     ghost gives = { λ _ first second. IfOk first (λ v. IfOk second (λ w. v ≡ w)) };
 
@@ -69,7 +69,7 @@ where
     N: Naming<u64, TaskWaker>,
     R: Wait + RandomSource + AllocGlobal + Copy,
     requires may { N.may (Kept.OrSet value) }
-    ensures { IfOk result (λ v. HasEntry owner.new.seen TryGet (Value (Some v))) }
+    ensures got { IfOk result (λ v. HasEntry owner.new.seen.calls TryGet (Value (Some v))) }
 {
     let _ = owner.or_set(value);
     let (value, getter) = block_on(&rt, owner.another()?.into_get())??;
@@ -85,5 +85,5 @@ where
     R: Threads + Wait + RandomSource + AllocGlobal + Copy + Send + Sync,
     ensures alike { IfOk result (λ both. IfOk both.0 (λ v. IfOk both.1 (λ w. v ≡ w))) }
 {
-    with_told(rt, &Offers { first: 1, second: 2 })
+    with_told(rt, None, &Offers { first: 1, second: 2 })
 }

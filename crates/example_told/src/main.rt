@@ -5,7 +5,7 @@ ghost use Rattle.std.specs.Prelude.{◌≡◌, ⊤, IfOk};
 ghost use Rattle.async_cell_waiting.specs.Told.{Puts};
 
 use anyhow::Result;
-use async_cell_sync::{Naming, Session, TaskWaker, ToldOwner, laws, with_told};
+use async_cell_sync::{Naming, Session, TaskWaker, ToldOwner, Witness, laws, with_told};
 use futures::executor::block_on;
 use std::alloc::AllocGlobal;
 use std::io;
@@ -28,9 +28,11 @@ impl Session for Question {
 
     ghost may = { λ question call. Puts (λ value. value ≡ question.reply) call };
 
-    ghost first_gives = { λ _ _. ⊤ };
+    ghost first_knows = { λ _ _ _. ⊤ };
 
-    ghost second_gives = { λ question taken. IfOk taken (λ value. value ≡ question.reply) };
+    ghost second_knows = { λ question taken _. IfOk taken (λ value. value ≡ question.reply) };
+
+    ghost gives = { λ question _ taken. IfOk taken (λ value. value ≡ question.reply) };
 
     fn first<N, R>(&self, _: R, owner: &mut ToldOwner<u64, R, N>)
     where
@@ -50,10 +52,18 @@ impl Session for Question {
         laws::a_value_is_one_that_may_be_set::<u64, TaskWaker, N>();
         Ok(value)
     }
+
+    fn join<N: Naming<u64, TaskWaker>>(
+        &self,
+        _: &(),
+        _: &io::Result<u64>,
+        _: &Witness<u64, TaskWaker, N>,
+    ) {
+    }
 }
 
 fn main(rt: HostRuntime) -> Result<()> {
-    let ((), reply) = with_told(rt, &Question { reply: 42 })?;
+    let ((), reply) = with_told(rt, None, &Question { reply: 42 })?;
     println!(rt; "the reply is {}", reply?)?;
     Ok(())
 }

@@ -8,6 +8,6 @@ use Rattle.example_theorems.proofs.startup.offer.Goals as goal
 -- src/startup.rt:67:1
 pub returns : goal.returns
 returns g c =
-    c.what_was_told_stays.ensures.stays c.in_ok-value.getter.seen c.learn.new.self.seen TryGet (Value (Some c.in_ok-value.value)) c.learn.ensures.other_begins
-    (c.what_was_told_stays.ensures.told c.in_ok-another.field-0.seen c.in_ok-value.getter.seen TryGet (Value (Some c.in_ok-value.value))
-    (c.an_exact_get_is_told.ensures (λ a b is. is) c.in_ok-another.field-0.seen c.in_ok-value.getter.seen c.in_ok-value.value (search rules)))
+    c.what_was_told_stays.ensures.stays c.in_ok-value.getter.seen.calls c.learn.new.self.seen.calls TryGet (Value (Some c.in_ok-value.value)) c.learn.ensures.other_begins
+    (c.what_was_told_stays.ensures.told c.in_ok-another.field-0.seen.calls c.in_ok-value.getter.seen.calls TryGet (Value (Some c.in_ok-value.value))
+    (c.an_exact_get_is_told.ensures (λ a b is. is) c.in_ok-another.field-0.seen.calls c.in_ok-value.getter.seen.calls c.in_ok-value.value (search rules)))

@@ -20,12 +20,12 @@ whole part h law (Err why) got = tt
 
 pub returns : goal.returns
 returns g c =
-    let h = c.args.seen.now in
+    let h = c.args.seen.now.calls in
     let law = c.what_is_set_once_all_get.ensures h in
     let first = c.requires.first in
     let second = c.requires.second in
     record {
-      gives = alike h (λ v w one other. law v w (λ call may is. (c.requires.may call).0 may) c.lawful.ensures one other) c.args.arg2.now c.args.arg3.now
-          (whole first.0 h (λ v got. c.what_was_told_stays.ensures.stays first.0 h TryGet (Value (Some v)) first.1 got) c.args.arg2.now first.2)
-          (whole second.0 h (λ v got. c.what_was_told_stays.ensures.stays second.0 h TryGet (Value (Some v)) second.1 got) c.args.arg3.now second.2);
+      gives = alike h (λ v w one other. law v w (λ call may is. (c.requires.may call).0 may) c.lawful.ensures.lawful one other) c.args.arg2.now c.args.arg3.now
+          (whole first.0.calls h (λ v got. c.what_was_told_stays.ensures.stays first.0.calls h TryGet (Value (Some v)) first.1 got) c.args.arg2.now first.3)
+          (whole second.0.calls h (λ v got. c.what_was_told_stays.ensures.stays second.0.calls h TryGet (Value (Some v)) second.1 got) c.args.arg3.now second.3);
     }
