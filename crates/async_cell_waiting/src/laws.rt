@@ -42,6 +42,14 @@ pub fn a_fill_or_close_wakes_who_waits<T, W: Wakes, N: Naming<T, W>>()
         → IsCovered W.will_wake told.woken w }
 {}
 
+/// A `set` that was done wakes each waker that still waits there, or one that would wake it.
+pub fn a_set_wakes_who_waits<T, W: Wakes, N: Naming<T, W>>()
+    ensures { (seen now : History T W) (v : T) (w : W)
+        (told : IsTold W.Wakes N.named seen (Kept.Set v) Reply.Done now)
+        → IsLawful W.will_wake W.SURE_CLONE N.may (start_of N.named) now
+        → StillWaits (start_of N.named).cell w told.before → IsCovered W.will_wake told.woken w }
+{}
+
 /// What was told is in the history, and stays there.
 pub fn what_was_told_stays<T, W: Wakes, N: Naming<T, W>>()
     ensures told { (seen now : History T W) (call : Called T W) (reply : Replied T)

@@ -3,6 +3,7 @@
 #![tactic(auto)]
 
 mod job;
+mod shutdown;
 mod startup;
 mod watcher;
 
@@ -15,5 +16,6 @@ fn main(rt: HostRuntime) -> Result<()> {
     println!(rt; "both threads got the job: {}", first.is_some() && second.is_some())?;
     let (low, high) = watcher::watch(rt)?.1?;
     println!(rt; "the level fell: {}", low > high)?;
+    println!(rt; "the server has stopped: {}", shutdown::run(rt)?.1.is_ok())?;
     Ok(())
 }
