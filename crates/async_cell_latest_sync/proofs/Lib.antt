@@ -1,3 +1,6 @@
 pub mod Found
+pub mod Keeping
+pub mod Lives
 pub mod Polled
+pub mod Showing
 pub mod SomeState

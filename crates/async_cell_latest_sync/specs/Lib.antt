@@ -1,4 +1,5 @@
 pub mod Found
+pub mod Life
 pub mod Names
 pub mod Seen
 pub mod SomeState

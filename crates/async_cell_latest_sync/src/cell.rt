@@ -5,7 +5,7 @@ mod waits;
 mod writes;
 
 use async_cell_waiting::Lock;
-use calls::LatestCore;
+pub use calls::LatestCore;
 use futures::task::Source;
 use std::alloc::Global;
 pub use waits::{Unseen, UnseenState};

@@ -5,8 +5,12 @@ mod awaited;
 mod cell;
 mod follower;
 mod owner;
+mod told;
 
 pub use async_cell_latest::{Refusal, TaskWaker};
 pub use awaited::{Changed, States, WaitFor};
 pub use follower::Follower;
 pub use owner::Owner;
+pub use told::{
+    Listed, StateSession, ToldFollower, ToldNext, ToldOwner, Unlisted, with_told_state,
+};

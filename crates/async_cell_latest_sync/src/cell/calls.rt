@@ -1,27 +1,120 @@
 //! The calls that a step may make of a state. Only this module sees the state: each function makes
 //! one call of it, and holds what comes out. So no other text can wake or drop that during a step.
-ghost use Rattle.std.specs.Prelude.{◌≡◌, ◌≢◌, ◌↔◌, true, IsOk, IfOk, IfErr, OnOk};
+ghost use Rattle.std.specs.Prelude.{◌≡◌, ◌≢◌, ◌↔◌, [], ◌∷◌, ◌++◌, true, false, IsOk, IfOk, IfErr, IsSome, OnOk, OnErr};
 ghost use Rattle.std.specs.Fn.{FnOnceReturnsAt, FnOnceReturnsAtMut};
-ghost use Rattle.async_cell_model.specs.Refusal.{FailsWithClosed, FailsWithMemory, IsOwnerRefusal};
+ghost use Rattle.async_cell_model.specs.Refusal.{FailsWithClosed, FailsWithMemory, FailsWithMemoryOrClosed, IsOwnerRefusal};
 ghost use Rattle.async_cell_latest.specs.State.{is_closed};
+ghost use Rattle.async_cell_latest_sync.specs.Life.{Fits, GoesOn, IsNext, IsOf};
 
+use crate::told::{Listed, Shown, Unlisted, Values, Witness};
 use async_cell_latest::{Latest, Place, Refusal, TaskWaker, Wakers};
 use async_cell_waiting::{Held, Room, Writes};
 use futures::task::Waker;
+use ghost_log::Log;
 use std::alloc::Global;
+use std::marker::Model;
 
 /// A state, whose own calls it hides: what they return would be woken or dropped during a step. Its
-/// own hold what comes out.
+/// own hold what comes out, and each that writes adds the value to the list beside it.
 #[derive(Drop)]
-pub struct LatestCore<T> {
+pub struct LatestCore<T, N: Listed<T> = Unlisted> {
     state: Latest<T, TaskWaker>,
+    values: Values<T, N>,
+}
+
+/// Contracts see the state, and its life.
+impl<T, N: Listed<T>> Model for LatestCore<T, N> {
+    ghost use Rattle.async_cell_wakers.specs.declared.task_waker.TaskWaker.{TaskWaker};
+    ghost use Rattle.async_cell_latest_sync.specs.Life.{Desk, IsOf};
+
+    ghost Value = { Desk T TaskWaker };
+
+    ghost view = { λ c. record { state = c.state; life = c.values } };
+
+    ghost invariant = { λ c. IsOf N.named c.state c.values };
 }
 
 impl<T: Drop> LatestCore<T> {
     pub(crate) fn new(alloc: Global, value: T) -> Self {
-        LatestCore {
-            state: Latest::new(alloc, value),
+        LatestCore::begin(alloc, value, Log::open())
+    }
+
+    /// No state with a name has it: a closure that returned `false` may have changed the value.
+    #[tactic(auto, using(crate::proofs::Keeping::of_written, crate::proofs::Keeping::open_life))]
+    pub(crate) fn modify_if<F: FnOnce(&mut T) -> bool + Drop>(
+        &mut self,
+        change: F,
+    ) -> Held<Result<bool, Refusal>, Option<Wakers<TaskWaker>>>
+        requires { F.IsAlwaysCallable change }
+        ensures called { IfOk result.answer (λ changed. (old new : T)
+            × FnOnceReturnsAtMut F.FnOnce change old changed new) }
+        ensures refused { FailsWithClosed result.answer }
+    {
+        match self.state.modify_if(change) {
+            Ok(Some(woken)) => {
+                self.values.add(&self.state);
+                Held::waking(Ok(true), Some(woken))
+            }
+            Ok(None) => Held::waking(Ok(false), None),
+            Err(why) => Held::waking(Err(why), None),
         }
+    }
+}
+
+impl<T: Drop, N: Listed<T>> LatestCore<T, N> {
+    /// Makes a state of this value, and of one writer, whose list has this name.
+    pub(crate) fn begin(alloc: Global, value: T, log: Log<Option<T>>) -> Self
+        requires named { Fits N.named log.name }
+        requires empty { log.list ≡ [] }
+        requires may { N.may [] value }
+        ensures { result.life ≡ record { values = value ∷ []; closed = false } }
+    {
+        let state = Latest::new(alloc, value);
+        let values = Values::begin(log, &state);
+        LatestCore { state, values }
+    }
+
+    /// Returns what comes next for a follower that was shown this: a clone of the value if it was not
+    /// shown yet, or nothing if the state is closed. Otherwise, and then it has to wait, `Closed`.
+    #[inline(always)]
+    pub(crate) fn next(&self, seen: Shown<T, N>) -> Held<Result<(Option<T>, Shown<T, N>), Refusal>>
+    where
+        T: Clone,
+        ensures next { IfOk result.answer (λ both. IsNext T.is_clone seen both.0 both.1) }
+        ensures refused { FailsWithMemoryOrClosed result.answer }
+    {
+        let mut now = seen.witness();
+        now.learn(&self.values);
+        if self.state.is_unseen(seen.version()) {
+            let (version, value) = match self.state.get() {
+                Ok(shown) => shown,
+                Err(why) => return Held::of(Err(why)),
+            };
+            return Held::of(Ok((Some(value), Shown::of(version, now))));
+        }
+        if self.state.is_closed() {
+            return Held::of(Ok((None, Shown::of(seen.version(), now))));
+        }
+        Held::of(Err(Refusal::Closed))
+    }
+
+    /// Makes a witness of the whole life.
+    pub(crate) fn witness(&self) -> Witness<T, N>
+        requires { IsSome N.named }
+        ensures { result ≡ self.now.life }
+    {
+        Witness::of(&self.values)
+    }
+
+    /// Lets a witness see the whole life, which is that of the state.
+    #[inline(always)]
+    pub(crate) fn tell(&self, witness: &mut Witness<T, N>)
+        ensures whole { witness.new ≡ self.now.life }
+        ensures goes_on { GoesOn witness.old self.now.life }
+        ensures of_state { IsOf N.named self.now.state self.now.life }
+        ensures named { IsSome N.named }
+    {
+        witness.learn(&self.values);
     }
 
     #[inline(always)]
@@ -66,62 +159,89 @@ impl<T: Drop> LatestCore<T> {
     }
 
     #[inline(always)]
-    pub(crate) fn write_first(&mut self, value: T) -> Result<Held<T, Option<TaskWaker>>, Held<T>> {
+    #[tactic(auto, using(crate::proofs::Keeping::of_written, crate::proofs::Keeping::open_life))]
+    pub(crate) fn write_first(&mut self, value: T) -> Result<Held<T, Option<TaskWaker>>, Held<T>>
+        requires may { N.may self.old.life.values value }
+    {
         match self.state.write_first(value) {
-            Ok((old, first)) => Ok(Held::waking(old, first)),
+            Ok((old, first)) => {
+                self.values.add(&self.state);
+                Ok(Held::waking(old, first))
+            }
             Err(value) => Err(Held::of(value)),
         }
     }
 
+    #[inline(always)]
+    #[tactic(auto, using(crate::proofs::Keeping::of_written, crate::proofs::Keeping::open_life))]
+    pub(crate) fn replace(&mut self, value: T) -> Held<Result<T, T>, Option<Wakers<TaskWaker>>>
+        requires may { N.may self.old.life.values value }
+        ensures entered { OnOk result.answer (self.new.life ≡ record
+            { values = self.old.life.values ++ value ∷ []; closed = false }) }
+        ensures gives_old { IfOk result.answer (λ old. old ≡ self.old.state.value) }
+        ensures unchanged { OnErr result.answer (self.new.life ≡ self.old.life) }
+        ensures comes_back { IfErr result.answer (λ back. back ≡ value) }
+    {
+        let written = self.state.write(value);
+        if written.is_ok() {
+            self.values.add(&self.state);
+        }
+        Held::of_result(written)
+    }
+
+    #[tactic(auto, using(crate::proofs::Keeping::of_written, crate::proofs::Keeping::open_life))]
     pub(crate) fn update<F: FnOnce(&T) -> T>(
         &mut self,
         change: F,
     ) -> Held<Result<T, T>, Option<Wakers<TaskWaker>>>
-        requires { F.IsAlwaysCallable change }
+        requires callable { F.IsAlwaysCallable change }
+        requires may { (old new : T) → FnOnceReturnsAt F.FnOnce change old new
+            → N.may self.old.life.values new }
         ensures called { (old new : T) × FnOnceReturnsAt F.FnOnce change old new }
     {
-        Held::of_result(self.state.update(change))
+        match self.state.update(change) {
+            Ok((old, woken)) => {
+                self.values.add(&self.state);
+                Held::waking(Ok(old), Some(woken))
+            }
+            Err(unused) => Held::waking(Err(unused), None),
+        }
     }
 
+    #[tactic(auto, using(crate::proofs::Keeping::of_written, crate::proofs::Keeping::open_life))]
     pub(crate) fn modify<A, F: FnOnce(&mut T) -> A + Drop>(
         &mut self,
         change: F,
     ) -> Held<Result<A, Refusal>, Option<Wakers<TaskWaker>>>
-        requires { F.IsAlwaysCallable change }
+        requires callable { F.IsAlwaysCallable change }
+        requires may { (value : T) → N.may self.old.life.values value }
         ensures called { IfOk result.answer (λ answer. (old new : T)
             × FnOnceReturnsAtMut F.FnOnce change old answer new) }
         ensures refused { FailsWithClosed result.answer }
     {
         match self.state.modify(change) {
-            Ok((answer, woken)) => Held::waking(Ok(answer), Some(woken)),
+            Ok((answer, woken)) => {
+                self.values.add(&self.state);
+                Held::waking(Ok(answer), Some(woken))
+            }
             Err(why) => Held::waking(Err(why), None),
         }
     }
 
-    pub(crate) fn modify_if<F: FnOnce(&mut T) -> bool + Drop>(
-        &mut self,
-        change: F,
-    ) -> Held<Result<bool, Refusal>, Option<Wakers<TaskWaker>>>
-        requires { F.IsAlwaysCallable change }
-        ensures called { IfOk result.answer (λ changed. (old new : T)
-            × FnOnceReturnsAtMut F.FnOnce change old changed new) }
-        ensures refused { FailsWithClosed result.answer }
-    {
-        match self.state.modify_if(change) {
-            Ok(Some(woken)) => Held::waking(Ok(true), Some(woken)),
-            Ok(None) => Held::waking(Ok(false), None),
-            Err(why) => Held::waking(Err(why), None),
-        }
-    }
-
+    #[tactic(auto, using(crate::proofs::Keeping::of_added))]
     pub(crate) fn add_writer(&mut self) -> Held<Result<(), Refusal>>
         ensures refused { IfErr result.answer IsOwnerRefusal }
     {
         Held::of(self.state.add_writer())
     }
 
+    #[tactic(auto, using(crate::proofs::Keeping::of_ended, crate::proofs::Keeping::of_closed))]
     pub(crate) fn end_writer(&mut self) -> Held<(), Option<Wakers<TaskWaker>>> {
-        Held::waking((), self.state.end_writer().ok())
+        let ended = self.state.end_writer();
+        if self.state.is_closed() {
+            self.values.close();
+        }
+        Held::waking((), ended.ok())
     }
 }
 
@@ -132,11 +252,11 @@ impl<T: Drop> Writes<T> for LatestCore<T> {
 
     #[inline(always)]
     fn write(&mut self, value: T) -> Held<Result<T, T>, Option<Wakers<TaskWaker>>> {
-        Held::of_result(self.state.write(value))
+        self.replace(value)
     }
 }
 
-impl<T: Drop> Room for LatestCore<T> {
+impl<T: Drop, N: Listed<T>> Room for LatestCore<T, N> {
     ghost use Rattle.std.specs.Prelude.{◌≡◌, false};
     ghost use Rattle.async_cell_latest.specs.State.{is_closed};
 
@@ -147,6 +267,7 @@ impl<T: Drop> Room for LatestCore<T> {
     ghost room = { λ core. core.state.room };
 
     #[inline(always)]
+    #[tactic(auto, using(crate::proofs::Keeping::of_stays))]
     fn add(&mut self, waker: TaskWaker) -> Held<Result<(), TaskWaker>> {
         Held::of(self.state.add(waker))
     }
@@ -157,6 +278,7 @@ impl<T: Drop> Room for LatestCore<T> {
     }
 
     #[inline(always)]
+    #[tactic(auto, using(crate::proofs::Keeping::of_stays))]
     fn store_new(&mut self, place: &mut Place, waker: TaskWaker) -> Held<Result<(), TaskWaker>> {
         Held::of(self.state.store_new(place, waker))
     }
@@ -167,6 +289,7 @@ impl<T: Drop> Room for LatestCore<T> {
     }
 
     #[inline(always)]
+    #[tactic(auto, using(crate::proofs::Keeping::of_stays))]
     fn store(
         &mut self,
         place: &mut Place,

@@ -1,0 +1,67 @@
+-- What a look shows: the last value, and whether it was seen.
+use Rattle.std.proofs.Common.{◌≡◌, ◌≢◌, ℕ, Bool, true, false, List, [], ◌∷◌, ◌++◌, length, Option, Some, None, IsSome, refl, ap, sym, subst, ◌∙◌, append_assoc, suc}
+use mathlib.Core.List.{IsPrefix}
+use Rattle.async_cell_latest.specs.State.{State, is_closed}
+use Rattle.async_cell_latest_sync.specs.Life.{Life, GoesOn, IsOf, EndsIn, IsShown, IsShownNext, IsNext, IsWritten}
+
+module _ {T : Type 0} where
+  -- a beginning that is not the whole begins what is before the last
+  before_last : (xs before : List T) (last : T) → IsPrefix xs (before ++ last ∷ []) → (length xs ≡ length (before ++ last ∷ []) → ⊥) → IsPrefix xs before
+  before_last [] before last begins other = (before, refl)
+  before_last (x ∷ []) [] last begins other = absurd (other refl)
+  before_last (x ∷ y ∷ xs) [] last begins other = absurd (cc begins.1)
+  before_last (x ∷ xs) (b ∷ before) last begins other =
+      let head : x ≡ b = cc begins.1 in
+      let rest = before_last xs before last (begins.0, cc begins.1) (λ same. other (ap (λ n. suc n) same)) in
+      (rest.0, cc (head, rest.1))
+
+  -- a beginning as long as the whole is the whole
+  whole : (xs ys : List T) → IsPrefix xs ys → length xs ≡ length ys → ys ≡ xs
+  whole [] [] begins same = refl
+  whole [] (y ∷ ys) begins same = absurd (cc same)
+  whole (x ∷ xs) [] begins same = absurd (cc begins.1)
+  whole (x ∷ xs) (y ∷ ys) begins same =
+      let rest = whole xs ys (begins.0, cc begins.1) (cc same) in cc (begins.1, rest)
+
+  module _ {W : Type 0} (named : Option ℕ) (state : State T W) (seen now : Life T) where
+    -- a state of another version shows a value that was not seen
+    pub shown_next : (is_clone : T → T → Type 0) (copy : T) → IsSome named → IsOf named state now → GoesOn seen now → length seen.values ≢ state.version → is_clone state.value copy → IsShownNext is_clone seen copy now
+    shown_next is_clone copy there of on other clone =
+        let last : EndsIn now.values state.value = of.last there in
+        record {
+          before = last.0;
+          value = state.value;
+          goes_on = before_last seen.values last.0 state.value (subst (λ l. IsPrefix seen.values l) last.1 on.begins) (λ same. other (same ∙ (sym (ap (λ l. length l) last.1) ∙ of.counted)));
+          ends = last.1;
+          clone = clone;
+        }
+
+    -- a closed state of the version that was seen shows nothing
+    pub shown_all : (is_clone : T → T → Type 0) → IsOf named state now → GoesOn seen now → length seen.values ≡ state.version → is_closed state ≡ true → IsNext is_clone seen None now
+    shown_all is_clone of on same closed = (of.closed ∙ closed, whole seen.values now.values on.begins (same ∙ sym of.counted))
+
+    -- a look shows the last value
+    pub shown : (is_clone : T → T → Type 0) (copy : T) → IsSome named → IsOf named state now → GoesOn seen now → is_clone state.value copy → IsShown is_clone seen copy now
+    shown is_clone copy there of on clone = record {
+      goes_on = on;
+      value = state.value;
+      ends = of.last there;
+      clone = clone;
+    }
+
+  -- a write that was seen from before it until after it
+  pub written : (seen old now : Life T) (value : T) → GoesOn seen old → now ≡ record { values = old.values ++ value ∷ []; closed = false } → IsWritten seen value now
+  written seen old now value on is = record {
+    before = old.values;
+    goes_on = on.begins;
+    ends = ap (λ (l : Life T). l.values) is;
+    stays_open = ap (λ (l : Life T). l.closed) is;
+  }
+
+  -- and the value that it replaced
+  pub replaced : {W : Type 0} (named : Option ℕ) (state : State T W) (old now : Life T) (value was : T) → IsSome named → IsOf named state old → was ≡ state.value → now ≡ record { values = old.values ++ value ∷ []; closed = false } → (before : List T) × (now.values ≡ before ++ was ∷ value ∷ [])
+  replaced named state old now value was there of is_old is =
+      let last : EndsIn old.values state.value = of.last there in
+      let split : old.values ++ value ∷ [] ≡ last.0 ++ was ∷ value ∷ [] =
+          ap (λ l. l ++ value ∷ []) (last.1 ∙ ap (λ v. last.0 ++ v ∷ []) (sym is_old)) ∙ append_assoc last.0 (was ∷ []) (value ∷ []) in
+      (last.0, ap (λ (l : Life T). l.values) is ∙ split)
