@@ -9,6 +9,7 @@ mod cells;
 mod latest;
 mod pointers;
 mod sync;
+mod told_latest;
 mod unsync;
 
 use anyhow::Result;
@@ -33,5 +34,6 @@ fn main(rt: HostRuntime) -> Result<()> {
     pointers::at_far(rt);
     latest::of_owner(rt)?;
     latest::of_follower(rt)?;
+    told_latest::gauge(rt)?;
     Ok(())
 }

@@ -1,11 +1,11 @@
 -- The life beside a state is that of the state: what each call keeps of that.
-use Rattle.std.proofs.Common.{◌≡◌, ◌<◌, ℕ, ◌+◌, ◌-◌, Bool, true, false, List, [], ◌∷◌, ◌++◌, length, Option, Some, IsSome, Result, Ok, Err, refl, ap, sym, subst, ◌∙◌, arith, length-append, rules}
+use Rattle.std.proofs.Common.{◌≡◌, ℕ, ◌+◌, ◌-◌, Bool, true, false, [], ◌∷◌, ◌++◌, Option, Result, Ok, Err, refl, ap, sym, subst, ◌∙◌, arith, length-append, rules}
 use Rattle.std.specs.Prelude.{◌↔◌, ◌&&◌, not, nat_eq, OnOk, OnErr, if◌then◌else◌}
 use Rattle.std.proofs.lemmas.Bool.Decides.{nat_tests}
 use Rattle.async_cell_model.specs.declared.refusal.Refusal.{Refusal}
 use Rattle.async_cell_model.specs.declared.refusal.Refusal.TheVariants as why
 use Rattle.async_cell_latest.specs.State.{State, Stays, is_closed, is_writable}
-use Rattle.async_cell_latest.specs.Step.{Write, AddWriter, written, Reply, Old}
+use Rattle.async_cell_latest.specs.Step.{Write, AddWriter, written}
 use Rattle.async_cell_latest.specs.History.{is_memory}
 use Rattle.async_cell_latest.specs.IsStep.{WakerRules, Answer, IsStep, add_answer}
 use Rattle.async_cell_latest_sync.specs.Life.{Life, IsOf, EndsIn}

@@ -1,5 +1,5 @@
 -- What one more write, or the close, makes of a life, and what follows from a beginning of it.
-use Rattle.std.proofs.Common.{◌≡◌, ℕ, Bool, true, false, List, [], ◌∷◌, ◌++◌, Option, Some, None, IsSome, refl, ap, sym, subst, ◌∙◌}
+use Rattle.std.proofs.Common.{◌≡◌, ℕ, true, false, List, [], ◌∷◌, ◌++◌, Option, Some, None, IsSome, refl, ap, sym, subst}
 use mathlib.Core.List.{IsPrefix}
 use Rattle.async_cell_latest_sync.specs.Life.{Life, Fits, GoesOn, IsLawful, values_of, closed_of, life_of}
 

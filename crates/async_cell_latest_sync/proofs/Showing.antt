@@ -1,5 +1,5 @@
 -- What a look shows: the last value, and whether it was seen.
-use Rattle.std.proofs.Common.{◌≡◌, ◌≢◌, ℕ, Bool, true, false, List, [], ◌∷◌, ◌++◌, length, Option, Some, None, IsSome, refl, ap, sym, subst, ◌∙◌, append_assoc, suc}
+use Rattle.std.proofs.Common.{◌≡◌, ◌≢◌, ℕ, true, false, List, [], ◌∷◌, ◌++◌, length, Option, None, IsSome, refl, ap, sym, subst, ◌∙◌, append_assoc, suc}
 use mathlib.Core.List.{IsPrefix}
 use Rattle.async_cell_latest.specs.State.{State, is_closed}
 use Rattle.async_cell_latest_sync.specs.Life.{Life, GoesOn, IsOf, EndsIn, IsShown, IsShownNext, IsNext, IsWritten}
@@ -63,5 +63,5 @@ module _ {T : Type 0} where
   replaced named state old now value was there of is_old is =
       let last : EndsIn old.values state.value = of.last there in
       let split : old.values ++ value ∷ [] ≡ last.0 ++ was ∷ value ∷ [] =
-          ap (λ l. l ++ value ∷ []) (last.1 ∙ ap (λ v. last.0 ++ v ∷ []) (sym is_old)) ∙ append_assoc last.0 (was ∷ []) (value ∷ []) in
+      ap (λ l. l ++ value ∷ []) (last.1 ∙ ap (λ v. last.0 ++ v ∷ []) (sym is_old)) ∙ append_assoc last.0 (was ∷ []) (value ∷ []) in
       (last.0, ap (λ (l : Life T). l.values) is ∙ split)

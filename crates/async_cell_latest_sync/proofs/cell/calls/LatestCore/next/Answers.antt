@@ -1,4 +1,4 @@
-use Rattle.std.proofs.Common.{◌≡◌, ◌≢◌, length, IfOk, Option, None, sym, subst, ◌∙◌, arith}
+use Rattle.std.proofs.Common.{◌≡◌, ◌≢◌, length, IfOk, None, sym, subst, ◌∙◌, arith}
 use Rattle.async_cell_latest_sync.specs.Life.{GoesOn, IsNext, IsShownNext}
 use Rattle.async_cell_latest_sync.proofs.Showing.{shown_next, shown_all}
 use Rattle.async_cell_latest_sync.proofs.cell.calls.LatestCore.next.Goals as goal
