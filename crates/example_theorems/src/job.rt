@@ -10,6 +10,7 @@ use std::sync::Wait;
 use std::thread::Threads;
 
 /// The job, which the cell begins with.
+#[derive(Drop)]
 struct Job {
     number: u64,
 }

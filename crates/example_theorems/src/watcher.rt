@@ -14,6 +14,7 @@ use std::sync::Wait;
 use std::thread::Threads;
 
 /// The levels that the first thread raises to.
+#[derive(Drop)]
 struct Levels {
     low: u64,
     high: u64,

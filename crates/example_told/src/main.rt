@@ -1,7 +1,7 @@
 //! One thread replies and another takes, and the prover knows that what was taken is the reply.
 #![tactic(auto)]
 
-ghost use Rattle.std.specs.Prelude.{◌≡◌, ⊤, IfOk};
+ghost use Rattle.std.specs.Prelude.{◌≡◌, ⊤, None, IfOk};
 ghost use Rattle.async_cell_waiting.specs.Told.{Puts};
 
 use anyhow::Result;
@@ -27,6 +27,8 @@ impl Session for Question {
     type Second = io::Result<u64>;
 
     ghost may = { λ question call. Puts (λ value. value ≡ question.reply) call };
+
+    ghost holds = { λ _. None };
 
     ghost first_knows = { λ _ _ _. ⊤ };
 
