@@ -57,13 +57,16 @@ impl<T: Drop, R: Wait + Drop, N: Naming<T, TaskWaker>> Future for ToldTake<T, R,
 
     ghost gives = { λ future given. IfOk given (λ both. IsSomeAnd future.owner (λ owner.
         IsTold ⟦<TaskWaker as Wakes>⟧ N.named owner.seen.calls TryTake
-        (Value (Some both.0)) both.1.seen.calls × IsSigned owner.seen both.1.seen)) };
+        (Value (Some both.0)) both.1.seen.calls))
+        × IfOk given (λ both. IsSomeAnd future.owner (λ owner.
+        IsSigned owner.seen both.1.seen)) };
 
     fn poll(&mut self, cx: &mut Context<'_>) -> Poll<Self::Output>
         ensures told { IfReady result (λ given. IfOk given (λ both.
             IsSomeAnd self.old.owner (λ owner. IsTold ⟦<TaskWaker as Wakes>⟧ N.named
-            owner.seen.calls TryTake (Value (Some both.0)) both.1.seen.calls
-            × IsSigned owner.seen both.1.seen))) }
+            owner.seen.calls TryTake (Value (Some both.0)) both.1.seen.calls))
+            × IfOk given (λ both. IsSomeAnd self.old.owner (λ owner.
+            IsSigned owner.seen both.1.seen))) }
         ensures stays { OnPending result (self.new.owner ≡ self.old.owner) }
         ensures registered { OnPending result (Covers cx.new (λ s. IsSomeAnd self.new.owner
             (λ owner. s ≡ owner.cell.value.source.id))) }
@@ -123,13 +126,16 @@ impl<T: Clone, R: Wait + Drop, N: Naming<T, TaskWaker>> Future for ToldGet<T, R,
 
     ghost gives = { λ future given. IfOk given (λ both. IsSomeAnd future.owner (λ owner.
         IsToldUpTo T.is_clone ⟦<TaskWaker as Wakes>⟧ N.named owner.seen.calls TryGet
-        (Value (Some both.0)) both.1.seen.calls × IsSigned owner.seen both.1.seen)) };
+        (Value (Some both.0)) both.1.seen.calls))
+        × IfOk given (λ both. IsSomeAnd future.owner (λ owner.
+        IsSigned owner.seen both.1.seen)) };
 
     fn poll(&mut self, cx: &mut Context<'_>) -> Poll<Self::Output>
         ensures told { IfReady result (λ given. IfOk given (λ both.
             IsSomeAnd self.old.owner (λ owner. IsToldUpTo T.is_clone ⟦<TaskWaker as Wakes>⟧ N.named
-            owner.seen.calls TryGet (Value (Some both.0)) both.1.seen.calls
-            × IsSigned owner.seen both.1.seen))) }
+            owner.seen.calls TryGet (Value (Some both.0)) both.1.seen.calls))
+            × IfOk given (λ both. IsSomeAnd self.old.owner (λ owner.
+            IsSigned owner.seen both.1.seen))) }
         ensures stays { OnPending result (self.new.owner ≡ self.old.owner) }
         ensures registered { OnPending result (Covers cx.new (λ s. IsSomeAnd self.new.owner
             (λ owner. s ≡ owner.cell.value.source.id))) }
