@@ -10,6 +10,7 @@ mod latest;
 mod pointers;
 mod sync;
 mod told_latest;
+mod told_takers;
 mod unsync;
 
 use anyhow::Result;
@@ -30,6 +31,7 @@ fn half(value: &u32) -> u32 {
 fn main(rt: HostRuntime) -> Result<()> {
     sync::all(rt)?;
     unsync::all(rt)?;
+    told_takers::all(rt)?;
     pointers::at_near(rt);
     pointers::at_far(rt);
     latest::of_owner(rt)?;

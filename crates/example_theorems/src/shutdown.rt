@@ -1,9 +1,8 @@
 //! A shutdown. One thread says that all is over, and that wakes each poll that waits to hear it.
 ghost use Rattle.std.specs.Prelude.{⊤, OnOk};
 ghost use Rattle.async_cell_model.specs.History.{IsCovered};
-ghost use Rattle.async_cell_model.specs.declared.entry.Kept.{Kept as Called};
 ghost use Rattle.async_cell_waiting.specs.Told.{IsTold, StillWaits, start_of};
-ghost use Rattle.async_cell_wakers.specs.declared.task_waker.TaskWaker.{TaskWaker as Waker};
+ghost use Rattle.async_cell_sync.specs.declared.TaskWaker.{TaskWaker as Waker};
 
 use async_cell_model::{Kept, Refusal, Reply};
 use async_cell_sync::{Naming, Session, TaskWaker, ToldOwner, Wakes, Witness, laws, with_told};

@@ -1,10 +1,8 @@
 //! A watcher. One thread raises a level, and the other looks at it twice: it never sees it fall.
-ghost use Rattle.std.specs.Prelude.{◌≡◌, ◌≤◌, ℕ, ⊤, true, nat_le, IfOk};
+ghost use Rattle.std.specs.Prelude.{◌≡◌, ◌≤◌, ℕ, ⊤, true, nat_le, Option, None, Some, IfOk, IfSome};
 ghost use Rattle.async_cell_waiting.specs.Told.{GoesOn};
-ghost use Rattle.async_cell_model.specs.declared.entry.Kept.{Kept};
-ghost use Rattle.async_cell_wakers.specs.declared.task_waker.TaskWaker.{TaskWaker};
 
-use async_cell_model::Refusal;
+use async_cell_model::{Kept, Refusal};
 use async_cell_sync::{Naming, Session, TaskWaker, ToldOwner, Witness, laws, with_told};
 use futures::executor::block_on;
 use std::alloc::AllocGlobal;
@@ -67,8 +65,9 @@ fn raise<N, R>(level: u64, owner: &mut ToldOwner<u64, R, N>) -> Result<(), Refus
 where
     N: Naming<u64, TaskWaker>,
     R: Wait + Copy,
-    requires may { (call : Kept ℕ TaskWaker) → GoesOn (λ old new. nat_le old new ≡ true) call
-        → N.may call }
+    requires may { (old : Option ℕ) (new : ℕ) → IfSome old (λ level. level ≤ new)
+        → N.may (Kept.Update old (Some new)) }
+    requires may_fail { N.may (Kept.Update None None) }
 {
     owner.update(|old| match old {
         Some(old) if old > level => Some(old),
