@@ -36,6 +36,6 @@ fn main(rt: HostRuntime) -> Result<()> {
     pointers::at_far(rt);
     latest::of_owner(rt)?;
     latest::of_follower(rt)?;
-    told_latest::gauge(rt)?;
+    told_latest::watch_gauge(rt)?;
     Ok(())
 }

@@ -3,8 +3,8 @@ use Rattle.std.specs.Prelude.{◌≡◌, ℕ, Bool, true, false, List, [], ◌�
 use mathlib.Core.List.{IsPrefix}
 use Rattle.async_cell_latest.specs.State.{State, is_closed}
 
--- the values that a state has had so far, in order, and whether it is closed; the version of a value
--- is its place among them, from 1 on
+-- The values that a state has had so far, in order, and whether it is closed. The version of a
+-- value is its place among them, from 1 on.
 pub record Life (T : Type 0) : Type 0 where
   pub values : List T
   pub closed : Bool
@@ -81,8 +81,8 @@ module _ {T : Type 0} where
       pub ends : now.values ≡ before ++ value ∷ []
       pub clone : is_clone value copy
 
-    -- What is shown after what was seen: an unseen value, or none if all was seen of a state that is
-    -- closed now.
+    -- What is shown after what was seen: an unseen value, or none if all was seen of a state that
+    -- is closed now.
     abbrev pub IsNext : Life T → Option T → Life T → Type 0
     IsNext seen (Some copy) now = IsShownNext seen copy now
     IsNext seen None now = (now.closed ≡ true) × (now.values ≡ seen.values)

@@ -74,8 +74,9 @@ impl<T: Drop, N: Listed<T>> LatestCore<T, N> {
         LatestCore { state, values }
     }
 
-    /// Returns what comes next for a follower that was shown this: a clone of the value if it was not
-    /// shown yet, or nothing if the state is closed. Otherwise, and then it has to wait, `Closed`.
+    /// Returns what comes next for a follower that was shown this: a clone of the value if it was
+    /// not shown yet, or nothing if the state is closed. Otherwise, and then it has to wait,
+    /// `Closed`.
     #[inline(always)]
     pub(crate) fn next(&self, seen: Shown<T, N>) -> Held<Result<(Option<T>, Shown<T, N>), Refusal>>
     where

@@ -55,8 +55,8 @@ impl<T: Drop, R: Wait + Drop, N: Listed<T>> ToldFollower<T, R, N> {
     }
 }
 
-/// Waits for an unseen state. It fails with `Memory` if there is no memory to wait or for the clone,
-/// and may then be polled again; with `Closed` at each poll after it was ready.
+/// Waits for an unseen state. It fails with `Memory` if there is no memory to wait or for the
+/// clone, and may then be polled again; with `Closed` at each poll after it was ready.
 ///
 /// **Dropping it may wait for the lock.**
 pub struct ToldNext<T: Drop, R: Wait + Drop, N: Listed<T>> {

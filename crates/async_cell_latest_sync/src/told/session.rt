@@ -1,5 +1,5 @@
-//! A thread that writes a state and one that follows it, each call of which is told, without a proof
-//! by the caller of which state it is.
+//! A thread that writes a state and one that follows it, each call of which is told, without a
+//! proof by the caller of which state it is.
 ghost use Rattle.std.specs.Prelude.{◌≡◌, List, [], Some, IfOk};
 ghost use Rattle.async_cell_model.specs.Refusal.{FailsWithMemory};
 ghost use Rattle.async_cell_latest_sync.specs.Life.{Agree};
