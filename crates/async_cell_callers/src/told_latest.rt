@@ -10,8 +10,8 @@ use std::random::RandomSource;
 use std::sync::Wait;
 use std::thread::Threads;
 
-/// Is shown a value, and then an unseen one, unless the state is closed before: of all values of the
-/// state, the second was written after the first.
+/// Is shown a value, and then an unseen one, unless the state is closed before: of all values of
+/// the state, the second was written after the first.
 #[tactic(auto, using(crate::proofs::InOrder::in_order))]
 pub fn watch<T, R, N>(
     rt: R,

@@ -5,7 +5,9 @@ ghost use Rattle.async_cell_model.specs.Taken.{IsDistinct, has_update, put_in};
 ghost use Rattle.async_cell_waiting.specs.Told.{start_of};
 
 use async_cell_model::Kept;
-use async_cell_sync::{Author, Naming, Refusal, Session, TaskWaker, ToldOwner, Witness, laws, with_told};
+use async_cell_sync::{
+    Author, Naming, Refusal, Session, TaskWaker, ToldOwner, Witness, laws, with_told,
+};
 use std::alloc::AllocGlobal;
 use std::random::RandomSource;
 use std::sync::Wait;
@@ -87,8 +89,7 @@ impl Session for Takers {
         _: &Result<Option<(u64, u64)>, Refusal>,
         _: &(),
         _: &Witness<u64, TaskWaker, N>,
-    ) {
-    }
+    ) {}
 }
 
 /// Runs it.

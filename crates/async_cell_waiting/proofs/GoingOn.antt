@@ -57,7 +57,7 @@ own_if W is_clone exact (Refused why back) v cloned = absurd cloned
 
 pub exact_get : {T W : Type 0} (is_clone : T → T → Type 0) → IsExact is_clone → (rules : WakerRules W) (named : Option (Begun T W)) (seen now : History T W) (v : T) → IsToldUpTo is_clone rules named seen TryGet (Value (Some v)) now → IsTold rules named seen TryGet (Value (Some v)) now
 exact_get {T} {W} is_clone exact rules named seen now v told =
-    let same : told.0 ≡ Value (Some v) = elim told.2 [ | inl same ↦ sym same | inr cloned ↦ own_if W is_clone exact told.0 v cloned ] in
+    let same : told.0 ≡ Value (Some v) = elim told.2 [ inl same ↦ sym same | inr cloned ↦ own_if W is_clone exact told.0 v cloned ] in
     subst (λ r. IsTold rules named seen TryGet r now) same told.1
 
 module _ {T : Type 0} (Follows : T → T → Type 0) where

@@ -138,7 +138,7 @@ module _ {T W : Type 0} where
   one_takes will_wake sure may start all m n v w only lawful one other =
       let none = none_put all.calls (All-weaker (λ (e : Entry T W). IsAllowed may e.call) (λ (e : Entry T W). IsAllowed IsTake e.call) (λ e allowed change. only e.call (allowed change) change) all.calls lawful.allowed) in
       let alone : (x y : T) → IsSubsequence (x ∷ y ∷ []) (option_to_list (content start.cell) ++ put_in all.calls) → ⊥ =
-          λ x y sub. one_alone (content start.cell) x y (subst (λ (l : List T). IsSubsequence (x ∷ y ∷ []) (option_to_list (content start.cell) ++ l)) none.0 sub) in
+      λ x y sub. one_alone (content start.cell) x y (subst (λ (l : List T). IsSubsequence (x ∷ y ∷ []) (option_to_list (content start.cell) ++ l)) none.0 sub) in
       let two : (m ≢ n) → ⊥ = λ differ. elim (two_put will_wake sure may start all m n v w lawful none.1 one other differ) [ inl sub ↦ alone v w sub | inr sub ↦ alone w v sub ] in
       elim (order m n) [
         | inl is ↦ is

@@ -13,7 +13,10 @@ fn main(rt: HostRuntime) -> Result<()> {
     let (first, second) = startup::start(rt)?;
     println!(rt; "two threads got one start-up value: {}", first? == second?)?;
     let (first, second) = job::share(rt)?;
-    println!(rt; "both threads got the job: {}", first.is_some() && second.is_some())?;
+    println!(rt;
+        "both threads got the job: {}",
+        first.is_some() && second.is_some()
+    )?;
     let (low, high) = watcher::watch(rt)?.1?;
     println!(rt; "the level fell: {}", low > high)?;
     println!(rt; "the server has stopped: {}", shutdown::run(rt)?.1.is_ok())?;

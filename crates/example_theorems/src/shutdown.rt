@@ -54,8 +54,7 @@ impl Session for Server {
         _: &Result<(), ()>,
         _: &io::Result<()>,
         _: &Witness<(), TaskWaker, N>,
-    ) {
-    }
+    ) {}
 }
 
 /// Says that all is over. It wakes the waker of each poll that waits, or one that would wake it.

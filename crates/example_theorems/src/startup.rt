@@ -29,9 +29,11 @@ impl Session for Offers {
 
     ghost may = { λ _ call. IsOrSet call };
 
-    ghost first_knows = { λ _ got seen. IfOk got (λ v. HasEntry seen.calls TryGet (Value (Some v))) };
+    ghost first_knows = { λ _ got seen. IfOk got (λ v.
+        HasEntry seen.calls TryGet (Value (Some v))) };
 
-    ghost second_knows = { λ _ got seen. IfOk got (λ v. HasEntry seen.calls TryGet (Value (Some v))) };
+    ghost second_knows = { λ _ got seen. IfOk got (λ v.
+        HasEntry seen.calls TryGet (Value (Some v))) };
 
     ghost gives = { λ _ first second. IfOk first (λ v. IfOk second (λ w. v ≡ w)) };
 
@@ -85,5 +87,12 @@ where
     R: Threads + Wait + RandomSource + AllocGlobal + Copy + Send + Sync,
     ensures alike { IfOk result (λ both. IfOk both.0 (λ v. IfOk both.1 (λ w. v ≡ w))) }
 {
-    with_told(rt, None, &Offers { first: 1, second: 2 })
+    with_told(
+        rt,
+        None,
+        &Offers {
+            first: 1,
+            second: 2,
+        },
+    )
 }

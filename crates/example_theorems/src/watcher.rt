@@ -56,8 +56,7 @@ impl Session for Levels {
         _: &Result<(), Refusal>,
         _: &io::Result<(u64, u64)>,
         _: &Witness<u64, TaskWaker, N>,
-    ) {
-    }
+    ) {}
 }
 
 /// Raises the level to this one, if it is lower.

@@ -60,8 +60,7 @@ impl Session for Question {
         _: &(),
         _: &io::Result<u64>,
         _: &Witness<u64, TaskWaker, N>,
-    ) {
-    }
+    ) {}
 }
 
 fn main(rt: HostRuntime) -> Result<()> {

@@ -27,8 +27,8 @@ pub trait Session {
     /// What the second thread returns.
     type Second;
 
-    /// Which changes of the content may be made: writes and takes. Each call that makes one requires
-    /// that it may.
+    /// Which changes of the content may be made: writes and takes. Each call that makes one
+    /// requires that it may.
     ghost may: { Self → Kept Self.Value TaskWaker → Type 0 };
 
     /// The content that the cell begins with.
@@ -95,13 +95,10 @@ impl Author for Second {
 }
 
 /// Runs both threads on a new cell with this content, and returns what they returned. Each has an
-/// owner of its own; both end after the threads. Fails if there is no memory for the cell or its owners.
-/// If no thread can be made, the two come one after another, so neither may wait for the other then.
-pub fn with_told<T, A, B, S, R>(
-    rt: R,
-    content: Option<T>,
-    session: &S,
-) -> Result<(A, B), Refusal>
+/// owner of its own; both end after the threads. Fails if there is no memory for the cell or its
+/// owners. If no thread can be made, the two come one after another, so neither may wait for the
+/// other then.
+pub fn with_told<T, A, B, S, R>(rt: R, content: Option<T>, session: &S) -> Result<(A, B), Refusal>
 where
     T: Drop + Send,
     A: Send,

@@ -41,8 +41,8 @@ impl<T: Drop, R: Wait + Drop, N: Naming<T, TaskWaker>> ToldOwner<T, R, N> {
 }
 
 /// Takes the value. The poll that is ready is a `try_take` of the history. It owns the cell while
-/// it waits, so it waits forever if nobody sets a value. Fails with `Memory` if there is no memory to wait, and may then be polled again;
-/// with `Closed` at each poll after it was ready.
+/// it waits, so it waits forever if nobody sets a value. Fails with `Memory` if there is no memory
+/// to wait, and may then be polled again; with `Closed` at each poll after it was ready.
 pub struct ToldTake<T: Drop, R: Wait + Drop, N: Naming<T, TaskWaker>> {
     /// `None` once it was ready.
     pub(super) owner: Option<ToldOwner<T, R, N>>,
@@ -111,8 +111,8 @@ impl<T: Drop, R: Wait + Drop, N: Naming<T, TaskWaker>> Drop for ToldTake<T, R, N
 }
 
 /// Clones the value. The poll that is ready is a `try_get` of the history. It owns the cell while
-/// it waits, so it waits forever if nobody sets a value. Fails with `Memory` if there is no memory to wait, and may then be polled again;
-/// with `Closed` at each poll after it was ready.
+/// it waits, so it waits forever if nobody sets a value. Fails with `Memory` if there is no memory
+/// to wait, and may then be polled again; with `Closed` at each poll after it was ready.
 pub struct ToldGet<T: Drop, R: Wait + Drop, N: Naming<T, TaskWaker>> {
     /// `None` once it was ready.
     pub(super) owner: Option<ToldOwner<T, R, N>>,

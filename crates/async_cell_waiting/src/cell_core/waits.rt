@@ -90,8 +90,8 @@ impl<T: Clone, N: Naming<T, TaskWaker>> Query<CellCore<T, TaskWaker, N>> for Tol
 
     type Answer = (T, Witness<T, TaskWaker, N>);
 
-    ghost gives = { λ asked given. IsToldUpTo T.is_clone ⟦<TaskWaker as Wakes>⟧ N.named asked.0.calls
-        TryGet (Value (Some given.0)) given.1.calls × IsSigned asked.0 given.1 };
+    ghost gives = { λ asked given. IsToldUpTo T.is_clone ⟦<TaskWaker as Wakes>⟧ N.named
+        asked.0.calls TryGet (Value (Some given.0)) given.1.calls × IsSigned asked.0 given.1 };
 
     #[inline(always)]
     fn must_wait(&self, core: &CellCore<T, TaskWaker, N>) -> bool {

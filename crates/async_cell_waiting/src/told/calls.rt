@@ -129,7 +129,8 @@ impl<T: Drop, W: Wakes, N: Naming<T, W>> Witness<T, W, N> {
     }
 
     /// Calls the closure on the content and stores what it returns. Wakes all waiters if that puts
-    /// a value into an empty cell. Fails with `Closed` on a closed cell, and is then told of nothing.
+    /// a value into an empty cell. Fails with `Closed` on a closed cell, and is then told of
+    /// nothing.
     pub fn update<'a, F, M: Stores<Core = CellCore<T, W, N>>, R: Opens<'a, M>>(
         &mut self,
         cell: &'a StoredCore<M>,

@@ -7,6 +7,7 @@ use std::marker::{Model, PhantomData};
 
 /// A number that calls are signed with. Only contracts read it; 0 is nobody.
 pub trait Author {
+    /// The number.
     ghost number: { ℕ };
 }
 

@@ -128,7 +128,8 @@ impl<C, T, W: Wakes> Asked<C, T, W> {
         }
     }
 
-    /// Adds the call at the end of the past, as `M` enters it: it returned this, and left this core.
+    /// Adds the call at the end of the past, as `M` enters it: it returned this, and left this
+    /// core.
     #[inline(always)]
     #[tactic(auto, using(crate::proofs::Signing::map_more))]
     pub(crate) fn enter<N: Naming<T, W>, M: Enters<C, A, T, W>, A>(
