@@ -1,6 +1,6 @@
 //! A watcher. One thread raises a level, and the other looks at it twice: it never sees it fall.
 ghost use Rattle.std.specs.Prelude.{◌≡◌, ◌≤◌, ℕ, ⊤, true, nat_le, Option, None, Some, IfOk, IfSome};
-ghost use Rattle.async_cell_waiting.specs.Told.{GoesOn};
+ghost use Rattle.async_cell_waiting.specs.Told.{GoesOn, OnlyMakes};
 
 use async_cell_model::{Kept, Refusal};
 use async_cell_sync::{Naming, Session, TaskWaker, ToldOwner, Witness, laws, with_told};
@@ -79,11 +79,14 @@ fn look_twice<N, R>(rt: R, owner: &mut ToldOwner<u64, R, N>) -> io::Result<(u64,
 where
     N: Naming<u64, TaskWaker>,
     R: Wait + RandomSource + AllocGlobal + Copy,
-    ensures { IfOk result (λ both. both.0 ≤ both.1) }
+    requires may { OnlyMakes N.may (GoesOn (λ old new. nat_le old new ≡ true)) }
+    ensures rises { IfOk result (λ both. both.0 ≤ both.1) }
 {
     let (first, getter) = block_on(&rt, owner.another()?.into_get())??;
-    let (second, getter) = block_on(&rt, getter.into_get())??;
-    getter.lawful();
+    let (second, later) = block_on(&rt, getter.into_get())??;
+    later.lawful();
+    laws::an_exact_get_is_told::<u64, TaskWaker, N>();
+    laws::what_is_got_never_goes_back::<u64, TaskWaker, N>();
     Ok((first, second))
 }
 

@@ -1,0 +1,26 @@
+use Rattle.std.proofs.Common.{rules, ◌≡◌, ◌≤◌, ℕ, true}
+use Rattle.std.specs.Prelude.{nat_le}
+use Rattle.std.proofs.lemmas.Bool.Decides.{nat_tests}
+use Rattle.example_theorems.proofs.watcher.look_twice.Goals as goal
+
+itself : (a : ℕ) → nat_le a a ≡ true
+itself a = search (rules, nat_tests)
+
+on : (a b c : ℕ) → nat_le a b ≡ true → nat_le b c ≡ true → nat_le a c ≡ true
+on a b c low high = search (rules, nat_tests, low, high)
+
+below : (a b : ℕ) → nat_le a b ≡ true → a ≤ b
+below a b is = search (rules, nat_tests, is)
+
+pub returns : goal.returns
+returns g c =
+    let v = c.in_ok-first.first in
+    let w = c.in_ok-second.second in
+    let before = c.in_ok-another.field-0.seen.calls in
+    let mid = c.in_ok-first.getter.seen.calls in
+    let now = c.in_ok-second.later.seen.calls in
+    record {
+      rises = below v w (c.what_is_got_never_goes_back.ensures nat_le before mid mid now v w itself on c.requires.may c.lawful.ensures.lawful
+          (c.an_exact_get_is_told.ensures (λ a b is. is) before mid v (search rules)) (search rules)
+          (c.an_exact_get_is_told.ensures (λ a b is. is) mid now w (search rules)));
+    }
