@@ -11,6 +11,4 @@ pub use async_cell_latest::{Refusal, TaskWaker};
 pub use awaited::{Changed, States, WaitFor};
 pub use follower::Follower;
 pub use owner::Owner;
-pub use told::{
-    Listed, StateSession, ToldFollower, ToldNext, ToldOwner, Unlisted, with_told_state,
-};
+pub use told::{Listed, StateSession, ToldFollower, ToldNext, ToldOwner, with_told_state};
