@@ -13,7 +13,7 @@ use Rattle.async_cell_model.specs.declared.reply.Reply.{Reply}
 use Rattle.async_cell_model.specs.declared.reply.Reply.TheVariants as reply
 use Rattle.async_cell_model.specs.declared.refusal.Refusal.{Refusal}
 use Rattle.async_cell_model.specs.declared.refusal.Refusal.TheVariants.{Memory}
-use Rattle.async_cell_model.specs.Machine.{content, ends_waiting, is_vacant, next, is_memory, State, IsSound}
+use Rattle.async_cell_model.specs.Machine.{ends_waiting, next, is_memory, State, IsSound}
 use Rattle.async_cell_model.specs.Legal.{woken_by, RunsUpTo, StepsUpTo}
 use Rattle.async_cell_core.specs.Polled.{poll_reply, IsReadyWith}
 use Rattle.async_cell_driver.specs.declared.task.Kind.{Kind}
@@ -31,7 +31,7 @@ use Rattle.async_cell_driver.specs.DriverState.{DriverState, name_of, mark_at, r
 use Rattle.async_cell_driver.specs.Log.{Line, kinds, is_ready, is_poll_of, was_ready, was_pending, was_refused}
 use Rattle.async_cell_driver.specs.History.{poll_of, told_of, line_of, history, handed_out}
 use Rattle.async_cell_driver.specs.Asked.{waiting_when, mark_after, polled_of, IsPolledWith}
-use Rattle.async_cell_driver.specs.Drives.{Drives, FitsTold, IsSpared}
+use Rattle.async_cell_driver.specs.Drives.{Drives, FitsTold}
 use Rattle.async_cell_wakers.specs.Named.{same_name}
 use Rattle.async_cell_driver.proofs.ReadyNow.{awake, ready_now, started_now, ready_by}
 use Rattle.async_cell_driver.proofs.WokenTasks.{slice_get-change_same, slice_get-change_other, says_same, map-change, named-append}
@@ -212,6 +212,10 @@ module _ {T : Type 0} where
   pub sure_anyway : (o : Option T) (P : Type 0) (Q : T → Type 0) → P → MatchOption o P (λ value. Q value → P)
   sure_anyway None P Q holds = holds
   sure_anyway (Some value) P Q holds = λ q. holds
+
+  sure_after : (o : Option T) (P R : Type 0) (Q : T → Type 0) → (P → R) → MatchOption o P (λ value. Q value → P) → MatchOption o R (λ value. Q value → R)
+  sure_after None P R Q follows sure = follows sure
+  sure_after (Some value) P R Q follows sure = λ q. follows (sure q)
 
   ok_polled : (asked : Result (Poll (Option T)) Refusal) → IsOk asked → IsOk (polled_of asked)
   ok_polled (Ok (Ready value)) ok = refl
