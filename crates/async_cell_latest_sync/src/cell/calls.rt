@@ -183,11 +183,13 @@ impl<T: Drop, N: Listed<T>> LatestCore<T, N> {
         ensures unchanged { OnErr result.answer (self.new.life ≡ self.old.life) }
         ensures comes_back { IfErr result.answer (λ back. back ≡ value) }
     {
-        let written = self.state.write(value);
-        if written.is_ok() {
-            self.values.add(&self.state);
+        match self.state.write(value) {
+            Ok((old, woken)) => {
+                self.values.add(&self.state);
+                Held::waking(Ok(old), Some(woken))
+            }
+            Err(value) => Held::waking(Err(value), None),
         }
-        Held::of_result(written)
     }
 
     #[tactic(auto, using(crate::proofs::Keeping::of_written, crate::proofs::Keeping::open_life))]
