@@ -1,5 +1,5 @@
-//! Programs of two threads that share a cell of which each call is told. Each has a theorem as its
-//! contract: what is known of what the two threads returned, on every schedule.
+//! Programs of two threads that share a cell of which each call is told. Each has a theorem in its
+//! contracts: of what the two threads returned, on every schedule, or of whom a call of one wakes.
 #![tactic(auto)]
 
 mod job;
