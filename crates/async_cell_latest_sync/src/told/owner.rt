@@ -108,8 +108,8 @@ impl<T: Drop, R: Wait + Drop, N: Listed<T>> ToldOwner<T, R, N> {
         end_and_wake(step, written)
     }
 
-    /// Closes the state: it takes no further write, and a follower that was shown the last value is
-    /// told so. Returns whether it is closed: it is, since this is its only owner.
+    /// Closes the state, if this is its only owner, as the one of a session is: it takes no further
+    /// write, and a follower that has seen all values is told so. Returns whether it is closed.
     pub fn close(&mut self) -> bool
         ensures told { GoesOn self.old.seen self.new.seen }
         ensures closed { result ≡ self.new.seen.closed }

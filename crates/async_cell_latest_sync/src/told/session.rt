@@ -41,7 +41,7 @@ pub trait StateSession {
         requires may { Agree N.may (may self.now) }
         ensures gives { first_gives self.now result };
 
-    /// What the second thread does: it follows. It was shown the first value.
+    /// What the second thread does: it follows.
     fn second<N, R>(&self, rt: R, follower: &mut ToldFollower<Self::Value, R, N>) -> Self::Second
     where
         N: Listed<Self::Value> + Send + Sync,
