@@ -1,11 +1,11 @@
-ghost use Rattle.std.specs.Prelude.{◌≡◌, ◌<◌, ◌↔◌, ◌⊎◌, length, true, IsOk, IfOk, OnErr};
+ghost use Rattle.std.specs.Prelude.{◌≡◌, ◌⊎◌, IsOk, IfOk, OnErr};
 ghost use Rattle.async_cell_model.specs.Refusal.{FailsWithMemory};
-ghost use Rattle.async_cell_latest_sync.specs.Life.{GoesOn, IsLawful, IsShown, Life};
+ghost use Rattle.async_cell_latest_sync.specs.Life.{GoesOn, IsLawful, IsShown};
 
 use super::owner::ToldCell;
 use super::{Listed, Shown, ToldOwner};
 use async_cell_latest::Refusal;
-use async_cell_waiting::{Held, Step, end};
+use async_cell_waiting::{Step, end};
 use std::sync::{Arc, Wait};
 
 /// A follower of a state that `N` names, and what it was shown of the values of that state, which
@@ -55,18 +55,6 @@ impl<T: Drop, R: Wait + Drop, N: Listed<T>> ToldFollower<T, R, N> {
             shown: self.shown.again(),
             rt: self.rt,
         })
-    }
-
-    /// Returns whether there is an unseen state, also once the owner has ended. Marks nothing.
-    pub fn has_changed(&self) -> bool
-        ensures told { (now : Life T) × GoesOn self.now.shown now
-            × ((result ≡ true) ↔ (length self.now.shown.values < length now.values)) }
-    {
-        let mut now = self.shown.witness();
-        let step = self.cell.core.lock(&self.rt);
-        step.shown().tell(&mut now);
-        let is_unseen = step.shown().is_unseen(self.shown.version());
-        end(step, Held::of(is_unseen))
     }
 
     /// Ensures what holds of all values that were shown, and of those between: each may be written
