@@ -1,3 +1,4 @@
+pub mod Counting
 pub mod Entered
 pub mod Found
 pub mod GoingOn

@@ -1,5 +1,5 @@
 -- What is told of a cell: which cell it is, its history, and what a call adds to it.
-use Rattle.std.specs.Prelude.{◌≡◌, ℕ, Bool, true, false, List, [], ◌∷◌, ◌++◌, Contains, length, ⊤, Option, Some, None, IfSome, IsSomeAnd, Result, Ok, Err}
+use Rattle.std.specs.Prelude.{◌≡◌, ℕ, Bool, true, false, List, [], ◌∷◌, ◌++◌, Contains, length, filter_map, option_to_list, ⊤, Option, Some, None, IfSome, IsSomeAnd, Result, Ok, Err}
 use Rattle.std.specs.List.{All}
 use mathlib.Core.List.{IsPrefix}
 use Rattle.async_cell_model.specs.declared.cell.Cell.{Cell}
@@ -11,9 +11,10 @@ use Rattle.async_cell_model.specs.declared.refusal.Refusal.{Refusal}
 use Rattle.async_cell_model.specs.declared.refusal.Refusal.TheVariants as why
 use Rattle.async_cell_model.specs.declared.reply.Reply.{Reply}
 use Rattle.async_cell_model.specs.declared.reply.Reply.TheVariants as reply
-use Rattle.async_cell_model.specs.Machine.{State, Does, UpToClones, pending_waker}
+use Rattle.async_cell_model.specs.Machine.{State, Does, UpToClones, content, next, pending_waker}
 use Rattle.async_cell_model.specs.History.{History, after, cell_after, has_fill_or_close}
 use Rattle.async_cell_model.specs.Legal.{IsLegal, Runs, wakes_after}
+use Rattle.async_cell_model.specs.Taken.{put_by}
 use Rattle.async_cell_core.specs.declared.call.Answer.{Answer}
 use Rattle.async_cell_core.specs.IsStep.{WakerRules}
 use Rattle.futures.specs.declared.task.Poll.{Poll}
@@ -203,6 +204,42 @@ module _ {T W : Type 0} where
   abbrev pub PutsWhatSetsMay : (Kept T W → Type 0) → Type 0
   PutsWhatSetsMay may = (call : Kept T W) → may call → Puts (λ v. may (Set v)) call
 
+  -- the value that goes in: passed to a write, or returned by the closure of an update
+  abbrev pub goes_in : Kept T W → Option T
+  goes_in (Update saw put) = put
+  goes_in (UpdateSome saw put) = put
+  goes_in call = put_by call
+
+  -- the value that comes out: moved to the closure of an update, or by the reply, also where it was
+  -- not used or the call was refused. A get only copies it.
+  abbrev pub comes_out : Kept T W → Reply T → Option T
+  comes_out (Update saw put) reply = saw
+  comes_out (UpdateSome saw put) reply = saw
+  comes_out TryGet reply = None
+  comes_out (PollGet w) reply = None
+  comes_out call (reply.Value v) = v
+  comes_out call (reply.Ready v) = v
+  comes_out call (reply.Refused why back) = back
+  comes_out call reply = None
+
+  -- what the call drops: a `set` the value that it replaces
+  abbrev pub dropped_by : Cell T → Kept T W → List T
+  dropped_by c (Set x) = option_to_list (content c)
+  dropped_by c call = []
+
+  -- all values that these calls put in
+  abbrev pub gone_in : History T W → List T
+  gone_in h = filter_map (λ e. goes_in e.call) h
+
+  -- all values that came out at these calls
+  abbrev pub come_out : History T W → List T
+  come_out h = filter_map (λ e. comes_out e.call e.reply) h
+
+  -- the values that the `set`s among these calls replaced: each was dropped
+  abbrev pub dropped : Cell T → History T W → List T
+  dropped c [] = []
+  dropped c (e ∷ h) = dropped_by c e.call ++ dropped (next c e) h
+
   -- among these calls is this one, with this reply
   pub record HasEntry (calls : History T W) (call : Kept T W) (reply : Reply T) : Type 0 where
     pub there : Contains calls (record { call = call; reply = reply })
@@ -216,6 +253,11 @@ module _ {T W : Type 0} where
   abbrev pub IsOrSet : Kept T W → Type 0
   IsOrSet (OrSet x) = ⊤
   IsOrSet call = ⊥
+
+  -- the call is no `set`
+  abbrev pub IsNoSet : Kept T W → Type 0
+  IsNoSet (Set x) = ⊥
+  IsNoSet call = ⊤
 
   -- the call takes the value
   abbrev pub IsTake : Kept T W → Type 0

@@ -1,5 +1,6 @@
 //! Laws of what is told of a cell. Each is the contract of a function that does nothing.
-ghost use Rattle.std.specs.Prelude.{◌≡◌, ◌≢◌, ◌⊎◌, ◌++◌, ◌∷◌, [], ℕ, Bool, true, false, length, Some, IfSome, option_to_list};
+ghost use Rattle.std.specs.Prelude.{◌≡◌, ◌≢◌, ◌+◌, ◌⊎◌, ◌++◌, ◌∷◌, [], ℕ, Bool, true, false, length, Some, IfSome, option_to_list};
+ghost use Rattle.std.specs.List.{count_by};
 ghost use mathlib.Core.List.{IsPrefix};
 ghost use Rattle.async_cell_model.specs.declared.reply.Reply.{Reply as Replied};
 ghost use Rattle.async_cell_model.specs.declared.entry.Kept.{Kept as Called};
@@ -7,7 +8,7 @@ ghost use Rattle.async_cell_model.specs.Machine.{content, ends_waiting};
 ghost use Rattle.async_cell_model.specs.Legal.{IsExact};
 ghost use Rattle.async_cell_model.specs.History.{History, IsCovered, cell_after};
 ghost use Rattle.async_cell_model.specs.Taken.{IsDistinct, IsSubsequence, has_update, put_in};
-ghost use Rattle.async_cell_waiting.specs.Told.{GoesOn, HasEntry, IsLawful, IsOrSet, IsSigned, IsTake, IsTold, IsToldUpTo, OnlyMakes, PutsWhatSetsMay, Seen, StillWaits, Took, start_of};
+ghost use Rattle.async_cell_waiting.specs.Told.{GoesOn, HasEntry, IsLawful, IsNoSet, IsOrSet, IsSigned, IsTake, IsTold, IsToldUpTo, OnlyMakes, PutsWhatSetsMay, Seen, StillWaits, Took, come_out, dropped, gone_in, start_of};
 
 use crate::told::Naming;
 use async_cell_core::Wakes;
@@ -121,4 +122,19 @@ pub fn of_takers_alone_one_gets<T, W: Wakes, N: Naming<T, W>>()
     ensures { (all : Seen T W) (m n : ℕ) (v w : T) → OnlyMakes N.may IsTake
         → IsLawful W.will_wake W.SURE_CLONE N.may (start_of N.named) all.calls
         → Took m v all → Took n w all → m ≡ n }
+{}
+
+/// What goes in comes out. Of whatever values are counted, as many as were there at the start and
+/// went in have come out, were dropped by a `set`, or are left. Without a `set` none is dropped.
+pub fn as_many_come_out_or_are_left_as_went_in<T, W: Wakes, N: Naming<T, W>>()
+    ensures as_many { (is_counted : T → Bool) (now : History T W)
+        → IsLawful W.will_wake W.SURE_CLONE N.may (start_of N.named) now
+        → count_by is_counted (come_out now)
+        + count_by is_counted (dropped (start_of N.named).cell now)
+        + count_by is_counted (option_to_list (content (cell_after (start_of N.named).cell now)))
+        ≡ count_by is_counted (option_to_list (content (start_of N.named).cell))
+        + count_by is_counted (gone_in now) }
+    ensures none_dropped { OnlyMakes N.may IsNoSet → (now : History T W)
+        → IsLawful W.will_wake W.SURE_CLONE N.may (start_of N.named) now
+        → dropped (start_of N.named).cell now ≡ [] }
 {}
