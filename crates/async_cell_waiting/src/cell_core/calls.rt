@@ -1,8 +1,8 @@
 //! The calls that a step may make of a core. Only this module sees the core: each function makes
 //! one call of it, and holds what comes out, which the end of a step alone lets go.
-ghost use Rattle.std.specs.Prelude.{◌≡◌, ◌⊎◌, [], Option, Some, None, IfErr, IfOk, IfSome, IsOk, IsSome, IsSomeAnd, OnOk, IsTrue};
+ghost use Rattle.std.specs.Prelude.{◌≡◌, ◌⊎◌, [], false, Option, Some, None, IfErr, IfOk, IfSome, IsOk, IsSome, IsSomeAnd, OnOk, IsTrue};
 ghost use Rattle.std.specs.Fn.{FnOnceReturnsAt};
-ghost use Rattle.async_cell_model.specs.Machine.{content, is_vacant, IsSound, UpToClones};
+ghost use Rattle.async_cell_model.specs.Machine.{content, is_closed, is_vacant, IsSound, UpToClones};
 ghost use Rattle.async_cell_core.specs.Polled.{IsCloneOf, poll_reply};
 ghost use Rattle.async_cell_waiting.specs.Told.{Fits, Leads, Made, start_of, set_reply, write_reply, done_reply, end_reply, get_reply, own_poll};
 ghost use mathlib.Core.List.{IsPrefix};
@@ -97,6 +97,7 @@ impl<T: Drop, W: Wakes, N: Naming<T, W>> CellCore<T, W, N> {
         ensures hand { self.new.past.hand ≡ witness.old.author }
         ensures author { witness.new.author ≡ witness.old.author }
         ensures begun { self.new.past.begun.start ≡ start_of N.named }
+        ensures stays { self.new.inner ≡ self.old.inner }
         ensures led { Leads W.will_wake W.SURE_CLONE self.new.past self.new.inner }
     {
         witness.take_hand(&mut self.past);
@@ -119,7 +120,9 @@ impl<T: Drop, W: Wakes, N: Naming<T, W>> CellCore<T, W, N> {
     }
 
     #[inline(always)]
-    pub(crate) fn is_closed(&self) -> bool {
+    pub(crate) fn is_closed(&self) -> bool
+        ensures { result ≡ is_closed self.now.inner.cell }
+    {
         self.inner.is_closed()
     }
 
@@ -274,6 +277,7 @@ impl<T: Drop, W: Wakes, N: Naming<T, W>> CellCore<T, W, N> {
         requires may_fail { N.may (Kept.Update None None) }
         ensures called { OnOk result.answer
             (F.post change (content self.old.inner.cell) (content self.new.inner.cell)) }
+        ensures if_open { is_closed self.old.inner.cell ≡ false → IsOk result.answer }
         ensures refused { FailsWithClosed result.answer }
         ensures made { Made W.will_wake W.SURE_CLONE self.old
             (Kept.Update (content self.old.inner.cell) (content self.new.inner.cell))
@@ -298,6 +302,7 @@ impl<T: Drop, W: Wakes, N: Naming<T, W>> CellCore<T, W, N> {
         requires may_fail { N.may (Kept.UpdateSome None None) }
         ensures called { IfSome (content self.old.inner.cell) (λ old.
             IsSomeAnd (content self.new.inner.cell) (λ new. F.post change old new)) }
+        ensures if_open { is_closed self.old.inner.cell ≡ false → IsOk result.answer }
         ensures refused { FailsWithClosed result.answer }
         ensures made { Made W.will_wake W.SURE_CLONE self.old
             (Kept.UpdateSome (content self.old.inner.cell) (content self.new.inner.cell))

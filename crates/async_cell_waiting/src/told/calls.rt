@@ -1,5 +1,5 @@
 //! The calls of the model, for a thread that is told of the cell's history.
-ghost use Rattle.std.specs.Prelude.{◌≡◌, Option, Some, None, IfErr, IfSome, IsSomeAnd, OnOk, IsTrue};
+ghost use Rattle.std.specs.Prelude.{◌≡◌, Option, Some, None, IfErr, IfSome, IsSomeAnd, OnErr, OnOk, IsTrue};
 ghost use Rattle.async_cell_model.specs.Refusal.{FailsWithClosed, FailsWithMemory};
 ghost use Rattle.async_cell_core.specs.Polled.{poll_reply};
 ghost use Rattle.async_cell_waiting.specs.Told.{IsSigned, IsTold, IsToldUpTo, set_reply, write_reply, done_reply, end_reply};
@@ -146,6 +146,7 @@ impl<T: Drop, W: Wakes, N: Naming<T, W>> Witness<T, W, N> {
             × IsTold W.Wakes N.named self.old.calls (Kept.Update saw put)
             Reply.Done self.new.calls × F.post change saw put) }
         ensures signed { IsTrue R.always → OnOk result (IsSigned self.old self.new) }
+        ensures unchanged { OnErr result (self.new ≡ self.old) }
         ensures refused { FailsWithClosed result }
     {
         let mut step = rt.open(cell).ok_or(Refusal::Closed)?;
@@ -179,6 +180,7 @@ impl<T: Drop, W: Wakes, N: Naming<T, W>> Witness<T, W, N> {
             Reply.Done self.new.calls
             × IfSome saw (λ old. IsSomeAnd put (λ new. F.post change old new))) }
         ensures signed { IsTrue R.always → OnOk result (IsSigned self.old self.new) }
+        ensures unchanged { OnErr result (self.new ≡ self.old) }
         ensures refused { FailsWithClosed result }
     {
         let mut step = rt.open(cell).ok_or(Refusal::Closed)?;
