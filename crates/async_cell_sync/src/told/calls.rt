@@ -1,5 +1,5 @@
 //! The calls of an owner that is told. Each differs from that of an `Owner` in what it tells alone.
-ghost use Rattle.std.specs.Prelude.{◌≡◌, Option, Some, None, IfErr, IfSome, IsSomeAnd, OnOk};
+ghost use Rattle.std.specs.Prelude.{◌≡◌, Option, Some, None, IfErr, IfSome, IsSomeAnd, OnErr, OnOk};
 ghost use Rattle.async_cell_model.specs.Refusal.{FailsWithClosed, FailsWithMemory};
 ghost use Rattle.async_cell_waiting.specs.Told.{IsSigned, IsTold, IsToldUpTo, set_reply, write_reply, end_reply};
 
@@ -88,6 +88,7 @@ impl<T: Drop, R: Wait + Drop, N: Naming<T, TaskWaker>> ToldOwner<T, R, N> {
             × IsTold ⟦<TaskWaker as Wakes>⟧ N.named self.old.seen.calls
             (Kept.Update saw put) Reply.Done self.new.seen.calls × F.post change saw put) }
         ensures signed { OnOk result (IsSigned self.old.seen self.new.seen) }
+        ensures unchanged { OnErr result (self.new ≡ self.old) }
         ensures refused { FailsWithClosed result }
     {
         self.seen.update(&self.cell.core, change, &self.rt)
@@ -105,6 +106,7 @@ impl<T: Drop, R: Wait + Drop, N: Naming<T, TaskWaker>> ToldOwner<T, R, N> {
             (Kept.UpdateSome saw put) Reply.Done self.new.seen.calls
             × IfSome saw (λ old. IsSomeAnd put (λ new. F.post change old new))) }
         ensures signed { OnOk result (IsSigned self.old.seen self.new.seen) }
+        ensures unchanged { OnErr result (self.new ≡ self.old) }
         ensures refused { FailsWithClosed result }
     {
         self.seen.update_some(&self.cell.core, change, &self.rt)
