@@ -7,9 +7,9 @@ module _ {T : Type 0} (is_clone : T → T → Type 0) where
   -- what is shown after a value was written after it
   pub in_order : (seen now later : Life T) (x y : T) → IsShown is_clone seen x now → IsShownNext is_clone now y later → AreInOrder is_clone x y later.values
   in_order seen now later x y shown next =
-      let front = shown.ends.0 in let more = next.goes_on.0 in
+      let front = shown.ends.0 in let more = next.after_seen.0 in
       let before : next.before ≡ front ++ shown.value ∷ more =
-      sym next.goes_on.1 ∙ ap (λ l. l ++ more) shown.ends.1 ∙ append_assoc front (shown.value ∷ []) more in
+      sym next.after_seen.1 ∙ ap (λ l. l ++ more) shown.ends.1 ∙ append_assoc front (shown.value ∷ []) more in
       record {
         before = front;
         first = shown.value;

@@ -8,7 +8,7 @@ use Rattle.async_cell_latest.specs.State.{State, Stays, is_closed, is_writable}
 use Rattle.async_cell_latest.specs.Step.{Write, AddWriter, written}
 use Rattle.async_cell_latest.specs.History.{is_memory}
 use Rattle.async_cell_latest.specs.IsStep.{WakerRules, Answer, IsStep, add_answer}
-use Rattle.async_cell_latest_sync.specs.Life.{Life, IsOf, EndsIn}
+use Rattle.async_cell_latest_sync.specs.Life.{Life, IsOf, EndsIn, TakesNoMore}
 
 left_of : (c d : Bool) → (not c && d) ≡ true → c ≡ false
 left_of false d is = refl
@@ -31,6 +31,10 @@ module _ {T W : Type 0} where
   -- before a write that is not refused the life has not ended
   pub open_life : (named : Option ℕ) (s : State T W) (life : Life T) → IsOf named s life → is_writable s ≡ true → life.closed ≡ false
   open_life named s life of writable = of.closed ∙ writable_open s writable
+
+  -- a write is refused of a life that takes no further value
+  pub full_life : (named : Option ℕ) (s : State T W) (life : Life T) → IsOf named s life → is_writable s ≡ false → TakesNoMore life
+  full_life named s life of full = grind (arith, nat_tests)
 
   -- a write that is not refused adds the value that it left
   pub of_written : (rules : WakerRules W) (named : Option ℕ) (old new : State T W) (life : Life T) (x : T) (answer : Answer T W)

@@ -29,16 +29,17 @@ module _ {T : Type 0} where
     shown_next is_clone copy there of on other clone =
         let last : EndsIn now.values state.value = of.last there in
         record {
+          goes_on = on;
           before = last.0;
           value = state.value;
-          goes_on = before_last seen.values last.0 state.value (subst (λ l. IsPrefix seen.values l) last.1 on.begins) (λ same. other (same ∙ (sym (ap (λ l. length l) last.1) ∙ of.counted)));
+          after_seen = before_last seen.values last.0 state.value (subst (λ l. IsPrefix seen.values l) last.1 on.begins) (λ same. other (same ∙ (sym (ap (λ l. length l) last.1) ∙ of.counted)));
           ends = last.1;
           clone = clone;
         }
 
     -- a closed state of the version that was seen shows nothing
     pub shown_all : (is_clone : T → T → Type 0) → IsOf named state now → GoesOn seen now → length seen.values ≡ state.version → is_closed state ≡ true → IsNext is_clone seen None now
-    shown_all is_clone of on same closed = (of.closed ∙ closed, whole seen.values now.values on.begins (same ∙ sym of.counted))
+    shown_all is_clone of on same closed = (on, whole seen.values now.values on.begins (same ∙ sym of.counted), of.closed ∙ closed)
 
     -- a look shows the last value
     pub shown : (is_clone : T → T → Type 0) (copy : T) → IsSome named → IsOf named state now → GoesOn seen now → is_clone state.value copy → IsShown is_clone seen copy now
@@ -49,11 +50,22 @@ module _ {T : Type 0} where
       clone = clone;
     }
 
+  -- what goes on twice goes on
+  pub goes_further : (seen old now : Life T) → GoesOn seen old → GoesOn old now → GoesOn seen now
+  goes_further seen old now first second = record {
+    begins = (
+      first.begins.0 ++ second.begins.0,
+      sym (append_assoc seen.values first.begins.0 second.begins.0) ∙ ap (λ l. l ++ second.begins.0) first.begins.1 ∙ second.begins.1,
+    );
+    ended = λ is. second.ended (ap (λ (l : Life T). l.closed) (first.ended is) ∙ is) ∙ first.ended is;
+  }
+
   -- a write that was seen from before it until after it
-  pub written : (seen old now : Life T) (value : T) → GoesOn seen old → now ≡ record { values = old.values ++ value ∷ []; closed = false } → IsWritten seen value now
-  written seen old now value on is = record {
+  pub written : (seen old now : Life T) (value : T) → GoesOn seen old → GoesOn old now → now ≡ record { values = old.values ++ value ∷ []; closed = false } → IsWritten seen value now
+  written seen old now value on more is = record {
+    goes_on = goes_further seen old now on more;
     before = old.values;
-    goes_on = on.begins;
+    after_seen = on.begins;
     ends = ap (λ (l : Life T). l.values) is;
     stays_open = ap (λ (l : Life T). l.closed) is;
   }

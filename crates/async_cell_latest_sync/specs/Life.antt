@@ -1,7 +1,7 @@
 -- What is told of a state: the values that it has had, in order, and whether it is closed.
-use Rattle.std.specs.Prelude.{◌≡◌, ℕ, Bool, true, false, List, [], ◌∷◌, ◌++◌, length, ⊤, Option, Some, None, IsSome}
+use Rattle.std.specs.Prelude.{◌≡◌, ◌≤◌, ◌⊎◌, ℕ, Bool, true, false, List, [], ◌∷◌, ◌++◌, length, ⊤, Option, Some, None, IsSome}
 use mathlib.Core.List.{IsPrefix}
-use Rattle.async_cell_latest.specs.State.{State, is_closed}
+use Rattle.async_cell_latest.specs.State.{State, is_closed, versions_limit}
 
 -- The values that a state has had so far, in order, and whether it is closed. The version of a
 -- value is its place among them, from 1 on.
@@ -58,10 +58,15 @@ module _ {T : Type 0} where
     pub begins : IsPrefix life.values now.values
     pub ended : life.closed ≡ true → now ≡ life
 
+  -- a life takes no further value: it is closed, or the last version was written
+  abbrev pub TakesNoMore : Life T → Type 0
+  TakesNoMore life = (life.closed ≡ true) ⊎ (versions_limit ≤ length life.values)
+
   -- the life that was seen has gone on, and now ends in the write of this value
   pub record IsWritten (seen : Life T) (value : T) (now : Life T) : Type 0 where
+    pub goes_on : GoesOn seen now
     pub before : List T
-    pub goes_on : IsPrefix seen.values before
+    pub after_seen : IsPrefix seen.values before
     pub ends : now.values ≡ before ++ value ∷ []
     pub stays_open : now.closed ≡ false
 
@@ -73,11 +78,12 @@ module _ {T : Type 0} where
       pub ends : EndsIn now.values value
       pub clone : is_clone value copy
 
-    -- this is a clone of the last value now, which was written after all that was seen
+    -- and that value was written after all that was seen
     pub record IsShownNext (seen : Life T) (copy : T) (now : Life T) : Type 0 where
+      pub goes_on : GoesOn seen now
       pub before : List T
       pub value : T
-      pub goes_on : IsPrefix seen.values before
+      pub after_seen : IsPrefix seen.values before
       pub ends : now.values ≡ before ++ value ∷ []
       pub clone : is_clone value copy
 
@@ -85,7 +91,7 @@ module _ {T : Type 0} where
     -- is closed now.
     abbrev pub IsNext : Life T → Option T → Life T → Type 0
     IsNext seen (Some copy) now = IsShownNext seen copy now
-    IsNext seen None now = (now.closed ≡ true) × (now.values ≡ seen.values)
+    IsNext seen None now = GoesOn seen now × (now.values ≡ seen.values) × (now.closed ≡ true)
 
   -- both rules are one
   abbrev pub Agree : (List T → T → Type 0) → (List T → T → Type 0) → Type 0

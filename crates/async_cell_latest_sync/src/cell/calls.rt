@@ -4,7 +4,7 @@ ghost use Rattle.std.specs.Prelude.{◌≡◌, ◌≢◌, ◌↔◌, [], ◌∷�
 ghost use Rattle.std.specs.Fn.{FnOnceReturnsAt, FnOnceReturnsAtMut};
 ghost use Rattle.async_cell_model.specs.Refusal.{FailsWithClosed, FailsWithMemory, FailsWithMemoryOrClosed, IsOwnerRefusal};
 ghost use Rattle.async_cell_latest.specs.State.{is_closed};
-ghost use Rattle.async_cell_latest_sync.specs.Life.{Fits, GoesOn, IsNext, IsOf};
+ghost use Rattle.async_cell_latest_sync.specs.Life.{Fits, GoesOn, IsNext, IsOf, TakesNoMore};
 
 use crate::told::{Listed, Shown, Unlisted, Values, Witness};
 use async_cell_latest::{Latest, Place, Refusal, TaskWaker, Wakers};
@@ -174,13 +174,14 @@ impl<T: Drop, N: Listed<T>> LatestCore<T, N> {
     }
 
     #[inline(always)]
-    #[tactic(auto, using(crate::proofs::Keeping::of_written, crate::proofs::Keeping::open_life))]
+    #[tactic(auto, using(crate::proofs::Keeping::of_written, crate::proofs::Keeping::open_life, crate::proofs::Keeping::full_life))]
     pub(crate) fn replace(&mut self, value: T) -> Held<Result<T, T>, Option<Wakers<TaskWaker>>>
         requires may { N.may self.old.life.values value }
         ensures entered { OnOk result.answer (self.new.life ≡ record
             { values = self.old.life.values ++ value ∷ []; closed = false }) }
         ensures gives_old { IfOk result.answer (λ old. old ≡ self.old.state.value) }
         ensures unchanged { OnErr result.answer (self.new.life ≡ self.old.life) }
+        ensures full { OnErr result.answer (TakesNoMore self.new.life) }
         ensures comes_back { IfErr result.answer (λ back. back ≡ value) }
     {
         match self.state.write(value) {

@@ -72,12 +72,4 @@ impl<T: Drop, R: Wait + Drop, N: Listed<T>> ToldFollower<T, R, N> {
     {
         let _longer = self.shown.witness().longer(&owner.seen);
     }
-
-    /// The same follower, which was shown this.
-    pub(super) fn having(self, shown: Shown<T, N>) -> Self
-        ensures shown { result.shown ≡ shown }
-    {
-        let ToldFollower { cell, shown: _, rt } = self;
-        ToldFollower { cell, shown, rt }
-    }
 }

@@ -1,8 +1,9 @@
 //! The next value of a follower that is told.
-ghost use Rattle.std.specs.Prelude.{◌≡◌, Some, IfOk, IsSomeAnd};
+ghost use Rattle.std.specs.Prelude.{◌≡◌, None, Some, Err, IfOk, IsSomeAnd};
 ghost use Rattle.futures.specs.Poll.{IfReady, OnPending};
 ghost use Rattle.futures.specs.Task.{Covers, Keeps};
 ghost use Rattle.async_cell_model.specs.Refusal.{FailsWithMemoryOrClosed};
+ghost use Rattle.async_cell_model.specs.declared.refusal.Refusal.TheVariants.{Closed};
 ghost use Rattle.async_cell_latest_sync.specs.Life.{IsNext};
 
 use super::{Listed, Shown, ToldFollower};
@@ -71,20 +72,27 @@ impl<T: Clone, R: Wait + Drop, N: Listed<T>> Future for ToldNext<T, R, N> {
     ghost needs = { λ future s. IsSomeAnd future.follower (λ follower.
         s ≡ follower.cell.value.source.id) };
 
-    ghost gives = { λ future given. IfOk given (λ both. IsSomeAnd future.follower (λ follower.
+    ghost gives = { λ future given. FailsWithMemoryOrClosed given
+        × (future.follower ≡ None → given ≡ Err Closed)
+        × IfOk given (λ both. IsSomeAnd future.follower (λ follower.
         IsNext T.is_clone follower.shown both.0 both.1.shown)) };
 
     fn poll(&mut self, cx: &mut Context<'_>) -> Poll<Self::Output>
         ensures told { IfReady result (λ given. IfOk given (λ both.
             IsSomeAnd self.old.follower (λ follower.
             IsNext T.is_clone follower.shown both.0 both.1.shown))) }
+        ensures closed { self.old.follower ≡ None → result ≡ Poll.Ready (Err Refusal.Closed) }
+        ensures over { IfReady result (λ given.
+            ¬ (given ≡ Err Refusal.Memory) → self.new.follower ≡ None) }
+        ensures unmarked { result ≡ Poll.Ready (Err Refusal.Memory)
+            → self.new.follower ≡ self.old.follower }
         ensures stays { OnPending result (self.new.follower ≡ self.old.follower) }
         ensures registered { OnPending result (Covers cx.new (λ s. IsSomeAnd self.new.follower
             (λ follower. s ≡ follower.cell.value.source.id))) }
         ensures kept { Keeps cx.old cx.new }
         ensures refused { IfReady result FailsWithMemoryOrClosed }
     {
-        let Some(follower) = &self.follower else {
+        let Some(mut follower) = self.follower.take() else {
             return Poll::Ready(Err(Refusal::Closed));
         };
         let query = Next(follower.shown.again());
@@ -97,12 +105,19 @@ impl<T: Clone, R: Wait + Drop, N: Listed<T>> Future for ToldNext<T, R, N> {
             cx,
             &follower.rt,
         ) {
-            Poll::Pending => Poll::Pending,
+            Poll::Ready(Ok((value, shown))) => {
+                follower.shown = shown;
+                Poll::Ready(Ok((value, follower)))
+            }
+            Poll::Ready(Err(Refusal::Memory)) => {
+                self.follower = Some(follower);
+                Poll::Ready(Err(Refusal::Memory))
+            }
             Poll::Ready(Err(why)) => Poll::Ready(Err(why)),
-            Poll::Ready(Ok((value, shown))) => match self.follower.take() {
-                Some(follower) => Poll::Ready(Ok((value, follower.having(shown)))),
-                None => Poll::Ready(Err(Refusal::Closed)),
-            },
+            Poll::Pending => {
+                self.follower = Some(follower);
+                Poll::Pending
+            }
         }
     }
 }

@@ -1,6 +1,6 @@
-ghost use Rattle.std.specs.Prelude.{◌≡◌, List, [], ◌∷◌, ◌++◌, Some, IfOk, IfErr, OnOk, false};
+ghost use Rattle.std.specs.Prelude.{◌≡◌, List, [], ◌∷◌, ◌++◌, Some, IfOk, IfErr, OnOk, OnErr, false};
 ghost use Rattle.async_cell_model.specs.Refusal.{FailsWithMemory};
-ghost use Rattle.async_cell_latest_sync.specs.Life.{GoesOn, IsLawful, IsWritten, MayWrite};
+ghost use Rattle.async_cell_latest_sync.specs.Life.{GoesOn, IsLawful, IsWritten, MayWrite, TakesNoMore};
 
 use super::{Listed, Shown, ToldFollower, Witness};
 use crate::cell::LatestCore;
@@ -79,10 +79,13 @@ impl<T: Drop, R: Wait + Copy, N: Listed<T>> ToldOwner<T, R, N> {
 
 impl<T: Drop, R: Wait + Drop, N: Listed<T>> ToldOwner<T, R, N> {
     /// Sets the value, drops the old one and wakes all followers that wait. If the state takes no
-    /// further write, the value is returned in the error.
+    /// further write, as it is closed or has had 18,446,744,073,709,551,615 values, the value is
+    /// returned in the error.
     pub fn set(&mut self, value: T) -> Result<(), T>
         requires may { MayWrite N.may self.old.seen value }
         ensures told { OnOk result (IsWritten self.old.seen value self.new.seen) }
+        ensures goes_on { GoesOn self.old.seen self.new.seen }
+        ensures full { OnErr result (TakesNoMore self.new.seen) }
         ensures comes_back { IfErr result (λ back. back ≡ value) }
     {
         match self.replace(value) {
@@ -92,12 +95,14 @@ impl<T: Drop, R: Wait + Drop, N: Listed<T>> ToldOwner<T, R, N> {
     }
 
     /// `set`, which returns the old value: the one that was written before this one.
-    #[tactic(auto, using(crate::proofs::Showing::written, crate::proofs::Showing::replaced))]
+    #[tactic(auto, using(crate::proofs::Showing::written, crate::proofs::Showing::replaced, crate::proofs::Showing::goes_further))]
     pub fn replace(&mut self, value: T) -> Result<T, T>
         requires may { MayWrite N.may self.old.seen value }
         ensures told { OnOk result (IsWritten self.old.seen value self.new.seen) }
         ensures gives_old { IfOk result (λ old. (before : List T)
             × (self.new.seen.values ≡ before ++ old ∷ value ∷ [])) }
+        ensures goes_on { GoesOn self.old.seen self.new.seen }
+        ensures full { OnErr result (TakesNoMore self.new.seen) }
         ensures comes_back { IfErr result (λ back. back ≡ value) }
     {
         let mut step = self.cell.core.lock(&self.rt);
