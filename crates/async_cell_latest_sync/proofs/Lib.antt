@@ -3,4 +3,3 @@ pub mod Keeping
 pub mod Lives
 pub mod Polled
 pub mod Showing
-pub mod SomeState

@@ -1,10 +1,15 @@
--- What a wait for a predicate gives.
+-- What a wait for a predicate gives, and a stream of states.
 use Rattle.std.specs.Prelude.{Bool, true, false, List, Option, Result, IfOk, MatchOption}
 use Rattle.std.specs.List.{FoldsTo}
 use Rattle.std.specs.Borrow.{Bor}
 use Rattle.std.specs.Fn.{Mut, CalledAt}
 use Rattle.async_cell_model.specs.declared.refusal.Refusal.{Refusal}
-use Rattle.async_cell_model.specs.Refusal.{FailsWithMemoryOrClosed}
+use Rattle.async_cell_model.specs.Refusal.{FailsWithMemory, FailsWithMemoryOrClosed}
+
+-- an item of a stream: a clone of a value, or there was no memory for one
+abbrev pub IsItem : {T : Type 0} → (T → T → Type 0) → Result T Refusal → Type 0
+IsItem {T} is_clone item =
+    FailsWithMemory item × IfOk item (λ copy. (value : T) × is_clone value copy)
 
 module _ {F T : Type 0} (calls : Mut F (Bor T × Unit {0}) Bool) where
   -- the predicate was false on some values, one after the other, and then true on this one

@@ -4,11 +4,9 @@ ghost use Rattle.std.specs.Fn.{CalledAt};
 ghost use Rattle.std.specs.List.{AllByRecursion};
 ghost use Rattle.futures.specs.Poll.{IfReady, OnPending};
 ghost use Rattle.futures.specs.Task.{Covers, Keeps};
-ghost use Rattle.async_cell_model.specs.Refusal.{FailsWithMemory, FailsWithMemoryOrClosed};
-ghost use Rattle.async_cell_latest_sync.specs.Found.{IsFound};
+ghost use Rattle.async_cell_model.specs.Refusal.{FailsWithMemoryOrClosed};
+ghost use Rattle.async_cell_latest_sync.specs.Found.{IsFound, IsItem};
 ghost use Rattle.async_cell_latest_sync.specs.Names.{cell_followed, sources};
-ghost use Rattle.async_cell_latest_sync.specs.SomeState.{SomeState};
-ghost use Rattle.async_cell_latest_sync.specs.Told.{AreTold};
 
 use crate::cell::{Unseen, UnseenState};
 use crate::follower::Follower;
@@ -61,8 +59,8 @@ impl<T: Drop, R: Wait + Drop> Future for Changed<'_, T, R> {
     ghost gives = { λ _. FailsWithMemoryOrClosed };
 
     fn poll(&mut self, cx: &mut Context<'_>) -> Poll<Result<(), Refusal>>
-        ensures marks { IfReady result (λ told. OnOk told (SomeState {T = T}
-            self.new.follower.now.seen (λ s. s.version ≢ self.old.follower.now.seen))) }
+        ensures marks { IfReady result (λ told. OnOk told
+            (self.new.follower.now.seen ≢ self.old.follower.now.seen)) }
         ensures unmarked { IfReady result (λ told. OnErr told
             (self.new.follower.now ≡ self.old.follower.now)) }
         ensures unchanged { OnPending result (self.new.follower.now ≡ self.old.follower.now) }
@@ -148,9 +146,9 @@ impl<T: Clone, R: Wait + Drop, F: FnMut(&T) -> bool + Drop> Future for WaitFor<'
 
     fn poll(&mut self, cx: &mut Context<'_>) -> Poll<Result<T, Refusal>>
         requires can_poll { F.IsAlwaysCallable self.old.predicate }
-        ensures of_some_state { IfReady result (λ answer. IfOk answer (λ copy.
-            SomeState self.new.follower.now.seen (λ s. T.is_clone s.value copy
-            × CalledAt F.FnMut self.old.predicate s.value true self.new.predicate))) }
+        ensures called { IfReady result (λ answer. IfOk answer (λ copy. (value : T)
+            × T.is_clone value copy
+            × CalledAt F.FnMut self.old.predicate value true self.new.predicate)) }
         ensures unmarked { result ≡ Poll.Ready (Err Refusal.Memory)
             → self.new.follower.now ≡ self.old.follower.now }
         ensures value { IfReady result (IsFound F.FnMut T.is_clone self.old.predicate) }
@@ -160,8 +158,8 @@ impl<T: Clone, R: Wait + Drop, F: FnMut(&T) -> bool + Drop> Future for WaitFor<'
         ensures again { OnPending result (F.IsAlwaysCallable self.new.predicate) }
         ensures looked { OnPending result (((self.new.predicate ≡ self.old.predicate)
             × (self.new.follower.now ≡ self.old.follower.now))
-            ⊎ SomeState self.new.follower.now.seen (λ s.
-            CalledAt F.FnMut self.old.predicate s.value false self.new.predicate)) }
+            ⊎ ((value : T)
+            × CalledAt F.FnMut self.old.predicate value false self.new.predicate)) }
         ensures of_this { cell_followed self.new.follower.now
             ≡ cell_followed self.old.follower.now }
         ensures registered { OnPending result (Covers cx.new (sources self.new.follower.now)) }
@@ -258,19 +256,17 @@ impl<T: Clone, R: Wait + Drop> Stream for States<T, R> {
 
     ghost needs = { λ states. sources states.follower };
 
-    ghost yields = { λ states items last.
-        AllByRecursion FailsWithMemory items × IfSome last FailsWithMemory
-        × AreTold T.is_clone states.follower.seen items last };
+    ghost yields = { λ _ items last.
+        AllByRecursion (IsItem T.is_clone) items × IfSome last (IsItem T.is_clone) };
 
     fn poll_next(&mut self, cx: &mut Context<'_>) -> Poll<Option<Result<T, Refusal>>>
-        ensures of_some_state { IfReady result (λ item. IfSome item (λ told. IfOk told (λ copy.
-            SomeState self.new.follower.seen (λ s.
-            (s.version ≢ self.old.follower.seen) × T.is_clone s.value copy)))) }
+        ensures value { IfReady result (λ item. IfSome item (IsItem T.is_clone)) }
+        ensures marks { IfReady result (λ item. IfSome item (λ told. OnOk told
+            (self.new.follower.seen ≢ self.old.follower.seen))) }
         ensures unmarked { IfReady result (λ item. IfSome item (λ told. OnErr told
             (self.new.follower ≡ self.old.follower))) }
         ensures ended { IfReady result (λ item. IfNone item
             (self.new.follower ≡ self.old.follower)) }
-        ensures value { IfReady result (λ item. IfSome item FailsWithMemory) }
         ensures unchanged { OnPending result (self.new.follower ≡ self.old.follower) }
         ensures of_this { cell_followed self.new.follower ≡ cell_followed self.old.follower }
         ensures registered { OnPending result (Covers cx.new (sources self.new.follower)) }

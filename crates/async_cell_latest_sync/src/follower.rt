@@ -1,14 +1,12 @@
-ghost use Rattle.std.specs.Prelude.{◌≡◌, ◌≢◌, ◌↔◌, true, IsOk, IfOk, OnErr};
+ghost use Rattle.std.specs.Prelude.{◌≡◌, IsOk, IfOk, OnErr};
 ghost use Rattle.std.specs.Arc.{arc_value};
 ghost use Rattle.std.specs.Fn.{FnOnceReturnsAt};
 ghost use Rattle.async_cell_model.specs.Refusal.{FailsWithMemory};
-ghost use Rattle.async_cell_latest.specs.State.{State};
 ghost use Rattle.async_cell_latest_sync.specs.Names.{cell_followed};
-ghost use Rattle.async_cell_latest_sync.specs.Seen.{HasSeen};
 
 use crate::awaited::{Changed, States, WaitFor};
 use crate::cell::LatestCell;
-use async_cell_latest::{Place, Refusal, TaskWaker};
+use async_cell_latest::{Place, Refusal};
 use std::alloc::AllocError;
 use std::sync::{Arc, Wait};
 
@@ -123,8 +121,7 @@ impl<T: Drop, R: Wait + Drop> Follower<T, R> {
     pub fn read_and_update(&mut self) -> Result<T, Refusal>
     where
         T: Clone,
-        ensures of_some_state { IfOk result (λ copy. HasSeen self.new (λ s.
-            T.is_clone s.value copy)) }
+        ensures clones { IfOk result (λ copy. (value : T) × T.is_clone value copy) }
         ensures if_infallible { ((value : T) → T.is_infallible value) → IsOk result }
         ensures refused { FailsWithMemory result }
         ensures unmarked { OnErr result (self.new ≡ self.old) }
@@ -147,8 +144,7 @@ impl<T: Drop, R: Wait + Drop> Follower<T, R> {
     /// `peek`, of a value that is then marked as seen.
     pub fn peek_and_update<A, F: FnOnce(&T) -> A>(&mut self, look: F) -> A
         requires { F.IsAlwaysCallable look }
-        ensures of_some_state { HasSeen self.new (λ s.
-            FnOnceReturnsAt F.FnOnce look s.value result) }
+        ensures called { (seen : T) × FnOnceReturnsAt F.FnOnce look seen result }
         ensures of_this { cell_followed self.new ≡ cell_followed self.old }
     {
         let (version, answer) = self.cell.peek(look, &self.rt);
@@ -157,10 +153,7 @@ impl<T: Drop, R: Wait + Drop> Follower<T, R> {
     }
 
     /// Returns whether there is an unseen state, also once the last owner has ended. Marks nothing.
-    pub fn has_changed(&self) -> bool
-        ensures of_some_state { (s : State T TaskWaker)
-            × ((result ≡ true) ↔ (self.now.seen ≢ s.version)) }
-    {
+    pub fn has_changed(&self) -> bool {
         self.cell.version(&self.rt) != self.seen
     }
 

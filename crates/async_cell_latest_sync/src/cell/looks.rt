@@ -1,13 +1,11 @@
 //! The looks at a state. Closures, and clones of the value, run while the lock is held.
-ghost use Rattle.std.specs.Prelude.{◌≡◌, IsOk, IfOk, IfSome, IfNone};
+ghost use Rattle.std.specs.Prelude.{◌≡◌, ◌≢◌, IsOk, IfOk, IfSome, IfNone};
 ghost use Rattle.std.specs.Fn.{FnOnceReturnsAt};
 ghost use Rattle.async_cell_model.specs.Refusal.{FailsWithMemory};
-ghost use Rattle.async_cell_latest.specs.State.{State};
 ghost use Rattle.async_cell_latest_sync.specs.Found.{IsTested};
-ghost use Rattle.async_cell_latest_sync.specs.SomeState.{SomeState};
 
 use super::LatestCell;
-use async_cell_latest::{Refusal, TaskWaker};
+use async_cell_latest::Refusal;
 use async_cell_waiting::{Held, Step, end};
 use std::alloc::AllocError;
 use std::sync::Wait;
@@ -16,21 +14,20 @@ impl<T: Drop> LatestCell<T> {
     /// Calls the closure on the value, while the lock is held. Returns the version too.
     pub(crate) fn peek<A, F: FnOnce(&T) -> A, R: Wait>(&self, look: F, rt: &R) -> (u64, A)
         requires { F.IsAlwaysCallable look }
-        ensures of_some_state { SomeState result.0 (λ s.
-            FnOnceReturnsAt F.FnOnce look s.value result.1) }
+        ensures called { (seen : T) × FnOnceReturnsAt F.FnOnce look seen result.1 }
     {
         let step = self.core.lock(rt);
         let (version, value) = step.shown().read();
         let answer = look(value);
-        end(step, Held::of((version, answer)))
+        end(step, Held::of(()));
+        (version, answer)
     }
 
     /// Returns the version and a clone of the value, made under the lock. Fails with `Memory`.
     pub(crate) fn get<R: Wait>(&self, rt: &R) -> Result<(u64, T), Refusal>
     where
         T: Clone,
-        ensures of_some_state { IfOk result (λ shown. SomeState shown.0 (λ s.
-            T.is_clone s.value shown.1)) }
+        ensures clones { IfOk result (λ shown. (value : T) × T.is_clone value shown.1) }
         ensures if_infallible { ((value : T) → T.is_infallible value) → IsOk result }
         ensures refused { FailsWithMemory result }
     {
@@ -51,8 +48,9 @@ impl<T: Drop> LatestCell<T> {
     where
         T: Clone,
         requires { P.IsAlwaysCallable predicate.old }
-        ensures of_some_state { IfSome result (λ tested. SomeState tested.0 (λ s.
-            IsTested P.FnMut T.is_clone predicate.old s.value tested.1 predicate.new)) }
+        ensures tested { IfSome result (λ tested. (value : T)
+            × IsTested P.FnMut T.is_clone predicate.old value tested.1 predicate.new) }
+        ensures unseen { IfSome result (λ tested. tested.0 ≢ seen) }
         ensures uncalled { IfNone result (predicate.new ≡ predicate.old) }
         ensures again { P.IsAlwaysCallable predicate.new }
         ensures refused { IfSome result (λ tested. FailsWithMemory tested.1) }
@@ -68,9 +66,7 @@ impl<T: Drop> LatestCell<T> {
     }
 
     /// Returns the version.
-    pub(crate) fn version<R: Wait>(&self, rt: &R) -> u64
-        ensures of_some_state { (s : State T TaskWaker) × (result ≡ s.version) }
-    {
+    pub(crate) fn version<R: Wait>(&self, rt: &R) -> u64 {
         self.peek(|_| (), rt).0
     }
 

@@ -13,11 +13,10 @@ pub struct UnseenState(pub u64);
 
 impl<T: Drop> Query<LatestCore<T>> for Unseen {
     ghost use Rattle.std.specs.Prelude.{◌≢◌};
-    ghost use Rattle.async_cell_latest_sync.specs.SomeState.{SomeState};
 
     type Answer = u64;
 
-    ghost gives = { λ asked version. SomeState {T = T} version (λ s. s.version ≢ asked.0) };
+    ghost gives = { λ asked version. version ≢ asked.0 };
 
     #[inline(always)]
     fn must_wait(&self, core: &LatestCore<T>) -> bool {
@@ -35,12 +34,11 @@ impl<T: Drop> Query<LatestCore<T>> for Unseen {
 
 impl<T: Clone> Query<LatestCore<T>> for UnseenState {
     ghost use Rattle.std.specs.Prelude.{◌≢◌};
-    ghost use Rattle.async_cell_latest_sync.specs.SomeState.{SomeState};
 
     type Answer = (u64, T);
 
     ghost gives = { λ asked shown.
-        SomeState shown.0 (λ s. (s.version ≢ asked.0) × T.is_clone s.value shown.1) };
+        (shown.0 ≢ asked.0) × ((value : T) × T.is_clone value shown.1) };
 
     #[inline(always)]
     fn must_wait(&self, core: &LatestCore<T>) -> bool {
