@@ -1,7 +1,8 @@
--- Two looks, one after the other.
-use Rattle.std.proofs.Common.{◌≡◌, List, [], ◌∷◌, ◌++◌, sym, ap, ◌∙◌, append_assoc}
-use Rattle.async_cell_latest_sync.specs.Life.{Life, IsShown, IsShownNext, IsLawful}
-use Rattle.async_cell_callers.specs.InOrder.{AreInOrder}
+-- Two looks, one after the other, and a rule of neighbours.
+use Rattle.std.proofs.Common.{◌≡◌, ℕ, ◌≤◌, List, [], ◌∷◌, ◌++◌, refl, sym, ap, subst, ◌∙◌, append_assoc}
+use Rattle.std.proofs.Math.Nat.{le_trans}
+use Rattle.async_cell_latest_sync.specs.Life.{Life, Agree, IsShown, IsShownNext, IsLawful, MayUpdate}
+use Rattle.async_cell_callers.specs.InOrder.{AreInOrder, NeverFalls}
 
 module _ {T : Type 0} (is_clone : T → T → Type 0) where
   -- what is shown after a value was written after it
@@ -24,3 +25,30 @@ module _ {T : Type 0} (is_clone : T → T → Type 0) where
   -- what is shown may be written
   pub last_may : (may : List T → T → Type 0) (seen now : Life T) (x : T) → IsShown is_clone seen x now → IsLawful may now.values → ((a b : T) → is_clone a b → b ≡ a) → (before : List T) × (value : T) × (x ≡ value) × may before value
   last_may may seen now x shown lawful exact = (shown.ends.0, shown.value, exact shown.value x shown.clone, lawful.each shown.ends.0 [] shown.value shown.ends.1)
+
+-- one list has one last value
+one_last : (xs ys : List ℕ) (x y : ℕ) → xs ++ x ∷ [] ≡ ys ++ y ∷ [] → x ≡ y
+one_last [] [] x y is = cc is
+one_last [] (b ∷ []) x y is = absurd (cc is)
+one_last [] (b ∷ c ∷ ys) x y is = absurd (cc is)
+one_last (a ∷ []) [] x y is = absurd (cc is)
+one_last (a ∷ c ∷ xs) [] x y is = absurd (cc is)
+one_last (a ∷ xs) (b ∷ ys) x y is = one_last xs ys x y (cc is)
+
+-- what is no less than the last value may be written after it
+pub may_rise : (may : List ℕ → ℕ → Type 0) (seen : Life ℕ) (P : ℕ → ℕ → Type 0) → Agree may NeverFalls → ((old new : ℕ) → P old new → old ≤ new) → MayUpdate may seen P
+may_rise may seen P rule rises = λ before old new begins lawful made.
+    (rule (before ++ old ∷ []) new).1 (λ last ends. subst (λ l. l ≤ new) (one_last before ends.0 old last ends.1) (rises old new made))
+
+-- by that rule a later value is no less
+climbs : (front between later : List ℕ) (x y : ℕ) → ((before after : List ℕ) → (value : ℕ) → front ++ x ∷ (between ++ y ∷ later) ≡ before ++ value ∷ after → NeverFalls before value) → x ≤ y
+climbs front [] later x y each = each (front ++ x ∷ []) later y (sym (append_assoc front (x ∷ []) (y ∷ later))) x (front, refl)
+climbs front (z ∷ between) later x y each =
+    let split = append_assoc front (x ∷ []) (z ∷ (between ++ y ∷ later)) in
+    le_trans (each (front ++ x ∷ []) (between ++ y ∷ later) z (sym split) x (front, refl))
+    (climbs (front ++ x ∷ []) between later z y (λ before after value is. each before after value (sym split ∙ is)))
+
+pub rises : (may : List ℕ → ℕ → Type 0) (is_clone : ℕ → ℕ → Type 0) (values : List ℕ) (x y : ℕ) → Agree may NeverFalls → IsLawful may values → ((a b : ℕ) → is_clone a b → b ≡ a) → AreInOrder is_clone x y values → x ≤ y
+rises may is_clone values x y rule lawful exact shown =
+    subst (λ n. n ≤ y) (sym (exact shown.first x shown.shown_first)) (subst (λ n. shown.first ≤ n) (sym (exact shown.second y shown.shown_second))
+    (climbs shown.before shown.between shown.later shown.first shown.second (λ before after value is. (rule before value).0 (lawful.each before after value (shown.split ∙ append_assoc shown.before (shown.first ∷ shown.between) (shown.second ∷ shown.later) ∙ is)))))

@@ -1,5 +1,10 @@
 -- What a watcher is shown, one value after another.
-use Rattle.std.specs.Prelude.{◌≡◌, List, ◌∷◌, ◌++◌}
+use Rattle.std.specs.Prelude.{◌≡◌, ◌≤◌, ℕ, List, ◌∷◌, ◌++◌}
+use Rattle.async_cell_latest_sync.specs.Life.{EndsIn}
+
+-- a rule of values: none is less than the one before it
+abbrev pub NeverFalls : List ℕ → ℕ → Type 0
+NeverFalls before value = (last : ℕ) → EndsIn before last → last ≤ value
 
 module _ {T : Type 0} (is_clone : T → T → Type 0) where
   -- clones of two of these values, of which the second was written after the first

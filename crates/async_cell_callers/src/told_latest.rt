@@ -1,6 +1,7 @@
 //! A watcher of a state never goes back: what it is shown later was written later.
-ghost use Rattle.std.specs.Prelude.{◌≡◌, ◌<◌, ⊤, IfOk, IfSome};
-ghost use Rattle.async_cell_callers.specs.InOrder.{AreInOrder};
+ghost use Rattle.std.specs.Prelude.{◌≡◌, ◌<◌, ◌≤◌, ⊤, IfOk, IfSome};
+ghost use Rattle.async_cell_latest_sync.specs.Life.{Agree};
+ghost use Rattle.async_cell_callers.specs.InOrder.{AreInOrder, NeverFalls};
 
 use anyhow::Result;
 use async_cell_latest_sync::{Listed, StateSession, ToldFollower, ToldOwner, with_told_state};
@@ -79,4 +80,36 @@ where
     let ((), last) = with_told_state(rt, 0, &Gauge { limit: 100 })?;
     let _ = last?;
     Ok(())
+}
+
+/// Returns one more, or the last number.
+fn one_more(value: &u64) -> u64
+    ensures { value.now ≤ result }
+{
+    value.saturating_add(1)
+}
+
+/// Raises a gauge that never falls, whoever else writes it. Returns whether it took the value.
+#[tactic(auto, using(crate::proofs::InOrder::may_rise))]
+pub fn raise<R, N>(owner: &mut ToldOwner<u64, R, N>) -> bool
+where
+    R: Wait + Drop,
+    N: Listed<u64>,
+    requires may { Agree N.may NeverFalls }
+{
+    owner.update(one_more).is_ok()
+}
+
+/// What is shown later of a gauge that never falls is no less.
+#[tactic(auto, using(crate::proofs::InOrder::rises))]
+pub fn watch_rise<R, N>(rt: R, follower: &mut ToldFollower<u64, R, N>) -> Result<(u64, u64)>
+where
+    R: Wait + RandomSource + AllocGlobal + Copy,
+    N: Listed<u64>,
+    requires may { Agree N.may NeverFalls }
+    ensures rises { IfOk result (λ shown. shown.0 ≤ shown.1) }
+{
+    let (first, next, later) = watch(rt, follower)?;
+    later.lawful();
+    Ok((first, next.unwrap_or(first)))
 }

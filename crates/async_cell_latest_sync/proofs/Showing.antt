@@ -2,7 +2,7 @@
 use Rattle.std.proofs.Common.{◌≡◌, ◌≢◌, ℕ, true, false, List, [], ◌∷◌, ◌++◌, length, Option, None, IsSome, refl, ap, sym, subst, ◌∙◌, append_assoc, suc}
 use mathlib.Core.List.{IsPrefix}
 use Rattle.async_cell_latest.specs.State.{State, is_closed}
-use Rattle.async_cell_latest_sync.specs.Life.{Life, GoesOn, IsOf, EndsIn, IsShown, IsShownNext, IsNext, IsWritten}
+use Rattle.async_cell_latest_sync.specs.Life.{Life, GoesOn, IsLawful, IsOf, EndsIn, IsShown, IsShownNext, IsNext, IsUpdated, IsWritten, MayUpdate}
 
 module _ {T : Type 0} where
   -- a beginning that is not the whole begins what is before the last
@@ -77,3 +77,24 @@ module _ {T : Type 0} where
       let split : old.values ++ value ∷ [] ≡ last.0 ++ was ∷ value ∷ [] =
       ap (λ l. l ++ value ∷ []) (last.1 ∙ ap (λ v. last.0 ++ v ∷ []) (sym is_old)) ∙ append_assoc last.0 (was ∷ []) (value ∷ []) in
       (last.0, ap (λ (l : Life T). l.values) is ∙ split)
+
+  module _ {W : Type 0} (named : Option ℕ) (state : State T W) (seen old : Life T) (P : T → T → Type 0) where
+    -- what may be written over the last value may be written over that of the state
+    pub may_update : (may : List T → T → Type 0) → MayUpdate may seen P → IsSome named → IsOf named state old → GoesOn seen old → IsLawful may old.values → (new : T) → P state.value new → may old.values new
+    may_update may allowed there of on lawful new made =
+        let last : EndsIn old.values state.value = of.last there in
+        subst (λ l. may l new) (sym last.1)
+        (allowed last.0 state.value new (subst (λ l. IsPrefix seen.values l) last.1 on.begins) (subst (IsLawful may) last.1 lawful) made)
+
+    -- an update that was seen from before it until after it
+    pub updated : (now : Life T) (new : T) → IsSome named → IsOf named state old → GoesOn seen old → GoesOn old now → P state.value new → now ≡ record { values = old.values ++ new ∷ []; closed = false } → IsUpdated seen P now
+    updated now new there of on more made is =
+        let both = replaced named state old now new state.value there of refl is in
+        record {
+          before = both.0;
+          old = state.value;
+          new = new;
+          made = made;
+          ends = both.1;
+          written = written seen old now new on more is;
+        }

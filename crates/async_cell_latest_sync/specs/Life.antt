@@ -70,6 +70,15 @@ module _ {T : Type 0} where
     pub ends : now.values ≡ before ++ value ∷ []
     pub stays_open : now.closed ≡ false
 
+  -- the life that was seen has gone on, and now ends in two values of which this holds
+  pub record IsUpdated (seen : Life T) (P : T → T → Type 0) (now : Life T) : Type 0 where
+    pub before : List T
+    pub old : T
+    pub new : T
+    pub made : P old new
+    pub ends : now.values ≡ before ++ old ∷ new ∷ []
+    pub written : IsWritten seen new now
+
   module _ (is_clone : T → T → Type 0) where
     -- the life that was seen has gone on, and this is a clone of the last value now
     pub record IsShown (seen : Life T) (copy : T) (now : Life T) : Type 0 where
@@ -100,4 +109,10 @@ module _ {T : Type 0} where
 
   -- the rule allows to write this value now, whatever was written since this was seen
   abbrev pub MayWrite : (List T → T → Type 0) → Life T → T → Type 0
-  MayWrite may seen value = (before : List T) → IsPrefix seen.values before → may before value
+  MayWrite may seen value =
+      (before : List T) → IsPrefix seen.values before → IsLawful may before → may before value
+
+  -- it allows to write any value of which this holds after the last one
+  abbrev pub MayUpdate : (List T → T → Type 0) → Life T → (T → T → Type 0) → Type 0
+  MayUpdate may seen P = (before : List T) → (old new : T) → IsPrefix seen.values (before ++ old ∷ [])
+      → IsLawful may (before ++ old ∷ []) → P old new → may (before ++ old ∷ []) new

@@ -193,15 +193,20 @@ impl<T: Drop, N: Listed<T>> LatestCore<T, N> {
         }
     }
 
-    #[tactic(auto, using(crate::proofs::Keeping::of_written, crate::proofs::Keeping::open_life))]
+    #[tactic(auto, using(crate::proofs::Keeping::of_written, crate::proofs::Keeping::open_life, crate::proofs::Keeping::full_life))]
     pub(crate) fn update<F: FnOnce(&T) -> T>(
         &mut self,
         change: F,
     ) -> Held<Result<T, T>, Option<Wakers<TaskWaker>>>
         requires callable { F.IsAlwaysCallable change }
-        requires may { (old new : T) → FnOnceReturnsAt F.FnOnce change old new
+        requires may { (new : T) → FnOnceReturnsAt F.FnOnce change self.old.state.value new
             → N.may self.old.life.values new }
         ensures called { (old new : T) × FnOnceReturnsAt F.FnOnce change old new }
+        ensures makes { OnOk result.answer
+            (FnOnceReturnsAt F.FnOnce change self.old.state.value self.new.state.value) }
+        ensures entered { OnOk result.answer (self.new.life ≡ record
+            { values = self.old.life.values ++ self.new.state.value ∷ []; closed = false }) }
+        ensures full { OnErr result.answer (TakesNoMore self.new.life) }
     {
         match self.state.update(change) {
             Ok((old, woken)) => {

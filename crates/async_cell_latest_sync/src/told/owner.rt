@@ -1,6 +1,7 @@
 ghost use Rattle.std.specs.Prelude.{◌≡◌, List, [], ◌∷◌, ◌++◌, Some, IfOk, IfErr, OnOk, OnErr, false};
+ghost use Rattle.std.specs.Fn.{FnOnceReturnsAt};
 ghost use Rattle.async_cell_model.specs.Refusal.{FailsWithMemory};
-ghost use Rattle.async_cell_latest_sync.specs.Life.{GoesOn, IsLawful, IsWritten, MayWrite, TakesNoMore};
+ghost use Rattle.async_cell_latest_sync.specs.Life.{GoesOn, IsLawful, IsUpdated, IsWritten, MayUpdate, MayWrite, TakesNoMore};
 
 use super::{Listed, Shown, ToldFollower, Witness};
 use crate::cell::LatestCore;
@@ -108,9 +109,34 @@ impl<T: Drop, R: Wait + Drop, N: Listed<T>> ToldOwner<T, R, N> {
         let mut step = self.cell.core.lock(&self.rt);
         let core = step.lend();
         core.tell(&mut self.seen);
+        self.seen.lawful();
         let written = core.replace(value);
         core.tell(&mut self.seen);
         end_and_wake(step, written)
+    }
+
+    /// Calls the closure on the last value, and sets the one that it returns: no other write comes
+    /// in between. The lock is held meanwhile, so a closure that calls its own state waits forever.
+    /// If the state takes no further write, as at `set`, the new value is returned in the error.
+    #[tactic(auto, using(crate::proofs::Showing::may_update, crate::proofs::Showing::updated, crate::proofs::Showing::goes_further))]
+    pub fn update<F: FnOnce(&T) -> T>(&mut self, change: F) -> Result<(), T>
+        requires callable { F.IsAlwaysCallable change }
+        requires may { MayUpdate N.may self.old.seen (FnOnceReturnsAt F.FnOnce change) }
+        ensures told { OnOk result (IsUpdated self.old.seen (FnOnceReturnsAt F.FnOnce change)
+            self.new.seen) }
+        ensures goes_on { GoesOn self.old.seen self.new.seen }
+        ensures full { OnErr result (TakesNoMore self.new.seen) }
+    {
+        let mut step = self.cell.core.lock(&self.rt);
+        let core = step.lend();
+        core.tell(&mut self.seen);
+        self.seen.lawful();
+        let updated = core.update(change);
+        core.tell(&mut self.seen);
+        match end_and_wake(step, updated) {
+            Ok(_old) => Ok(()),
+            Err(unused) => Err(unused),
+        }
     }
 
     /// Closes the state, if this is its only owner, as the one of a session is: it takes no further

@@ -1,7 +1,16 @@
-use Rattle.std.proofs.Common.{subst, sym}
+use Rattle.std.proofs.Common.{OnOk, subst, sym}
+use Rattle.std.specs.Fn.{FnOnceReturnsAt}
 use Rattle.async_cell_latest_sync.proofs.cell.calls.LatestCore.update.Goals as goal
 
--- what the closure returned may be written
+-- what the closure returned of the value may be written
 pub add-requires-clause-may : goal.add-requires-clause-may
 add-requires-clause-may g c =
-    subst (λ d. g.N.Listed.may d.life.values c.update.new.self.value) (sym c.self.view_is) (c.requires.may _ _ c.in-Ok.ensures.called)
+    let new = c.update.new.self.value in
+    subst (λ d. g.N.Listed.may d.life.values new) (sym c.self.view_is)
+    (c.requires.may _ (subst (λ d. FnOnceReturnsAt g.F.FnOnce c.args.change d.state.value new) c.self.view_is c.in-Ok.ensures.called))
+
+pub returns-in-Ok-clause-makes : goal.returns-in-Ok-clause-makes
+returns-in-Ok-clause-makes g c =
+    let new = c.update.new.self.value in
+    subst (λ a. OnOk a (FnOnceReturnsAt g.F.FnOnce c.args.change c.args.self.now.state.value new)) (sym c.waking.ensures)
+    (subst (λ d. FnOnceReturnsAt g.F.FnOnce c.args.change d.state.value new) c.self.view_is c.in-Ok.ensures.called)
