@@ -1,5 +1,5 @@
 //! Futures of an owner that is told: each gives the value, and the owner back.
-ghost use Rattle.std.specs.Prelude.{◌≡◌, Some, IfOk, IsSomeAnd};
+ghost use Rattle.std.specs.Prelude.{◌≡◌, Some, None, Err, IfOk, IsSomeAnd};
 ghost use Rattle.futures.specs.Poll.{IfReady, OnPending};
 ghost use Rattle.futures.specs.Task.{Covers, Keeps};
 ghost use Rattle.async_cell_model.specs.Refusal.{FailsWithMemoryOrClosed};
@@ -67,31 +67,41 @@ impl<T: Drop, R: Wait + Drop, N: Naming<T, TaskWaker>> Future for ToldTake<T, R,
             owner.seen.calls TryTake (Value (Some both.0)) both.1.seen.calls))
             × IfOk given (λ both. IsSomeAnd self.old.owner (λ owner.
             IsSigned owner.seen both.1.seen))) }
+        ensures closed { self.old.owner ≡ None → result ≡ Poll.Ready (Err Refusal.Closed) }
+        ensures over { IfReady result (λ given.
+            ¬ (given ≡ Err Refusal.Memory) → self.new.owner ≡ None) }
         ensures stays { OnPending result (self.new.owner ≡ self.old.owner) }
+        ensures stays_for_memory { result ≡ Poll.Ready (Err Refusal.Memory)
+            → self.new.owner ≡ self.old.owner }
         ensures registered { OnPending result (Covers cx.new (λ s. IsSomeAnd self.new.owner
             (λ owner. s ≡ owner.cell.value.source.id))) }
         ensures kept { Keeps cx.old cx.new }
         ensures refused { IfReady result FailsWithMemoryOrClosed }
     {
-        let Some(owner) = &self.owner else {
+        let Some(owner) = self.owner.take() else {
             return Poll::Ready(Err(Refusal::Closed));
         };
         let query = ToldTaking(owner.seen.again(), self.may.again());
         let place = Some(&mut self.place);
-        match poll(
+        let polled = poll(
             &owner.cell.core,
             &owner.cell.source,
             query,
             place,
             cx,
             &owner.rt,
-        ) {
-            Poll::Pending => Poll::Pending,
+        );
+        match polled {
+            Poll::Ready(Ok((value, seen))) => Poll::Ready(Ok((value, owner.having(seen)))),
+            Poll::Ready(Err(Refusal::Memory)) => {
+                self.owner = Some(owner);
+                Poll::Ready(Err(Refusal::Memory))
+            }
             Poll::Ready(Err(why)) => Poll::Ready(Err(why)),
-            Poll::Ready(Ok((value, seen))) => match self.owner.take() {
-                Some(owner) => Poll::Ready(Ok((value, owner.having(seen)))),
-                None => Poll::Ready(Err(Refusal::Closed)),
-            },
+            Poll::Pending => {
+                self.owner = Some(owner);
+                Poll::Pending
+            }
         }
     }
 }
@@ -136,31 +146,41 @@ impl<T: Clone, R: Wait + Drop, N: Naming<T, TaskWaker>> Future for ToldGet<T, R,
             owner.seen.calls TryGet (Value (Some both.0)) both.1.seen.calls))
             × IfOk given (λ both. IsSomeAnd self.old.owner (λ owner.
             IsSigned owner.seen both.1.seen))) }
+        ensures closed { self.old.owner ≡ None → result ≡ Poll.Ready (Err Refusal.Closed) }
+        ensures over { IfReady result (λ given.
+            ¬ (given ≡ Err Refusal.Memory) → self.new.owner ≡ None) }
         ensures stays { OnPending result (self.new.owner ≡ self.old.owner) }
+        ensures stays_for_memory { result ≡ Poll.Ready (Err Refusal.Memory)
+            → self.new.owner ≡ self.old.owner }
         ensures registered { OnPending result (Covers cx.new (λ s. IsSomeAnd self.new.owner
             (λ owner. s ≡ owner.cell.value.source.id))) }
         ensures kept { Keeps cx.old cx.new }
         ensures refused { IfReady result FailsWithMemoryOrClosed }
     {
-        let Some(owner) = &self.owner else {
+        let Some(owner) = self.owner.take() else {
             return Poll::Ready(Err(Refusal::Closed));
         };
         let query = ToldCloning(owner.seen.again());
         let place = Some(&mut self.place);
-        match poll(
+        let polled = poll(
             &owner.cell.core,
             &owner.cell.source,
             query,
             place,
             cx,
             &owner.rt,
-        ) {
-            Poll::Pending => Poll::Pending,
+        );
+        match polled {
+            Poll::Ready(Ok((value, seen))) => Poll::Ready(Ok((value, owner.having(seen)))),
+            Poll::Ready(Err(Refusal::Memory)) => {
+                self.owner = Some(owner);
+                Poll::Ready(Err(Refusal::Memory))
+            }
             Poll::Ready(Err(why)) => Poll::Ready(Err(why)),
-            Poll::Ready(Ok((value, seen))) => match self.owner.take() {
-                Some(owner) => Poll::Ready(Ok((value, owner.having(seen)))),
-                None => Poll::Ready(Err(Refusal::Closed)),
-            },
+            Poll::Pending => {
+                self.owner = Some(owner);
+                Poll::Pending
+            }
         }
     }
 }
