@@ -62,6 +62,8 @@ impl<T: Drop, R: Wait + Copy, N: Naming<T, TaskWaker>> ToldOwner<T, R, N> {
         ensures told { OnOk result (IsTold ⟦<TaskWaker as Wakes>⟧ N.named self.old.seen.calls
             Kept.AddOwner Reply.Done self.new.seen.calls) }
         ensures signed { OnOk result (IsSigned self.old.seen self.new.seen) }
+        ensures goes_on { IsPrefix self.old.seen.calls self.new.seen.calls }
+        ensures of_this { IfOk result (λ owner. owner.cell.value ≡ self.old.cell.value) }
         ensures seen { IfOk result (λ owner. owner.seen ≡ self.new.seen) }
         ensures refused { IfErr result IsOwnerRefusal }
     {
