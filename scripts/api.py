@@ -49,6 +49,7 @@ class Item:
 
     def __init__(self, file, found, pad):
         marks, head, self.is_public, self.kind, self.name, body = found.groups("")
+        head += f"{{{body}}}" if self.kind == "use" and body else ""
         self.file, self.line = file, found.string.count("\n", 0, found.start(2)) + 1
         marks = [it.strip() for it in marks.split("\n")]
         self.docs = "\n".join(it[4:] for it in marks if it.startswith("///"))
