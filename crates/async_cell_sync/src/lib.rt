@@ -33,6 +33,9 @@ pub use owner::Owner;
 pub use reply::{Replier, Reply, reply_slot};
 pub use shared::Shared;
 pub use take::Take;
-pub use told::{Session, ToldGet, ToldOwner, ToldTake, with_told};
+pub use told::{
+    ReplySession, Session, ToldGet, ToldOwner, ToldReplier, ToldReply, ToldTake, with_told,
+    with_told_reply,
+};
 pub use weak::{GetWeak, TakeWeak, Values, Weak};
 pub use weak_owner::WeakOwner;

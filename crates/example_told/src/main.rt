@@ -1,11 +1,11 @@
-//! One thread replies and another takes, and the prover knows that what was taken is the reply.
+//! One thread replies and another waits, and the prover knows what reply it gets.
 #![tactic(auto)]
 
-ghost use Rattle.std.specs.Prelude.{◌≡◌, ⊤, None, IfOk};
-ghost use Rattle.async_cell_waiting.specs.Told.{Puts};
+ghost use Rattle.std.specs.Prelude.{◌≡◌, ℕ, IfOk};
 
 use anyhow::Result;
-use async_cell_sync::{Naming, Session, TaskWaker, ToldOwner, Witness, laws, with_told};
+use async_cell_model::Kept;
+use async_cell_sync::{Naming, ReplySession, TaskWaker, ToldReplier, ToldReply, with_told_reply};
 use futures::executor::block_on;
 use std::alloc::AllocGlobal;
 use std::io;
@@ -18,53 +18,38 @@ struct Question {
     reply: u64,
 }
 
-/// Nothing but the reply is put into the cell, so what is taken is the reply.
-impl Session for Question {
+/// Nothing but the reply is set, so what is waited for is the reply.
+impl ReplySession for Question {
     type Value = u64;
 
-    type First = ();
+    type Given = io::Result<u64>;
 
-    type Second = io::Result<u64>;
+    ghost sets = { λ question value. value ≡ question.reply };
 
-    ghost may = { λ question call. Puts (λ value. value ≡ question.reply) call };
+    ghost gives = { λ question given. IfOk given (λ value. value ≡ question.reply) };
 
-    ghost holds = { λ _. None };
-
-    ghost first_knows = { λ _ _ _. ⊤ };
-
-    ghost second_knows = { λ question taken _. IfOk taken (λ value. value ≡ question.reply) };
-
-    ghost gives = { λ question _ taken. IfOk taken (λ value. value ≡ question.reply) };
-
-    fn first<N, R>(&self, _: R, owner: &mut ToldOwner<u64, R, N>)
+    fn reply<N, R>(&self, _: R, replier: ToldReplier<u64, R, N>)
     where
         N: Naming<u64, TaskWaker> + Send + Sync,
         R: Threads + Wait + RandomSource + AllocGlobal + Copy + Send + Sync,
+        requires may { N.may (Kept.Set self.now.reply) }
     {
-        let _ = owner.set(self.reply);
+        let _ = replier.set(self.reply); // `Err`, if the other thread gave up
     }
 
-    fn second<N, R>(&self, rt: R, owner: &mut ToldOwner<u64, R, N>) -> io::Result<u64>
+    fn wait<N, R>(&self, rt: R, reply: ToldReply<u64, R, N>) -> io::Result<u64>
     where
         N: Naming<u64, TaskWaker> + Send + Sync,
         R: Threads + Wait + RandomSource + AllocGlobal + Copy + Send + Sync,
+        requires only { (value : ℕ) → N.may (Kept.Set value) → value ≡ self.now.reply }
+        ensures replied { IfOk result (λ value. value ≡ self.now.reply) }
     {
-        let (value, taker) = block_on(&rt, owner.another()?.into_take())??;
-        taker.lawful();
-        laws::a_value_is_one_that_may_be_set::<u64, TaskWaker, N>();
-        Ok(value)
+        Ok(block_on(&rt, reply)??) // `Closed`, if the replier was dropped
     }
-
-    fn join<N: Naming<u64, TaskWaker>>(
-        &self,
-        _: &(),
-        _: &io::Result<u64>,
-        _: &Witness<u64, TaskWaker, N>,
-    ) {}
 }
 
 fn main(rt: HostRuntime) -> Result<()> {
-    let ((), reply) = with_told(rt, None, &Question { reply: 42 })?;
+    let reply = with_told_reply(rt, &Question { reply: 42 })?;
     println!(rt; "the reply is {}", reply?)?;
     Ok(())
 }
