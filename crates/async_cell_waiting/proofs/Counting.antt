@@ -1,23 +1,23 @@
 -- As many values come out, are dropped or are left as were there and went in.
-use Rattle.std.proofs.Common.{◌≡◌, inl, inr, ◌+◌, ℕ, Bool, true, false, List, [], ◌∷◌, ◌++◌, Option, Some, None, refl, ap, sym, subst, ◌∙◌, arith}
-use Rattle.std.specs.Prelude.{◌≤◌, cond, if◌then◌else◌, nat_eq, option_to_list}
-use Rattle.std.specs.List.{count_by, cons_option, sum_by}
-use Rattle.std.proofs.lemmas.List.Sums.{sum_by-append, sum_by-cons}
+use Rattle.std.proofs.Common.{◌≡◌, inl, inr, ◌+◌, ℕ, Bool, true, List, [], ◌∷◌, ◌++◌, Option, Some, None, refl, ap, sym, subst, ◌∙◌, arith}
+use Rattle.std.specs.Prelude.{cond, option_to_list}
+use Rattle.std.specs.List.{count_by, cons_option}
+use Rattle.std.proofs.lemmas.List.Sums.{sum_by-append}
 use Rattle.std.specs.List.{All}
-use Rattle.std.proofs.lemmas.List.Elements.{All-head, All-tail, All-weaker}
+use Rattle.std.proofs.lemmas.List.Elements.{All-head, All-tail}
 use Rattle.async_cell_model.specs.declared.cell.Cell.{Cell}
 use Rattle.async_cell_model.specs.declared.cell.Cell.TheVariants.{Closed, Open}
 use Rattle.async_cell_model.specs.declared.entry.Entry.{Entry}
 use Rattle.async_cell_model.specs.declared.entry.Kept.{Kept}
-use Rattle.async_cell_model.specs.declared.entry.Kept.TheVariants.{Set, OrSet, Replace, Update, UpdateSome, TryTake, TryGet, IsSet, PollTake, PollGet, AddOwner, EndOwner, TakeInner}
+use Rattle.async_cell_model.specs.declared.entry.Kept.TheVariants.{Set}
 use Rattle.async_cell_model.specs.declared.refusal.Refusal.TheVariants as why
 use Rattle.async_cell_model.specs.declared.reply.Reply.{Reply}
-use Rattle.async_cell_model.specs.declared.reply.Reply.TheVariants.{Done, Value, Refused}
-use Rattle.async_cell_model.specs.Machine.{State, Exactly, FitsUpdate, content, is_memory, may_refuse, next, owners_limit, reply}
+use Rattle.async_cell_model.specs.declared.reply.Reply.TheVariants.{Refused}
+use Rattle.async_cell_model.specs.Machine.{State, Exactly, FitsUpdate, content, may_refuse, next, reply}
 use Rattle.async_cell_model.specs.History.{History, cell_after}
 use Rattle.async_cell_model.specs.Legal.{IsLegalAfterBy, MayFollowBy}
 use Rattle.async_cell_model.proofs.JoinedHistory.{cell_after-append}
-use Rattle.async_cell_waiting.specs.Told.{IsAllowed, IsNoSet, OnlyMakes, come_out, comes_out, dropped, dropped_by, goes_in, gone_in}
+use Rattle.async_cell_waiting.specs.Told.{IsAllowed, IsNoSet, come_out, comes_out, dropped, dropped_by, goes_in, gone_in}
 
 module _ {T : Type 0} (test : T → Bool) where
   abbrev count : Option T → ℕ
@@ -33,9 +33,7 @@ module _ {T W : Type 0} (test : T → Bool) where
   Balances c call answer after = count test (comes_out call answer) + count_by test (dropped_by c call) + count test (content after) ≡ count test (content c) + count test (goes_in call)
 
   replied : (c : Cell T) (call : Kept T W) → FitsUpdate c call → Balances c call (reply c call) (next c (record { call = call; reply = reply c call }))
-  replied Closed call fits = grind arith
-  replied (Open None n) call fits = grind arith
-  replied (Open (Some v) n) call fits = grind arith
+  replied c call fits = grind arith
 
   stays : (c : Cell T) (call : Kept T W) → content (next c (record { call = call; reply = Refused why.Memory None })) ≡ content c
   stays Closed call = refl
@@ -64,10 +62,7 @@ module _ {T W : Type 0} where
   drops_none c (Set x) may = absurd (may refl)
   drops_none c call may = refl
 
-  none_dropped : (c : Cell T) (h : History T W) → All (λ e. IsAllowed IsNoSet e.call) h → dropped c h ≡ []
+  -- without a `set` none is dropped
+  pub none_dropped : (c : Cell T) (h : History T W) → All (λ e. IsAllowed IsNoSet e.call) h → dropped c h ≡ []
   none_dropped c [] all = refl
   none_dropped c (e ∷ h) all = rw (drops_none c e.call (All-head (λ (x : Entry T W). IsAllowed IsNoSet x.call) e h all)) (none_dropped (next c e) h (All-tail (λ (x : Entry T W). IsAllowed IsNoSet x.call) e h all))
-
-  -- without a `set` none is dropped
-  pub drops_nothing : (may : Kept T W → Type 0) (c : Cell T) (h : History T W) → OnlyMakes may IsNoSet → All (λ e. IsAllowed may e.call) h → dropped c h ≡ []
-  drops_nothing may c h only all = none_dropped c h (All-weaker (λ (e : Entry T W). IsAllowed may e.call) (λ (e : Entry T W). IsAllowed IsNoSet e.call) (λ e allowed change. only e.call (allowed change) change) h all)

@@ -1,43 +1,33 @@
 -- What is got later follows what was got before, if each change of a full cell puts in a value that follows the one before it.
-use Rattle.std.proofs.Common.{◌≡◌, ◌⊎◌, ◌++◌, ℕ, Bool, true, false, List, [], ◌∷◌, Contains, Option, Some, None, refl, ap, sym, subst, ◌∙◌, inl, inr, append_assoc, arith}
-use Rattle.std.specs.Prelude.{⊤, if◌then◌else◌}
+use Rattle.std.proofs.Common.{rules, ◌≡◌, ◌⊎◌, ◌++◌, ℕ, Bool, List, [], ◌∷◌, Contains, Option, Some, None, refl, ap, sym, subst, ◌∙◌, inl, inr, append_assoc, arith}
+use Rattle.std.specs.Prelude.{⊤}
 use Rattle.std.specs.List.{All}
-use Rattle.std.proofs.lemmas.List.Elements.{All-head, All-tail, All-weaker, All-contains, All-contains_itself, Contains-append_left, Contains-append_right, Contains-append_cases, Contains-push, Contains-push_cases}
+use Rattle.std.proofs.lemmas.List.Elements.{All-head, All-tail, All-weaker, All-contains, All-contains_itself, Contains-append_left, Contains-append_right, Contains-append_cases, Contains-push}
 use mathlib.Core.List.{IsPrefix}
 use Rattle.async_cell_model.specs.declared.cell.Cell.{Cell}
 use Rattle.async_cell_model.specs.declared.cell.Cell.TheVariants.{Closed, Open}
 use Rattle.async_cell_model.specs.declared.entry.Entry.{Entry}
 use Rattle.async_cell_model.specs.declared.entry.Kept.{Kept}
-use Rattle.async_cell_model.specs.declared.entry.Kept.TheVariants.{Set, OrSet, Replace, Update, UpdateSome, TryTake, TryGet, IsSet, PollTake, PollGet, AddOwner, EndOwner, TakeInner}
+use Rattle.async_cell_model.specs.declared.entry.Kept.TheVariants.{Update, UpdateSome, TryGet, EndOwner}
 use Rattle.async_cell_model.specs.declared.reply.Reply.{Reply}
-use Rattle.async_cell_model.specs.declared.reply.Reply.TheVariants.{Done, Value, Is, Pending, Ready, Refused}
-use Rattle.async_cell_model.specs.Machine.{State, Exactly, IsCloned, FitsUpdate, content, next, next_open, reply, is_memory}
+use Rattle.async_cell_model.specs.declared.reply.Reply.TheVariants.{Value}
+use Rattle.async_cell_model.specs.Machine.{State, Exactly, IsCloned, FitsUpdate, content, next, next_open, is_memory}
 use Rattle.async_cell_model.specs.History.{History, cell_after, after}
 use Rattle.async_cell_model.specs.Legal.{IsExact, IsLegalAfterBy, MayFollowBy}
 use Rattle.async_cell_model.proofs.JoinedHistory.{cell_after-append}
 use Rattle.async_cell_core.specs.IsStep.{WakerRules}
 use Rattle.async_cell_waiting.specs.Told.{Begun, GoesOn, HasEntry, IsAllowed, IsLawful, IsOrSet, IsTold, IsToldUpTo, OnlyMakes, start_of}
+use Rattle.async_cell_waiting.proofs.Leading.{all_such}
+use Rattle.async_cell_waiting.proofs.PutIn.{either, full_at}
 use Rattle.async_cell_waiting.proofs.Telling.{second}
 
 -- an element of a list is its head, or one of its tail
 cases : {A : Type 0} (y : A) (ys : List A) (x : A) → Contains (y ∷ ys) x → (y ≡ x) ⊎ Contains ys x
-cases y ys x is = elim (Contains-append_cases (y ∷ []) ys x is) [
-  | inl head ↦ elim (Contains-push_cases [] y x head) [
-    | inl none ↦ absurd (omega (arith, none.1))
-    | inr same ↦ inl same
-  ]
-  | inr tail ↦ inr tail
-]
+cases y ys x is = elim (Contains-append_cases (y ∷ []) ys x is) [ inl head ↦ inl (grind arith) | inr tail ↦ inr tail ]
 
 -- what holds of each element of a list holds of each of its second part
 All-second : {A : Type 0} (P : A → Type 0) (xs ys : List A) → All P (xs ++ ys) → All P ys
 All-second P xs ys all = All-weaker (Contains ys) P (λ x is. All-contains P (xs ++ ys) x all (Contains-append_right xs ys x is)) ys (All-contains_itself ys)
-
--- a get of a value found it
-full_at : {T : Type 0} (W : Type 0) (c : Cell T) (v : T) → Value (Some v) ≡ reply {T = T} {W = W} c TryGet → content c ≡ Some v
-full_at W Closed v is = absurd (cc is)
-full_at W (Open None n) v is = absurd (cc is)
-full_at W (Open (Some x) n) v is = cc is
 
 -- what is in a history stays there
 pub stays : {T W : Type 0} (seen now : History T W) (call : Kept T W) (answer : Reply T) → IsPrefix seen now → HasEntry seen call answer → HasEntry now call answer
@@ -48,12 +38,7 @@ stays {T} {W} seen now call answer on has =
 -- where clones are exact, a get gave the machine's own reply
 own_if : {T : Type 0} (W : Type 0) (is_clone : T → T → Type 0) → IsExact is_clone → (own : Reply T) (v : T) → IsCloned {W = W} is_clone TryGet own (Value (Some v)) → own ≡ Value (Some v)
 own_if W is_clone exact (Value (Some a)) v cloned = ap (λ x. Value (Some x)) (sym (exact a v cloned))
-own_if W is_clone exact (Value None) v cloned = absurd cloned
-own_if W is_clone exact Done v cloned = absurd cloned
-own_if W is_clone exact (Is b) v cloned = absurd cloned
-own_if W is_clone exact Pending v cloned = absurd cloned
-own_if W is_clone exact (Ready r) v cloned = absurd cloned
-own_if W is_clone exact (Refused why back) v cloned = absurd cloned
+own_if W is_clone exact own v cloned = absurd cloned
 
 pub exact_get : {T W : Type 0} (is_clone : T → T → Type 0) → IsExact is_clone → (rules : WakerRules W) (named : Option (Begun T W)) (seen now : History T W) (v : T) → IsToldUpTo is_clone rules named seen TryGet (Value (Some v)) now → IsTold rules named seen TryGet (Value (Some v)) now
 exact_get {T} {W} is_clone exact rules named seen now v told =
@@ -67,19 +52,13 @@ module _ {T : Type 0} (Follows : T → T → Type 0) where
   Later x (Open None n) = ⊥
   Later x (Open (Some y) n) = Follows x y
 
-  either : (x : T) (b : Bool) (p q : Cell T) → Later x p → Later x q → Later x (if b then p else q)
-  either x true p q r s = r
-  either x false p q r s = s
-
   follows_there : (x w : T) (c : Cell T) → Later x c → content c ≡ Some w → Follows x w
-  follows_there x w Closed later is = absurd (cc is)
-  follows_there x w (Open None n) later is = absurd later
   follows_there x w (Open (Some y) n) later is = let same : y ≡ w = cc is in subst (Follows x) same later
+  follows_there x w c later is = absurd (cc is)
 
   later_here : (v : T) (c : Cell T) → Follows v v → content c ≡ Some v → Later v c
-  later_here v Closed itself is = tt
-  later_here v (Open None n) itself is = absurd (cc is)
   later_here v (Open (Some y) n) itself is = let same : v ≡ y = cc is in subst (Follows v) same itself
+  later_here v c itself is = absurd (cc is)
 
 module _ {T W : Type 0} where
   -- a value was got
@@ -88,19 +67,7 @@ module _ {T W : Type 0} where
 
   -- an `or_set` goes on
   goes_on : (Follows : T → T → Type 0) (call : Kept T W) → IsOrSet call → GoesOn Follows call
-  goes_on Follows (OrSet x) is = tt
-  goes_on Follows (Set x) is = absurd is
-  goes_on Follows (Replace x) is = absurd is
-  goes_on Follows (Update saw put) is = absurd is
-  goes_on Follows (UpdateSome saw put) is = absurd is
-  goes_on Follows TryTake is = absurd is
-  goes_on Follows TryGet is = absurd is
-  goes_on Follows IsSet is = absurd is
-  goes_on Follows (PollTake w) is = absurd is
-  goes_on Follows (PollGet w) is = absurd is
-  goes_on Follows AddOwner is = absurd is
-  goes_on Follows EndOwner is = absurd is
-  goes_on Follows TakeInner is = absurd is
+  goes_on Follows call is = search rules
 
   module _ (will_wake : W → W → Bool) (sure : Bool) (b : State T W) where
     -- a get that is legal after these calls finds its value
@@ -108,15 +75,12 @@ module _ {T W : Type 0} where
     full_if g e v may is =
         let there : MayFollowBy Exactly will_wake sure (after will_wake b g) (got v) = subst (λ x. MayFollowBy Exactly will_wake sure (after will_wake b g) x) is may in
         elim there.replied [
-          | inl same ↦ full_at W (cell_after b.cell g) v same
+          | inl same ↦ full_at W (cell_after b.cell g) v (inr same)
           | inr refused ↦ absurd (cc refused.0)
         ]
 
   module _ (Follows : T → T → Type 0) (on : (a b c : T) → Follows a b → Follows b c → Follows a c) where
     next_later : (x y : T) (n : ℕ) (call : Kept T W) → Follows x y → IsAllowed (GoesOn Follows) call → FitsUpdate (Open (Some y) n) call → Later Follows x (next_open (Some y) n call)
-    next_later x y n (Set z) follows may fits = absurd (may refl)
-    next_later x y n (OrSet z) follows may fits = follows
-    next_later x y n (Replace z) follows may fits = absurd (may refl)
     next_later x y n (Update None put) follows may fits = absurd (cc fits)
     next_later x y n (Update (Some old) None) follows may fits = absurd (may refl)
     next_later x y n (Update (Some old) (Some new)) follows may fits =
@@ -125,19 +89,13 @@ module _ {T W : Type 0} where
     next_later x y n (UpdateSome (Some old) None) follows may fits = absurd (may refl)
     next_later x y n (UpdateSome (Some old) (Some new)) follows may fits =
         let same : old ≡ y = cc (fits.0) in on x y new follows (subst (λ a. Follows a new) same (may refl))
-    next_later x y n TryTake follows may fits = absurd (may refl)
-    next_later x y n TryGet follows may fits = follows
-    next_later x y n IsSet follows may fits = follows
-    next_later x y n (PollTake w) follows may fits = absurd (may refl)
-    next_later x y n (PollGet w) follows may fits = follows
-    next_later x y n AddOwner follows may fits = follows
-    next_later x y n EndOwner follows may fits = either Follows x _ Closed (Open (Some y) _) tt follows
-    next_later x y n TakeInner follows may fits = absurd (may refl)
+    next_later x y n EndOwner follows may fits = either (Later Follows x) _ Closed (Open (Some y) _) tt follows
+    next_later x y n call follows may fits = search rules
 
     step_later : (x : T) (c : Cell T) (e : Entry T W) → Later Follows x c → IsAllowed (GoesOn Follows) e.call → FitsUpdate c e.call → Later Follows x (next c e)
     step_later x Closed e later may fits = tt
     step_later x (Open None n) e later may fits = absurd later
-    step_later x (Open (Some y) n) e later may fits = either Follows x (is_memory e.reply) (Open (Some y) n) (next_open (Some y) n e.call) later (next_later x y n e.call later may fits)
+    step_later x (Open (Some y) n) e later may fits = either (Later Follows x) (is_memory e.reply) (Open (Some y) n) (next_open (Some y) n e.call) later (next_later x y n e.call later may fits)
 
     module _ (will_wake : W → W → Bool) (sure : Bool) (b : State T W) where
       -- what is got in these calls follows what the cell held before them
@@ -173,7 +131,7 @@ module _ {T W : Type 0} (will_wake : W → W → Bool) (sure : Bool) (may : Kept
   pub all_get : (now : History T W) (v w : T) → OnlyMakes may IsOrSet → IsLawful will_wake sure may (start_of named) now → HasEntry now TryGet (Value (Some v)) → HasEntry now TryGet (Value (Some w)) → v ≡ w
   all_get now v w only lawful first other =
       alike will_wake sure (start_of named) v w [] now lawful.legal
-      (All-weaker (λ (e : Entry T W). IsAllowed may e.call) (λ (e : Entry T W). IsAllowed (GoesOn (λ (x y : T). x ≡ y)) e.call) (λ e allowed change. goes_on (λ (x y : T). x ≡ y) e.call (only e.call (allowed change) change)) now lawful.allowed) first.there other.there
+      (all_such may (GoesOn (λ (x y : T). x ≡ y)) (λ call is change. goes_on (λ (x y : T). x ≡ y) call (only call is change)) now lawful.allowed) first.there other.there
 
 module _ {T W : Type 0} (rules : WakerRules W) (may : Kept T W → Type 0) (named : Option (Begun T W)) where
   -- what was told is in the history
@@ -194,9 +152,9 @@ module _ {T W : Type 0} (rules : WakerRules W) (may : Kept T W → Type 0) (name
       let legal = second rules.will_wake rules.SURE_CLONE start [] begins rest (subst (λ (h : History T W). IsLegalAfterBy Exactly rules.will_wake rules.SURE_CLONE start [] h) whole lawful.legal) in
       let all : All (λ e. IsAllowed may e.call) rest = All-second (λ (e : Entry T W). IsAllowed may e.call) begins rest (subst (λ (h : History T W). All (λ e. IsAllowed may e.call) h) whole lawful.allowed) in
       let here : content (cell_after start.cell begins) ≡ Some v = elim before.does.replied [
-        | inl same ↦ full_at W (cell_after start.cell begins) v same
+        | inl same ↦ full_at W (cell_after start.cell begins) v (inr same)
         | inr refused ↦ absurd (cc refused.0)
       ] in
       got_later Follows on rules.will_wake rules.SURE_CLONE start v w begins rest (later_here Follows v (cell_after start.cell begins) (itself v) here) legal
-      (All-weaker (λ (e : Entry T W). IsAllowed may e.call) (λ (e : Entry T W). IsAllowed (GoesOn Follows) e.call) (λ e allowed change. only e.call (allowed change) change) rest all)
+      (all_such may (GoesOn Follows) only rest all)
       (Contains-append_right (got v ∷ leads.0) (told.goes_on.0 ++ got w ∷ []) (got w) (Contains-push told.goes_on.0 (got w)))

@@ -1,20 +1,17 @@
 -- What one more call makes of a past that leads to a core.
 use Rattle.std.proofs.Common.{◌≡◌, Bool, List, [], ◌∷◌, ◌++◌, refl}
 use Rattle.async_cell_model.specs.declared.entry.Entry.{Entry}
-use Rattle.async_cell_model.specs.Machine.{State, IsSound, Does}
+use Rattle.async_cell_model.specs.Machine.{State, Does}
 use Rattle.async_cell_model.specs.History.{History}
 use Rattle.async_cell_model.specs.Legal.{IsLegal, Runs, wakes_after}
-use Rattle.async_cell_model.proofs.LegalHistories.{Runs-join, Runs-nil}
+use Rattle.async_cell_model.proofs.LegalHistories.{Runs-join}
 use Rattle.async_cell_model.proofs.Machine.{model_of}
-use Rattle.async_cell_waiting.specs.Told.{Past, Leads, IsAllowed, IsLawful}
-use Rattle.std.proofs.lemmas.List.Elements.{All-append, All-cons, All-nil}
+use Rattle.async_cell_waiting.specs.Told.{Past, Leads, IsAllowed, IsLawful, OnlyMakes}
+use Rattle.std.specs.List.{All}
+use Rattle.std.proofs.lemmas.List.Elements.{All-append, All-cons, All-nil, All-weaker}
 use Rattle.async_cell_model.specs.declared.entry.Kept.{Kept}
 
 module _ {T W : Type 0} (will_wake : W → W → Bool) (sure : Bool) where
-  -- no calls lead to the first state
-  pub leads_start : (past : Past T W) (core : State T W) → past.calls ≡ [] → past.begun.start ≡ core → IsSound will_wake core → Leads will_wake sure past core
-  leads_start past core empty first sound = rw (empty, first) (Runs-nil will_wake sure core sound)
-
   -- the calls that are one more lead to the state after it
   pub leads_more : (past now : Past T W) (from to : State T W) (e : Entry T W) (woken : List W) → Leads will_wake sure past from → Does will_wake sure from e woken to → now.begun ≡ past.begun → now.calls ≡ past.calls ++ e ∷ [] → Leads will_wake sure now to
   leads_more past now from to e woken led does begun calls =
@@ -29,11 +26,6 @@ module _ {T W : Type 0} (will_wake : W → W → Bool) (sure : Bool) where
       } in
       rw (begun, calls) longer
 
-  -- and they are legal
-  pub legal_more : (past : Past T W) (from to : State T W) (e : Entry T W) (woken : List W) → Leads will_wake sure past from → Does will_wake sure from e woken to → IsLegal will_wake sure past.begun.start (past.calls ++ e ∷ [])
-  legal_more past from to e woken led does =
-      (leads_more past (record { begun = past.begun; calls = past.calls ++ e ∷ []; authors = past.authors; hand = past.hand }) from to e woken led does refl refl).legal
-
 module _ {T W : Type 0} (may : Kept T W → Type 0) where
   -- lawful calls, and one more that is legal and allowed
   pub lawful_more : (will_wake : W → W → Bool) (sure : Bool) (start : State T W) (h : History T W) (e : Entry T W) → IsLawful will_wake sure may start h → IsLegal will_wake sure start (h ++ e ∷ []) → IsAllowed may e.call → IsLawful will_wake sure may start (h ++ e ∷ [])
@@ -41,3 +33,7 @@ module _ {T W : Type 0} (may : Kept T W → Type 0) where
     legal = legal;
     allowed = All-append (λ x. IsAllowed may x.call) h (e ∷ []) lawful.allowed (All-cons (λ x. IsAllowed may x.call) e [] allowed (All-nil (λ x. IsAllowed may x.call)));
   }
+
+  -- where only such changes may be made, all are such
+  pub all_such : (Such : Kept T W → Type 0) → OnlyMakes may Such → (h : History T W) → All (λ e. IsAllowed may e.call) h → All (λ e. IsAllowed Such e.call) h
+  all_such Such only h all = All-weaker (λ (e : Entry T W). IsAllowed may e.call) (λ (e : Entry T W). IsAllowed Such e.call) (λ e allowed change. only e.call (allowed change) change) h all

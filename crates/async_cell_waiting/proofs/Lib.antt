@@ -1,10 +1,8 @@
 pub mod Counting
-pub mod Entered
 pub mod Found
 pub mod GoingOn
 pub mod Leading
 pub mod PutIn
-pub mod Setting
 pub mod Signing
 pub mod Telling
 pub mod TwoTakers

@@ -1,7 +1,7 @@
 -- Who made the calls of a history.
-use Rattle.std.proofs.Common.{◌≡◌, Bool, List, [], ◌∷◌, ◌++◌, map, length, ap, sym, ◌∙◌}
+use Rattle.std.proofs.Common.{◌≡◌, Bool, List, [], ◌∷◌, ◌++◌, map, ap, sym, ◌∙◌}
 use mathlib.Core.List.{IsPrefix}
-use Rattle.std.proofs.lemmas.List.{map-append, length-map}
+use Rattle.std.proofs.lemmas.List.{map-append}
 use Rattle.async_cell_model.specs.declared.entry.Kept.{Kept}
 use Rattle.async_cell_model.specs.declared.reply.Reply.{Reply}
 use Rattle.async_cell_waiting.specs.Told.{Desk, Made, Seen, IsSigned}
@@ -14,10 +14,6 @@ module _ {A B : Type 0} (f : A → B) where
   -- one more element
   pub map_more : (xs ys : List A) (x : A) → ys ≡ xs ++ x ∷ [] → map f ys ≡ map f xs ++ f x ∷ []
   map_more xs ys x is = ap (map f) is ∙ map-append f xs (x ∷ [])
-
--- as many authors as calls
-pub as_many : {A B C : Type 0} (f : A → B) (g : A → C) (xs : List A) → length (map f xs) ≡ length (map g xs)
-as_many f g xs = length-map xs f ∙ sym (length-map xs g)
 
 -- who had seen the past before a call that it signed, and has seen the past after it
 pub signed_of : {T W : Type 0} {will_wake : W → W → Bool} {sure : Bool} {call : Kept T W} {reply : Reply T} (old new : Desk T W) (seen now : Seen T W) → Made will_wake sure old call reply new → IsPrefix seen.authors old.past.authors → old.past.hand ≡ seen.author → now.authors ≡ new.past.authors → now.author ≡ seen.author → IsSigned seen now

@@ -1,5 +1,5 @@
 -- What a thread knows after a call that it was told of.
-use Rattle.std.proofs.Common.{◌≡◌, ℕ, Bool, [], ◌∷◌, ◌++◌, Option, Some, None, IsSome, refl, ap, sym, subst, ◌∙◌, append-nil, append_assoc, arith}
+use Rattle.std.proofs.Common.{◌≡◌, Bool, [], ◌∷◌, ◌++◌, Option, refl, ap, sym, subst, ◌∙◌, append-nil, append_assoc, arith}
 use mathlib.Core.List.{IsPrefix}
 use Rattle.async_cell_model.specs.declared.entry.Entry.{Entry}
 use Rattle.async_cell_model.specs.declared.entry.Kept.{Kept}
@@ -12,29 +12,8 @@ use Rattle.async_cell_model.proofs.JoinedHistory.{after-append}
 use Rattle.async_cell_model.proofs.Machine.{machine_of}
 use Rattle.async_cell_model.proofs.Whole.{after-nil, IsSound-after}
 use Rattle.async_cell_core.specs.IsStep.{WakerRules}
-use Rattle.async_cell_waiting.specs.Told.{Begun, Desk, Fits, Leads, Made, IsTold, start_of}
+use Rattle.async_cell_waiting.specs.Told.{Begun, Desk, Leads, Made, IsTold, start_of}
 use Rattle.async_cell_waiting.proofs.Leading.{leads_more}
-
-module _ {T W : Type 0} where
-  -- a named cell began as its name says
-  pub began : (named : Option (Begun T W)) (begun : Begun T W) → IsSome named → Fits named begun → begun.start ≡ start_of named
-  began None begun there fits = absurd (cc there)
-  began (Some it) begun there fits = ap (λ b. b.start) fits
-
-  -- what has a name fits it
-  pub fits : (named : Option (Begun T W)) (begun : Begun T W) → named ≡ Some begun → Fits named begun
-  fits None begun is = absurd (cc is)
-  fits (Some it) begun is = cc is
-
-  -- what fits a name has it
-  pub named : (o : Option (Begun T W)) (begun : Begun T W) → IsSome o → Fits o begun → o ≡ Some (record { name = begun.name; start = start_of o })
-  named None begun there fits = absurd (cc there)
-  named (Some it) begun there fits = ap (λ b. Some (record { name = b.name; start = it.start })) (sym fits)
-
-  -- a list that is of the name, and one that fits it, are one
-  pub same_name : (named : Option (Begun T W)) (begun : Begun T W) (name : ℕ) (start : State T W) → named ≡ Some (record { name = name; start = start }) → Fits named begun → name ≡ begun.name
-  same_name None begun name start is fits = absurd (cc is)
-  same_name (Some it) begun name start is fits = cc (is, fits)
 
 module _ {T W : Type 0} (will_wake : W → W → Bool) (sure : Bool) where
   -- the second part of legal calls is legal after the first

@@ -1,13 +1,13 @@
 -- Two takes that two authors signed are two places of the history, so they give two of the values put in.
-use Rattle.std.proofs.Common.{◌≡◌, ◌≢◌, ◌⊎◌, inl, inr, ◌≤◌, ℕ, zero, suc, Bool, true, false, List, [], ◌∷◌, ◌++◌, length, Option, Some, None, refl, ap, sym, subst, ◌∙◌, arith, append-nil, append_assoc}
+use Rattle.std.proofs.Common.{◌≡◌, ◌≢◌, ◌⊎◌, inl, inr, ◌≤◌, ℕ, suc, Bool, false, List, [], ◌∷◌, ◌++◌, length, Option, Some, None, refl, ap, sym, subst, ◌∙◌, arith, append-nil, append_assoc}
 use Rattle.std.specs.Prelude.{option_to_list, AllPairs}
 use Rattle.std.specs.List.{All}
 use mathlib.Core.List.{IsPrefix}
 use Rattle.std.proofs.lemmas.List.{length-append}
-use Rattle.std.proofs.lemmas.List.Elements.{All-head, All-tail, All-weaker, filter_map-append}
+use Rattle.std.proofs.lemmas.List.Elements.{All-head, All-tail, filter_map-append}
 use Rattle.async_cell_model.specs.declared.entry.Entry.{Entry}
 use Rattle.async_cell_model.specs.declared.entry.Kept.{Kept}
-use Rattle.async_cell_model.specs.declared.entry.Kept.TheVariants.{Set, OrSet, Replace, Update, UpdateSome, TryTake, TryGet, IsSet, PollTake, PollGet, AddOwner, EndOwner, TakeInner}
+use Rattle.async_cell_model.specs.declared.entry.Kept.TheVariants.{TryTake}
 use Rattle.async_cell_model.specs.declared.reply.Reply.TheVariants.{Value}
 use Rattle.async_cell_model.specs.Machine.{State, content}
 use Rattle.async_cell_model.specs.History.{History}
@@ -16,6 +16,7 @@ use Rattle.async_cell_model.proofs.Exact.{NoClone, legal_of_exact}
 use Rattle.async_cell_model.proofs.Once.{IsSubsequence-same, IsSubsequence-nil, IsSubsequence-trans, IsSubsequence-append, pairs_of_subsequence, given_in_order}
 use Rattle.async_cell_core.specs.IsStep.{WakerRules}
 use Rattle.async_cell_waiting.specs.Told.{Begun, Seen, IsAllowed, IsLawful, IsTake, OnlyMakes, IsTold, IsSigned, Took}
+use Rattle.async_cell_waiting.proofs.Leading.{all_such}
 use Rattle.ghost_log.proofs.Steps.{shorter_begins}
 
 module _ {A : Type 0} where
@@ -50,13 +51,7 @@ module _ {A : Type 0} where
   apart v w vs distinct sub = pairs_of_subsequence (λ x y. x ≢ y) (v ∷ w ∷ []) vs sub distinct 0 1 v (omega arith) (omega arith)
 
 order : (m n : ℕ) → (m ≡ n) ⊎ ((suc m ≤ n) ⊎ (suc n ≤ m))
-order zero zero = inl refl
-order zero (suc n) = inr (inl (omega arith))
-order (suc m) zero = inr (inr (omega arith))
-order (suc m) (suc n) = elim (order m n) [
-  | inl is ↦ inl (ap suc is)
-  | inr other ↦ elim other [ inl less ↦ inr (inl (omega (arith, less))) | inr more ↦ inr (inr (omega (arith, more))) ]
-]
+order m n = grind arith
 
 module _ {T W : Type 0} where
   abbrev take : T → Entry T W
@@ -103,8 +98,7 @@ module _ {T W : Type 0} where
 
 -- no two values stand in a list of one
 no_pairs : {T : Type 0} (o : Option T) → AllPairs (λ x y. ⊥) (option_to_list o ++ [])
-no_pairs None i j d less more = absurd (omega (arith, less, more))
-no_pairs (Some x) i j d less more = absurd (omega (arith, less, more))
+no_pairs o i j d less more = grind arith
 
 one_alone : {T : Type 0} (o : Option T) (v w : T) → IsSubsequence (v ∷ w ∷ []) (option_to_list o ++ []) → ⊥
 one_alone o v w sub = pairs_of_subsequence (λ x y. ⊥) (v ∷ w ∷ []) (option_to_list o ++ []) sub (no_pairs o) 0 1 v (omega arith) (omega arith)
@@ -112,19 +106,7 @@ one_alone o v w sub = pairs_of_subsequence (λ x y. ⊥) (v ∷ w ∷ []) (optio
 module _ {T W : Type 0} where
   -- a take puts nothing in
   puts_none : (call : Kept T W) → IsAllowed IsTake call → (put_by call ≡ None) × (is_update call ≡ false)
-  puts_none (Set x) may = absurd (may refl)
-  puts_none (OrSet x) may = absurd (may refl)
-  puts_none (Replace x) may = absurd (may refl)
-  puts_none (Update saw put) may = absurd (may refl)
-  puts_none (UpdateSome saw put) may = absurd (may refl)
-  puts_none TryTake may = (refl, refl)
-  puts_none TryGet may = (refl, refl)
-  puts_none IsSet may = (refl, refl)
-  puts_none (PollTake w) may = (refl, refl)
-  puts_none (PollGet w) may = (refl, refl)
-  puts_none AddOwner may = (refl, refl)
-  puts_none EndOwner may = (refl, refl)
-  puts_none TakeInner may = (refl, refl)
+  puts_none call may = grind arith
 
   none_put : (h : History T W) → All (λ e. IsAllowed IsTake e.call) h → (put_in h ≡ []) × (has_update h ≡ false)
   none_put [] all = (refl, refl)
@@ -136,7 +118,7 @@ module _ {T W : Type 0} where
   -- where all only take, one at most takes a value
   pub one_takes : (will_wake : W → W → Bool) (sure : Bool) (may : Kept T W → Type 0) (start : State T W) (all : Seen T W) (m n : ℕ) (v w : T) → OnlyMakes may IsTake → IsLawful will_wake sure may start all.calls → Took m v all → Took n w all → m ≡ n
   one_takes will_wake sure may start all m n v w only lawful one other =
-      let none = none_put all.calls (All-weaker (λ (e : Entry T W). IsAllowed may e.call) (λ (e : Entry T W). IsAllowed IsTake e.call) (λ e allowed change. only e.call (allowed change) change) all.calls lawful.allowed) in
+      let none = none_put all.calls (all_such may IsTake only all.calls lawful.allowed) in
       let alone : (x y : T) → IsSubsequence (x ∷ y ∷ []) (option_to_list (content start.cell) ++ put_in all.calls) → ⊥ =
       λ x y sub. one_alone (content start.cell) x y (subst (λ (l : List T). IsSubsequence (x ∷ y ∷ []) (option_to_list (content start.cell) ++ l)) none.0 sub) in
       let two : (m ≢ n) → ⊥ = λ differ. elim (two_put will_wake sure may start all m n v w lawful none.1 one other differ) [ inl sub ↦ alone v w sub | inr sub ↦ alone w v sub ] in

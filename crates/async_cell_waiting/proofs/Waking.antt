@@ -1,7 +1,6 @@
 -- No waiting poll is forgotten: its waker waits at the end of the history, or the first fill or close after it wakes it.
-use Rattle.std.proofs.Common.{◌≡◌, ℕ, Bool, true, false, List, [], ◌∷◌, ◌++◌, inl, inr, Option, Some, None, refl, ap, sym, subst, ◌∙◌, arith}
+use Rattle.std.proofs.Common.{◌≡◌, Bool, true, false, List, [], ◌∷◌, ◌++◌, Option, refl, ap, sym, subst, ◌∙◌, arith}
 use Rattle.async_cell_model.specs.declared.cell.Cell.{Cell}
-use Rattle.async_cell_model.specs.declared.cell.Cell.TheVariants.{Closed, Open}
 use Rattle.async_cell_model.specs.declared.entry.Entry.{Entry}
 use Rattle.async_cell_model.specs.declared.entry.Kept.{Kept}
 use Rattle.async_cell_model.specs.declared.entry.Kept.TheVariants.{Set}
@@ -35,14 +34,11 @@ wakes {T} {W} rules may named seen now call reply w told lawful waits ends =
 
 -- a `set` fills a vacant cell
 fills : {T : Type 0} (W : Type 0) (c : Cell T) (v : T) → is_vacant c ≡ true → ends_waiting c (next {T = T} {W = W} c (record { call = Set v; reply = Done })) ≡ true
-fills W Closed v vacant = absurd (cc vacant)
-fills W (Open None n) v vacant = refl
-fills W (Open (Some x) n) v vacant = absurd (cc vacant)
+fills W c v vacant = grind arith
 
 -- nobody waits in an empty list
 none_covered : {W : Type 0} (will_wake : W → W → Bool) (w : W) → IsCovered will_wake [] w → ⊥
-none_covered will_wake w (inl is) = absurd (omega (arith, is.1))
-none_covered will_wake w (inr is) = absurd (cc is)
+none_covered will_wake w is = grind arith
 
 -- who waits at a cell waits at a vacant one
 vacant_if : {T W : Type 0} (will_wake : W → W → Bool) (at : State T W) (w : W) (b : Bool) → is_vacant at.cell ≡ b → IsSound will_wake at → IsCovered will_wake at.waiting w → b ≡ true

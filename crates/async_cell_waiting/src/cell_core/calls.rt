@@ -48,7 +48,6 @@ impl<T: Drop, W: Wakes> CellCore<T, W> {
 impl<T: Drop, W: Wakes, N: Naming<T, W>> CellCore<T, W, N> {
     /// Wraps the core, which begins its history.
     #[inline(always)]
-    #[tactic(auto, using(crate::proofs::Leading::leads_start))]
     pub fn begin(core: Core<T, W>, opened: Opened<T, W>) -> Self
         requires named { Fits N.named opened }
         requires begins { opened.start ≡ core }
@@ -238,7 +237,6 @@ impl<T: Drop, W: Wakes, N: Naming<T, W>> CellCore<T, W, N> {
 
     /// `replace`, entered as a `set`.
     #[inline(always)]
-    #[tactic(auto, using(crate::proofs::Setting::set_does, crate::proofs::Entered::made_set))]
     pub(crate) fn set(&mut self, value: T) -> Held<Result<Option<T>, T>, Option<Wakers<W>>>
         requires may { N.may (Kept.Set value) }
         ensures comes_back { IfErr result.answer (λ back. back ≡ value) }
@@ -328,7 +326,6 @@ impl<T: Drop, W: Wakes, N: Naming<T, W>> CellCore<T, W, N> {
 
     /// `try_get`, which is entered.
     #[inline(always)]
-    #[tactic(auto, using(crate::proofs::Setting::get_does))]
     pub(crate) fn get(&mut self) -> Held<Result<Option<T>, Refusal>>
     where
         T: Clone,
@@ -456,7 +453,6 @@ impl<T: Drop, W: Wakes, N: Naming<T, W>> CellCore<T, W, N> {
     }
 
     #[inline(always)]
-    #[tactic(auto, using(crate::proofs::Entered::made_end))]
     pub(crate) fn end_owner(&mut self) -> Held<Result<Option<T>, Refusal>, Option<Wakers<W>>>
         ensures refused { FailsWithClosed result.answer }
         ensures made { Made W.will_wake W.SURE_CLONE self.old
@@ -469,7 +465,6 @@ impl<T: Drop, W: Wakes, N: Naming<T, W>> CellCore<T, W, N> {
     }
 
     #[inline(always)]
-    #[tactic(auto, using(crate::proofs::Entered::made_end))]
     pub(crate) fn take_inner(&mut self) -> Held<Result<Option<T>, Refusal>, Option<Wakers<W>>>
         requires may { N.may Kept.TakeInner }
         ensures refused { IfErr result.answer (λ why.

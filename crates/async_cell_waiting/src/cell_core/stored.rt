@@ -224,7 +224,6 @@ impl<M: Stores<Core = CellCore<T, W>>, T: Drop, W: Wakes> StoredCore<M> {
 impl<M: Stores<Core = CellCore<T, W, N>>, T: Drop, W: Wakes, N: Naming<T, W>> StoredCore<M> {
     /// Stores the core, which begins its history, and makes the first witness of it.
     #[doc(hidden)]
-    #[tactic(auto, using(crate::proofs::Telling::fits))]
     pub fn named(core: Core<T, W>, opened: Opened<T, W>) -> (Self, Witness<T, W, N>)
         requires named { N.named ≡ Some opened }
         requires begins { opened.start ≡ core }

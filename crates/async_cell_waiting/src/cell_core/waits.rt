@@ -67,7 +67,6 @@ impl<T: Drop, N: Naming<T, TaskWaker>> Query<CellCore<T, TaskWaker, N>> for Told
     }
 
     #[inline(always)]
-    #[tactic(auto, using(crate::proofs::Telling::told_of))]
     fn answer(
         self,
         core: &mut CellCore<T, TaskWaker, N>,
@@ -99,7 +98,6 @@ impl<T: Clone, N: Naming<T, TaskWaker>> Query<CellCore<T, TaskWaker, N>> for Tol
     }
 
     #[inline(always)]
-    #[tactic(auto, using(crate::proofs::Telling::told_of))]
     fn answer(
         self,
         core: &mut CellCore<T, TaskWaker, N>,

@@ -107,7 +107,6 @@ impl<T: Drop, W: Wakes, N: Naming<T, W>> Witness<T, W, N> {
     }
 
     /// Returns a clone of the value, if there is one. Fails with `Memory` if the clone fails.
-    #[tactic(auto, using(crate::proofs::Found::told_got))]
     pub fn try_get<'a, M: Stores<Core = CellCore<T, W, N>>, R: Opens<'a, M>>(
         &mut self,
         cell: &'a StoredCore<M>,

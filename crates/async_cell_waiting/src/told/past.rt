@@ -131,7 +131,6 @@ impl<C, T, W: Wakes> Asked<C, T, W> {
     /// Adds the call at the end of the past, as `M` enters it: it returned this, and left this
     /// core.
     #[inline(always)]
-    #[tactic(auto, using(crate::proofs::Signing::map_more))]
     pub(crate) fn enter<N: Naming<T, W>, M: Enters<C, A, T, W>, A>(
         &self,
         past: &mut Past<T, W, N>,

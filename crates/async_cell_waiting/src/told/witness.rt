@@ -35,7 +35,6 @@ impl<T, W: Wakes, N: Naming<T, W>> Model for Witness<T, W, N> {
 
 impl<T, W: Wakes, N: Naming<T, W>> Witness<T, W, N> {
     /// Makes a witness that has seen the whole history. It signs as nobody.
-    #[tactic(auto, using(crate::proofs::Telling::named))]
     pub(crate) fn of(past: &Past<T, W, N>) -> Self
         requires { IsSome N.named }
         ensures calls { result.calls ≡ past.now.calls }
@@ -51,7 +50,6 @@ impl<T, W: Wakes, N: Naming<T, W>> Witness<T, W, N> {
 
     /// Sees the whole history. What was seen before begins it.
     #[inline(always)]
-    #[tactic(auto, using(crate::proofs::Telling::same_name, crate::proofs::Telling::began, crate::proofs::Signing::begins_map))]
     pub(crate) fn learn(&mut self, past: &Past<T, W, N>)
         ensures calls { self.new.calls ≡ past.now.calls }
         ensures authors { self.new.authors ≡ past.now.authors }
@@ -96,7 +94,6 @@ impl<T, W: Wakes, N: Naming<T, W>> Witness<T, W, N> {
 
     /// Ensures what holds of all that was seen: its calls are legal, its changes may be made, and
     /// each call has one author.
-    #[tactic(auto, using(crate::proofs::Signing::as_many))]
     pub fn lawful(&self)
         ensures lawful { IsLawful W.will_wake W.SURE_CLONE N.may (start_of N.named) self.now.calls }
         ensures as_many { length self.now.authors ≡ length self.now.calls }
