@@ -1,8 +1,9 @@
 //! Two owners of one cell, which sign with two numbers, take two values.
-ghost use Rattle.std.specs.Prelude.{◌≡◌, ◌≢◌, ◌++◌, ⊤, false, IfSome, option_to_list};
+ghost use Rattle.std.specs.Prelude.{◌≡◌, ◌≢◌, ◌+◌, ◌++◌, ℕ, Bool, ⊤, false, IfSome, option_to_list};
+ghost use Rattle.std.specs.List.{count_by};
 ghost use Rattle.async_cell_model.specs.Machine.{content};
 ghost use Rattle.async_cell_model.specs.Taken.{IsDistinct, has_update, put_in};
-ghost use Rattle.async_cell_waiting.specs.Told.{start_of};
+ghost use Rattle.async_cell_waiting.specs.Told.{come_out, dropped, gone_in, start_of};
 
 use async_cell_model::Kept;
 use async_cell_sync::{
@@ -41,6 +42,23 @@ fn two_take<N: Naming<u64, TaskWaker>, R: Wait + Copy>(
     laws::a_told_take_is_of_its_author::<u64, TaskWaker, N>();
     laws::two_takers_take_two_values::<u64, TaskWaker, N>();
     Some((first, second))
+}
+
+/// Takes the value, if there is one. All that went in so far has then come out, or was dropped.
+fn take_last<N: Naming<u64, TaskWaker>, R: Wait + Copy>(
+    owner: &mut ToldOwner<u64, R, N>,
+) -> Option<u64>
+    requires may { N.may Kept.TryTake }
+    ensures none_left { (is_counted : ℕ → Bool)
+        → count_by is_counted (come_out owner.new.seen.calls)
+        + count_by is_counted (dropped (start_of N.named).cell owner.new.seen.calls)
+        ≡ count_by is_counted (option_to_list (content (start_of N.named).cell))
+        + count_by is_counted (gone_in owner.new.seen.calls) }
+{
+    let last = owner.try_take();
+    owner.lawful();
+    laws::as_many_come_out_or_are_left_as_went_in::<u64, TaskWaker, N>();
+    last
 }
 
 /// A session, of which one thread has both owners.
@@ -82,6 +100,7 @@ impl Session for Takers {
         R: Threads + Wait + RandomSource + AllocGlobal + Copy + Send + Sync,
     {
         let _ = owner.set(2);
+        let _ = take_last(owner);
     }
 
     fn join<N: Naming<u64, TaskWaker>>(
