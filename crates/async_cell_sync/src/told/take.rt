@@ -4,6 +4,7 @@ ghost use Rattle.futures.specs.Poll.{IfReady, OnPending};
 ghost use Rattle.futures.specs.Task.{Covers, Keeps};
 ghost use Rattle.async_cell_model.specs.Refusal.{FailsWithMemoryOrClosed};
 ghost use Rattle.async_cell_model.specs.declared.entry.Kept.TheVariants.{TryTake, TryGet};
+ghost use Rattle.async_cell_model.specs.declared.refusal.Refusal.TheVariants.{Closed};
 ghost use Rattle.async_cell_model.specs.declared.reply.Reply.TheVariants.{Value};
 ghost use Rattle.async_cell_waiting.specs.Told.{IsSigned, IsTold, IsToldUpTo};
 
@@ -55,7 +56,9 @@ impl<T: Drop, R: Wait + Drop, N: Naming<T, TaskWaker>> Future for ToldTake<T, R,
 
     ghost needs = { λ future s. IsSomeAnd future.owner (λ owner. s ≡ owner.cell.value.source.id) };
 
-    ghost gives = { λ future given. IfOk given (λ both. IsSomeAnd future.owner (λ owner.
+    ghost gives = { λ future given. FailsWithMemoryOrClosed given
+        × (future.owner ≡ None → given ≡ Err Closed)
+        × IfOk given (λ both. IsSomeAnd future.owner (λ owner.
         IsTold ⟦<TaskWaker as Wakes>⟧ N.named owner.seen.calls TryTake
         (Value (Some both.0)) both.1.seen.calls))
         × IfOk given (λ both. IsSomeAnd future.owner (λ owner.
@@ -134,7 +137,9 @@ impl<T: Clone, R: Wait + Drop, N: Naming<T, TaskWaker>> Future for ToldGet<T, R,
 
     ghost needs = { λ future s. IsSomeAnd future.owner (λ owner. s ≡ owner.cell.value.source.id) };
 
-    ghost gives = { λ future given. IfOk given (λ both. IsSomeAnd future.owner (λ owner.
+    ghost gives = { λ future given. FailsWithMemoryOrClosed given
+        × (future.owner ≡ None → given ≡ Err Closed)
+        × IfOk given (λ both. IsSomeAnd future.owner (λ owner.
         IsToldUpTo T.is_clone ⟦<TaskWaker as Wakes>⟧ N.named owner.seen.calls TryGet
         (Value (Some both.0)) both.1.seen.calls))
         × IfOk given (λ both. IsSomeAnd future.owner (λ owner.
