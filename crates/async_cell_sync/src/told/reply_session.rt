@@ -15,8 +15,8 @@ use std::random::RandomSource;
 use std::sync::Wait;
 use std::thread::{Threads, join};
 
-/// What two threads do with a told reply slot: one replies, and one waits. An impl writes the clauses
-/// of its methods, as the prover does not yet take over those of a parameter that comes by value.
+/// What two threads do with a told reply slot: one replies, and one waits. An impl writes its
+/// clauses, since the prover does not yet take over those of a method that gets a side by value.
 pub trait ReplySession {
     /// The type of the reply.
     type Value: Drop;
