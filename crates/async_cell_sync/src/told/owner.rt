@@ -1,4 +1,4 @@
-ghost use Rattle.std.specs.Prelude.{◌≡◌, [], Some, IfOk, IfErr, OnOk, length};
+ghost use Rattle.std.specs.Prelude.{◌≡◌, [], Some, None, IfOk, IfErr, OnOk, length};
 ghost use mathlib.Core.List.{IsPrefix};
 ghost use Rattle.async_cell_model.specs.Refusal.{FailsWithMemory, IsOwnerRefusal};
 ghost use Rattle.async_cell_waiting.specs.Told.{IsLawful, IsSigned, IsTold, start_of};
@@ -62,6 +62,9 @@ impl<T: Drop, R: Wait + Copy, N: Naming<T, TaskWaker>> ToldOwner<T, R, N> {
         ensures told { OnOk result (IsTold ⟦<TaskWaker as Wakes>⟧ N.named self.old.seen.calls
             Kept.AddOwner Reply.Done self.new.seen.calls) }
         ensures signed { OnOk result (IsSigned self.old.seen self.new.seen) }
+        ensures told_refused { IfErr result (λ why. ¬ (why ≡ Refusal.Memory)
+            → IsTold ⟦<TaskWaker as Wakes>⟧ N.named self.old.seen.calls
+            Kept.AddOwner (Reply.Refused why None) self.new.seen.calls) }
         ensures goes_on { IsPrefix self.old.seen.calls self.new.seen.calls }
         ensures of_this { IfOk result (λ owner. owner.cell.value ≡ self.old.cell.value) }
         ensures seen { IfOk result (λ owner. owner.seen ≡ self.new.seen) }
