@@ -11,7 +11,7 @@ use Rattle.async_cell_model.specs.declared.refusal.Refusal.{Refusal}
 use Rattle.async_cell_model.specs.declared.refusal.Refusal.TheVariants as why
 use Rattle.async_cell_model.specs.declared.reply.Reply.{Reply}
 use Rattle.async_cell_model.specs.declared.reply.Reply.TheVariants as reply
-use Rattle.async_cell_model.specs.Machine.{State, Does, UpToClones, content, next, pending_waker}
+use Rattle.async_cell_model.specs.Machine.{State, Does, UpToClones, content, is_closed, next, pending_waker}
 use Rattle.async_cell_model.specs.History.{History, after, cell_after, has_fill_or_close}
 use Rattle.async_cell_model.specs.Legal.{IsLegal, Runs, wakes_after}
 use Rattle.async_cell_model.specs.Taken.{put_by}
@@ -140,6 +140,14 @@ pub record IsSigned {T W : Type 0} (seen now : Seen T W) : Type 0 where
   pub goes_on : IsPrefix seen.authors before
   pub ends : now.authors ≡ before ++ seen.author ∷ []
   pub stays : now.author ≡ seen.author
+
+-- What was seen has gone on, and the cell is closed after it.
+pub record IsToldClosed {T W : Type 0} (named : Option (Begun T W)) (seen now : Seen T W)
+    : Type 0 where
+  pub goes_on : IsPrefix seen.calls now.calls
+  pub authors_go_on : IsPrefix seen.authors now.authors
+  pub stays : now.author ≡ seen.author
+  pub closed : is_closed (cell_after (start_of named).cell now.calls) ≡ true
 
 -- In all that was seen, a `try_take` that this author signed took this value, at some place.
 pub record Took {T W : Type 0} (author : ℕ) (value : T) (seen : Seen T W) : Type 0 where

@@ -1,7 +1,7 @@
 //! The calls of an owner that is told. Each differs from that of an `Owner` in what it tells alone.
 ghost use Rattle.std.specs.Prelude.{◌≡◌, Option, Some, None, IfErr, IfSome, IsSomeAnd, OnErr, OnOk};
 ghost use Rattle.async_cell_model.specs.Refusal.{FailsWithClosed, FailsWithMemory};
-ghost use Rattle.async_cell_waiting.specs.Told.{IsSigned, IsTold, IsToldUpTo, set_reply, write_reply, end_reply};
+ghost use Rattle.async_cell_waiting.specs.Told.{IsSigned, IsTold, IsToldClosed, IsToldUpTo, set_reply, write_reply, end_reply};
 
 use super::owner::ToldOwner;
 use async_cell_core::{Refusal, TaskWaker, Wakes};
@@ -76,7 +76,7 @@ impl<T: Drop, R: Wait + Drop, N: Naming<T, TaskWaker>> ToldOwner<T, R, N> {
 
     /// Calls the closure on the content, under the lock, and stores what it returns. Wakes all
     /// waiters if that puts a value into an empty cell. On a closed cell it fails with `Closed`, is
-    /// told of nothing, and does not call the closure.
+    /// told that it is closed, and does not call the closure.
     pub fn update<F: FnOnce(Option<T>) -> Option<T> + Drop>(
         &mut self,
         change: F,
@@ -88,14 +88,15 @@ impl<T: Drop, R: Wait + Drop, N: Naming<T, TaskWaker>> ToldOwner<T, R, N> {
             × IsTold ⟦<TaskWaker as Wakes>⟧ N.named self.old.seen.calls
             (Kept.Update saw put) Reply.Done self.new.seen.calls × F.post change saw put) }
         ensures signed { OnOk result (IsSigned self.old.seen self.new.seen) }
-        ensures unchanged { OnErr result (self.new ≡ self.old) }
+        ensures told_closed { OnErr result (IsToldClosed N.named self.old.seen self.new.seen) }
         ensures refused { FailsWithClosed result }
     {
         self.seen.update(&self.cell.core, change, &self.rt)
     }
 
     /// Calls the closure on the value, if there is one, under the lock, and stores what it returns.
-    /// On a closed cell it fails with `Closed`, is told of nothing, and does not call the closure.
+    /// On a closed cell it fails with `Closed`, is told that it is closed, and does not call the
+    /// closure.
     pub fn update_some<F: FnOnce(T) -> T + Drop>(&mut self, change: F) -> Result<(), Refusal>
         requires callable { F.IsAlwaysCallable change }
         requires may { (old new : T) → F.post change old new
@@ -106,7 +107,7 @@ impl<T: Drop, R: Wait + Drop, N: Naming<T, TaskWaker>> ToldOwner<T, R, N> {
             (Kept.UpdateSome saw put) Reply.Done self.new.seen.calls
             × IfSome saw (λ old. IsSomeAnd put (λ new. F.post change old new))) }
         ensures signed { OnOk result (IsSigned self.old.seen self.new.seen) }
-        ensures unchanged { OnErr result (self.new ≡ self.old) }
+        ensures told_closed { OnErr result (IsToldClosed N.named self.old.seen self.new.seen) }
         ensures refused { FailsWithClosed result }
     {
         self.seen.update_some(&self.cell.core, change, &self.rt)

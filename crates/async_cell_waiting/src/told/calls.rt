@@ -2,7 +2,7 @@
 ghost use Rattle.std.specs.Prelude.{◌≡◌, Option, Some, None, IfErr, IfSome, IsSomeAnd, OnErr, OnOk, IsTrue};
 ghost use Rattle.async_cell_model.specs.Refusal.{FailsWithClosed, FailsWithMemory};
 ghost use Rattle.async_cell_core.specs.Polled.{poll_reply};
-ghost use Rattle.async_cell_waiting.specs.Told.{IsSigned, IsTold, IsToldUpTo, set_reply, write_reply, done_reply, end_reply};
+ghost use Rattle.async_cell_waiting.specs.Told.{IsSigned, IsTold, IsToldClosed, IsToldUpTo, set_reply, write_reply, done_reply, end_reply};
 
 use crate::cell_core::CellCore;
 use crate::ended::{Held, end, end_and_wake};
@@ -128,8 +128,8 @@ impl<T: Drop, W: Wakes, N: Naming<T, W>> Witness<T, W, N> {
     }
 
     /// Calls the closure on the content and stores what it returns. Wakes all waiters if that puts
-    /// a value into an empty cell. Fails with `Closed` on a closed cell, and is then told of
-    /// nothing.
+    /// a value into an empty cell. Fails with `Closed` on a closed cell, and is then told that it is
+    /// closed, and of no call of its own.
     pub fn update<'a, F, M: Stores<Core = CellCore<T, W, N>>, R: Opens<'a, M>>(
         &mut self,
         cell: &'a StoredCore<M>,
@@ -145,23 +145,24 @@ impl<T: Drop, W: Wakes, N: Naming<T, W>> Witness<T, W, N> {
             × IsTold W.Wakes N.named self.old.calls (Kept.Update saw put)
             Reply.Done self.new.calls × F.post change saw put) }
         ensures signed { IsTrue R.always → OnOk result (IsSigned self.old self.new) }
-        ensures unchanged { OnErr result (self.new ≡ self.old) }
+        ensures told_closed { IsTrue R.always → OnErr result (IsToldClosed N.named self.old self.new) }
         ensures refused { FailsWithClosed result }
     {
         let mut step = rt.open(cell).ok_or(Refusal::Closed)?;
-        if step.shown().is_closed() {
+        let core = step.lend();
+        core.hand_to(self);
+        if core.is_closed() {
+            core.tell(self);
             let _not_called = end(step, Held::of(change));
             return Err(Refusal::Closed);
         }
-        let core = step.lend();
-        core.hand_to(self);
         let updated = core.update(change);
         core.tell(self);
         end_and_wake(step, updated)
     }
 
     /// Calls the closure on the value, if there is one, and stores what it returns. Fails with
-    /// `Closed` on a closed cell, and is then told of nothing.
+    /// `Closed` on a closed cell, and is then told that it is closed.
     pub fn update_some<'a, F, M: Stores<Core = CellCore<T, W, N>>, R: Opens<'a, M>>(
         &mut self,
         cell: &'a StoredCore<M>,
@@ -179,16 +180,17 @@ impl<T: Drop, W: Wakes, N: Naming<T, W>> Witness<T, W, N> {
             Reply.Done self.new.calls
             × IfSome saw (λ old. IsSomeAnd put (λ new. F.post change old new))) }
         ensures signed { IsTrue R.always → OnOk result (IsSigned self.old self.new) }
-        ensures unchanged { OnErr result (self.new ≡ self.old) }
+        ensures told_closed { IsTrue R.always → OnErr result (IsToldClosed N.named self.old self.new) }
         ensures refused { FailsWithClosed result }
     {
         let mut step = rt.open(cell).ok_or(Refusal::Closed)?;
-        if step.shown().is_closed() {
+        let core = step.lend();
+        core.hand_to(self);
+        if core.is_closed() {
+            core.tell(self);
             let _not_called = end(step, Held::of(change));
             return Err(Refusal::Closed);
         }
-        let core = step.lend();
-        core.hand_to(self);
         let updated = core.update_some(change);
         core.tell(self);
         end(step, updated)
