@@ -207,6 +207,8 @@ impl<T: Drop, N: Listed<T>> LatestCore<T, N> {
         ensures entered { OnOk result.answer (self.new.life ≡ record
             { values = self.old.life.values ++ self.new.state.value ∷ []; closed = false }) }
         ensures full { OnErr result.answer (TakesNoMore self.new.life) }
+        ensures comes_back { IfErr result.answer
+            (FnOnceReturnsAt F.FnOnce change self.old.state.value) }
     {
         match self.state.update(change) {
             Ok((old, woken)) => {

@@ -126,6 +126,8 @@ impl<T: Drop, R: Wait + Drop, N: Listed<T>> ToldOwner<T, R, N> {
             self.new.seen) }
         ensures goes_on { GoesOn self.old.seen self.new.seen }
         ensures full { OnErr result (TakesNoMore self.new.seen) }
+        ensures comes_back { IfErr result (λ back. (last : T)
+            × FnOnceReturnsAt F.FnOnce change last back) }
     {
         let mut step = self.cell.core.lock(&self.rt);
         let core = step.lend();
