@@ -114,5 +114,6 @@ module _ {T : Type 0} where
 
   -- it allows to write any value of which this holds after the last one
   abbrev pub MayUpdate : (List T → T → Type 0) → Life T → (T → T → Type 0) → Type 0
-  MayUpdate may seen P = (before : List T) → (old new : T) → IsPrefix seen.values (before ++ old ∷ [])
+  MayUpdate may seen P = (before : List T) → (old new : T)
+      → IsPrefix seen.values (before ++ old ∷ [])
       → IsLawful may (before ++ old ∷ []) → P old new → may (before ++ old ∷ []) new

@@ -108,6 +108,8 @@ impl<T: Drop> Future for Reply<T> {
         ensures over { IfReady result (λ given.
             ¬ (given ≡ Err Refusal.Memory) → self.new.cell ≡ None) }
         ensures stays { OnPending result (self.new.cell ≡ self.old.cell) }
+        ensures stays_for_memory { result ≡ Poll.Ready (Err Refusal.Memory)
+            → self.new.cell ≡ self.old.cell }
         ensures registered { OnPending result (Covers cx.new (λ s. IsSomeAnd self.new.cell (λ cell.
             s ≡ source_of cell.value))) }
         ensures kept { Keeps cx.old cx.new }

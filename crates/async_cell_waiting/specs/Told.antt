@@ -123,8 +123,8 @@ module _ {T W : Type 0} (will_wake : W → W → Bool) (sure_wakers : Bool) wher
     pub entered : new.past.calls ≡ old.past.calls ++ record { call = call; reply = reply } ∷ []
     pub signed : new.past.authors ≡ old.past.authors ++ old.past.hand ∷ []
 
--- The calls that were seen have gone on, and end with this call and its reply. There it is a step of
--- the machine: on the state after all calls before it.
+-- The calls that were seen have gone on, and end with this call and its reply. There it is a step
+-- of the machine: on the state after all calls before it.
 pub record IsTold {T W : Type 0} (rules : WakerRules W) (named : Option (Begun T W))
     (seen : History T W) (call : Kept T W) (reply : Reply T) (now : History T W) : Type 0 where
   pub before : History T W

@@ -66,7 +66,7 @@ pub fn an_exact_get_is_told<T: Clone, W: Wakes, N: Naming<T, W>>()
         → IsTold W.Wakes N.named seen Kept.TryGet (Reply.Value (Some v)) now }
 {}
 
-/// If an `or_set` is the only change that may be made, each `try_get` of a value finds the same one.
+/// If an `or_set` is the only change that may be made, each `try_get` of a value finds the same.
 /// What it returned is that value or a clone of it.
 pub fn what_is_set_once_all_get<T, W: Wakes, N: Naming<T, W>>()
     ensures { (now : History T W) (v w : T)
@@ -76,9 +76,9 @@ pub fn what_is_set_once_all_get<T, W: Wakes, N: Naming<T, W>>()
         → HasEntry now Kept.TryGet (Reply.Value (Some w)) → v ≡ w }
 {}
 
-/// What is got never goes back, if only an `or_set` may be made, and an update that leaves in a full
-/// cell a value which follows the one there, by a reflexive and transitive test. What a `try_get`
-/// finds follows what one that it has seen found: each returned that, or a clone of it.
+/// What is got never goes back, if only an `or_set` may be made, and an update that leaves in a
+/// full cell a value which follows the one there, by a reflexive and transitive test. What a
+/// `try_get` finds follows what one that it has seen found: each returned that, or a clone of it.
 pub fn what_is_got_never_goes_back<T, W: Wakes, N: Naming<T, W>>()
     ensures { (follows : T → T → Bool) (seen first later now : History T W) (v w : T)
         → ((a : T) → follows a a ≡ true)

@@ -9,7 +9,7 @@ use async_cell_waiting::{Step, end};
 use std::sync::{Arc, Wait};
 
 /// A follower of a state that `N` names, and what it was shown of the values of that state, which
-/// exists in the proofs alone. Each call is told: its contract says that the values went on from
+/// exists in the proofs alone. A look is told: its contract says that the values went on from
 /// what was shown, and end in the one that is shown now. `ToldOwner::follow` makes it.
 ///
 /// It is no owner. At run time it is a [`Follower`](crate::Follower).

@@ -42,7 +42,7 @@ impl<T: Clone, N: Listed<T>> Query<LatestCore<T, N>> for Next<T, N> {
 
 impl<T: Drop, R: Wait + Drop, N: Listed<T>> ToldFollower<T, R, N> {
     /// Makes this follower a future that waits for an unseen state, and then gives a clone of its
-    /// value and the follower back: `None` for the value once the owner has ended and the last
+    /// value and the follower back: `None` for the value once the state is closed and the last
     /// value was shown.
     pub fn into_next(self) -> ToldNext<T, R, N>
     where

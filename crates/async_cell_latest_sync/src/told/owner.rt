@@ -20,7 +20,7 @@ pub(super) struct ToldCell<T: Drop, N: Listed<T>> {
 }
 
 /// The owner of a state that `N` names, and what it has seen of the values of that state, which
-/// exists in the proofs alone. Each call is told: its contract says that the values went on from
+/// exists in the proofs alone. A write is told: its contract says that the values went on from
 /// what this owner had seen, and end in the value that it wrote. `with_told_state` makes it.
 ///
 /// It ends by its drop, which closes the state, and may wait for the lock. At run time it is an

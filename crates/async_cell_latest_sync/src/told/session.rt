@@ -24,7 +24,7 @@ pub trait StateSession {
     /// What the second thread returns.
     type Second;
 
-    /// Which value may be written after which. Each call that writes requires that it may.
+    /// Which value may be written after which list. Each call that writes requires that it may.
     ghost may: { Self → List Self.Value → Self.Value → Type 0 };
 
     /// What is known of what the first thread returns.

@@ -19,9 +19,9 @@ pub(super) struct ToldCell<T: Drop, N: Naming<T, TaskWaker>> {
 }
 
 /// One counted owner of a cell that `N` names, and what it has seen of the cell's history, which
-/// exists in the proofs alone. Each call is told: its contract says that the history went on from
+/// exists in the proofs alone. What a call was told, its contract says: the history went on from
 /// what this owner had seen, and ends with this call, whose reply is the model's own after all
-/// calls before it. `with_told` makes the first one.
+/// calls before it (of a get: a clone of that). `with_told` makes the first one.
 ///
 /// It ends by its drop, in any thread, and that may wait for the lock. At run time it is an
 /// [`Owner`](crate::Owner).

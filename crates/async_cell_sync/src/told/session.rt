@@ -64,7 +64,7 @@ pub trait Session {
         ensures knows { second_knows self.now result owner.new.seen };
 
     /// Makes what is known of both out of what each knows, and of one history that both have seen a
-    /// part of. The laws serve here. At run time it does nothing.
+    /// beginning of. The laws serve here. At run time it does nothing.
     fn join<N>(
         &self,
         first: &Self::First,

@@ -41,7 +41,7 @@ impl<T: Drop, R: Wait + Drop, N: Naming<T, TaskWaker>> ToldOwner<T, R, N> {
     }
 }
 
-/// Takes the value. The poll that is ready is a `try_take` of the history. It owns the cell while
+/// Takes the value. The poll that gives it is a `try_take` of the history. It owns the cell while
 /// it waits, so it waits forever if nobody sets a value. Fails with `Memory` if there is no memory
 /// to wait, and may then be polled again; with `Closed` at each poll after it was ready.
 pub struct ToldTake<T: Drop, R: Wait + Drop, N: Naming<T, TaskWaker>> {
@@ -123,9 +123,9 @@ impl<T: Drop, R: Wait + Drop, N: Naming<T, TaskWaker>> Drop for ToldTake<T, R, N
     }
 }
 
-/// Clones the value. The poll that is ready is a `try_get` of the history. It owns the cell while
+/// Clones the value. The poll that gives it is a `try_get` of the history. It owns the cell while
 /// it waits, so it waits forever if nobody sets a value. Fails with `Memory` if there is no memory
-/// to wait, and may then be polled again; with `Closed` at each poll after it was ready.
+/// to wait or for the clone, and may then be polled again; with `Closed` at each poll after that.
 pub struct ToldGet<T: Drop, R: Wait + Drop, N: Naming<T, TaskWaker>> {
     /// `None` once it was ready.
     pub(super) owner: Option<ToldOwner<T, R, N>>,

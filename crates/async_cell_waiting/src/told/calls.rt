@@ -128,8 +128,8 @@ impl<T: Drop, W: Wakes, N: Naming<T, W>> Witness<T, W, N> {
     }
 
     /// Calls the closure on the content and stores what it returns. Wakes all waiters if that puts
-    /// a value into an empty cell. Fails with `Closed` on a closed cell, and is then told that it is
-    /// closed, and of no call of its own.
+    /// a value into an empty cell. Fails with `Closed` on a closed cell, and is then told that it
+    /// is closed.
     pub fn update<'a, F, M: Stores<Core = CellCore<T, W, N>>, R: Opens<'a, M>>(
         &mut self,
         cell: &'a StoredCore<M>,
@@ -145,7 +145,8 @@ impl<T: Drop, W: Wakes, N: Naming<T, W>> Witness<T, W, N> {
             × IsTold W.Wakes N.named self.old.calls (Kept.Update saw put)
             Reply.Done self.new.calls × F.post change saw put) }
         ensures signed { IsTrue R.always → OnOk result (IsSigned self.old self.new) }
-        ensures told_closed { IsTrue R.always → OnErr result (IsToldClosed N.named self.old self.new) }
+        ensures told_closed { IsTrue R.always
+            → OnErr result (IsToldClosed N.named self.old self.new) }
         ensures refused { FailsWithClosed result }
     {
         let mut step = rt.open(cell).ok_or(Refusal::Closed)?;
@@ -180,7 +181,8 @@ impl<T: Drop, W: Wakes, N: Naming<T, W>> Witness<T, W, N> {
             Reply.Done self.new.calls
             × IfSome saw (λ old. IsSomeAnd put (λ new. F.post change old new))) }
         ensures signed { IsTrue R.always → OnOk result (IsSigned self.old self.new) }
-        ensures told_closed { IsTrue R.always → OnErr result (IsToldClosed N.named self.old self.new) }
+        ensures told_closed { IsTrue R.always
+            → OnErr result (IsToldClosed N.named self.old self.new) }
         ensures refused { FailsWithClosed result }
     {
         let mut step = rt.open(cell).ok_or(Refusal::Closed)?;
