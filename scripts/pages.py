@@ -1,14 +1,17 @@
 #!/usr/bin/env python3
 """Looks over the pages, in a second: `python3 scripts/pages.py [PAGE..]`; none: all *.md that git has.
 
-It finds a row of a table without a header (a blank line ends a table), a link to a file or to a
-heading that is not there, and, written as code or in a shell's block, a path of the repository where
-nothing lies, or the name of a crate that is not there; and a figure that is typed by hand in a
-section on instructions. Then it compares what stands around the libraries with their sources: the
-lines of tests, scripts, bench and misuse may be at most MOST times as many. Prints a line for each
-fault, and last how many pages it read, how many faults it found, and both sums; the status is 0 if
-there is no fault.
+It finds a row of a table without a header (a blank line ends a table); a link to a file or to a
+heading that is not there, also with a title, by a reference or in HTML; written as code or in a
+shell's block, a path of the repository where nothing lies, the name of a crate that is not there,
+or an option that its script does not know; a path of a machine; and a figure that is typed by hand
+in a section on instructions. On the pages NAMED each name that is written as code has to stand in
+the sources, and each label of CONTRIBUTING's table in a clause. Then it compares what stands around
+the libraries with their sources: the lines of tests, scripts, bench and misuse may be at most MOST
+times as many. Prints a line for each fault, and last how many pages it read, how many faults it
+found, and both sums; the status is 0 if there is no fault.
 """
+import functools
 import glob
 import os
 import re
@@ -17,13 +20,21 @@ import sys
 
 from lay_out import TOP, read
 
-# The end of a link, whose words may begin on the line above.
-LINK = re.compile(r"\]\(([^)\s]+)\)")
+# The end of a link, whose words may begin on the line above; what a reference stands for; and HTML.
+LINK = re.compile(
+    r"\]\(<?([^)\s>]+)[^)]*\)|^ {0,3}\[[^\]]+\]: *<?([^\s>]+)|\b(?:href|src)=[\"']([^\"']+)"
+)
+USED = re.compile(r"\[([^\[\]]+)\]\[([^\[\]]*)\]")
+MACHINE = re.compile(r"(?<![\w.~])/(?:tmp|home|root|work|opt|usr|mnt)\b")
 CODE = re.compile(r"`([^`\n]+)`")
 # Paths of the repository begin so; what stands for any name is no path.
 PATH = re.compile(r"(?:crates|docs|scripts|tests|bench|misuse|reentry|examples)/[\w./*-]+")
 # Names of crates begin so.
 CRATE = re.compile(r"(?:async_cell|bench|example)_\w+|cellrun|ghost_log")
+OPTION = re.compile(r"\b((?:scripts|bench|misuse)/\w+\.(?:py|sh))[^|`]*? (--\w[\w-]*)")
+# Pages whose names, written as code, have to stand in the sources (no part of a path does).
+NAMED = re.compile(r"docs/(?:PROMISES|DEFINITIONS|EXPLICIT)\.md|crates/\w+/CALLING\.md")
+NAME = re.compile(r"(?<![\w./-])[A-Za-z_]\w{2,}(?![\w/-]|\.\w)")
 # Pages that may have figures: the table's own, and what each choice saved when it was made.
 WITH_FIGURES = ("bench/README.md", "docs/DECISIONS.md", "CHANGELOG.md")
 # What stands around the libraries, the sources of these, and how much there may be of the first for
@@ -65,7 +76,8 @@ def anchors_of(text):
 
 def dead_links(page, lines):
     for at, line in enumerate(lines):
-        for link in LINK.findall(re.sub(CODE, "", line)):
+        plain = re.sub(CODE, "", line)
+        for link in map("".join, LINK.findall(plain)):
             file, _, anchor = link.partition("#")
             if re.match(r"[a-z]+:", link):
                 continue
@@ -74,18 +86,50 @@ def dead_links(page, lines):
                 yield at, f"a link to {link}, and there is no such file"
             elif anchor and path.endswith(".md") and anchor not in anchors_of(read(path)):
                 yield at, f"a link to {link}, and there is no such heading"
+        for words, of in USED.findall(plain):
+            if not re.search(rf"(?im)^ {{0,3}}\[{re.escape(of or words)}\]:", "\n".join(lines)):
+                yield at, f"a link by the reference [{of or words}], which stands for nothing"
 
 
 def names_of_nothing(lines):
     for at, line in enumerate(lines):
         code = CODE.findall(line)
         for path in PATH.findall(" ".join(code)):
-            is_any_name = re.search(r"\b[A-Z]{3,}\b|\.\.\.?$", path) or path.startswith(THEIRS)
+            is_any_name = re.search(r"\b[A-Z]{3,}\b(?!\.\w)|\.\.\.?$", path)
+            is_any_name = is_any_name or path.startswith(THEIRS)
             if not is_any_name and not glob.glob(path.rstrip("./")):
                 yield at, f"`{path}`, where nothing lies"
         for name in code:
             if CRATE.fullmatch(name) and not os.path.isdir(f"crates/{name}"):
                 yield at, f"`{name}`, and there is no such crate"
+        for script, option in OPTION.findall(" ".join(code)):
+            if os.path.isfile(script) and option not in read(script):
+                yield at, f"{option}, which {script} does not know"
+        for path in MACHINE.findall(line):
+            yield at, f"{path}, a path of a machine"
+
+
+@functools.cache
+def sources():
+    """Returns the words of the libraries' texts and of crates.txt, and the labels of clauses."""
+    texts = [read(it) for it in git_files("crates/*.rt", "crates/*.antt") if os.path.isfile(it)]
+    words = {*re.findall(r"\w+", "\n".join([*texts, read("crates.txt")]))}
+    words |= {it.removeprefix("async_cell_") for it in words} | {it.split("/")[1] for it in THEIRS}
+    return words, {*re.findall(r"\b(?:requires|ensures|ghost) (\w+)", "\n".join(texts))}
+
+
+def unknown_names(page, lines):
+    words, labels = sources()
+    for at, line in enumerate(lines):
+        for name in NAME.findall(" ".join(CODE.findall(line))) if NAMED.fullmatch(page) else []:
+            if name not in words:
+                yield at, f"`{name}`, which stands in no source"
+    if page == "CONTRIBUTING.md":
+        of_table = lines.index("## Labels of clauses")
+        for at in range(of_table, len(lines)):
+            for name in re.findall(r"`(\w+)`", lines[at].split(" | ")[0]):
+                if name not in labels:
+                    yield at, f"`{name}`, which is the label of no clause"
 
 
 def typed_figures(page, lines):
@@ -117,7 +161,8 @@ def sums():
 def faults_of(page):
     lines = prose_of(read(page))
     looks = [rows_without_header(lines), dead_links(page, lines), names_of_nothing(lines)]
-    return [fault for it in [*looks, typed_figures(page, lines)] for fault in it]
+    looks += [unknown_names(page, lines), typed_figures(page, lines)]
+    return [fault for it in looks for fault in it]
 
 
 def main(pages):
