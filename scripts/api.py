@@ -7,8 +7,9 @@
 A page has the public items of a crate, also those that it exports from crates below it: each with
 its declaration, its docstring, and its contract, folded away under the labels. What is
 `doc(hidden)`, or has a docstring that begins with "Internal", is left out. A public item without a
-docstring is a fault, also a variant or a field, and so is an export of what is not found. Prints a
-line for each; the last line is 'api: N public items, M faults', and the status is 0 if M is.
+docstring is a fault, also a variant or a field, and so is an export of what is not found, and an
+item of a form that is not known here. Prints a line for each; the last line is 'api: N public items,
+M faults', and the status is 0 if M is.
 """
 import functools
 import glob
@@ -25,14 +26,21 @@ from try_kit import KIT
 LISTED = re.compile(r"^# (.*)|^(async_cell(?!\w*_(?:callers|uses):)\w*):", re.M)
 # An item as `rt fmt` lays it out: docstring and attributes, head, and body.
 ITEM = (
-    r"((?:^PAD(?:///|#\[)[^\n]*\n)*)^PAD((pub )?(fn|struct|enum|trait|type|mod|impl|use|const"
-    r"|ghost)\b ?(\w*).*?)(?:;|\{\}|\{\n(.*?)^PAD\};?)$"
+    r"((?:^PAD(?:///|#\[)[^\n]*\n)*)^PAD((pub )?(?:const (?=fn|unsafe)|unsafe (?=fn|trait|impl))*"
+    r"(fn|struct|enum|trait|type|mod|impl|use|const|static|ghost)\b ?(\w*).*?)"
+    r"(?:;|\{\}|\{\n(.*?)^PAD\};?)$"
+)
+# What ITEM does not know: a public item of another kind, or a macro.
+UNKNOWN = re.compile(
+    r"^ *pub (?!(?:const |unsafe )*(?:fn|struct|enum|trait|type|mod|use|const|static|ghost)\b)\w+ .*"
+    r"|^ *#\[macro_export\]",
+    re.M,
 )
 # The generics of an impl, and a private field of a struct.
 GENERICS = re.compile(r"^impl<(?:[^<>]|<(?:[^<>]|<[^<>]*>)*>)*>")
 PRIVATE = re.compile(r"(?:^ *(?:///|#\[).*\n)*^    (?!pub |///|#\[)\S.*\n", re.M)
-# A variant or a field without a docstring.
-BARE = re.compile(r"^(?! *(?:///|#\[)).*\n    (?:pub )?\w", re.M)
+# A variant or a field without a docstring, also a field of a variant.
+BARE = re.compile(r"^(?! *(?:///|#\[)).*\n    (?:    )?(?:pub )?\w", re.M)
 USE = re.compile(r"pub use ([\w:]+?)(?:::\{(.*)\})?(?: as (\w+))?$", re.S)
 WORD = re.compile(r"//.*|\b[A-Za-z]\w+(?:::\w+)?\b")
 FRAME = """<!doctype html>
@@ -96,6 +104,7 @@ class Crate:
         self.named = {it.name: it for it in declared}
         self.modules = [it.name for it in self.items if it.kind == "mod" and it.is_public]
         self.docs = "\n".join(re.findall(r"(?m)^//! ?(.*)", read(f"{folder}/src/lib.rt")))
+        self.unknown = [(file, it) for file in files for it in UNKNOWN.finditer(read(file))]
 
     def exports(self):
         """Yields for each export its name, the crate that declares it, and its item."""
@@ -269,6 +278,9 @@ def main(folder):
         why = "has no docstring, or a part of it has none"
         faults += [f"{it.file}:{it.line}: {it.name} {why}" for it in bare]
         faults += [f"{of.folder}/src/lib.rt: the crate has no docstring"] * (not of.docs)
+        for file, it in of.unknown:
+            line = it.string.count("\n", 0, it.start()) + 1
+            faults += [f"{file}:{line}: no item of a form that is known: {it[0].strip()}"]
         lost = [name for name, home, _ in of.exports() if not home]
         faults += [f"{of.folder}/src/lib.rt: {name} is not found" for name in lost]
     for it in faults:
