@@ -5,8 +5,9 @@ The player is the program tests/player. It is laid out with the crates that it p
 project, built once, without a proof, and plays the cases twice: as they are, and with each request
 for memory of each case refused in turn. Prints a line for each thing that came out otherwise than a
 case says, and last `N passed, M failed`. Words name the files of cases to play. Without any, all are
-played, and random ones: so many of each sort as --random says, from the seed --seed on, and of a
-tenth of them each request is refused. One that fails is printed, to be pasted into tests/cases.
+played, and random ones: so many of each sort as --random says, from the seed --seed on, which is
+another after each commit, and of a tenth of them each request is refused. One that fails is printed,
+to be pasted into tests/cases.
 """
 import argparse
 import os
@@ -91,10 +92,17 @@ def shown(line, random_text):
     return "\n".join(lines[begin : lines.index("", begin)]) + "\n"
 
 
+def of_commit():
+    """Returns the first seed of the last commit: 0 where there is none."""
+    asked = ["git", "-C", TOP, "rev-parse", "HEAD"]
+    ran = subprocess.run(asked, stdout=subprocess.PIPE, stderr=subprocess.DEVNULL, text=True)
+    return int(ran.stdout[:6], 16) if ran.returncode == 0 else 0
+
+
 def main(words):
     reader = argparse.ArgumentParser(description=__doc__.split("\n\n", maxsplit=1)[0])
     reader.add_argument("--random", type=int, default=60, help="how many of each sort")
-    reader.add_argument("--seed", type=int, default=0, help="the first seed")
+    reader.add_argument("--seed", type=int, default=of_commit(), help="the first seed")
     reader.add_argument("files", nargs="*", help="files of tests/cases")
     asked = reader.parse_args(words)
     by_hand, faults = cases(asked.files)

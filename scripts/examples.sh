@@ -1,7 +1,7 @@
 #!/usr/bin/env bash
 # Runs the programs of examples/tokio in a project of their own, with the cells that vendor.sh copies
 # there: the server with clients over sockets of this machine, the others have to print their file
-# stdout. The gate does not run it.
+# stdout. The gate runs them without a proof.
 #
 #     bash scripts/examples.sh [NAME..]             builds and runs these programs by `rt try` (none: all)
 #     bash scripts/examples.sh --proof [NAME..]     proves them too, by `rt check`
@@ -33,11 +33,12 @@ lay_out() {
 # Runs the program NAME, which has to print its file stdout, or has clients. Prints lines that begin
 # with 'passed' or 'failed'.
 run() {
-    local port=''
+    local port='' clients=''
     cd "$work/project/crates/$1"
     if [ ! -e "$from/$1/stdout" ]; then
         port=$(python3 -B "$from/clients.py" port)
         python3 -B "$from/clients.py" "$port" &
+        clients=$!
     fi
     if rt try --seconds 120 ${port:+-- "$port"} >"$work/output" 2>"$work/log" </dev/null &&
         diff "$work/output" "$(ls "$from/$1/stdout" 2>/dev/null || echo "$work/output")"; then
@@ -46,7 +47,7 @@ run() {
         cat "$work/log"
         echo "failed: $1"
     fi
-    wait
+    [ ! "$clients" ] || wait "$clients" || echo "failed: the clients of $1"
 }
 
 mapfile -t all < <(cut -d : -f 1 "$from/crates.lines")
