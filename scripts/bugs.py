@@ -1,50 +1,68 @@
 #!/usr/bin/env python3
 """Has the prover refuse the deliberate bugs of crates/NAME/bugs.txt.
 
-    bugs.py [CRATE..]   tries those of these crates, or of all
+    bugs.py [CRATE..]   tries those of these crates; none: of those that are not in the record, and
+                        of one that is, another after each commit
+    bugs.py --all       tries all
+    bugs.py --record [CRATE..|--all]   does the same, and writes the record
     bugs.py --list      looks alone whether each can be applied, and each edit of must-fail/, which
                         `rt ci` tries
 
 A bug is a line 'FILE: what it does', with the file below src/, and after it pairs of lines '- OLD'
-and '+ NEW': a text that stands in the file once, and what comes in its place.
+and '+ NEW': a text that stands in the file once, and what comes in its place. A line '= CLAUSE' may
+follow, of the clause that is to refuse it: then a complaint of another one does not count, nor of
+what a call requires. A bug of a function that has an Answers.antt needs it, as the words of that
+proof may not fit any other body.
+
+The record, scripts/bugs.lock, has a line for each crate all of whose bugs were refused, with a sum
+of what that rests on: `rt version`, this script, and the texts of the crate and of those below it.
 
 It works on a copy, with what `rt` has kept in out/: `rt all check` proves the crates there, and
 `rt check` tries them with bugs. A bug changes the body of one function and no contract, so bugs of
 many functions share a check: the first of each function the first, the second of each the second. A
 bug is refused if the prover complains of its function, at a line of it or in a file of its proof.
 One of which a check says nothing, or that changes more than a body, is tried alone, where any
-complaint is about it. Prints a line for each bug, and last 'N passed, M failed'.
+complaint is about it. Prints a line for each check and each bug, and last 'N passed, M failed'.
 """
+import functools
 import glob
+import hashlib
 import os
 import re
 import shutil
 import subprocess
 import sys
 import tempfile
+from collections import Counter
 from concurrent.futures import ThreadPoolExecutor
 
 from lay_out import READ, TOP, read, write
 
+RECORD = "scripts/bugs.lock"
+ABOUT = "Crates all of whose deliberate bugs were refused: `python3 scripts/bugs.py --record`."
 PARTS = ("src", "specs", "proofs", "out/incremental", "out/rlib")
-BUG = re.compile(r"^(?P<file>[^\s:]+): (?P<name>.+)\n(?P<pairs>(?:- .+\n\+.*\n)+)", re.M)
-EDIT = re.compile(r"^file: src/(?P<file>\S+)\n(?P<pairs>(?:old: .+\nnew:.*\n)+)", re.M)
+BUG = re.compile(
+    r"^(?P<file>[^\s:]+): (?P<name>.+)\n(?P<pairs>(?:- .+\n\+.*\n)+)(?:= (?P<clause>\w+)\n)?", re.M
+)
+EDIT = re.compile(r"^file: src/(?P<file>\S+)\n(?P<pairs>(?:old: .+\nnew:.*\n)+)(?P<clause>)", re.M)
 PAIR = re.compile(r"^(?:- |old: )(.+)\n(?:\+|new:) ?(.*)\n", re.M)
 FN = re.compile(r"( *)(?:pub(?:\([a-z]+\))? )?(?:const )?(?:unsafe )?fn (\w+)")
-# What the prover says of a function: at a line of it, or in a file of its proof. That such a file
-# names what a bug took away says nothing of a contract.
+# A complaint of the prover: a line, and what is below it. What it says of a function: at a line of
+# it, or in a file of its proof. That such a file names what a bug took away says nothing of a
+# contract.
+SAID = re.compile(r"^(?:note: |fn |\./|proofs/).*\n(?:[ \t].*\n)*", re.M)
 TOLD = re.compile(
-    r"^note: (?:\./)?(?P<file>src/\S+?):(?P<line>\d+):\d+: it is not proved .*"
-    r"|^(?:\./)?proofs/(?:\S+/)?(?P<of>\w+)/\w+\.antt:\d+:\d+: error: `[^`]*`: "
-    r"(?!.*(?:has no field|is not in scope|has no `|was not admitted)).*"
-    r"|^fn \S+: no proof: expected a measure in (?:\./)?proofs/(?:\S+/)?(?P<loop>\w+)/\w+\.antt.*",
-    re.M,
+    r"note: (?:\./)?(?P<file>src/\S+?):(?P<line>\d+):\d+: it is not proved .*"
+    r"|(?:\./)?proofs/(?:\S+/)?(?P<of>\w+)/\w+\.antt:\d+:\d+: error: `(?P<goal>[^`]*)`: .*"
+    r"|fn \S+: no proof: expected a measure in (?:\./)?proofs/(?:\S+/)?(?P<loop>\w+)/\w+\.antt.*"
 )
+TAKEN = re.compile(r"has no field|is not in scope|has no `|was not admitted")
 UNREAD = re.compile(r"^(?:\./)?(?P<file>src/\S+?):(?P<line>\d+):\d+: error.*", re.M)
 
 
 def function_at(lines, at):
-    """Returns the name of the function whose body has this line, and its first and last line."""
+    """Returns the name of the function whose body has this line, and its first and last line, with
+    its docstring and attributes."""
     first = next((it for it in range(at, -1, -1) if FN.match(lines[it])), None)
     if first is None:
         return None
@@ -54,14 +72,20 @@ def function_at(lines, at):
     opened = next((it for it in above if lines[it].endswith("{")), at)
     below = range(opened, len(lines))
     last = next((it for it in below if lines[it].startswith(f"{indent}}}")), at)
-    return (name, first + 1, last + 1) if opened < at < last else None
+    if not opened < at < last:
+        return None
+    # (what is told of a whole function is told at its first attribute)
+    while first and lines[first - 1].startswith((f"{indent}#[", f"{indent}///")):
+        first -= 1
+    return name, first + 1, last + 1
 
 
 class Bug:
-    """A bug: its changes, and in which functions' bodies they are (None: in no body)."""
+    """A bug: its changes, in which functions' bodies they are (None: in no body), and the clause
+    that is to refuse it, if that matters."""
 
-    def __init__(self, crate, name, file, pairs):
-        self.crate, self.name, self.file = crate, name, f"src/{file}"
+    def __init__(self, crate, name, file, pairs, clause):
+        self.crate, self.name, self.file, self.clause = crate, name, f"src/{file}", clause
         self.changes, self.functions, self.fault = [], set(), None
         path = f"crates/{crate}/src/{file}"
         text = read(path) if os.path.isfile(path) and os.path.normpath(path) == path else ""
@@ -92,10 +116,23 @@ class Bug:
         spans = [it for it in self.functions if it and told["file"] == self.file]
         return any(first <= int(told["line"]) <= last for _, first, last in spans)
 
+    def needs_clause(self):
+        """Returns whether a function of its name is proved by words that may not fit another body."""
+        folders = f"crates/{self.crate}/proofs/**/"
+        names = [it[0] for it in self.functions if it]
+        return any(glob.glob(f"{folders}{it}/Answers.antt", recursive=True) for it in names)
+
+    def counts(self, told):
+        """Returns whether this complaint is of the clause that is to refuse it."""
+        last = "" if self.clause == "returns" else rf"-clause-{self.clause}"
+        goal = rf"`returns(?:-(?!clause-)[\w-]*?)?{last}(?:-\d+)?`"
+        return not self.clause or bool(re.search(goal, told[0]))
+
     def judge(self, why, told=()):
         """Prints why it is not refused, or what the prover has told of it. Returns whether it is
         refused."""
-        said = f"FAILED: {why}" if why else f"refused: {told[0][0]}"
+        clause = f" by `{self.clause}`" if self.clause else ""
+        said = f"FAILED: {why}" if why else f"refused{clause}: {told[0][0]}"
         # (the text and its line feed at once: other threads print too)
         print(f"{self.crate}: {self.name}: {said[:160]}\n", end="", flush=True)
         return not why
@@ -109,7 +146,7 @@ def bugs_of(crate, has_edits):
         text, form = read(path), EDIT if path in edits else BUG
         for it in form.finditer(text):
             name = os.path.basename(path) if path in edits else it["name"]
-            found.append(Bug(crate, name, it["file"], PAIR.findall(it["pairs"])))
+            found.append(Bug(crate, name, it["file"], PAIR.findall(it["pairs"]), it["clause"]))
         rest = [it for it in form.sub("", text).split("\n") if it.strip()]
         print("".join(f"{path}: FAILED: this line is of no bug: {it}\n" for it in rest[:1]), end="")
         faults += bool(rest)
@@ -152,9 +189,13 @@ def lay(room, source, crates, copied):
 
 
 def run_rt(folder, *words):
-    """Runs rt in a folder, and returns its status and what it said."""
-    ran = subprocess.run(["rt", *words], cwd=folder, errors="replace", **READ)
-    return ran.returncode, ran.stdout
+    """Runs rt in a folder, and returns its status, what it said, and the seconds that processors
+    took for it."""
+    with subprocess.Popen(["rt", *words], cwd=folder, errors="replace", **READ) as ran:
+        said = ran.stdout.read()
+        _, status, usage = os.wait4(ran.pid, 0)
+        ran.returncode = os.waitstatus_to_exitcode(status)
+    return ran.returncode, said, usage.ru_utime + usage.ru_stime
 
 
 def checked(proved, bugs):
@@ -165,10 +206,14 @@ def checked(proved, bugs):
         lay(room, proved, with_below([crate]), [crate])
         for it in bugs:
             it.apply(f"{room}/crates/{crate}")
-        status, said = run_rt(f"{room}/crates/{crate}", "check", "--jobs", "1")
+        status, said, seconds = run_rt(f"{room}/crates/{crate}", "check", "--jobs", "1")
+    of = f"`{bugs[0].name}`" if len(bugs) == 1 else f"{len(bugs)} bugs"
+    print(f"{crate}: a check of {of} took {seconds:.0f} s of processors\n", end="", flush=True)
     unread = [*UNREAD.finditer(said)]
     is_judged = status == 1 and "\nlogic=not-proved" in said and not unread
-    return not status, [*TOLD.finditer(said)] if is_judged else [], unread
+    all_said = [(it[0], TOLD.match(it[0])) for it in SAID.finditer(said if is_judged else "")]
+    told = [it for text, it in all_said if it and not (it["of"] and TAKEN.search(text))]
+    return not status, told, unread
 
 
 def refused_alone(proved, bug):
@@ -176,7 +221,9 @@ def refused_alone(proved, bug):
     is_proved, told, unread = checked(proved, [bug])
     why = "the crate is still proved with it" if is_proved else None
     why = why or unread and f"it does not compile: {unread[0][0]}"
-    return bug.judge(why or not told and "the check came to no complaint about a contract", told)
+    why = why or not told and "the check came to no complaint about a contract"
+    told = [it for it in told if bug.counts(it)]
+    return bug.judge(why or not told and f"no complaint was of the clause `{bug.clause}`", told)
 
 
 def refused(proved, bugs):
@@ -190,37 +237,98 @@ def refused(proved, bugs):
     for bug in bugs:
         own = {it[0] for it in bug.functions if it and names.count(it[0]) == 1}
         lines = [it for it in told if bug.is_at(it) or {it["of"], it["loop"]} & own]
+        lines = [it for it in lines if bug.counts(it)]
         count += bug.judge(None, lines) if lines else refused_alone(proved, bug)
     return count
 
 
+@functools.cache
+def version():
+    return run_rt(".", "version")[1]
+
+
+def sum_of(crate):
+    """Returns the sum of what it rests on that the bugs of a crate are refused."""
+    below = sorted(with_below([crate]))
+    rows = [it for it in read("crates.txt").split("\n") if re.split("[ :]", it)[0] in below]
+    files = ["scripts/bugs.py", "scripts/lay_out.py", f"crates/{crate}/bugs.txt"]
+    for at in (f"crates/{it}/{part}" for it in below for part in PARTS[:3]):
+        files += sorted(glob.glob(f"{at}/**/*.*t", recursive=True))
+    texts = [f"{it}\n{read(it)}" for it in files]
+    return hashlib.sha256("\0".join([version(), *rows, *texts]).encode()).hexdigest()[:32]
+
+
+def with_bugs():
+    """Returns the crates that have deliberate bugs."""
+    return sorted(it for it in os.listdir("crates") if os.path.isfile(f"crates/{it}/bugs.txt"))
+
+
+def recorded():
+    """Returns the lines of the record that are of the texts as they are, by crate."""
+    lines = re.findall(r"^(\w+) (\w+)$", read(RECORD), re.M) if os.path.isfile(RECORD) else []
+    return {name: it for name, it in lines if name in with_bugs() and it == sum_of(name)}
+
+
+def record(sums, failed):
+    """Writes the record: these crates were tried, with these sums, and these of them failed."""
+    lines = {**recorded(), **sums}
+    told = [f"{it} {lines[it]}\n" for it in sorted(lines) if it not in failed]
+    write(RECORD, f"# {ABOUT}\n" + "".join(told))
+
+
+def due():
+    """Returns the crates that are not in the record, and one that is, by the last commit."""
+    kept = sorted(recorded())
+    asked = ["git", "rev-parse", "HEAD"]
+    commit = subprocess.run(asked, stdout=subprocess.PIPE, stderr=subprocess.DEVNULL, text=True)
+    turn = 0 if commit.returncode else int(commit.stdout, 16)
+    again = kept[turn % len(kept) :][:1] if kept else []
+    said = f"{len(kept)} crates are in the record"
+    print(f"{said}, of which {again[0]} is tried again" if again else said, flush=True)
+    return [it for it in with_bugs() if it not in kept or it in again]
+
+
 def try_all(bugs):
     """Proves the crates of these bugs, and tries the bugs, as many checks at a time as there are
-    processors. Returns how many are refused."""
+    processors. Returns how many are refused, by crate."""
     crates, jobs = with_below({it.crate for it in bugs}), len(os.sched_getaffinity(0))
+    counts = Counter()
     with tempfile.TemporaryDirectory(prefix="bugs-") as room, ThreadPoolExecutor(jobs) as pool:
         lay(f"{room}/proved", ".", crates, crates)
         words = ["--jobs", str(jobs)] if len({it.crate for it in bugs}) > 1 else []
-        status, said = run_rt(f"{room}/proved", "all", "check", *words)
+        status, said, _ = run_rt(f"{room}/proved", "all", "check", *words)
         if status:
             print(f"{said[-3000:]}\nthe crates are not proved without a bug", flush=True)
-            return 0
-        return sum(pool.map(lambda it: refused(f"{room}/proved", it), groups_of(bugs)))
+            return counts
+        groups = groups_of(bugs)
+        ran = pool.map(lambda it: refused(f"{room}/proved", it), groups)
+        for group, count in zip(groups, ran):
+            counts[group[0].crate] += count
+    return counts
 
 
 def main(words):
     os.chdir(TOP)
-    is_list = words == ["--list"]
-    crates = [] if is_list else words
+    is_list, is_record = words == ["--list"], words[:1] == ["--record"]
+    asked = [] if is_list else words[is_record:]
+    crates = with_bugs() if asked == ["--all"] or is_list else asked or due()
     for it in crates:
-        if not os.path.isfile(f"crates/{it}/bugs.txt"):
+        if it not in with_bugs():
             sys.exit(f"bugs.py: there is no crates/{it}/bugs.txt")
-    found = [bugs_of(it, is_list) for it in crates or sorted(os.listdir("crates"))]
-    bugs, faults = [bug for it, _ in found for bug in it], sum(it for _, it in found)
+    every = sorted(os.listdir("crates")) if is_list else crates
+    found = {it: bugs_of(it, is_list) for it in every}
+    bugs = [bug for it, _ in found.values() for bug in it]
+    faults = sum(it for _, it in found.values())
     if is_list:
+        of_crates = [it for name in with_bugs() for it in bugs_of(name, False)[0]]
+        unsaid = sum(it.needs_clause() and not it.clause for it in of_crates)
+        print(f"{unsaid} of bugs.txt name no clause, where an Answers.antt proves their function")
         print(f"{len(bugs) + faults} deliberate bugs, {faults} of which cannot be applied")
         return 1 if faults or not bugs else 0
-    passed = try_all(bugs)
+    sums, counts = {it: sum_of(it) for it in crates}, try_all(bugs)
+    if is_record:
+        record(sums, {it for it in crates if found[it][1] or counts[it] < len(found[it][0])})
+    passed = sum(counts.values())
     failed = faults + len(bugs) - passed
     print(f"{passed} passed, {failed} failed")
     return 1 if failed or not passed else 0
