@@ -1,7 +1,7 @@
 #!/usr/bin/env bash
 # Runs the programs of examples/tokio in a project of their own, with the cells that vendor.sh copies
 # there: the server with clients over sockets of this machine, the others have to print their file
-# stdout. The gate runs them without a proof.
+# stdout. `scripts/gate.sh --all` runs them without a proof.
 #
 #     bash scripts/examples.sh [NAME..]             builds and runs these programs by `rt try` (none: all)
 #     bash scripts/examples.sh --proof [NAME..]     proves them too, by `rt check`

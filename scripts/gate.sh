@@ -1,15 +1,18 @@
 #!/usr/bin/env bash
 # The whole gate, which CI runs too: a look at the deliberate bugs, the pages and the docstrings,
 # all tests without a proof, `rt ci`, the check of the script that tries deliberate bugs, those of
-# bugs.txt, the built program, also with each request for memory refused, the cases of misuse that
-# must not compile, the first program in a repository of its own, the snippets of the pages and
-# docstrings, and, where there is valgrind, what the calls cost. Prints a line at least every
-# minute, at the end a line for each step with what it has shown and how long it took, and last 'N
-# passed, M failed', with the totals of the tests, of `rt ci` and of the deliberate bugs. A step
-# fails if its status is not 0, or if its last line is not as it has to be. The first one that fails
-# ends the gate, whose status is then not 0. A failure of a step that is not among the totals counts
-# as one.
+# bugs.txt (of crates that are not in the record, and of one that is), the built program, also with
+# each request for memory refused, the cases of misuse that must not compile, the first program in a
+# repository of its own, the snippets of the pages and docstrings, and what the calls cost, which
+# valgrind counts: without it the gate fails, but where WITHOUT_VALGRIND=yes says so. With the word
+# --all, as before a release, it tries the bugs of all crates, and the programs of examples/tokio.
+# Prints a line at least every minute, at the end a line for each step with what it has shown and how
+# long it took, and last 'N passed, M failed', with the totals of the tests, of `rt ci` and of the
+# deliberate bugs. A step fails if its status is not 0, or if its last line is not as it has to be.
+# The first one that fails ends the gate, whose status is then not 0. A failure of a step that is not
+# among the totals counts as one.
 set -u
+[ $# -eq 0 ] || [ "$*" = --all ] || { echo 'gate.sh [--all]' >&2 && exit 2; }
 cd "$(dirname "$0")/.." || exit 1
 work=$(mktemp -d)
 ticker=
@@ -94,17 +97,20 @@ show 'the pages (scripts/pages.py)' "$read" python3 scripts/pages.py
 show 'the docstrings (scripts/api.py)' "$documented" python3 scripts/api.py --check
 count 'all tests, without a proof (scripts/tests.sh)' bash scripts/tests.sh
 count 'proofs, programs, and the bugs of must-fail/ (rt ci)' rt ci
+# (such edits fail nothing there: they are not compiled, or say little of a contract)
+! grep -E 'BAD EDIT|refused, as it must be \(only' "$work/log" || { failed=1 && finish 1; }
 show 'what tries deliberate bugs (scripts/bugs_check.py)' "$counts" python3 scripts/bugs_check.py
-count 'the bugs of bugs.txt (scripts/bugs.py)' python3 scripts/bugs.py
+count 'the bugs of bugs.txt (scripts/bugs.py)' python3 scripts/bugs.py "$@"
 show 'the built program (scripts/program.py)' "$counts" python3 scripts/program.py
 show 'no memory (scripts/memory.sh)' "$counts" bash scripts/memory.sh
 show 'misuse that must not compile (misuse/check.sh)' "$counts" bash misuse/check.sh
 show 'a project of its own (scripts/vendor_check.sh)' "$vendored" bash scripts/vendor_check.sh
 show 'the snippets of the pages (scripts/snippets.py)' "$counts" python3 scripts/snippets.py
-if command -v valgrind >/dev/null; then
-    show 'what tells a rise in cost (bench/count_check.py)' "$counts" python3 bench/count_check.py
-    show 'what the calls cost (bench/count.py)' "$counted" python3 bench/count.py
-else
+[ $# -eq 0 ] || show 'the examples (scripts/examples.sh)' "$counts" bash scripts/examples.sh
+show 'what tells a rise in cost (bench/count_check.py)' "$counts" python3 bench/count_check.py
+if [ "${WITHOUT_VALGRIND:-}" = yes ] && ! command -v valgrind >/dev/null; then
     echo 'gate: what the calls cost is not counted, as there is no valgrind' >>"$work/shown"
+else
+    show 'what the calls cost (bench/count.py)' "$counted" python3 bench/count.py
 fi
 finish 0
