@@ -89,6 +89,18 @@ def snippets_of(page):
         yield Snippet(f"{page}:{line_of(it)}", it[2], it[1], it[3])
 
 
+def unread(pages, sources):
+    """Yields each page or source with blocks of Rust that are read as no snippet: in a list, say,
+    with more words, or in the docstring of a crate."""
+    for paths, form in ((pages, SNIPPET), (sources, EXAMPLE)):
+        for path in paths:
+            text = read(os.path.join(TOP, path))
+            blocks = len(re.findall(r"(?:```|~~~) *(?:rust|rs)\b", text))
+            found = sum(it[0].count("```rust") for it in form.finditer(text))
+            if blocks != found or found != len(form.findall(text)):
+                yield f"{path} has {blocks} blocks of Rust, not all of which are read"
+
+
 def examples_of(crate):
     """Yields the examples in the docstrings of a crate."""
     names = {**IMPORTS, **{name: f"{crate.name}::{name}" for name, _, _ in crate.exports()}}
@@ -155,11 +167,14 @@ def main(pages):
         ignored = shutil.ignore_patterns("out", "must-fail", "bugs*")
         shutil.copytree(f"{TOP}/crates", f"{work}/crates", ignore=ignored)
         run(work, [it for it in snippets if not it.copied])
-    failed = [it for it in snippets if it.failure]
+    failed = [f"{it.where}: {it.failure}" for it in snippets if it.failure]
+    passed = len(snippets) - len(failed)
+    sources = glob.glob(f"{TOP}/crates/async_cell*/src/**/*.rt", recursive=True)
+    failed += unread(asked, [] if pages else sources)
     for it in failed:
-        print(f"FAILED {it.where}: {it.failure}")
-    print(f"{len(snippets) - len(failed)} passed, {len(failed)} failed")
-    return 1 if failed or not snippets else 0
+        print(f"FAILED {it}")
+    print(f"{passed} passed, {len(failed)} failed")
+    return 1 if failed or not passed else 0
 
 
 if __name__ == "__main__":
