@@ -1,12 +1,13 @@
 #!/usr/bin/env bash
 # Tries what must not compile: `bash misuse/check.sh [TEXT..]` (none: all texts of this folder). A text
-# is added as a test module to a copy of each crate that its first line names, and read as `rt try
-# --test` reads it, which proves nothing and so needs no library's proof. As a module of the crate it
-# may use what is private there. A line that ends in `//~ ERROR` has to be refused by that error, and
-# no other line by any. An error of one kind hides those that are looked for after it: so functions
-# that were refused are left out, and the rest is read again, until nothing is refused: then its tests
-# have to pass. Prints what came of each line, and at the end how many passed and failed; the status
-# is 0 if none failed.
+# is added as a module to a copy of each crate that its first line names, and read. As a module of the
+# crate it may use what is private there. A line that ends in `//~ ERROR` has to be refused by that
+# error, and no other line by any. An error of one kind hides those that are looked for after it: so
+# functions that were refused are left out, and the rest is read again, until nothing is refused: then
+# its tests have to pass. Over libraries that are built (by `rt ci`, say) `rt check` reads it, of
+# which no function is to be proved. `rt try --test`, which reads the libraries' sources too, for six
+# times as long, does so where one is not built, and runs tests. Prints what came of each line, and at
+# the end how many passed and failed; the status is 0 if none failed.
 set -u
 top=$(cd "$(dirname "$0")/.." && pwd)
 [ $# -gt 0 ] || set -- $(cd "$top/misuse" && basename -s .txt ./*.txt)
@@ -22,13 +23,22 @@ cp "$top/HANDLES" "$top/crates.txt" "$work/"
 git init -q "$work"
 (cd "$top/crates" && cp -r --parents */src "$work/crates/")
 (cd "$top/crates" && cp -r --parents */specs */proofs "$work/crates/")
+(cd "$top/crates" && cp -rl --parents */out/rlib "$work/crates/" 2>/dev/null)
+
+# Whether what the crate stands on is built: CRATE
+is_over_built() {
+    local it
+    for it in $(sed -n "s/^$1://p" "$top/crates.txt"); do
+        [ ! -d "$top/crates/$it" ] || [ -e "$work/crates/$it/out/rlib/stamp" ] || return 1
+    done
+}
 
 # Adds the texts of a crate to it, as modules below one that has a test, since a try reads what has
 # one: CRATE TEXT..
 add() {
     local src=$work/crates/$1/src it
     mkdir "$src/misuse"
-    printf '\n#[cfg(test)]\nmod misuse;\n' >>"$src/lib.rt"
+    printf '\nmod misuse;\n' >>"$src/lib.rt"
     printf '#[test]\nfn is_read() {}\n' >"$src/misuse.rt"
     for it in "${@:2}"; do
         cp "$it" "$src/misuse/${it%.txt}.rt"
@@ -36,10 +46,10 @@ add() {
     done
 }
 
-# Reads a crate, and keeps the errors that are new, each as a text, a line and a name: CRATE
+# Reads a crate, and keeps the errors that are new, each as a text, a line and a name: CRATE COMMAND
 read_with() {
     echo "misuse: reading $1, of which $(wc -l <"$work/errors") lines were refused"
-    (cd "$work/crates/$1" && rt try --test -- misuse::) >"$log" 2>&1 </dev/null
+    (cd "$work/crates/$1" && "${@:2}") >"$log" 2>&1 </dev/null
     status=$?
     sed -n 's/.*src\/misuse\/\(.*\)\.rt:\([0-9]*\):[0-9]*: error\[\([a-z0-9-]*\)\].*/\1 \2 \3/p' "$log" |
         sort -u >"$work/new"
@@ -68,27 +78,34 @@ count() {
 
 # Tries a crate with its texts: CRATE TEXT..
 try() {
-    local it tests ran
+    local it tests ran reads=(rt try --test -- misuse::)
     add "$@"
+    tests=$(cat "${@:2}" | grep -c '^#\[test\]')
+    ! is_over_built "$1" || reads=(rt check --jobs 1 --only "$1::misuse::no_function")
     : >"$work/errors"
-    read_with "$1"
+    read_with "$1" "${reads[@]}"
     while [ -s "$work/new" ] && [ "$(sort "$work/errors" | uniq -d)" = '' ]; do
         for it in "${@:2}"; do leave_out "$work/crates/$1/src/misuse/${it%.txt}.rt" "${it%.txt}"; done
-        read_with "$1"
+        read_with "$1" "${reads[@]}"
     done
+    [ "${reads[1]}" = try ] || [ "$tests" = 0 ] || read_with "$1" rt try --test -- misuse::
     grep -n '//~' "${@:2}" /dev/null | sed 's/^\(.*\)\.txt:\([0-9]*\):.*\/\/~ /\1 \2 /' >"$work/wanted"
     while read -r it; do
         count "$(grep -qxF "$it" "$work/errors"; echo $?)" "$1: $it"
     done <"$work/wanted"
     while read -r it; do count 1 "$1: $it, which is not wanted"; done \
         < <(sort -u "$work/errors" | grep -vxFf "$work/wanted")
-    tests=$(cat "${@:2}" | grep -c '^#\[test\]')
     ran=$(sed -n 's/^test result: ok\. \([0-9]*\) passed; 0 failed.*/\1/p' "$log")
+    # (a check that reads it all, and then looks for a function that is not there, found no error)
+    ! grep -q "has no function .$1::misuse::no_function" "$log" || { status=0 ran=$((tests + 1)); }
     [ "$status" -eq 0 ] && [ "$ran" = $((tests + 1)) ]
     count $? "$1: what is left passes its tests"
     [ "$status" -eq 0 ] || tail -n 5 "$log"
 }
 
+for it in "${texts[@]}"; do
+    sed -n '1s/.*\(async_cell_[a-z_]*\).*/\1/p' "$it" | grep -q . || count 1 "$it: its first line names no crate"
+done
 for crate in $(head -qn 1 "${texts[@]}" | grep -o 'async_cell_[a-z_]*' | sort -u); do
     mapfile -t of_it < <(for it in "${texts[@]}"; do sed -n "1s/.*$crate\b.*/$it/p" "$it"; done)
     try "$crate" "${of_it[@]}"
