@@ -2,7 +2,7 @@
 """Makes the API reference: a page of HTML for each library, and one that lists them.
 
     python3 scripts/api.py FOLDER     writes the pages there
-    python3 scripts/api.py --check    writes nothing
+    python3 scripts/api.py --check    writes nothing that stays
 
 A page has the public items of a crate, also those that it exports from crates below it: each with
 its declaration, its docstring, and its contract, folded away under the labels. What is
@@ -17,6 +17,7 @@ import html
 import os
 import re
 import sys
+import tempfile
 import textwrap
 
 from lay_out import TOP, read, write
@@ -258,6 +259,17 @@ def make(folder):
     write(f"{folder}/api.css", read(f"{TOP}/scripts/api.css"))
 
 
+def dead_links(folder):
+    """Yields the links of the pages in this folder that lead nowhere."""
+    texts = {it: read(f"{folder}/{it}") for it in sorted(os.listdir(folder)) if it.endswith(".html")}
+    ids = {f"{page}#{it}" for page, text in texts.items() for it in re.findall(r'id="(.*?)"', text)}
+    for page, text in texts.items():
+        for to, anchor in sorted({*re.findall(r'href="([^"#]*)(#[^"]*)?"', text)}):
+            file = to or page
+            if not os.path.isfile(f"{folder}/{file}") or anchor and file + anchor not in ids:
+                yield f"{page} has a link to {to}{anchor}, which leads nowhere"
+
+
 def public_items(found):
     """Yields the public items among these and inside of them: of a public trait all."""
     for it in found:
@@ -285,8 +297,12 @@ def main(folder):
         faults += [f"{of.folder}/src/lib.rt: {name} is not found" for name in lost]
     for it in faults:
         print(os.path.relpath(it, TOP))
-    if folder != "--check" and not faults:
-        make(folder)
+    if not faults:
+        with tempfile.TemporaryDirectory() as room:
+            to = room if folder == "--check" else folder
+            make(to)
+            faults = [*dead_links(to)]
+            print("".join(f"{it}\n" for it in faults), end="")
     print(f"api: {count} public items, {len(faults)} faults")
     return 1 if faults or not count else 0
 
