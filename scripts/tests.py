@@ -5,6 +5,7 @@ of tests/again.txt once more, in the way that stands there. Beside them scripts/
 cases of tests/cases, if no word is given. Prints a line for each folder of tests as it ends, the
 output of each test that fails, and at the end how many passed and failed.
 """
+import glob
 import itertools
 import os
 import re
@@ -105,11 +106,20 @@ def build(told, room, words):
     return try_kit.built(f"{room}/project", "tests", [refuses], f"{room}/built")
 
 
-def chosen(program, words):
-    """Returns (group, test, way) for each run that the words choose."""
+def listed(program, sources):
+    """Returns the names of the tests that the program lists, and a complaint if these texts have
+    more: one to be ignored, or to panic, is not listed, and nothing would run it."""
     how = {"env": {}, "stdout": subprocess.PIPE, "text": True, "check": True}
-    listed = subprocess.run([*program, "--list"], **how).stdout
-    every = re.findall(r"^(.*): test$", listed, re.M)
+    said = subprocess.run([*program, "--list"], **how).stdout
+    every = re.findall(r"^(.*): test$", said, re.M)
+    texts = glob.glob(f"{sources}/**/*.rt", recursive=True)
+    wanted = sum(len(re.findall(r"(?m)^ *#\[test\]", lay_out.read(it))) for it in texts)
+    lost = f"the texts have {wanted} tests, and the program lists {len(every)}"
+    return every, None if wanted == len(every) else lost
+
+
+def chosen(every, words):
+    """Returns (group, test, way) for each run that the words choose of these tests."""
     runs = [(it.split("::")[0], it, "once") for it in every]
     again = lay_out.read(f"{TOP}/tests/again.txt").split("\n")
     for way, it in (line.split() for line in again if line and not line.startswith("#")):
@@ -150,7 +160,11 @@ def main(words):
         told.count(f"tests/{it}", "not as `python3 scripts/lay_out.py --format` writes it")
     with tempfile.TemporaryDirectory(prefix="tests-") as room:
         program, said = build(told, room, words)
-        runs = chosen(program, words) if program else []
+        sources = f"{room}/project/crates/tests/src"
+        every, lost = listed(program, sources) if program else ([], None)
+        runs = chosen(every, words)
+        if lost:
+            told.count("the list of tests", lost)
         if runs:
             told.say(f"compiled: {len(runs)} runs of tests")
             run(program, runs, told)
