@@ -312,6 +312,19 @@ impl<T: Drop, W: Wakes, N: Naming<T, W>> CellCore<T, W, N> {
         Held::of(updated)
     }
 
+    /// `update_some` of an open cell without a value, which calls no closure.
+    #[inline(always)]
+    pub(crate) fn update_none(&mut self)
+        requires vacant { IsTrue (is_vacant self.old.inner.cell) }
+        requires may_fail { N.may (Kept.UpdateSome None None) }
+        ensures made { Made W.will_wake W.SURE_CLONE self.old
+            (Kept.UpdateSome None None) Reply.Done self.new }
+    {
+        let asked = Asked::of(&self.inner, &());
+        let updated = self.inner.update_some(|value| value);
+        asked.enter(&mut self.past, &UpdatesSome, &updated, &self.inner);
+    }
+
     #[inline(always)]
     pub(crate) fn try_take(&mut self) -> Held<Option<T>>
         requires may { N.may Kept.TryTake }

@@ -163,7 +163,8 @@ impl<T: Drop, W: Wakes, N: Naming<T, W>> Witness<T, W, N> {
     }
 
     /// Calls the closure on the value, if there is one, and stores what it returns. Fails with
-    /// `Closed` on a closed cell, and is then told that it is closed.
+    /// `Closed` on a closed cell, and is then told that it is closed. A closure that was not called
+    /// is dropped after the step.
     pub fn update_some<'a, F, M: Stores<Core = CellCore<T, W, N>>, R: Opens<'a, M>>(
         &mut self,
         cell: &'a StoredCore<M>,
@@ -192,6 +193,12 @@ impl<T: Drop, W: Wakes, N: Naming<T, W>> Witness<T, W, N> {
             core.tell(self);
             let _not_called = end(step, Held::of(change));
             return Err(Refusal::Closed);
+        }
+        if core.is_vacant() {
+            core.update_none();
+            core.tell(self);
+            let _not_called = end(step, Held::of(change));
+            return Ok(());
         }
         let updated = core.update_some(change);
         core.tell(self);

@@ -1,10 +1,16 @@
-use Rattle.std.proofs.Common.{IfSome, IsSomeAnd}
+use Rattle.std.proofs.Common.{None, IfSome, IsSomeAnd}
 use Rattle.async_cell_model.specs.declared.entry.Kept.TheVariants.{UpdateSome}
+use Rattle.async_cell_model.specs.declared.reply.Reply.TheVariants.{Done}
 use Rattle.async_cell_model.specs.Machine.{content}
 use Rattle.async_cell_waiting.specs.Told.{done_reply}
 use Rattle.async_cell_waiting.proofs.Found.{told_put, on_ok}
 use Rattle.async_cell_waiting.proofs.Telling.{told_of}
 use Rattle.async_cell_waiting.proofs.told.witness.Witness.update_some.Goals as goal
+
+pub returns-then-is_vacant-clause-told : goal.returns-then-is_vacant-clause-told
+returns-then-is_vacant-clause-told g c always =
+    let told = told_of _ g.N.Naming.named c.hand_to.new.self c.update_none.new.self c.args.self.now.calls c.tell-then-is_vacant.new.witness.calls (UpdateSome None None) Done c.hand_to.ensures.led c.update_none.ensures.made c.hand_to.ensures.begun c.hand_to.ensures.goes_on c.tell-then-is_vacant.ensures.whole in
+    (None, None, told, tt)
 
 pub returns-clause-told : goal.returns-clause-told
 returns-clause-told g c always =
