@@ -1,5 +1,5 @@
 #!/usr/bin/env python3
-"""Runs each Rust snippet of README.md, docs/, the CALLING.md pages and the docstrings.
+"""Runs each Rust snippet of the pages and the docstrings.
 
     python3 scripts/snippets.py [PAGE..]
 
@@ -25,6 +25,7 @@ import tempfile
 
 from api import libraries
 from lay_out import TOP, read, write
+from pages import git_files
 
 SNIPPET = re.compile(
     r"(?:<!-- snippet of (\S+) -->\n)?```rust\n(.*?)\n```\n(?:\nIt prints:?\n\n```text\n(.*?)\n```)?",
@@ -89,16 +90,14 @@ def snippets_of(page):
         yield Snippet(f"{page}:{line_of(it)}", it[2], it[1], it[3])
 
 
-def unread(pages, sources):
-    """Yields each page or source with blocks of Rust that are read as no snippet: in a list, say,
-    with more words, or in the docstring of a crate."""
-    for paths, form in ((pages, SNIPPET), (sources, EXAMPLE)):
-        for path in paths:
-            text = read(os.path.join(TOP, path))
-            blocks = len(re.findall(r"(?:```|~~~) *(?:rust|rs)\b", text))
-            found = sum(it[0].count("```rust") for it in form.finditer(text))
-            if blocks != found or found != len(form.findall(text)):
-                yield f"{path} has {blocks} blocks of Rust, not all of which are read"
+def unread(paths, snippets):
+    """Yields each of these files with blocks of code, but of a shell or of text, that are no
+    snippet: in a list, say, of another language or none, or in the docstring of a crate."""
+    for path in paths:
+        ends = re.findall(r"(?m)^[ />!*-]*(?:```|~~~) *(.*)", read(path))
+        blocks = len(ends) / 2 - sum(it in ("sh", "text") for it in ends)
+        if blocks != sum(it.where.startswith(f"{path}:") for it in snippets):
+            yield f"{path} has {blocks:g} blocks of code, not all of which are read"
 
 
 def examples_of(crate):
@@ -155,8 +154,8 @@ def run(work, snippets):
 
 
 def main(pages):
-    theirs = sorted([*glob.glob(f"{TOP}/docs/*.md"), *glob.glob(f"{TOP}/crates/*/CALLING.md")])
-    asked = pages or ["README.md", *[os.path.relpath(it, TOP) for it in theirs]]
+    os.chdir(TOP)
+    asked = pages or git_files("*.md")
     snippets = [it for page in asked for it in snippets_of(page)]
     snippets += [] if pages else [it for of in libraries() for it in examples_of(of)]
     for it in snippets:
@@ -169,8 +168,8 @@ def main(pages):
         run(work, [it for it in snippets if not it.copied])
     failed = [f"{it.where}: {it.failure}" for it in snippets if it.failure]
     passed = len(snippets) - len(failed)
-    sources = glob.glob(f"{TOP}/crates/async_cell*/src/**/*.rt", recursive=True)
-    failed += unread(asked, [] if pages else sources)
+    sources = [] if pages else glob.glob("crates/*/src/**/*.rt", recursive=True)
+    failed += unread([*asked, *sources], snippets)
     for it in failed:
         print(f"FAILED {it}")
     print(f"{passed} passed, {len(failed)} failed")
