@@ -6,11 +6,12 @@
 # repository of its own, the snippets of the pages and docstrings, and what the calls cost, which
 # valgrind counts: without it the gate fails, but where WITHOUT_VALGRIND=yes says so. With the word
 # --all, as before a release, it tries the bugs of all crates, and the programs of examples/tokio.
-# Prints a line at least every minute, at the end a line for each step with what it has shown and how
-# long it took, and last 'N passed, M failed', with the totals of the tests, of `rt ci` and of the
-# deliberate bugs. A step fails if its status is not 0, or if its last line is not as it has to be.
-# The first one that fails ends the gate, whose status is then not 0. A failure of a step that is not
-# among the totals counts as one.
+# Prints a line at least every minute. At the end comes a line for each step, with its seconds by
+# the clock, its minutes of processors and what it has shown, then how large the repository is, and
+# last 'N passed, M failed', with the totals of the tests, of `rt ci` and of the deliberate bugs. A
+# step fails if its status is not 0, or if its last line is not as it has to be. The first one that
+# fails ends the gate, whose status is then not 0. A failure of a step that is not among the totals
+# counts as one.
 set -u
 [ $# -eq 0 ] || [ "$*" = --all ] || { echo 'gate.sh [--all]' >&2 && exit 2; }
 cd "$(dirname "$0")/.." || exit 1
@@ -18,6 +19,7 @@ work=$(mktemp -d)
 ticker=
 trap '[ -z "$ticker" ] || kill "$ticker"; rm -rf "$work"' EXIT
 trap 'exit 1' INT TERM
+TIMEFORMAT='%U %S'
 passed=0
 failed=0
 
@@ -31,12 +33,23 @@ tick() {
     done
 }
 
-# Ends the gate, with what each step has shown, and the time that all took.
+# Says how large the repository is, and which crate has the most functions, but for callers.
+size() {
+    git grep -cI '' | awk -F : '{ n += $NF } END { print n " lines in " NR " files" }'
+    git grep -cE '^ *(pub(\([a-z]+\))? )?(const )?(unsafe )?fn [a-z]' -- 'crates/*/src/*' \
+        ':!*_callers/*' ':!*_uses/*' | awk -F '[:/]' '
+        { n[$2] += $NF } n[$2] > n[most] { most = $2 } END { print n[most] " functions in " most }'
+}
+
+# Ends the gate, with what each step has shown, how large all is, and the time that it took.
 finish() {
     echo
     [ ! -e "$work/shown" ] || cat "$work/shown"
+    size | sed 's/^/gate: /'
     times >"$work/times"
-    echo "gate: $((SECONDS / 60)) min by the clock, user and system time $(tail -n 1 "$work/times")"
+    awk -F '[ms ]+' '{ n += $1 + $2 / 60 + $3 + $4 / 60 }
+        END { printf "gate: %.1f min of processors, ", n }' "$work/times"
+    echo "$((SECONDS / 60)) min by the clock"
     [ "$1" -eq 0 ] || echo "gate: FAILED"
     echo "$passed passed, $failed failed"
     exit "$1"
@@ -46,21 +59,21 @@ finish() {
 # if its status is 0 and that line is as the pattern says. The status of a pipe is that of its first
 # command here.
 step() {
-    local name=$1 wanted=$2 status begun=$SECONDS
+    local name=$1 wanted=$2 status spent begun=$SECONDS
     shift 2
     echo "gate: $name"
     : >"$work/log"
     tick "$name" &
     ticker=$!
-    "$@" 2>&1 </dev/null | tee "$work/log"
-    status=${PIPESTATUS[0]}
+    { time "$@" 2>&1 </dev/null | tee "$work/log"; status=${PIPESTATUS[0]}; } 2>"$work/time"
+    spent=$(awk 'END { printf "%.1f", ($1 + $2) / 60 }' "$work/time")
     until [ -e "$work/ticking" ]; do sleep 0.05; done
     rm "$work/ticking"
     kill "$ticker"
     wait "$ticker" 2>/dev/null
     ticker=
     last=$(tail -n 1 "$work/log")
-    echo "gate: $name, $((SECONDS - begun)) s: $last" >>"$work/shown"
+    echo "gate: $name, $((SECONDS - begun)) s, $spent min of processors: $last" >>"$work/shown"
     [ "$status" -eq 0 ] && [[ $last =~ $wanted ]]
 }
 
@@ -92,13 +105,18 @@ documented='^api: [1-9][0-9]* public items, 0 faults$'
 vendored='^vendor_check: .* runs in a repository of its own: .'
 counted='^count: [1-9][0-9]* counted, 0 rose '
 
+for it in $(sed -n 's/^\(\w\+\) .*/\1/p' scripts/bugs.lock); do
+    [ -s "crates/$it/bugs.txt" ] || { echo "gate: $it has lost its bugs" && failed=1 && finish 1; }
+done
 show 'the deliberate bugs can be applied' "$applied" python3 scripts/bugs.py --list
 show 'the pages (scripts/pages.py)' "$read" python3 scripts/pages.py
 show 'the docstrings (scripts/api.py)' "$documented" python3 scripts/api.py --check
 count 'all tests, without a proof (scripts/tests.sh)' bash scripts/tests.sh
 count 'proofs, programs, and the bugs of must-fail/ (rt ci)' rt ci
-# (such edits fail nothing there: they are not compiled, or say little of a contract)
-! grep -E 'BAD EDIT|refused, as it must be \(only' "$work/log" || { failed=1 && finish 1; }
+# (it passes an edit of which the prover said no more than that a proof names what it took away, or
+# that a step limit was met; that `search` gave up is what it says of most clauses that are false)
+! grep -E 'BAD EDIT|refused, as it must be( \(only|:.*(step|resource) limit)' "$work/log" ||
+    { failed=1 && finish 1; }
 show 'what tries deliberate bugs (scripts/bugs_check.py)' "$counts" python3 scripts/bugs_check.py
 count 'the bugs of bugs.txt (scripts/bugs.py)' python3 scripts/bugs.py "$@"
 show 'the built program (scripts/program.py)' "$counts" python3 scripts/program.py
