@@ -1,13 +1,14 @@
 #!/usr/bin/env bash
-# Tries what must not compile: `bash misuse/check.sh [TEXT..]` (none: all texts of this folder). A text
-# is added as a module to a copy of each crate that its first line names, and read. As a module of the
-# crate it may use what is private there. A line that ends in `//~ ERROR` has to be refused by that
-# error, and no other line by any. An error of one kind hides those that are looked for after it: so
-# functions that were refused are left out, and the rest is read again, until nothing is refused: then
-# its tests have to pass. Over libraries that are built (by `rt ci`, say) `rt check` reads it, of
-# which no function is to be proved. `rt try --test`, which reads the libraries' sources too, for six
-# times as long, does so where one is not built, and runs tests. Prints what came of each line, and at
-# the end how many passed and failed; the status is 0 if none failed.
+# Tries what must not compile: `bash misuse/check.sh [TEXT..]` (none: all texts of this folder). A
+# text is added as a module to a copy of each crate that its first line names, and read. As a module
+# of the crate it may use what is private there. A line that ends in `//~ ERROR` has to be refused
+# by that error, and no other line by any. An error of one kind hides those that are looked for
+# after it: so functions that were refused are left out, and the rest is read again, until nothing
+# is refused: then its tests have to pass. Over libraries that are built (by `rt ci`, say) the kit's
+# compiler reads it, asked to check a function that is not there: it says so once it has read all.
+# Where a library is not built, or has changed, and for tests, it is `rt try --test`, which reads
+# the libraries' sources too and takes six times as long. Prints what came of each line, and at the
+# end how many passed and failed; the status is 0 if none failed.
 set -u
 top=$(cd "$(dirname "$0")/.." && pwd)
 [ $# -gt 0 ] || set -- $(cd "$top/misuse" && basename -s .txt ./*.txt)
@@ -23,13 +24,21 @@ cp "$top/HANDLES" "$top/crates.txt" "$work/"
 git init -q "$work"
 (cd "$top/crates" && cp -r --parents */src "$work/crates/")
 (cd "$top/crates" && cp -r --parents */specs */proofs "$work/crates/")
-(cd "$top/crates" && cp -rl --parents */out/rlib "$work/crates/" 2>/dev/null)
 
-# Whether what the crate stands on is built: CRATE
+# Whether what the crate stands on is built. If so, `reads` are the words that read it: CRATE
 is_over_built() {
-    local it
-    for it in $(sed -n "s/^$1://p" "$top/crates.txt"); do
-        [ ! -d "$top/crates/$it" ] || [ -e "$work/crates/$it/out/rlib/stamp" ] || return 1
+    local it at kit
+    kit=$(dirname "$(dirname "$(readlink -f "$(command -v rt)")")")
+    reads=("$kit/bin/rattle" check --crate-name "$1" src/lib.rt --only "$1::misuse::no_function")
+    reads+=(--antt-project "$kit/rattle/logic/antt-project.json" --logic-built "$kit/logic_built")
+    reads+=(--jobs 1 -L "dependency=$kit/rlibs")
+    for it in "$top"/crates/*/out/rlib; do reads+=(-L "dependency=$it"); done
+    for it in $(sed -n "s/^$1:/core std /p" "$top/crates.txt" | tr ' ' '\n' | sort -u); do
+        at=$top/crates/$it/out/rlib
+        [ -d "$top/crates/$it" ] || at=$kit/rlibs
+        [ "$at" = "$kit/rlibs" ] ||
+            [ -z "$(find "$top/crates/$it/src" -newer "$at/$it.rlib/format" 2>&1)" ] || return 1
+        reads+=(--extern "$it=$at/$it.rlib")
     done
 }
 
@@ -78,10 +87,10 @@ count() {
 
 # Tries a crate with its texts: CRATE TEXT..
 try() {
-    local it tests ran reads=(rt try --test -- misuse::)
+    local it tests ran reads
     add "$@"
     tests=$(cat "${@:2}" | grep -c '^#\[test\]')
-    ! is_over_built "$1" || reads=(rt check --jobs 1 --only "$1::misuse::no_function")
+    is_over_built "$1" || reads=(rt try --test -- misuse::)
     : >"$work/errors"
     read_with "$1" "${reads[@]}"
     while [ -s "$work/new" ] && [ "$(sort "$work/errors" | uniq -d)" = '' ]; do
@@ -104,7 +113,7 @@ try() {
 }
 
 for it in "${texts[@]}"; do
-    sed -n '1s/.*\(async_cell_[a-z_]*\).*/\1/p' "$it" | grep -q . || count 1 "$it: its first line names no crate"
+    head -n 1 "$it" | grep -q 'async_cell_[a-z]' || count 1 "$it: its first line names no crate"
 done
 for crate in $(head -qn 1 "${texts[@]}" | grep -o 'async_cell_[a-z_]*' | sort -u); do
     mapfile -t of_it < <(for it in "${texts[@]}"; do sed -n "1s/.*$crate\b.*/$it/p" "$it"; done)
