@@ -4,12 +4,12 @@
 It finds a row of a table without a header (a blank line ends a table); a link to a file or to a
 heading that is not there, also with a title, by a reference or in HTML; written as code or in a
 shell's block, a path of the repository where nothing lies, the name of a crate that is not there,
-or an option that its script does not know; a path of a machine; and a figure that is typed by hand
-in a section on instructions. On the pages NAMED each name that is written as code has to stand in
-the sources, and each label of CONTRIBUTING's table in a clause. Then it compares what stands around
-the libraries with their sources: the lines of tests, scripts, bench and misuse may be at most MOST
-times as many. Prints a line for each fault, and last how many pages it read, how many faults it
-found, and both sums; the status is 0 if there is no fault.
+or an option that its script does not know; a path of a machine, or the number of an issue; and a
+figure that is typed by hand in a section on instructions. On the pages NAMED each name that is
+written as code has to stand in the sources, and each label of CONTRIBUTING's table in a clause.
+Then it compares what stands around the libraries with their sources: the lines of tests, scripts,
+bench and misuse may be at most MOST times as many. Prints a line for each fault, and last how many
+pages it read, how many faults it found, and both sums; the status is 0 if there is no fault.
 """
 import functools
 import glob
@@ -25,7 +25,9 @@ LINK = re.compile(
     r"\]\(<?([^)\s>]+)[^)]*\)|^ {0,3}\[[^\]]+\]: *<?([^\s>]+)|\b(?:href|src)=[\"']([^\"']+)"
 )
 USED = re.compile(r"\[([^\[\]]+)\]\[([^\[\]]*)\]")
-MACHINE = re.compile(r"(?<![\w.~])/(?:tmp|home|root|work|opt|usr|mnt)\b")
+MACHINE = re.compile(
+    r"(?<![\w.~])/(?:tmp|home|root|work|opt|usr|mnt)\b|(?<![\w(/])#\d+\b|\bissues? #?\d+"
+)
 CODE = re.compile(r"`([^`\n]+)`")
 # Paths of the repository begin so; what stands for any name is no path.
 PATH = re.compile(r"(?:crates|docs|scripts|tests|bench|misuse|reentry|examples)/[\w./*-]+")
@@ -105,8 +107,8 @@ def names_of_nothing(lines):
         for script, option in OPTION.findall(" ".join(code)):
             if os.path.isfile(script) and option not in read(script):
                 yield at, f"{option}, which {script} does not know"
-        for path in MACHINE.findall(line):
-            yield at, f"{path}, a path of a machine"
+        for it in MACHINE.findall(line):
+            yield at, f"{it}, a path of a machine or the number of an issue"
 
 
 @functools.cache
