@@ -7,9 +7,9 @@
 A page has the public items of a crate, also those that it exports from crates below it: each with
 its declaration, its docstring, and its contract, folded away under the labels. What is
 `doc(hidden)`, or has a docstring that begins with "Internal", is left out. A public item without a
-docstring is a fault, also a variant or a field, and so is an export of what is not found, and an
-item of a form that is not known here. Prints a line for each; the last line is 'api: N public items,
-M faults', and the status is 0 if M is.
+docstring is a fault, also a variant or a field, and so is an export of what is not found, an item
+of a form that is not known here, and a link of the pages that leads nowhere. Prints a line for
+each; the last line is 'api: N public items, M faults', and the status is 0 if M is.
 """
 import functools
 import glob
