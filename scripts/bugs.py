@@ -6,16 +6,18 @@
     bugs.py --all       tries all
     bugs.py --record [CRATE..|--all]   does the same, and writes the record
     bugs.py --list      looks alone whether each can be applied, and each edit of must-fail/, which
-                        `rt ci` tries
+                        `rt ci` tries; a crate has no fewer than in the record
 
 A bug is a line 'FILE: what it does', with the file below src/, and after it pairs of lines '- OLD'
 and '+ NEW': a text that stands in the file once, and what comes in its place. A line '= CLAUSE' may
 follow, of the clause that is to refuse it: then a complaint of another one does not count, nor of
-what a call requires. A bug of a function that has an Answers.antt needs it, as the words of that
-proof may not fit any other body.
+what a call requires. `= returns` is a contract of one clause, `= loop` the invariant of a loop,
+`= invariant` that of a type. A bug of a function that has an Answers.antt needs the line, as the
+words of that proof may not fit any other body.
 
-The record, scripts/bugs.lock, has a line for each crate all of whose bugs were refused, with a sum
-of what that rests on: `rt version`, this script, and the texts of the crate and of those below it.
+The record, scripts/bugs.lock, has a line for each crate all of whose bugs were refused: how many,
+and a sum of what that rests on: `rt version`, this script, and the texts of the crate and of those
+below it.
 
 It works on a copy, with what `rt` has kept in out/: `rt all check` proves the crates there, and
 `rt check` tries them with bugs. A bug changes the body of one function and no contract, so bugs of
@@ -125,8 +127,10 @@ class Bug:
     def counts(self, told):
         """Returns whether this complaint is of the clause that is to refuse it."""
         last = "" if self.clause == "returns" else rf"-clause-{self.clause}"
-        goal = rf"`returns(?:-(?!clause-)[\w-]*?)?{last}(?:-\d+)?`"
-        return not self.clause or bool(re.search(goal, told[0]))
+        goal = rf"returns(?:-(?!clause-)[\w-]*?)?{last}(?:-\d+)?"
+        others = {"loop": r"loop-[\w-]+", "invariant": r"invariant_of-[\w-]+"}
+        goal = others.get(self.clause, goal)
+        return not self.clause or bool(re.search(f"`{goal}`", told[0]))
 
     def judge(self, why, told=()):
         """Prints why it is not refused, or what the prover has told of it. Returns whether it is
@@ -153,6 +157,8 @@ def bugs_of(crate, has_edits):
     names = [it.name for it in found]
     for it in found:
         it.fault = it.fault or (names.count(it.name) > 1 and "another has its name")
+        if it.clause is None and it.needs_clause():
+            it.fault = it.fault or "it names no clause, and an Answers.antt proves its function"
         faults += not it.judge(f"it cannot be applied: {it.fault}") if it.fault else 0
     return [it for it in found if not it.fault], faults
 
@@ -263,17 +269,34 @@ def with_bugs():
     return sorted(it for it in os.listdir("crates") if os.path.isfile(f"crates/{it}/bugs.txt"))
 
 
+def lines_of_record():
+    """Returns how many bugs of a crate were refused, and the sum, by crate."""
+    text = read(RECORD) if os.path.isfile(RECORD) else ""
+    return {it[0]: (int(it[1]), it[2]) for it in re.findall(r"^(\w+) (\d+) (\w+)$", text, re.M)}
+
+
 def recorded():
     """Returns the lines of the record that are of the texts as they are, by crate."""
-    lines = re.findall(r"^(\w+) (\w+)$", read(RECORD), re.M) if os.path.isfile(RECORD) else []
-    return {name: it for name, it in lines if name in with_bugs() and it == sum_of(name)}
+    lines = lines_of_record()
+    return {it: lines[it] for it in with_bugs() if it in lines and lines[it][1] == sum_of(it)}
 
 
-def record(sums, failed):
-    """Writes the record: these crates were tried, with these sums, and these of them failed."""
-    lines = {**recorded(), **sums}
-    told = [f"{it} {lines[it]}\n" for it in sorted(lines) if it not in failed]
+def record(tried, failed):
+    """Writes the record: these crates were tried, with these lines, and these of them failed."""
+    lines = {**recorded(), **tried}
+    told = [f"{it} {lines[it][0]} {lines[it][1]}\n" for it in sorted(lines) if it not in failed]
     write(RECORD, f"# {ABOUT}\n" + "".join(told))
+
+
+def fewer_than_recorded(found):
+    """Prints of which crates there are fewer bugs than in the record, and returns how many."""
+    fewer = 0
+    for crate, (count, _) in lines_of_record().items():
+        left = sum(not it.name.endswith(".edit") for it in found.get(crate, ([], 0))[0])
+        if left < count:
+            print(f"{crate}: FAILED: {left} bugs are left of {count}: what went has to be recorded")
+            fewer += 1
+    return fewer
 
 
 def due():
@@ -320,14 +343,12 @@ def main(words):
     bugs = [bug for it, _ in found.values() for bug in it]
     faults = sum(it for _, it in found.values())
     if is_list:
-        of_crates = [it for name in with_bugs() for it in bugs_of(name, False)[0]]
-        unsaid = sum(it.needs_clause() and not it.clause for it in of_crates)
-        print(f"{unsaid} of bugs.txt name no clause, where an Answers.antt proves their function")
+        fewer = fewer_than_recorded(found)
         print(f"{len(bugs) + faults} deliberate bugs, {faults} of which cannot be applied")
-        return 1 if faults or not bugs else 0
-    sums, counts = {it: sum_of(it) for it in crates}, try_all(bugs)
+        return 1 if faults or fewer or not bugs else 0
+    tried, counts = {it: (len(found[it][0]), sum_of(it)) for it in crates}, try_all(bugs)
     if is_record:
-        record(sums, {it for it in crates if found[it][1] or counts[it] < len(found[it][0])})
+        record(tried, {it for it in crates if found[it][1] or counts[it] < len(found[it][0])})
     passed = sum(counts.values())
     failed = faults + len(bugs) - passed
     print(f"{passed} passed, {failed} failed")

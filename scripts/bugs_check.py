@@ -96,9 +96,10 @@ PLANTED = {
     "a clause that a caller needs": ("90 + 10", "90 + 110", "refused: note: src/lib.rt"),
     "what a proof names is gone": (
         "    let kept = same(x);",
-        "    let kept = { let other = same(x); other };",
+        "    let kept = { let other = same(x); other };\n= is_same",
         "FAILED: the check came to no complaint",
     ),
+    "a proof that may not fit": ("    kept", "    2", "FAILED: it cannot be applied: it names no"),
     "a wrong body by its clause": ("    kept", "    0\n= is_same", "refused by `is_same`: "),
     "a wrong body by another": ("    kept", "    1\n= is_low", "FAILED: no complaint was of the c"),
     "a wrong body below an attribute": ("    more", "    x", "refused: note: src/lib.rt"),
