@@ -5,7 +5,8 @@
 # each request for memory refused, the cases of misuse that must not compile, the first program in a
 # repository of its own, the snippets of the pages and docstrings, and what the calls cost, which
 # valgrind counts: without it the gate fails, but where WITHOUT_VALGRIND=yes says so. With the word
-# --all, as before a release, it tries the bugs of all crates, and the programs of examples/tokio.
+# --all, as before a release, it tries the bugs of all crates, which it records, and the programs of
+# examples/tokio.
 # Prints a line at least every minute. At the end comes a line for each step, with its seconds by
 # the clock, its minutes of processors and what it has shown, then how large the repository is, and
 # last 'N passed, M failed', with the totals of the tests, of `rt ci` and of the deliberate bugs. A
@@ -105,9 +106,6 @@ documented='^api: [1-9][0-9]* public items, 0 faults$'
 vendored='^vendor_check: .* runs in a repository of its own: .'
 counted='^count: [1-9][0-9]* counted, 0 rose '
 
-for it in $(sed -n 's/^\(\w\+\) .*/\1/p' scripts/bugs.lock); do
-    [ -s "crates/$it/bugs.txt" ] || { echo "gate: $it has lost its bugs" && failed=1 && finish 1; }
-done
 show 'the deliberate bugs can be applied' "$applied" python3 scripts/bugs.py --list
 show 'the pages (scripts/pages.py)' "$read" python3 scripts/pages.py
 show 'the docstrings (scripts/api.py)' "$documented" python3 scripts/api.py --check
@@ -118,7 +116,7 @@ count 'proofs, programs, and the bugs of must-fail/ (rt ci)' rt ci
 ! grep -E 'BAD EDIT|refused, as it must be( \(only|:.*(step|resource) limit)' "$work/log" ||
     { failed=1 && finish 1; }
 show 'what tries deliberate bugs (scripts/bugs_check.py)' "$counts" python3 scripts/bugs_check.py
-count 'the bugs of bugs.txt (scripts/bugs.py)' python3 scripts/bugs.py "$@"
+count 'the bugs of bugs.txt (scripts/bugs.py)' python3 scripts/bugs.py ${1:+--record --all}
 show 'the built program (scripts/program.py)' "$counts" python3 scripts/program.py
 show 'no memory (scripts/memory.sh)' "$counts" bash scripts/memory.sh
 show 'misuse that must not compile (misuse/check.sh)' "$counts" bash misuse/check.sh
