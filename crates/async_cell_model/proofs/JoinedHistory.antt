@@ -9,31 +9,21 @@ use Rattle.async_cell_model.specs.History.{History, cell_after, has_fill_or_clos
 use Rattle.async_cell_model.proofs.OneMoreWaker.{wait_list-append, wait_list-wait_list, wait_list-longer}
 
 or_over : (p q r s : Bool) → s ≡ (q || r) → (p || s) ≡ ((p || q) || r)
-or_over true q r s e = refl
-or_over false q r s e = e
+or_over p q r s e = grind arith
 
 -- the cut of a list that is longer by one in front
 cut_over : {A : Type 0} (p q r s : Bool) (e : A) (g h joined first second : List A) → s ≡ (q || r) → joined ≡ (if r then second else (first ++ h)) → (if p || s then joined else (e ∷ (g ++ h))) ≡ (if r then second else ((if p || q then first else e ∷ g) ++ h))
-cut_over true q true s e g h joined first second ends is = is
-cut_over true q false s e g h joined first second ends is = is
-cut_over false true true s e g h joined first second ends is = rw ends is
-cut_over false true false s e g h joined first second ends is = rw ends is
-cut_over false false true s e g h joined first second ends is = rw ends is
-cut_over false false false s e g h joined first second ends is = rw ends refl
+cut_over p q r s e g h joined first second ends is = grind arith
 
 -- a cut list joined to another
 split_map : {A B : Type 0} (f : A → Option B) (b : Bool) (cut kept h : List A)
     → filter_map f (if b then cut else (kept ++ h)) ≡ (if b then filter_map f cut else (filter_map f kept ++ filter_map f h))
-split_map f true cut kept h = refl
-split_map f false cut kept h = filter_map-append f kept h
+split_map f b cut kept h = grind (arith, filter_map-append)
 
 -- what stands before a cut list, and what behind it
 front_over : {A : Type 0} (p q : Bool) (l a b c : List A)
     → ((if p || q then [] else l) ++ (if q then b else (a ++ c))) ≡ (if q then b else (((if p then [] else l) ++ a) ++ c))
-front_over true true l a b c = refl
-front_over true false l a b c = refl
-front_over false true l a b c = refl
-front_over false false l a b c = sym (append_assoc l a c)
+front_over p q l a b c = grind (arith, append_assoc)
 
 module _ {T W : Type 0} where
   pub cell_after-append : (c : Cell T) (g h : History T W) → cell_after c (g ++ h) ≡ cell_after (cell_after c g) h
@@ -50,8 +40,7 @@ module _ {T W : Type 0} where
   since-none c (e ∷ h) none = rw none refl
 
   since_whole : (c : Cell T) (h : History T W) (b : Bool) → has_fill_or_close c h ≡ b → since c h ≡ (if b then since c h else h)
-  since_whole c h true e = refl
-  since_whole c h false e = since-none c h e
+  since_whole c h b e = grind (arith, since-none)
 
   pub since-append : (c : Cell T) (g h : History T W) → since c (g ++ h) ≡ (if has_fill_or_close (cell_after c g) h then since (cell_after c g) h else (since c g ++ h))
   since-append c [] h = since_whole c h (has_fill_or_close c h) refl
@@ -71,11 +60,7 @@ kept_over will_wake false first later cut whole = rw (whole refl) (sym (wait_lis
 
 room_over : (p q : Bool) (room first second third : ℕ) → (p ≡ false → first ≤ second) → (q ≡ false → second ≤ third)
     → (if p || q then 0 else room - (third - first)) ≡ (if q then 0 else (if p then 0 else room - (second - first)) - (third - second))
-room_over true true room first second third low high = refl
-room_over true false room first second third low high = omega arith
-room_over false true room first second third low high = refl
-room_over false false room first second third low high =
-    let low' : first ≤ second = low refl in let high' : second ≤ third = high refl in omega arith
+room_over p q room first second third low high = grind (arith, low, high)
 
 module _ {T W : Type 0} (will_wake : W → W → Bool) where
   pub waiting-append : (b : State T W) (g h : History T W) → waiting will_wake b (g ++ h) ≡ waiting will_wake (after will_wake b g) h

@@ -1,12 +1,10 @@
 -- Legal histories, joined and started anew.
-use Rattle.std.proofs.Common.{◌≡◌, ◌≤◌, inl, inr, ℕ, Bool, true, false, not, ◌&&◌, ◌||◌, List, [], ◌∷◌, ◌++◌, refl, ap, sym, subst, ◌∙◌, arith, rules, append_assoc, append-nil, zero-le, le_trans, ◌-◌}
-use Rattle.std.proofs.lemmas.Grind.{common_steps}
+use Rattle.std.proofs.Common.{◌≡◌, ◌≤◌, inl, inr, ℕ, Bool, true, List, [], ◌∷◌, ◌++◌, refl, ap, sym, subst, ◌∙◌, arith, append_assoc, append-nil, le_trans, ◌-◌}
 use Rattle.std.proofs.lemmas.Bool.Decides.{nat_tests}
-use Rattle.std.specs.Prelude.{if◌then◌else◌, nat_lt}
+use Rattle.std.specs.Prelude.{if◌then◌else◌}
 use Rattle.async_cell_model.specs.declared.entry.Entry.{Entry}
 use Rattle.async_cell_model.specs.declared.entry.Kept.{Kept}
-use Rattle.async_cell_model.specs.declared.entry.Kept.TheVariants.{TryGet, PollTake, PollGet}
-use Rattle.async_cell_model.specs.Machine.{is_full, is_vacant, wait_list, skips, is_empty, State, IsSound, Exactly, may_refuse}
+use Rattle.async_cell_model.specs.Machine.{wait_list, State, IsSound, Exactly, may_refuse}
 use Rattle.async_cell_model.specs.History.{History, has_fill_or_close, room, after}
 use Rattle.async_cell_model.specs.Legal.{MayFollowBy, IsLegalAfterBy, RunsBy, woken_by, wakes_after, Runs}
 use Rattle.async_cell_model.specs.declared.reply.Reply.{Reply}
@@ -40,30 +38,13 @@ module _ {T W : Type 0} (MayReply : Kept T W → Reply T → Reply T → Type 0)
       let tail = ap (λ (l : History T W). wakes_after will_wake b l rest) (append_assoc g h (e ∷ [])) ∙ wakes_after-begun b g (h ++ e ∷ []) rest kept in
       λ i. head i ∷ tail i
 
--- a poll that needs no memory with little room needs none with more
-poll_room : (p q s t u v : Bool) → (u ≡ true → v ≡ true) → (p && not (q || (s && (t || v)))) ≡ true → (p && not (q || (s && (t || u)))) ≡ true
-poll_room p q s t false v more refused = grind (arith, common_steps)
-poll_room p q s t true v more refused = let full : v ≡ true = more refl in rw full at refused
-
-below_more_room : (r n : ℕ) → r ≤ n → nat_lt 0 r ≡ true → nat_lt 0 n ≡ true
-below_more_room r n more some = search (rules, nat_tests)
-
-full_or : (full p q : Bool) → (q ≡ true → p ≡ true) → (full || q) ≡ true → (full || p) ≡ true
-full_or true p q h refused = refl
-full_or false p q h refused = h refused
-
 room_more_if : (ends : Bool) (r n taken : ℕ) → r ≤ n → (if ends then 0 else r - taken) ≤ (if ends then 0 else n - taken)
-room_more_if true r n taken more = zero-le
-room_more_if false r n taken more = omega arith
+room_more_if ends r n taken more = grind arith
 
 module _ {T W : Type 0} (MayReply : Kept T W → Reply T → Reply T → Type 0) (will_wake : W → W → Bool) (sure : Bool) where
   -- more room only makes fewer refusals legal
   may_refuse-room : (b : State T W) (r : ℕ) → b.room ≤ r → (call : Kept T W) → may_refuse will_wake sure (record b { room = r }) call ≡ true → may_refuse will_wake sure b call ≡ true
-  may_refuse-room b r more TryGet refused = refused
-  may_refuse-room b r more (PollTake w) refused = poll_room _ (skips will_wake b.waiting w) sure (is_empty b.waiting) _ _ (below_more_room b.room r more) refused
-  may_refuse-room b r more (PollGet w) refused =
-      full_or (is_full b.cell) _ _ (poll_room (is_vacant b.cell) (skips will_wake b.waiting w) sure (is_empty b.waiting) _ _ (below_more_room b.room r more)) refused
-  may_refuse-room b r more call refused = refused
+  may_refuse-room b r more call refused = grind (arith, nat_tests)
 
   MayFollow-room : (b : State T W) (r : ℕ) → b.room ≤ r → (e : Entry T W) → MayFollowBy MayReply will_wake sure (record b { room = r }) e → MayFollowBy MayReply will_wake sure b e
   MayFollow-room b r more e may = record {

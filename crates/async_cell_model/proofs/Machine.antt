@@ -1,15 +1,12 @@
 -- The machine does what the histories of one entry say.
-use Rattle.std.proofs.Common.{◌≡◌, ◌≤◌, inl, inr, ℕ, Bool, true, false, ◌||◌, List, [], ◌∷◌, ◌++◌, length, Option, Some, None, refl, ap, sym, subst, ◌∙◌, append-nil, ◌-◌}
+use Rattle.std.proofs.Common.{arith, ◌≡◌, ◌≤◌, inl, inr, ℕ, Bool, true, false, ◌||◌, List, [], ◌∷◌, ◌++◌, length, Option, Some, None, refl, ap, sym, subst, ◌∙◌, append-nil, ◌-◌}
 use Rattle.std.specs.Prelude.{if◌then◌else◌, fold, option_to_list}
 use Rattle.std.specs.List.{filter_map}
 use Rattle.async_cell_model.specs.declared.cell.Cell.{Cell}
-use Rattle.async_cell_model.specs.declared.cell.Cell.TheVariants.{Closed, Open}
 use Rattle.async_cell_model.specs.declared.entry.Entry.{Entry}
 use Rattle.async_cell_model.specs.declared.entry.Kept.{Kept}
-use Rattle.async_cell_model.specs.declared.entry.Kept.TheVariants.{TryGet, PollGet}
 use Rattle.async_cell_model.specs.declared.reply.Reply.{Reply}
-use Rattle.async_cell_model.specs.declared.reply.Reply.TheVariants.{Value, Ready}
-use Rattle.async_cell_model.specs.Machine.{ends_waiting, Exactly, IsCloned, UpToClones, next, reply, is_memory, wait_list, with_one_more, State, IsSound, is_pending, waker_of, pending_waker, Does, DoesUpTo}
+use Rattle.async_cell_model.specs.Machine.{ends_waiting, Exactly, IsCloned, UpToClones, next, reply, is_memory, wait_list, with_one_more, State, IsSound, is_pending, pending_waker, Does, DoesUpTo}
 use Rattle.async_cell_model.specs.History.{waiting, room, after}
 use Rattle.async_cell_model.specs.Legal.{RunsBy, MayFollowBy, Steps, StepsUpTo, woken_by}
 use Rattle.async_cell_model.proofs.OneMoreWaker.{wait_list-one}
@@ -20,8 +17,7 @@ first_of [] = []
 first_of (x ∷ xs) = x
 
 room_if : {W : Type 0} (p q : Bool) (room waiting : ℕ) (m n : List W) → q ≡ p → n ≡ m → (if p || false then 0 else room - (length m - waiting)) ≡ (if q then 0 else room - (length n - waiting))
-room_if true q room waiting m n same list = rw same refl
-room_if false q room waiting m n same list = rw (same, list) refl
+room_if p q room waiting m n same list = grind arith
 
 module _ {W : Type 0} (will_wake : W → W → Bool) where
   -- the wait list after an entry that adds this waker, if any
@@ -102,16 +98,13 @@ record Alike {T : Type 0} (own answer : Reply T) : Type 0 where
 
 module _ {T W : Type 0} (is_clone : T → T → Type 0) where
   alike : (call : Kept T W) (own answer : Reply T) → IsCloned is_clone call own answer → Alike own answer
-  alike TryGet (Value (Some a)) (Value (Some b)) cloned = record { own_is = refl; answer_is = refl; same_wait = refl }
-  alike (PollGet w) (Ready (Some a)) (Ready (Some b)) cloned = record { own_is = refl; answer_is = refl; same_wait = refl }
-  alike call own answer cloned = absurd cloned
+  alike call own answer cloned = grind arith
 
   next_same : (c : Cell T) (call : Kept T W) (own answer : Reply T) → Alike own answer → next c (record { call = call; reply = own }) ≡ next c (record { call = call; reply = answer })
-  next_same Closed call own answer like = refl
-  next_same (Open value owners) call own answer like = rw (like.own_is, like.answer_is) refl
+  next_same c call own answer like = grind arith
 
   waker_same : (call : Kept T W) (own answer : Reply T) → Alike own answer → pending_waker (record { call = call; reply = own }) ≡ pending_waker (record { call = call; reply = answer })
-  waker_same call own answer like = ap (λ (b : Bool). if b then waker_of call else None) like.same_wait
+  waker_same call own answer like = grind arith
 
   -- what the machine does, it does up to clones
   pub does_up_to : (will_wake : W → W → Bool) (sure : Bool) (from to : State T W) (call : Kept T W) (answer : Reply T) (woken : List W) → Does will_wake sure from (record { call = call; reply = answer }) woken to

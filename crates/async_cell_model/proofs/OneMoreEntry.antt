@@ -16,8 +16,7 @@ one_or_none o = filter_map (λ x. x) (o ∷ [])
 
 module _ {W : Type 0} (will_wake : W → W → Bool) where
   one_longer_if : (l : List W) (w : W) (skip : Bool) → (length (if skip then l else l ++ w ∷ []) ≡ length l) ⊎ (length (if skip then l else l ++ w ∷ []) ≡ length l + 1)
-  one_longer_if l w true = inl refl
-  one_longer_if l w false = inr (rw length-append (omega arith))
+  one_longer_if l w skip = grind (arith, length-append)
 
   -- one more waker: the list is as long as before, or longer by one
   one_longer : (l : List W) (o : Option W) → wait_list will_wake l ≡ l → (length (wait_list will_wake (l ++ one_or_none o)) ≡ length l) ⊎ (length (wait_list will_wake (l ++ one_or_none o)) ≡ length l + 1)

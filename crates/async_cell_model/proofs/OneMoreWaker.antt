@@ -1,5 +1,5 @@
 -- What one more waker makes of a wait list, and the wait lists of longer lists.
-use Rattle.std.proofs.Common.{◌≡◌, ◌≤◌, ◌<◌, inl, inr, ℕ, Bool, true, false, not, ◌&&◌, ◌||◌, List, [], ◌∷◌, ◌++◌, length, get_or, refl, ap, sym, subst, ◌∙◌, arith, rules, le_refl, le_trans, length-append}
+use Rattle.std.proofs.Common.{◌≡◌, ◌≤◌, ◌<◌, inl, inr, ℕ, Bool, true, false, not, ◌&&◌, ◌||◌, List, [], ◌∷◌, ◌++◌, length, get_or, refl, ap, sym, subst, ◌∙◌, arith, le_refl, le_trans, length-append}
 use Rattle.std.specs.Prelude.{◌≢◌, nat_lt, if◌then◌else◌, filter, fold, AllPairs}
 use Rattle.std.proofs.lemmas.Bool.Decides.{nat_tests}
 use Rattle.std.proofs.lemmas.List.Sums.{fold-append}
@@ -11,9 +11,7 @@ use Rattle.async_cell_model.specs.History.{IsCovered}
 
 -- a list that may have found no memory holds a waker and has no room
 pub may_lack_memory : {W : Type 0} (sure : Bool) (l : List W) (room : ℕ) → (l ≡ [] → ⊥) → (0 < room → ⊥) → (sure && (is_empty l || nat_lt 0 room)) ≡ false
-may_lack_memory false l room first more = refl
-may_lack_memory true [] room first more = absurd (first refl)
-may_lack_memory true (x ∷ xs) room first more = search (rules, nat_tests)
+may_lack_memory sure l room first more = grind (arith, nat_tests, first, more)
 
 module _ {W : Type 0} (will_wake : W → W → Bool) where
   -- the wait list of a longer list goes on from that of the shorter one
@@ -38,8 +36,7 @@ module _ {W : Type 0} (will_wake : W → W → Bool) where
   keep_skipped l w kept skipped = wait_list-one l w kept ∙ (rw skipped refl)
 
   kept_if : (m : List W) (x : W) (b : Bool) → skips will_wake m x ≡ b → wait_list will_wake m ≡ m → wait_list will_wake (if b then m else m ++ x ∷ []) ≡ (if b then m else m ++ x ∷ [])
-  kept_if m x true is kept = kept
-  kept_if m x false is kept = keep_added m x kept is
+  kept_if m x b is kept = grind (arith, keep_added)
 
   kept_each : (m xs : List W) → wait_list will_wake m ≡ m → wait_list will_wake (fold (with_one_more will_wake) m xs) ≡ fold (with_one_more will_wake) m xs
   kept_each m [] kept = kept
@@ -54,8 +51,7 @@ module _ {W : Type 0} (will_wake : W → W → Bool) where
   wait_list-append xs ys = keep_more (wait_list will_wake xs) ys ∙ (ap (λ m. fold (with_one_more will_wake) m ys) (wait_list-wait_list xs) ∙ sym (keep_more xs ys))
 
   longer_if : (m : List W) (x : W) (b : Bool) → length m ≤ length (if b then m else m ++ x ∷ [])
-  longer_if m x true = le_refl _
-  longer_if m x false = rw length-append (omega arith)
+  longer_if m x b = grind (arith, length-append)
 
   longer_each : (m xs : List W) → length m ≤ length (fold (with_one_more will_wake) m xs)
   longer_each m [] = le_refl _
@@ -91,22 +87,15 @@ module _ {W : Type 0} (will_wake : W → W → Bool) where
       let m = wait_list will_wake xs in
       subst (λ (l : List W). IsCovered will_wake l w) (sym (keep_more xs (w ∷ ys))) (covered_each (with_one_more will_wake m w) ys w (covers_one m w (skips will_wake m w) refl))
 
-  -- a waker that comes first waits, and skips all others that it would wake
-  first_both : (w x : W) (m rest : List W) (b : Bool) → skips will_wake m x ≡ b
-      → ((l : List W) → fold (with_one_more will_wake) (w ∷ l) rest ≡ w ∷ fold (with_one_more will_wake) l (filter (λ v. not (will_wake w v)) rest))
-      → fold (with_one_more will_wake) (if b then w ∷ m else w ∷ (m ++ x ∷ [])) rest ≡ w ∷ fold (with_one_more will_wake) (if b then m else m ++ x ∷ []) (filter (λ v. not (will_wake w v)) rest)
-  first_both w x m rest true is later = later m
-  first_both w x m rest false is later = later (m ++ x ∷ [])
-
-  first_step : (w x : W) (m rest : List W) (b : Bool) → will_wake w x ≡ b
+  first_step : (w x : W) (m rest : List W)
       → ((l : List W) → fold (with_one_more will_wake) (w ∷ l) rest ≡ w ∷ fold (with_one_more will_wake) l (filter (λ v. not (will_wake w v)) rest))
       → fold (with_one_more will_wake) (w ∷ m) (x ∷ rest) ≡ w ∷ fold (with_one_more will_wake) m (filter (λ v. not (will_wake w v)) (x ∷ rest))
-  first_step w x m rest true is later = rw is (later m)
-  first_step w x m rest false is later = rw is (first_both w x m rest (skips will_wake m x) refl later)
+  first_step w x m rest later = grind (arith, later)
 
+  -- a waker that comes first waits, and skips all others that it would wake
   first_each : (w : W) (m rest : List W) → fold (with_one_more will_wake) (w ∷ m) rest ≡ w ∷ fold (with_one_more will_wake) m (filter (λ v. not (will_wake w v)) rest)
   first_each w m [] = refl
-  first_each w m (x ∷ rest) = first_step w x m rest (will_wake w x) refl (λ l. first_each w l rest)
+  first_each w m (x ∷ rest) = first_step w x m rest (λ l. first_each w l rest)
 
   pub keep_first : (w : W) (rest : List W) → wait_list will_wake (w ∷ rest) ≡ w ∷ wait_list will_wake (filter (λ v. not (will_wake w v)) rest)
   keep_first w rest = first_each w [] rest

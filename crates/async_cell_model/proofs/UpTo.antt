@@ -1,31 +1,23 @@
 -- Histories that are legal up to clones, and exact ones.
-use Rattle.std.proofs.Common.{◌≡◌, inl, inr, Bool, true, false, ◌||◌, List, [], ◌∷◌, ◌++◌, refl, ap}
+use Rattle.std.proofs.Common.{arith, ◌≡◌, inl, inr, Bool, true, false, ◌||◌, List, [], ◌∷◌, ◌++◌, refl}
 use Rattle.std.specs.List.{list_any}
-use Rattle.std.specs.Prelude.{Some}
 use Rattle.async_cell_model.specs.declared.entry.Kept.{Kept}
-use Rattle.async_cell_model.specs.declared.entry.Kept.TheVariants.{TryGet, PollGet}
 use Rattle.async_cell_model.specs.declared.reply.Reply.{Reply}
-use Rattle.async_cell_model.specs.declared.reply.Reply.TheVariants.{Value, Ready}
 use Rattle.async_cell_model.specs.Machine.{State, IsCloned, UpToClones, is_copy}
 use Rattle.async_cell_model.specs.History.{History}
 use Rattle.async_cell_model.specs.Legal.{IsExact, copies, IsLegalAfterBy, IsLegalAfter, Runs, RunsUpTo}
 
 none_step : (a b : Bool) → (a || b) ≡ false → (a ≡ false) × (b ≡ false)
-none_step false b none = (refl, none)
-none_step true b none = cc
+none_step a b none = grind arith
 
 module _ {T W : Type 0} (is_clone : T → T → Type 0) where
   -- a reply with an exact clone is the cell's own
   cloned_same : IsExact is_clone → (call : Kept T W) (r s : Reply T) → IsCloned is_clone call r s → s ≡ r
-  cloned_same exact TryGet (Value (Some a)) (Value (Some b)) cloned = ap (λ v. Value (Some v)) (exact a b cloned)
-  cloned_same exact (PollGet w) (Ready (Some a)) (Ready (Some b)) cloned = ap (λ v. Ready (Some v)) (exact a b cloned)
-  cloned_same exact call r s cloned = absurd cloned
+  cloned_same exact call r s cloned = grind (arith, exact)
 
   -- and a call that copies nothing gives no clone
   moved_same : (call : Kept T W) (r s : Reply T) → is_copy call ≡ false → IsCloned is_clone call r s → s ≡ r
-  moved_same TryGet r s none cloned = cc
-  moved_same (PollGet w) r s none cloned = cc
-  moved_same call r s none cloned = absurd cloned
+  moved_same call r s none cloned = grind arith
 
   module _ (will_wake : W → W → Bool) (sure : Bool) where
     -- a history that is legal up to clones is exact where the clones are

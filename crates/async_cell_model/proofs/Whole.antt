@@ -1,14 +1,9 @@
 -- Laws of every legal history.
-use Rattle.std.proofs.Common.{◌≡◌, ℕ, Bool, true, false, [], ◌∷◌, ◌++◌, length, Some, None, refl, ap, sym, subst, ◌∙◌, arith, append_assoc, append-nil, ◌-◌}
+use Rattle.std.proofs.Common.{◌≡◌, Bool, true, false, [], ◌∷◌, ◌++◌, length, Some, refl, ap, sym, subst, ◌∙◌, arith, append_assoc, append-nil, ◌-◌}
 use Rattle.std.specs.Prelude.{◌↔◌}
 use Rattle.std.specs.List.{filter_map}
 use Rattle.async_cell_model.specs.declared.entry.Entry.{Entry}
 use Rattle.async_cell_model.specs.declared.cell.Cell.{Cell}
-use Rattle.async_cell_model.specs.declared.cell.Cell.TheVariants.{Closed, Open}
-use Rattle.async_cell_model.specs.declared.entry.Kept.{Kept}
-use Rattle.async_cell_model.specs.declared.entry.Kept.TheVariants.{PollTake, PollGet, Set, OrSet, Replace, Update, UpdateSome, TryTake, TryGet, IsSet, AddOwner, EndOwner, TakeInner}
-use Rattle.async_cell_model.specs.declared.reply.Reply.{Reply}
-use Rattle.async_cell_model.specs.declared.reply.Reply.TheVariants.{Pending, Done, Value, Is, Ready, Refused}
 use Rattle.async_cell_model.specs.Machine.{is_vacant, ends_waiting, next, wait_list, State, IsSound, pending_waker, UpToClones}
 use Rattle.async_cell_model.specs.Taken.{IsDistinct}
 use Rattle.async_cell_model.specs.History.{IsCovered, History, cell_after, has_fill_or_close, registrations, waiting, after}
@@ -56,31 +51,8 @@ module _ {T W : Type 0} (is_clone : T → T → Type 0) (will_wake : W → W →
 
 module _ {T W : Type 0} where
   -- a poll that waits neither fills nor closes
-  pending_stays : (n : ℕ) (call : Kept T W) (reply : Reply T) (w : W) → pending_waker (record { call = call; reply = reply }) ≡ Some w
-      → ends_waiting (Open None n) (next (Open None n) (record { call = call; reply = reply })) ≡ false
-  pending_stays n (PollTake v) Pending w registrations = refl
-  pending_stays n (PollGet v) Pending w registrations = refl
-  pending_stays n (Set x) Pending w registrations = cc
-  pending_stays n (OrSet x) Pending w registrations = cc
-  pending_stays n (Replace x) Pending w registrations = cc
-  pending_stays n (Update saw put) Pending w registrations = cc
-  pending_stays n (UpdateSome saw put) Pending w registrations = cc
-  pending_stays n TryTake Pending w registrations = cc
-  pending_stays n TryGet Pending w registrations = cc
-  pending_stays n IsSet Pending w registrations = cc
-  pending_stays n AddOwner Pending w registrations = cc
-  pending_stays n EndOwner Pending w registrations = cc
-  pending_stays n TakeInner Pending w registrations = cc
-  pending_stays n call Done w registrations = cc
-  pending_stays n call (Value v) w registrations = cc
-  pending_stays n call (Is b) w registrations = cc
-  pending_stays n call (Ready v) w registrations = cc
-  pending_stays n call (Refused why back) w registrations = cc
-
   pub pending_stays_vacant : (c : Cell T) (e : Entry T W) (w : W) → is_vacant c ≡ true → pending_waker e ≡ Some w → ends_waiting c (next c e) ≡ false
-  pending_stays_vacant Closed e w vacant registrations = cc
-  pending_stays_vacant (Open (Some v) n) e w vacant registrations = cc
-  pending_stays_vacant (Open None n) e w vacant registrations = pending_stays n e.call e.reply w registrations
+  pending_stays_vacant c e w vacant waits = grind arith
 
 module _ {T W : Type 0} (is_clone : T → T → Type 0) (will_wake : W → W → Bool) (sure : Bool) where
   pub waits_there : (at : State T W) (e : Entry T W) (w : W) (vacant : Bool) → is_vacant at.cell ≡ vacant → MayFollowBy (UpToClones is_clone) will_wake sure at e → pending_waker e ≡ Some w → vacant ≡ true
