@@ -1,9 +1,6 @@
 -- Exact histories are those up to a relation in which nothing is a clone: so each law up to clones
 -- is one of exact histories, too.
-use Rattle.std.proofs.Common.{Bool, List, []}
-use Rattle.async_cell_model.specs.Machine.{State}
-use Rattle.async_cell_model.specs.History.{History}
-use Rattle.async_cell_model.specs.Legal.{IsLegal, IsLegalUpTo, Runs, RunsUpTo}
+use Rattle.async_cell_model.proofs.Words.{Bool, List, [], State, History, IsLegal, IsLegalUpTo, Runs, RunsUpTo}
 use Rattle.async_cell_model.proofs.UpTo.{legal_told, legal_up_to, up_to_clones}
 
 -- nothing is a clone

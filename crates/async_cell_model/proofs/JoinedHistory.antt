@@ -1,11 +1,5 @@
 -- What a joined history makes of the cell and of the wait list.
-use Rattle.std.proofs.Common.{◌≡◌, ◌≤◌, ◌-◌, ℕ, Bool, true, false, ◌||◌, List, [], ◌∷◌, ◌++◌, length, Option, refl, ap, sym, subst, ◌∙◌, arith, append_assoc}
-use Rattle.std.specs.List.{filter_map}
-use Rattle.std.proofs.lemmas.List.Elements.{filter_map-append}
-use Rattle.std.specs.Prelude.{if◌then◌else◌}
-use Rattle.async_cell_model.specs.declared.cell.Cell.{Cell}
-use Rattle.async_cell_model.specs.Machine.{ends_waiting, next, wait_list, State, pending_waker}
-use Rattle.async_cell_model.specs.History.{History, cell_after, has_fill_or_close, since, registrations, waiting, room, after}
+use Rattle.async_cell_model.proofs.Words.{◌≡◌, ◌≤◌, ◌-◌, ℕ, Bool, true, false, ◌||◌, List, [], ◌∷◌, ◌++◌, length, Option, refl, ap, sym, subst, ◌∙◌, arith, append_assoc, filter_map, filter_map-append, if◌then◌else◌, Cell, ends_waiting, next, wait_list, State, pending_waker, History, cell_after, has_fill_or_close, since, registrations, waiting, room, after}
 use Rattle.async_cell_model.proofs.OneMoreWaker.{wait_list-append, wait_list-wait_list, wait_list-longer}
 
 or_over : (p q r s : Bool) → s ≡ (q || r) → (p || s) ≡ ((p || q) || r)

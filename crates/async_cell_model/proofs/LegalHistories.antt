@@ -1,13 +1,5 @@
 -- Legal histories, joined and started anew.
-use Rattle.std.proofs.Common.{◌≡◌, ◌≤◌, inl, inr, ℕ, Bool, true, List, [], ◌∷◌, ◌++◌, refl, ap, sym, subst, ◌∙◌, arith, append_assoc, append-nil, le_trans, ◌-◌}
-use Rattle.std.proofs.lemmas.Bool.Decides.{nat_tests}
-use Rattle.std.specs.Prelude.{if◌then◌else◌}
-use Rattle.async_cell_model.specs.declared.entry.Entry.{Entry}
-use Rattle.async_cell_model.specs.declared.entry.Kept.{Kept}
-use Rattle.async_cell_model.specs.Machine.{wait_list, State, IsSound, Exactly, may_refuse}
-use Rattle.async_cell_model.specs.History.{History, has_fill_or_close, room, after}
-use Rattle.async_cell_model.specs.Legal.{MayFollowBy, IsLegalAfterBy, RunsBy, woken_by, wakes_after, Runs}
-use Rattle.async_cell_model.specs.declared.reply.Reply.{Reply}
+use Rattle.async_cell_model.proofs.Words.{◌≡◌, ◌≤◌, inl, inr, ℕ, Bool, true, List, [], ◌∷◌, ◌++◌, refl, ap, sym, subst, ◌∙◌, arith, append_assoc, append-nil, le_trans, ◌-◌, nat_tests, if◌then◌else◌, Entry, Kept, wait_list, State, IsSound, Exactly, may_refuse, History, has_fill_or_close, room, after, MayFollowBy, IsLegalAfterBy, RunsBy, woken_by, wakes_after, Runs, Reply}
 use Rattle.async_cell_model.proofs.JoinedHistory.{after-append}
 
 module _ {T W : Type 0} (MayReply : Kept T W → Reply T → Reply T → Type 0) (will_wake : W → W → Bool) (sure : Bool) where

@@ -10,3 +10,4 @@ pub mod SoundAfter
 pub mod UpTo
 pub mod WaitingPoll
 pub mod Whole
+pub mod Words

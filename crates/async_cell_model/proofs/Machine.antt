@@ -1,14 +1,5 @@
 -- The machine does what the histories of one entry say.
-use Rattle.std.proofs.Common.{arith, ◌≡◌, ◌≤◌, inl, inr, ℕ, Bool, true, false, ◌||◌, List, [], ◌∷◌, ◌++◌, length, Option, Some, None, refl, ap, sym, subst, ◌∙◌, append-nil, ◌-◌}
-use Rattle.std.specs.Prelude.{if◌then◌else◌, fold, option_to_list}
-use Rattle.std.specs.List.{filter_map}
-use Rattle.async_cell_model.specs.declared.cell.Cell.{Cell}
-use Rattle.async_cell_model.specs.declared.entry.Entry.{Entry}
-use Rattle.async_cell_model.specs.declared.entry.Kept.{Kept}
-use Rattle.async_cell_model.specs.declared.reply.Reply.{Reply}
-use Rattle.async_cell_model.specs.Machine.{ends_waiting, Exactly, IsCloned, UpToClones, next, reply, is_memory, wait_list, with_one_more, State, IsSound, is_pending, pending_waker, Does, DoesUpTo}
-use Rattle.async_cell_model.specs.History.{waiting, room, after}
-use Rattle.async_cell_model.specs.Legal.{RunsBy, MayFollowBy, Steps, StepsUpTo, woken_by}
+use Rattle.async_cell_model.proofs.Words.{arith, ◌≡◌, ◌≤◌, inl, inr, ℕ, Bool, true, false, ◌||◌, List, [], ◌∷◌, ◌++◌, length, Option, Some, None, refl, ap, sym, subst, ◌∙◌, append-nil, ◌-◌, if◌then◌else◌, fold, option_to_list, filter_map, Cell, Entry, Kept, Reply, ends_waiting, Exactly, IsCloned, UpToClones, next, reply, is_memory, wait_list, with_one_more, State, IsSound, is_pending, pending_waker, Does, DoesUpTo, waiting, room, after, RunsBy, MayFollowBy, Steps, StepsUpTo, woken_by}
 use Rattle.async_cell_model.proofs.OneMoreWaker.{wait_list-one}
 use Rattle.async_cell_model.proofs.Whole.{after-nil}
 

@@ -1,19 +1,8 @@
 -- A value is taken once: the replies give, in order, some of what was there and was put_in.
-use Rattle.std.proofs.Common.{◌≡◌, ◌≢◌, ◌⊎◌, inl, inr, suc, zero, Bool, false, ◌||◌, List, [], ◌∷◌, ◌++◌, Option, Some, None, refl, sym, subst, arith, append_assoc, append-nil, ◌-◌}
-use Rattle.std.specs.Prelude.{option_to_list, All, AllPairs}
-use Rattle.std.specs.List.{cons_option}
-use Rattle.std.proofs.lemmas.List.Kept.{AllPairs-cons}
+use Rattle.async_cell_model.proofs.Words.{◌≡◌, ◌⊎◌, inl, inr, suc, zero, Bool, false, ◌||◌, List, [], ◌∷◌, ◌++◌, Option, Some, None, refl, sym, subst, arith, append_assoc, append-nil, ◌-◌, option_to_list, All, AllPairs, cons_option, AllPairs-cons, Cell, Entry, Kept, Reply, Refused, content, next, reply, State, IsCloned, UpToClones, History, cell_after, after, IsLegalAfterBy, MayFollowBy, IsDistinct, IsSubsequence, none, skip, both, is_update, has_update, put_by, put_in, taken_by, taken_out}
+use Rattle.std.proofs.Common.{◌≢◌}
 use Rattle.async_cell_model.proofs.JoinedHistory.{cell_after-append}
-use Rattle.async_cell_model.specs.declared.cell.Cell.{Cell}
-use Rattle.async_cell_model.specs.declared.entry.Entry.{Entry}
-use Rattle.async_cell_model.specs.declared.entry.Kept.{Kept}
-use Rattle.async_cell_model.specs.declared.reply.Reply.{Reply}
-use Rattle.async_cell_model.specs.declared.reply.Reply.TheVariants.{Refused}
 use Rattle.async_cell_model.specs.declared.refusal.Refusal.TheVariants as why
-use Rattle.async_cell_model.specs.Machine.{content, next, reply, State, IsCloned, UpToClones}
-use Rattle.async_cell_model.specs.History.{History, cell_after, after}
-use Rattle.async_cell_model.specs.Legal.{IsLegalAfterBy, MayFollowBy}
-use Rattle.async_cell_model.specs.Taken.{IsDistinct, IsSubsequence, none, skip, both, is_update, has_update, put_by, put_in, taken_by, taken_out}
 
 first_plain : (p q : Bool) → (p || q) ≡ false → p ≡ false
 first_plain p q plain = grind arith

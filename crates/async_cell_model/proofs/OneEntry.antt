@@ -1,14 +1,6 @@
 -- What a single entry does: a refused one changes nothing, a fill or a close empties the wait list.
-use Rattle.std.proofs.Common.{arith, ◌≡◌, inl, inr, Bool, true, false, List, [], ◌∷◌, ◌++◌, None, refl, ap, sym, subst, ◌∙◌, append-nil, ◌+◌}
-use Rattle.async_cell_model.specs.declared.cell.Cell.{Cell}
-use Rattle.async_cell_model.specs.declared.entry.Entry.{Entry}
-use Rattle.async_cell_model.specs.declared.entry.Kept.{Kept}
-use Rattle.async_cell_model.specs.declared.reply.Reply.{Reply}
-use Rattle.async_cell_model.specs.declared.reply.Reply.TheVariants.{Refused}
+use Rattle.async_cell_model.proofs.Words.{arith, ◌≡◌, inl, inr, Bool, true, false, List, [], ◌∷◌, ◌++◌, None, refl, ap, sym, subst, ◌∙◌, append-nil, ◌+◌, Cell, Entry, Kept, Reply, Refused, ends_waiting, IsCounted, is_vacant, next, reply, wait_list, State, IsSound, pending_waker, IsCloned, UpToClones, is_refused, RunsBy, MayFollowBy, wakes_after, History, waiting}
 use Rattle.async_cell_model.specs.declared.refusal.Refusal.TheVariants as why
-use Rattle.async_cell_model.specs.Machine.{ends_waiting, IsCounted, is_vacant, next, reply, wait_list, State, IsSound, pending_waker, IsCloned, UpToClones}
-use Rattle.async_cell_model.specs.Legal.{is_refused, RunsBy, MayFollowBy, wakes_after}
-use Rattle.async_cell_model.specs.History.{History, waiting}
 use Rattle.async_cell_model.proofs.Whole.{after-nil, IsSound-after}
 
 -- a cell that stays was neither filled nor closed

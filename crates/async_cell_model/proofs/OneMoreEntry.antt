@@ -1,11 +1,5 @@
 -- What one more entry makes of the wait list, and of the room.
-use Rattle.std.proofs.Common.{◌≡◌, ◌≤◌, ◌<◌, ◌⊎◌, inl, inr, Bool, true, false, List, [], ◌∷◌, ◌++◌, length, Option, Some, None, refl, ap, ◌∙◌, arith, append-nil, ◌-◌, ◌+◌, length-append}
-use Rattle.std.specs.Prelude.{if◌then◌else◌}
-use Rattle.std.specs.List.{filter_map}
-use Rattle.async_cell_model.specs.declared.entry.Entry.{Entry}
-use Rattle.async_cell_model.specs.Machine.{is_vacant, ends_waiting, next, wait_list, skips, State, pending_waker, UpToClones}
-use Rattle.async_cell_model.specs.History.{History, cell_after, registrations, waiting, room, after}
-use Rattle.async_cell_model.specs.Legal.{IsLegalAfterBy, MayFollowBy}
+use Rattle.async_cell_model.proofs.Words.{◌≡◌, ◌≤◌, ◌<◌, ◌⊎◌, inl, inr, Bool, true, false, List, [], ◌∷◌, ◌++◌, length, Option, Some, None, refl, ap, ◌∙◌, arith, append-nil, ◌-◌, ◌+◌, length-append, if◌then◌else◌, filter_map, Entry, is_vacant, ends_waiting, next, wait_list, skips, State, pending_waker, UpToClones, History, cell_after, registrations, waiting, room, after, IsLegalAfterBy, MayFollowBy}
 use Rattle.async_cell_model.proofs.JoinedHistory.{waiting-append, room-append}
 use Rattle.async_cell_model.proofs.OneMoreWaker.{wait_list-wait_list, wait_list-one}
 use Rattle.async_cell_model.proofs.Whole.{IsLegalAfter-second, waits_there, pending_stays_vacant}

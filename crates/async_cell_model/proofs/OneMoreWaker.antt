@@ -1,13 +1,6 @@
 -- What one more waker makes of a wait list, and the wait lists of longer lists.
-use Rattle.std.proofs.Common.{◌≡◌, ◌≤◌, ◌<◌, inl, inr, ℕ, Bool, true, false, not, ◌&&◌, ◌||◌, List, [], ◌∷◌, ◌++◌, length, get_or, refl, ap, sym, subst, ◌∙◌, arith, le_refl, le_trans, length-append}
-use Rattle.std.specs.Prelude.{◌≢◌, nat_lt, if◌then◌else◌, filter, fold, AllPairs}
-use Rattle.std.proofs.lemmas.Bool.Decides.{nat_tests}
-use Rattle.std.proofs.lemmas.List.Sums.{fold-append}
-use Rattle.std.proofs.lemmas.List.Folds.{list_any-append, list_any_at}
-use Rattle.std.proofs.lemmas.List.Elements.{Contains-append_left, Contains-push}
-use Rattle.std.proofs.lemmas.List.Quantifiers.{all_pairs_push}
-use Rattle.async_cell_model.specs.Machine.{is_empty, wait_list, skips, with_one_more}
-use Rattle.async_cell_model.specs.History.{IsCovered}
+use Rattle.async_cell_model.proofs.Words.{◌≡◌, ◌≤◌, ◌<◌, inl, inr, ℕ, Bool, true, false, not, ◌&&◌, ◌||◌, List, [], ◌∷◌, ◌++◌, length, get_or, refl, ap, sym, subst, ◌∙◌, arith, le_refl, le_trans, length-append, nat_lt, if◌then◌else◌, filter, fold, AllPairs, nat_tests, fold-append, list_any-append, list_any_at, Contains-append_left, Contains-push, all_pairs_push, is_empty, wait_list, skips, with_one_more, IsCovered}
+use Rattle.std.specs.Prelude.{◌≢◌}
 
 -- a list that may have found no memory holds a waker and has no room
 pub may_lack_memory : {W : Type 0} (sure : Bool) (l : List W) (room : ℕ) → (l ≡ [] → ⊥) → (0 < room → ⊥) → (sure && (is_empty l || nat_lt 0 room)) ≡ false

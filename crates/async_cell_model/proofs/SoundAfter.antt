@@ -1,15 +1,5 @@
 -- A legal history from a sound state ends in a sound state.
-use Rattle.std.proofs.Common.{◌≡◌, inl, inr, Bool, true, false, not, ◌||◌, [], ◌∷◌, ◌++◌, None, refl, arith, ◌+◌, ◌-◌}
-use Rattle.std.proofs.lemmas.Bool.Decides.{nat_tests}
-use Rattle.std.specs.Prelude.{if◌then◌else◌}
-use Rattle.std.specs.List.{filter_map}
-use Rattle.async_cell_model.specs.declared.cell.Cell.{Cell}
-use Rattle.async_cell_model.specs.declared.entry.Entry.{Entry}
-use Rattle.async_cell_model.specs.declared.entry.Kept.{Kept}
-use Rattle.async_cell_model.specs.declared.reply.Reply.{Reply}
-use Rattle.async_cell_model.specs.Machine.{is_vacant, ends_waiting, IsCounted, next, reply, wait_list, State, IsSound, is_pending, pending_waker, IsCloned, UpToClones}
-use Rattle.async_cell_model.specs.History.{registrations, after}
-use Rattle.async_cell_model.specs.Legal.{MayFollowBy}
+use Rattle.async_cell_model.proofs.Words.{◌≡◌, inl, inr, Bool, true, false, not, ◌||◌, [], ◌∷◌, ◌++◌, None, refl, arith, ◌+◌, ◌-◌, nat_tests, if◌then◌else◌, filter_map, Cell, Entry, Kept, Reply, is_vacant, ends_waiting, IsCounted, next, reply, wait_list, State, IsSound, is_pending, pending_waker, IsCloned, UpToClones, registrations, after, MayFollowBy}
 use Rattle.async_cell_model.proofs.OneMoreWaker.{wait_list-wait_list}
 
 module _ {T W : Type 0} where

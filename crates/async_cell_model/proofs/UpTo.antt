@@ -1,11 +1,5 @@
 -- Histories that are legal up to clones, and exact ones.
-use Rattle.std.proofs.Common.{arith, ◌≡◌, inl, inr, Bool, true, false, ◌||◌, List, [], ◌∷◌, ◌++◌, refl}
-use Rattle.std.specs.List.{list_any}
-use Rattle.async_cell_model.specs.declared.entry.Kept.{Kept}
-use Rattle.async_cell_model.specs.declared.reply.Reply.{Reply}
-use Rattle.async_cell_model.specs.Machine.{State, IsCloned, UpToClones, is_copy}
-use Rattle.async_cell_model.specs.History.{History}
-use Rattle.async_cell_model.specs.Legal.{IsExact, copies, IsLegalAfterBy, IsLegalAfter, Runs, RunsUpTo}
+use Rattle.async_cell_model.proofs.Words.{arith, ◌≡◌, inl, inr, Bool, true, false, ◌||◌, List, [], ◌∷◌, ◌++◌, refl, list_any, Kept, Reply, State, IsCloned, UpToClones, is_copy, History, IsExact, copies, IsLegalAfterBy, IsLegalAfter, Runs, RunsUpTo}
 
 none_step : (a b : Bool) → (a || b) ≡ false → (a ≡ false) × (b ≡ false)
 none_step a b none = grind arith

@@ -1,9 +1,6 @@
 -- What a poll that has to wait does to a sound state.
-use Rattle.std.proofs.Common.{◌≡◌, ◌≤◌, ◌-◌, Bool, true, false, not, [], ◌∷◌, ◌++◌, None, arith, length-append}
-use Rattle.async_cell_model.specs.declared.entry.Kept.TheVariants.{PollTake, PollGet}
-use Rattle.async_cell_model.specs.declared.reply.Reply.TheVariants.{Pending, Refused}
+use Rattle.async_cell_model.proofs.Words.{◌≡◌, ◌≤◌, ◌-◌, Bool, true, false, not, [], ◌∷◌, ◌++◌, None, arith, length-append, PollTake, PollGet, Pending, Refused, is_vacant, skips, State, IsSound, needs_no_memory, Does}
 use Rattle.async_cell_model.specs.declared.refusal.Refusal.TheVariants as why
-use Rattle.async_cell_model.specs.Machine.{is_vacant, skips, State, IsSound, needs_no_memory, Does}
 
 module _ {T W : Type 0} (will_wake : W → W → Bool) (sure : Bool) where
   -- a poll adds its waker, and takes one place of the room at most

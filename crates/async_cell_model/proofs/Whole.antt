@@ -1,13 +1,5 @@
 -- Laws of every legal history.
-use Rattle.std.proofs.Common.{◌≡◌, Bool, true, false, [], ◌∷◌, ◌++◌, length, Some, refl, ap, sym, subst, ◌∙◌, arith, append_assoc, append-nil, ◌-◌}
-use Rattle.std.specs.Prelude.{◌↔◌}
-use Rattle.std.specs.List.{filter_map}
-use Rattle.async_cell_model.specs.declared.entry.Entry.{Entry}
-use Rattle.async_cell_model.specs.declared.cell.Cell.{Cell}
-use Rattle.async_cell_model.specs.Machine.{is_vacant, ends_waiting, next, wait_list, State, IsSound, pending_waker, UpToClones}
-use Rattle.async_cell_model.specs.Taken.{IsDistinct}
-use Rattle.async_cell_model.specs.History.{IsCovered, History, cell_after, has_fill_or_close, registrations, waiting, after}
-use Rattle.async_cell_model.specs.Legal.{IsLegalAfterBy, MayFollowBy}
+use Rattle.async_cell_model.proofs.Words.{◌≡◌, Bool, true, false, [], ◌∷◌, ◌++◌, length, Some, refl, ap, sym, subst, ◌∙◌, arith, append_assoc, append-nil, ◌-◌, ◌↔◌, filter_map, Entry, Cell, is_vacant, ends_waiting, next, wait_list, State, IsSound, pending_waker, UpToClones, IsDistinct, IsCovered, History, cell_after, has_fill_or_close, registrations, waiting, after, IsLegalAfterBy, MayFollowBy}
 use Rattle.async_cell_model.proofs.OneMoreWaker.{wait_list-covers, wait_list-distinct}
 use Rattle.async_cell_model.proofs.JoinedHistory.{after-append, registrations-append, cell_after-append}
 use Rattle.async_cell_model.proofs.SoundAfter.{IsSound-step, no_waker}

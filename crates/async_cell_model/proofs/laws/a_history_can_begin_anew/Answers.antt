@@ -1,6 +1,6 @@
 use Rattle.async_cell_model.proofs.JoinedHistory.{cell_after-append, waiting-append, room-append}
 use Rattle.async_cell_model.proofs.Whole.{IsSound-after, IsLegal-anew, IsLegalAfter-first}
-use Rattle.std.proofs.Common.{[]}
+use Rattle.async_cell_model.proofs.Words.{[]}
 use Rattle.async_cell_model.proofs.laws.a_history_can_begin_anew.Goals as goal
 
 pub returns : goal.returns

@@ -1,5 +1,5 @@
 use Rattle.async_cell_model.proofs.Once.{given_in_order, given_once}
-use Rattle.std.proofs.Common.{[]}
+use Rattle.async_cell_model.proofs.Words.{[]}
 use Rattle.async_cell_model.proofs.laws.a_value_is_taken_once.Goals as goal
 
 pub returns : goal.returns

@@ -1,4 +1,4 @@
-use Rattle.async_cell_model.specs.Machine.{UpToClones}
+use Rattle.async_cell_model.proofs.Words.{UpToClones}
 use Rattle.async_cell_model.proofs.LegalHistories.{Runs-join-by}
 use Rattle.async_cell_model.proofs.laws.two_histories_are_one.Goals as goal
 

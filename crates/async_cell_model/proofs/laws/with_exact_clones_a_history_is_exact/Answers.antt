@@ -1,4 +1,4 @@
-use Rattle.std.proofs.Common.{[]}
+use Rattle.async_cell_model.proofs.Words.{[]}
 use Rattle.async_cell_model.proofs.UpTo.{exact_told, up_to_clones, legal_told, legal_up_to}
 use Rattle.async_cell_model.proofs.laws.with_exact_clones_a_history_is_exact.Goals as goal
 

@@ -1,5 +1,4 @@
-use Rattle.std.proofs.Common.{[]}
-use Rattle.async_cell_model.specs.History.{after}
+use Rattle.async_cell_model.proofs.Words.{[], after}
 use Rattle.async_cell_model.proofs.Exact.{NoClone, legal_of_exact, exact_of_legal}
 use Rattle.async_cell_model.proofs.JoinedHistory.{cell_after-append, waiting-append, room-append}
 use Rattle.async_cell_model.proofs.Whole.{IsSound-after, IsLegal-anew, IsLegalAfter-first}

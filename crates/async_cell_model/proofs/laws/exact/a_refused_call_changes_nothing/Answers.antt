@@ -1,4 +1,4 @@
-use Rattle.std.proofs.Common.{◌∙◌}
+use Rattle.async_cell_model.proofs.Words.{◌∙◌}
 use Rattle.async_cell_model.proofs.Exact.{NoClone, leads_of_exact}
 use Rattle.async_cell_model.proofs.OneEntry.{refused_cell, refused_waiting, refused_handed}
 use Rattle.async_cell_model.proofs.laws.exact.a_refused_call_changes_nothing.Goals as goal

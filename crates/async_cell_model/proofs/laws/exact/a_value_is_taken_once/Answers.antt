@@ -1,4 +1,4 @@
-use Rattle.std.proofs.Common.{[]}
+use Rattle.async_cell_model.proofs.Words.{[]}
 use Rattle.async_cell_model.proofs.Exact.{NoClone, legal_of_exact}
 use Rattle.async_cell_model.proofs.Once.{given_in_order, given_once}
 use Rattle.async_cell_model.proofs.laws.exact.a_value_is_taken_once.Goals as goal
