@@ -1,8 +1,7 @@
 -- Wakers that are added by value, or come back where there is no memory.
-use Rattle.std.proofs.Common.{◌≡◌, ◌≤◌, ◌<◌, ◌-◌, ℕ, Bool, true, false, ◌&&◌, ◌||◌, inr, List, [], ◌∷◌, ◌++◌, Option, Some, None, Result, Ok, Err, IfNone, OnOk, OnErr, IsOk, refl, ap, arith, rules}
-use Rattle.std.specs.Prelude.{nat_lt, IfOk, MatchOption}
+use Rattle.std.proofs.Common.{◌≡◌, ◌≤◌, ◌<◌, ◌-◌, ℕ, Bool, false, [], ◌∷◌, ◌++◌, Option, Some, None, Result, Ok, Err, IfNone, OnOk, OnErr, IsOk, refl, ap, arith}
+use Rattle.std.specs.Prelude.{IfOk, MatchOption}
 use Rattle.std.proofs.lemmas.Bool.Decides.{nat_tests}
-use Rattle.async_cell_model.specs.Machine.{is_empty}
 use Rattle.async_cell_model.proofs.OneMoreWaker.{may_lack_memory, never_skipped}
 use Rattle.async_cell_wakers.specs.Place.{displaced}
 use Rattle.async_cell_wakers.specs.WaitList.{ListState}
@@ -20,16 +19,7 @@ module _ {T W : Type 0} (will_wake : W → W → Bool) (sure : Bool) (never : (a
   pub added : {A : Type 0} (result : Result A W) → Stays b to → OnOk result (to.waiting ≡ b.waiting ++ w ∷ []) → OnOk result (b.room - 1 ≤ to.room) → OnErr result (to ≡ b)
       → (b.waiting ≡ [] → IsOk result) → (0 < b.room → IsOk result)
       → Runs will_wake sure b (record { call = PollChanged b.version w; reply = (wait_answer {T = T} {W = W} result).reply } ∷ []) ((wait_answer {T = T} {W = W} result).woken ∷ []) to
-  added (Ok x) stays waiting room same first more = poll_added will_wake sure b to w sound live (never_skipped will_wake b.waiting w never) stays waiting room
-  added (Err back) stays waiting room same first more =
-      rw same (record {
-        sound = sound;
-        legal = (inr (refl, rw (same_version b.version, live, refused (λ none. let no = first none in cc) (λ some. let no = more some in cc)) refl), tt);
-        stays = (refl, refl, refl);
-        waiting_is = refl;
-        room_is_left = omega arith;
-        wakes_are = refl;
-      })
+  added h0 stays waiting room same first more = grind (arith, nat_tests, poll_added, never_skipped, same_version, refused)
 
 module _ {T W : Type 0} (will_wake : W → W → Bool) (sure : Bool) (never : (a b : W) → will_wake a b ≡ false) (value : T) (version writers : ℕ) (old new : ListState W) (w : W)
     (sound : IsSound will_wake (state_of value version writers old)) (live : is_closed (state_of value version writers old) ≡ false) where

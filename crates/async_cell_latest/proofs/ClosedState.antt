@@ -1,32 +1,25 @@
 -- A closed state stays as it is.
-use Rattle.std.proofs.Common.{◌≡◌, ◌+◌, ◌-◌, ℕ, Bool, true, false, not, ◌&&◌, ◌||◌, [], ◌∷◌, refl, ap, ◌∙◌, arith}
+use Rattle.std.proofs.Common.{◌≡◌, ◌+◌, ◌-◌, ℕ, Bool, true, not, ◌&&◌, ◌||◌, [], ◌∷◌, refl, ap, ◌∙◌, arith}
 use Rattle.std.proofs.lemmas.Bool.Decides.{nat_tests}
-use Rattle.std.specs.Prelude.{if◌then◌else◌, nat_eq, nat_lt}
-use Rattle.async_cell_latest.specs.State.{State, Stays, is_closed, is_waited_for, registered, versions_limit, writers_limit}
-use Rattle.async_cell_latest.specs.Step.{Kept, Write, Read, PollChanged, AddWriter, EndWriter, next, written, closed}
+use Rattle.std.specs.Prelude.{if◌then◌else◌, nat_eq}
+use Rattle.async_cell_latest.specs.State.{State, Stays, is_closed}
+use Rattle.async_cell_latest.specs.Step.{Kept, next, written, closed}
 use Rattle.async_cell_latest.specs.History.{History, is_memory, then_state, after}
 use Rattle.async_cell_latest.proofs.Versions.{either}
 
 module _ {T W : Type 0} where
   closed_write : (s : State T W) (x : T) (over less : Bool) → over ≡ true → Stays s (if not over && less then written s x else s)
-  closed_write s x true less is = (refl, refl, refl)
-  closed_write s x false less is = cc
+  closed_write s x over less is = grind (arith, nat_tests)
 
   closed_add : (s : State T W) (over full : Bool) → over ≡ true → Stays s (if over || full then s else record s { writers = s.writers + 1 })
-  closed_add s true full is = (refl, refl, refl)
-  closed_add s false full is = cc
+  closed_add s over full is = grind (arith, nat_tests)
 
   closed_end : (s : State T W) (one : Bool) → nat_eq s.writers 1 ≡ one → nat_eq s.writers 0 ≡ true → Stays s (if one then closed s else record s { writers = s.writers - 1 })
-  closed_end s true is over = let same : 0 ≡ s.writers = grind (arith, nat_tests) in (refl, refl, same)
-  closed_end s false is over = let same : s.writers - 1 ≡ s.writers = grind (arith, nat_tests) in (refl, refl, same)
+  closed_end s one is over = grind (arith, nat_tests)
 
 module _ {T W : Type 0} (will_wake : W → W → Bool) where
   closed_next : (s : State T W) (call : Kept T W) → is_closed s ≡ true → Stays s (next will_wake s call)
-  closed_next s (Write x) over = closed_write s x (is_closed s) (nat_lt s.version versions_limit) over
-  closed_next s Read over = (refl, refl, refl)
-  closed_next s (PollChanged seen w) over = either (λ (t : State T W). Stays s t) (is_waited_for s seen) (registered will_wake s w) s (refl, refl, refl) (refl, refl, refl)
-  closed_next s AddWriter over = closed_add s (is_closed s) (nat_eq s.writers writers_limit) over
-  closed_next s EndWriter over = closed_end s (nat_eq s.writers 1) refl over
+  closed_next s call over = grind (arith, nat_tests, closed_write, either, closed_add, closed_end)
 
   pub closed_stays : (s : State T W) (h : History T W) → is_closed s ≡ true → Stays s (after will_wake s h)
   closed_stays s [] over = (refl, refl, refl)

@@ -1,25 +1,21 @@
 -- Two histories, the second from the state where the first ends, are one.
-use Rattle.std.proofs.Common.{◌≡◌, ◌≤◌, ◌+◌, ◌-◌, inl, inr, ℕ, Bool, true, false, not, ◌&&◌, ◌||◌, List, [], ◌∷◌, ◌++◌, refl, ap, sym, subst, ◌∙◌, arith, rules, le_refl, le_trans}
-use Rattle.std.proofs.lemmas.Grind.{common_steps}
+use Rattle.std.proofs.Common.{◌≡◌, ◌≤◌, ◌+◌, ◌-◌, ℕ, Bool, true, not, ◌&&◌, ◌||◌, List, [], ◌∷◌, ◌++◌, refl, ap, sym, subst, ◌∙◌, arith, rules, le_refl, le_trans}
 use Rattle.std.proofs.lemmas.Bool.Decides.{nat_tests}
-use Rattle.std.specs.Prelude.{if◌then◌else◌, nat_eq, nat_lt}
-use Rattle.async_cell_model.specs.Machine.{is_empty, skips}
-use Rattle.async_cell_latest.specs.State.{State, Stays, is_closed, is_writable, is_waited_for, registered, writers_limit}
-use Rattle.async_cell_latest.specs.Step.{Kept, Write, Read, PollChanged, AddWriter, EndWriter, reply, next, written, closed, wakes}
-use Rattle.async_cell_latest.specs.History.{Entry, History, is_memory, then_state, after, all_woken, may_refuse, MayFollow, IsLegal, Runs}
+use Rattle.std.specs.Prelude.{if◌then◌else◌, nat_lt}
+use Rattle.async_cell_latest.specs.State.{State, Stays}
+use Rattle.async_cell_latest.specs.Step.{Kept, reply, next, wakes}
+use Rattle.async_cell_latest.specs.History.{Entry, History, then_state, after, all_woken, may_refuse, MayFollow, IsLegal, Runs}
 use Rattle.async_cell_latest.proofs.Versions.{after-append}
 
 -- a poll that needs no memory with little room needs none with more
 poll_room : (p q s t u v : Bool) → (u ≡ true → v ≡ true) → (p && not (q || (s && (t || v)))) ≡ true → (p && not (q || (s && (t || u)))) ≡ true
-poll_room p q s t false v more refused = grind (arith, common_steps)
-poll_room p q s t true v more refused = let full : v ≡ true = more refl in rw full at refused
+poll_room p q s t u v more refused = grind (arith, nat_tests)
 
 below_more_room : (r n : ℕ) → r ≤ n → nat_lt 0 r ≡ true → nat_lt 0 n ≡ true
 below_more_room r n more some = search (rules, nat_tests)
 
 room_if : (b : Bool) (r n : ℕ) → r ≤ n → (if b then r else r - 1) ≤ (if b then n else n - 1)
-room_if true r n more = more
-room_if false r n more = omega arith
+room_if b r n more = grind (arith, nat_tests)
 
 module _ {T W : Type 0} where
   -- the second state is the first, with no less room
@@ -31,42 +27,24 @@ module _ {T W : Type 0} where
   same_but_room s t more = λ i. record { value = more.0.0 i; version = more.0.1 i; writers = more.0.2 i; waiting = more.1 i; room = t.room }
 
   more_if : (b : Bool) (s t u v : State T W) → More s t → More u v → More (if b then s else u) (if b then t else v)
-  more_if true s t u v first second = first
-  more_if false s t u v first second = second
+  more_if b s t u v first second = grind (arith, nat_tests)
 
   More-trans : (s t u : State T W) → More s t → More t u → More s u
-  More-trans s t u first second = (
-    (second.0.0 ∙ first.0.0, second.0.1 ∙ first.0.1, second.0.2 ∙ first.0.2),
-    second.1 ∙ first.1,
-    le_trans first.2 second.2,
-  )
+  More-trans s t u first second = grind (arith, nat_tests, le_trans)
 
 module _ {T W : Type 0} (will_wake : W → W → Bool) where
   next_more_in : (s : State T W) (r : ℕ) (call : Kept T W) → s.room ≤ r → More (next will_wake s call) (next will_wake (record s { room = r }) call)
-  next_more_in s r (Write x) more = more_if (is_writable s) (written s x) (written s x) s (record s { room = r }) ((refl, refl, refl), refl, le_refl _) ((refl, refl, refl), refl, more)
-  next_more_in s r Read more = ((refl, refl, refl), refl, more)
-  next_more_in s r (PollChanged seen w) more =
-      more_if (is_waited_for s seen) (registered will_wake s w) (registered will_wake (record s { room = r }) w) s (record s { room = r }) ((refl, refl, refl), refl, room_if (skips will_wake s.waiting w) s.room r more) ((refl, refl, refl), refl, more)
-  next_more_in s r AddWriter more =
-      more_if (is_closed s || nat_eq s.writers writers_limit) s (record s { room = r }) (record s { writers = s.writers + 1 }) (record s { writers = s.writers + 1; room = r }) ((refl, refl, refl), refl, more) ((refl, refl, refl), refl, more)
-  next_more_in s r EndWriter more =
-      more_if (nat_eq s.writers 1) (closed s) (closed s) (record s { writers = s.writers - 1 }) (record s { writers = s.writers - 1; room = r }) ((refl, refl, refl), refl, le_refl _) ((refl, refl, refl), refl, more)
+  next_more_in s r call more = grind (arith, nat_tests, more_if, le_refl, room_if)
 
   then-more : (s t : State T W) (e : Entry T W) → More s t → More (then_state will_wake s e) (then_state will_wake t e)
-  then-more s t e more =
-      let there : More (next will_wake s e.call) (next will_wake t e.call) = subst (λ (u : State T W). More (next will_wake s e.call) (next will_wake u e.call)) (sym (same_but_room s t more)) (next_more_in s t.room e.call more.2) in
-      more_if (is_memory e.reply) s t (next will_wake s e.call) (next will_wake t e.call) more there
+  then-more s t e more = grind (arith, nat_tests, same_but_room, next_more_in, more_if)
 
   after-more : (s t : State T W) (h : History T W) → More s t → More (after will_wake s h) (after will_wake t h)
   after-more s t [] more = more
   after-more s t (e ∷ h) more = after-more (then_state will_wake s e) (then_state will_wake t e) h (then-more s t e more)
 
   wakes-room : (s : State T W) (r : ℕ) (call : Kept T W) → wakes (record s { room = r }) call ≡ wakes s call
-  wakes-room s r (Write x) = refl
-  wakes-room s r EndWriter = refl
-  wakes-room s r Read = refl
-  wakes-room s r (PollChanged seen w) = refl
-  wakes-room s r AddWriter = refl
+  wakes-room s r call = grind (arith, nat_tests)
 
   wakes-more : (s t : State T W) (call : Kept T W) → More s t → wakes t call ≡ wakes s call
   wakes-more s t call more = ap (λ (u : State T W). wakes u call) (same_but_room s t more) ∙ wakes-room s t.room call
@@ -84,24 +62,13 @@ module _ {T W : Type 0} (will_wake : W → W → Bool) where
 
 module _ {T W : Type 0} (will_wake : W → W → Bool) (sure : Bool) where
   may_refuse-room : (s : State T W) (r : ℕ) (call : Kept T W) → s.room ≤ r → may_refuse will_wake sure (record s { room = r }) call ≡ true → may_refuse will_wake sure s call ≡ true
-  may_refuse-room s r (PollChanged seen w) more refused = poll_room (is_waited_for s seen) (skips will_wake s.waiting w) sure (is_empty s.waiting) _ _ (below_more_room s.room r more) refused
-  may_refuse-room s r (Write x) more refused = refused
-  may_refuse-room s r Read more refused = refused
-  may_refuse-room s r AddWriter more refused = refused
-  may_refuse-room s r EndWriter more refused = refused
+  may_refuse-room s r call more refused = grind (arith, nat_tests, poll_room, below_more_room)
 
   reply-room : (s : State T W) (r : ℕ) (call : Kept T W) → reply (record s { room = r }) call ≡ reply s call
-  reply-room s r (PollChanged seen w) = refl
-  reply-room s r (Write x) = refl
-  reply-room s r Read = refl
-  reply-room s r AddWriter = refl
-  reply-room s r EndWriter = refl
+  reply-room s r call = grind (arith, nat_tests)
 
   MayFollow-room : (s : State T W) (r : ℕ) (e : Entry T W) → s.room ≤ r → MayFollow will_wake sure (record s { room = r }) e → MayFollow will_wake sure s e
-  MayFollow-room s r e more may = elim may [
-    | inl same ↦ inl (same ∙ reply-room s r e.call)
-    | inr refused ↦ inr (refused.0, may_refuse-room s r e.call more refused.1)
-  ]
+  MayFollow-room s r e more may = grind (arith, nat_tests, reply-room, may_refuse-room)
 
   -- more room only makes fewer refusals legal
   IsLegal-more : (s t : State T W) (h : History T W) → More s t → IsLegal will_wake sure t h → IsLegal will_wake sure s h

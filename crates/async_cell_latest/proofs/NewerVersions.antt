@@ -1,11 +1,11 @@
 -- A follower is shown newer and newer versions.
-use Rattle.std.proofs.Common.{◌≡◌, ◌≤◌, inl, inr, ℕ, Bool, true, false, not, None, refl, sym, subst, arith, le_refl, le_trans}
+use Rattle.std.proofs.Common.{◌≡◌, ◌≤◌, ℕ, Bool, not, None, arith, le_refl, le_trans}
 use Rattle.std.proofs.lemmas.Bool.Decides.{nat_tests}
 use Rattle.std.specs.Prelude.{if◌then◌else◌, nat_eq}
 use Rattle.async_cell_model.specs.declared.refusal.Refusal.TheVariants as why
 use Rattle.async_cell_model.specs.Taken.{IsSubsequence, none, skip, both}
-use Rattle.async_cell_latest.specs.State.{State, is_closed}
-use Rattle.async_cell_latest.specs.Step.{Kept, Write, Read, PollChanged, AddWriter, EndWriter, Reply, Shown, Pending, Ended, Refused, reply}
+use Rattle.async_cell_latest.specs.State.{State}
+use Rattle.async_cell_latest.specs.Step.{Kept, PollChanged, Shown, Pending, Ended, Refused, reply}
 use Rattle.async_cell_latest.specs.History.{Entry, History, then_state, MayFollow, IsLegal}
 use Rattle.async_cell_latest.specs.Follower.{seen_then, IsBy, IsFollower, IsNewer, IsRising}
 use Rattle.async_cell_latest.proofs.Versions.{then-later}
@@ -14,30 +14,17 @@ module _ {T W : Type 0} where
   poll_newer : (s : State T W) (seen passed : ℕ) (w : W) (same over : Bool) → nat_eq passed s.version ≡ same → passed ≡ seen → seen ≤ s.version
       → IsNewer {T = T} {W = W} seen (PollChanged passed w) (if not same then Shown s.version s.value else if over then Ended else Pending)
       × (seen_then seen (if not same then Shown s.version s.value else if over then Ended else Pending) ≤ s.version)
-  poll_newer s seen passed w false over is by below = (grind (arith, nat_tests), le_refl _)
-  poll_newer s seen passed w true true is by below = (tt, below)
-  poll_newer s seen passed w true false is by below = (tt, below)
+  poll_newer s seen passed w same over is by below = grind (arith, nat_tests, le_refl)
 
   own_newer : (s : State T W) (seen : ℕ) (call : Kept T W) → IsBy seen call → seen ≤ s.version → IsNewer seen call (reply s call) × (seen_then seen (reply s call) ≤ s.version)
-  own_newer s seen Read by below = (below, le_refl _)
-  own_newer s seen (PollChanged passed w) by below = poll_newer s seen passed w (nat_eq passed s.version) (is_closed s) refl by below
-  own_newer s seen (Write x) by below = absurd by
-  own_newer s seen AddWriter by below = absurd by
-  own_newer s seen EndWriter by below = absurd by
+  own_newer s seen call by below = grind (arith, nat_tests, le_refl, poll_newer)
 
   refused_newer : (seen : ℕ) (call : Kept T W) → IsNewer seen call (Refused why.Memory None)
-  refused_newer seen (PollChanged passed w) = tt
-  refused_newer seen Read = tt
-  refused_newer seen (Write x) = tt
-  refused_newer seen AddWriter = tt
-  refused_newer seen EndWriter = tt
+  refused_newer seen call = grind (arith, nat_tests)
 
 module _ {T W : Type 0} (will_wake : W → W → Bool) (sure : Bool) where
   entry_newer : (s : State T W) (seen : ℕ) (e : Entry T W) → MayFollow will_wake sure s e → IsBy seen e.call → seen ≤ s.version → IsNewer seen e.call e.reply × (seen_then seen e.reply ≤ s.version)
-  entry_newer s seen e may by below = elim may [
-    | inl same ↦ subst (λ (r : Reply T). IsNewer seen e.call r × (seen_then seen r ≤ s.version)) (sym same) (own_newer s seen e.call by below)
-    | inr refused ↦ subst (λ (r : Reply T). IsNewer seen e.call r × (seen_then seen r ≤ s.version)) (sym refused.0) (refused_newer seen e.call, below)
-  ]
+  entry_newer s seen e may by below = grind (arith, nat_tests, own_newer, refused_newer)
 
   -- whatever entries of a history are a follower's
   pub rising : (s : State T W) (seen : ℕ) (mine h : History T W) → IsSubsequence mine h → IsLegal will_wake sure s h → IsFollower seen mine → seen ≤ s.version → IsRising seen mine
