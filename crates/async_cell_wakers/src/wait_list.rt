@@ -12,6 +12,9 @@ use std::cell::Cell;
 use std::marker::Model;
 use std::mem;
 
+/// For how many wakers room is made at once, at most.
+const MOST: usize = 64;
+
 /// The wakers that wait on a cell, in order of registration. The first is stored inline, the others
 /// in a vector. Dropping the list drops its wakers without waking them.
 #[derive(Drop)]
@@ -22,6 +25,8 @@ pub struct WaitList<W> {
     round: u64,
     /// The number of the free place that is taken over next, counted from 1: 0 if none is free.
     free: Cell<usize>,
+    /// How many were in the vector when the wakers were last handed out, at most `MOST`.
+    expected: usize,
 }
 
 /// Contracts see the wakers in order of registration, the room for more, and the round of places.
@@ -51,6 +56,7 @@ impl<W: Drop> WaitList<W> {
             rest: Vec::new(alloc),
             round: 1,
             free: Cell::new(0),
+            expected: 0,
         }
     }
 
@@ -110,7 +116,7 @@ impl<W: Drop> WaitList<W> {
             mem::forget(self.first.replace(waker));
             return Ok(());
         }
-        if self.rest.reserve(1).is_err() {
+        if self.rest.len() == self.rest.capacity() && self.grow().is_err() {
             return Err(waker);
         }
         self.rest.push_reserved(waker);
@@ -159,10 +165,26 @@ impl<W: Drop> WaitList<W> {
         ensures gives_up_places { GivesUpPlaces self.old self.new }
     {
         self.give_up_places();
+        self.expected = self.rest.len().min(MOST);
         let first = self.first.take();
         let none = Vec::new(*self.rest.allocator());
         let rest = mem::replace(&mut self.rest, none);
         Wakers::of_all(first, rest)
+    }
+
+    /// Makes room in the vector, which is full: if it has no memory, for as many wakers as it had
+    /// when they were last handed out. Fails if there is no memory.
+    #[inline(never)]
+    fn grow(&mut self) -> Result<(), AllocError>
+        ensures wakers_stay { self.new.wakers ≡ self.old.wakers }
+        ensures places_stay { self.new.round ≡ self.old.round }
+        ensures makes_room { OnOk result (1 ≤ self.new.room) }
+        ensures keeps_room { self.old.room ≤ self.new.room }
+        ensures unchanged { OnErr result (self.new ≡ self.old) }
+    {
+        let is_first = self.rest.capacity() == 0;
+        let more = if is_first { self.expected.max(1) } else { 1 };
+        self.rest.reserve(more)
     }
 
     /// Begins another round, in which no place is free.
@@ -211,7 +233,9 @@ impl<W: Wakes> WaitList<W> {
             self.first = Some(clone);
             return Ok(());
         }
-        self.rest.reserve(1)?;
+        if self.rest.len() == self.rest.capacity() {
+            self.grow()?;
+        }
         let clone: W = waker.clone()?;
         self.rest.push_reserved(clone);
         Ok(())
