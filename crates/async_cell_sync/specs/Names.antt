@@ -2,21 +2,22 @@
 use Rattle.std.specs.Prelude.{◌≡◌, None, IfSome, IsSomeAnd, MatchOption}
 use Rattle.std.specs.Arc.{arc_value}
 use Rattle.async_cell_sync.specs.declared.async_cell.AsyncCell.{AsyncCell}
+use Rattle.async_cell_waiting.specs.declared.told.naming.Unnamed.{Unnamed}
 use Rattle.async_cell_sync.specs.declared.shared.Shared.{Shared}
 use Rattle.async_cell_sync.specs.declared.weak.Weak.{Weak}
 
 module _ {T : Type 0} where
   -- the cell of an owner
-  abbrev pub cell_of : Shared T → AsyncCell T
+  abbrev pub cell_of : Shared T → AsyncCell T Unnamed
   cell_of owner = arc_value owner.cell
 
   -- the weak pointer points to this cell
-  abbrev pub Names : Weak T → AsyncCell T → Type 0
+  abbrev pub Names : Weak T → AsyncCell T Unnamed → Type 0
   Names weak cell = IsSomeAnd weak.cell (λ pointer. arc_value pointer ≡ cell)
 
   -- the weak pointer points to this cell, or to none because it could not be counted when it was
   -- made
-  abbrev pub NamesAtMost : Weak T → AsyncCell T → Type 0
+  abbrev pub NamesAtMost : Weak T → AsyncCell T Unnamed → Type 0
   NamesAtMost weak cell = IfSome weak.cell (λ pointer. arc_value pointer ≡ cell)
 
   -- the second weak pointer points to what the first one points to

@@ -1,4 +1,5 @@
-ghost use Rattle.std.specs.Prelude.{◌≡◌, IfOk, IfErr};
+ghost use Rattle.std.specs.Prelude.{◌≡◌, None, IfOk, IfErr, IfSome};
+ghost use Rattle.async_cell_model.specs.Machine.{content};
 ghost use Rattle.async_cell_model.specs.Refusal.{FailsWithMemory};
 ghost use Rattle.async_cell_sync.specs.Names.{cell_of};
 
@@ -8,7 +9,7 @@ use crate::locked_core::LockedCore;
 use crate::shared::Shared;
 use crate::take::Take;
 use async_cell_core::{Core, Place, Refusal, TaskWaker};
-use async_cell_waiting::Places;
+use async_cell_waiting::{Naming, Places, Unnamed};
 use futures::task::Source;
 use std::alloc::Global;
 use std::sync::Wait;
@@ -26,15 +27,18 @@ use std::sync::Wait;
 /// A future made by `with` holds one place in the wait list while it waits (see `With`), so the
 /// list is no longer than the number of such futures that were alive at once. Each `poll_shared`
 /// that waits adds one waker, which stays until the next write or close.
-pub struct AsyncCell<T> {
-    pub(crate) core: LockedCore<T, TaskWaker>,
+///
+/// `N` says what is known of the values (see `Rule`), and to which history a witness sees: of a
+/// plain cell neither.
+pub struct AsyncCell<T, N: Naming<T, TaskWaker> = Unnamed> {
+    pub(crate) core: LockedCore<T, TaskWaker, N>,
     /// The source that waiting tasks register with.
     pub(crate) source: Source,
     pub(crate) alloc: Global,
 }
 
 /// Wakes all waiters.
-impl<T: Drop> Drop for AsyncCell<T> {
+impl<T: Drop, N: Naming<T, TaskWaker>> Drop for AsyncCell<T, N> {
     #[inline(always)]
     fn drop(self) {
         let AsyncCell {
@@ -46,16 +50,21 @@ impl<T: Drop> Drop for AsyncCell<T> {
     }
 }
 
-impl<T: Drop> AsyncCell<T> {
-    /// Wraps a core in a cell.
-    fn of(alloc: Global, core: Core<T, TaskWaker>) -> Self {
+impl<T: Drop, N: Naming<T, TaskWaker>> AsyncCell<T, N> {
+    /// Wraps a core in a cell without a name.
+    pub(crate) fn of(alloc: Global, core: Core<T, TaskWaker>) -> Self
+        requires nameless { N.named ≡ None }
+        requires rule { IfSome (content core.cell) N.holds }
+    {
         AsyncCell {
-            core: LockedCore::new(core),
+            core: LockedCore::nameless(core),
             source: Source::new(),
             alloc,
         }
     }
+}
 
+impl<T: Drop> AsyncCell<T> {
     /// Makes a cell without a value. Takes no memory. Stores the allocator for all later growth.
     pub fn new(alloc: Global) -> Self {
         AsyncCell::of(alloc, Core::new(alloc))

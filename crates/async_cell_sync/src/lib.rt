@@ -23,14 +23,16 @@ pub use async_cell::AsyncCell;
 pub use async_cell_core::{Core, Poll, Refusal, TaskWaker, Wakers, Wakes};
 #[doc(hidden)]
 pub use async_cell_waiting::Request;
-pub use async_cell_waiting::{Author, Naming, Unnamed, With, Witness, laws};
+pub use async_cell_waiting::{
+    Author, Naming, Rule, Ruled, Takeable, Unnamed, With, Witness, laws,
+};
 pub use cell_ref::CellRef;
 pub use get::Get;
 pub use guard::Guard;
 pub use guarded_cell::GuardedCell;
 pub use locked_core::LockedCore;
 pub use owner::Owner;
-pub use reply::{Replier, Reply, reply_slot};
+pub use reply::{Replier, Reply, reply_slot, reply_slot_of};
 pub use shared::Shared;
 pub use take::Take;
 pub use told::{

@@ -7,8 +7,9 @@ ghost use Rattle.async_cell_model.specs.declared.refusal.Refusal.TheVariants.{Cl
 ghost use Rattle.async_cell_sync.specs.Source.{source_of};
 
 use crate::async_cell::AsyncCell;
-use async_cell_core::{Place, Refusal};
-use async_cell_waiting::{Taking, poll};
+use async_cell_core::{Core, Place, Refusal, TaskWaker};
+use async_cell_model::Kept;
+use async_cell_waiting::{Naming, Rule, Ruled, Takeable, Taking, Unnamed, poll};
 use futures::future::Future;
 use futures::task::{Context, Poll};
 use std::alloc::Global;
@@ -19,9 +20,9 @@ use std::sync::{Arc, Wait};
 ///
 /// **Dropping it may wait for the lock**, as its calls may.
 #[derive_where(Debug)]
-pub struct Replier<T: Drop, R: Wait + Drop> {
+pub struct Replier<T: Drop, R: Wait + Drop, N: Takeable<T, TaskWaker> = Unnamed> {
     #[derive_where(skip)]
-    cell: Arc<AsyncCell<T>>,
+    cell: Arc<AsyncCell<T, N>>,
     #[derive_where(skip)]
     rt: R,
 }
@@ -40,10 +41,10 @@ pub struct Replier<T: Drop, R: Wait + Drop> {
 /// println!(rt; "{:?}", block_on(&rt, reply)?)?; // prints Err(Closed)
 /// ```
 #[derive_where(Debug)]
-pub struct Reply<T: Drop, R: Wait + Drop> {
+pub struct Reply<T: Drop, R: Wait + Drop, N: Takeable<T, TaskWaker> = Unnamed> {
     /// `None` once it was ready.
     #[derive_where(skip)]
-    cell: Option<Arc<AsyncCell<T>>>,
+    cell: Option<Arc<AsyncCell<T, N>>>,
     #[derive_where(skip)]
     rt: R,
     #[derive_where(skip)]
@@ -66,7 +67,41 @@ pub fn reply_slot<T: Drop, R: Wait + Copy>(
         arc_value cell ≡ arc_value sides.0.cell)) }
     ensures refused { FailsWithMemory result }
 {
-    let Ok(cell) = Arc::new(alloc, AsyncCell::new(alloc)) else {
+    sides(alloc, rt)
+}
+
+/// Makes a reply slot whose value keeps the rule `P`: `set` requires it, and the poll of the reply
+/// ensures it. Otherwise it is a `reply_slot`.
+///
+/// ```rust
+/// let (replier, reply) = reply_slot_of::<Even, u64, _>(rt.alloc(), rt)?;
+/// let worker = thread::spawn(&rt, move || replier.set(42))?;
+/// println!(rt; "an even reply: {}", block_on(&rt, reply)??)?; // prints an even reply: 42
+/// let _ = worker.join(&rt);
+/// ```
+pub fn reply_slot_of<P: Rule<T>, T: Drop, R: Wait + Copy>(
+    alloc: Global,
+    rt: R,
+) -> Result<(Replier<T, R, Ruled<P>>, Reply<T, R, Ruled<P>>), Refusal>
+    ensures of_one { IfOk result (λ sides. IsSomeAnd sides.1.cell (λ cell.
+        arc_value cell ≡ arc_value sides.0.cell)) }
+    ensures refused { FailsWithMemory result }
+{
+    sides(alloc, rt)
+}
+
+/// Makes both sides of a slot without a name.
+#[inline(always)]
+fn sides<T: Drop, R: Wait + Copy, N: Takeable<T, TaskWaker>>(
+    alloc: Global,
+    rt: R,
+) -> Result<(Replier<T, R, N>, Reply<T, R, N>), Refusal>
+    requires nameless { N.named ≡ None }
+    ensures of_one { IfOk result (λ sides. IsSomeAnd sides.1.cell (λ cell.
+        arc_value cell ≡ arc_value sides.0.cell)) }
+    ensures refused { FailsWithMemory result }
+{
+    let Ok(cell) = Arc::new(alloc, AsyncCell::of(alloc, Core::new(alloc))) else {
         return Err(Refusal::Memory);
     };
     let reply = Reply {
@@ -77,7 +112,7 @@ pub fn reply_slot<T: Drop, R: Wait + Copy>(
     Ok((Replier { cell, rt }, reply))
 }
 
-impl<T: Drop, R: Wait + Drop> Replier<T, R> {
+impl<T: Drop, R: Wait + Drop, N: Takeable<T, TaskWaker>> Replier<T, R, N> {
     /// Sets the value, and wakes the task that waits for it. The value stays until the `Reply`
     /// takes it or is dropped. If the `Reply` was dropped before, the value comes back.
     ///
@@ -87,6 +122,7 @@ impl<T: Drop, R: Wait + Drop> Replier<T, R> {
     /// println!(rt; "nobody waits: {:?}", replier.set(42))?; // prints nobody waits: Err(42)
     /// ```
     pub fn set(self, value: T) -> Result<(), T>
+        requires may { N.may (Kept.Replace value) }
         ensures comes_back { IfErr result (λ back. back ≡ value) }
     {
         let Replier { cell, rt } = self; // Without the drop, which closes.
@@ -95,27 +131,28 @@ impl<T: Drop, R: Wait + Drop> Replier<T, R> {
 
     /// Returns whether the `Reply` was dropped, so that a value would come back.
     pub fn is_closed(&self) -> bool {
-        self.cell.is_closed(&self.rt)
+        self.cell.core.is_closed(&self.rt)
     }
 }
 
 /// Closes the slot. May wait for the lock.
-impl<T: Drop, R: Wait + Drop> Drop for Replier<T, R> {
+impl<T: Drop, R: Wait + Drop, N: Takeable<T, TaskWaker>> Drop for Replier<T, R, N> {
     fn drop(self) {
         let Replier { cell, rt } = self;
         let _ = cell.core.end_owner(&rt); // The cell has one owner: both sides together.
     }
 }
 
-impl<T: Drop, R: Wait + Drop> Future for Reply<T, R> {
+impl<T: Drop, R: Wait + Drop, N: Takeable<T, TaskWaker>> Future for Reply<T, R, N> {
     type Output = Result<T, Refusal>;
 
     ghost needs = { λ reply s. IsSomeAnd reply.cell (λ cell. s ≡ source_of cell.value) };
 
-    ghost gives = { λ reply given. FailsWithMemoryOrClosed given
+    ghost gives = { λ reply given. IfOk given N.holds × FailsWithMemoryOrClosed given
         × (reply.cell ≡ None → given ≡ Err Closed) };
 
     fn poll(&mut self, cx: &mut Context<'_>) -> Poll<Self::Output>
+        ensures rule { IfReady result (λ given. IfOk given N.holds) }
         ensures closed { self.old.cell ≡ None → result ≡ Poll.Ready (Err Refusal.Closed) }
         ensures over { IfReady result (λ given.
             ¬ (given ≡ Err Refusal.Memory) → self.new.cell ≡ None) }
@@ -141,7 +178,7 @@ impl<T: Drop, R: Wait + Drop> Future for Reply<T, R> {
 }
 
 /// Closes the slot, unless it was ready. May wait for the lock.
-impl<T: Drop, R: Wait + Drop> Drop for Reply<T, R> {
+impl<T: Drop, R: Wait + Drop, N: Takeable<T, TaskWaker>> Drop for Reply<T, R, N> {
     fn drop(self) {
         let Reply { cell, rt, place: _ } = self;
         if let Some(cell) = cell {

@@ -1,5 +1,5 @@
 -- What a future that is told gives: what a take or a get found.
-use Rattle.std.proofs.Common.{◌≡◌, inl, inr, Option, Some, None, Result, Ok, Err, refl, sym, subst, IfOk, OnOk}
+use Rattle.std.proofs.Common.{◌≡◌, inl, inr, Option, Some, None, Result, Ok, Err, refl, sym, subst, IfOk, IfSome, OnOk}
 use Rattle.async_cell_model.specs.declared.entry.Kept.{Kept}
 use Rattle.async_cell_model.specs.declared.entry.Kept.TheVariants.{TryTake, TryGet, PollGet}
 use Rattle.async_cell_model.specs.declared.refusal.Refusal.{Refusal}
@@ -10,7 +10,7 @@ use Rattle.async_cell_core.specs.Polled.{IsCloneOf, poll_reply}
 use Rattle.async_cell_model.specs.declared.reply.Reply.{Reply}
 use Rattle.async_cell_model.specs.Machine.{UpToClones}
 use Rattle.futures.specs.declared.task.Poll.{Poll}
-use Rattle.async_cell_waiting.specs.Told.{Begun, Seen, IsSigned, IsTold, IsToldUpTo, get_reply, end_reply, done_reply}
+use Rattle.async_cell_waiting.specs.Told.{Begun, Seen, IsCloneOfOne, IsSigned, IsTold, IsToldUpTo, get_reply, end_reply, done_reply}
 
 module _ {T W : Type 0} (rules : WakerRules W) (named : Option (Begun T W)) (seen : History T W) where
   copied_as : (is_clone : T → T → Type 0) (h : History T W) (held : Option T) (x : T) → IsTold rules named seen TryGet (Value held) h → IsCloneOf is_clone held (Some x) → IsToldUpTo is_clone rules named seen TryGet (Value (Some x)) h
@@ -63,6 +63,18 @@ module _ {T W : Type 0} (rules : WakerRules W) (named : Option (Begun T W)) (old
             (subst (λ c. IfOk c (IsCloneOf is_clone held)) some clones),
         subst (λ (l : Seen T W). IsSigned old l) (sym whole) signed,
       )
+
+module _ {T : Type 0} (is_clone : T → T → Type 0) (P : T → Type 0) where
+  cloned_one : (held got : Option T) → IfSome held P → IsCloneOf is_clone held got → IfSome got (IsCloneOfOne is_clone P)
+  cloned_one None None holds clones = tt
+  cloned_one None (Some b) holds clones = absurd clones
+  cloned_one (Some a) None holds clones = absurd clones
+  cloned_one (Some a) (Some b) holds clones = (a, holds, clones)
+
+  -- a clone of a content that satisfies `P` is a clone of one that does
+  pub cloned_ones : {E : Type 0} (held : Option T) (copied : Result (Option T) E) → IfSome held P → IfOk copied (IsCloneOf is_clone held) → IfOk copied (λ found. IfSome found (IsCloneOfOne is_clone P))
+  cloned_ones held (Ok got) holds clones = cloned_one held got holds clones
+  cloned_ones held (Err why) holds clones = tt
 
 pub on_ok : {A E P : Type 0} (r : Result A E) → P → OnOk r P
 on_ok (Ok it) p = p

@@ -1,20 +1,25 @@
 -- What one more call makes of a past that leads to a core.
-use Rattle.std.proofs.Common.{◌≡◌, Bool, List, [], ◌∷◌, ◌++◌, refl}
+use Rattle.std.proofs.Common.{◌≡◌, Bool, List, [], ◌∷◌, ◌++◌, IfSome, refl, sym, subst}
 use Rattle.async_cell_model.specs.declared.entry.Entry.{Entry}
-use Rattle.async_cell_model.specs.Machine.{State, Does}
+use Rattle.async_cell_model.specs.Machine.{State, Does, content}
 use Rattle.async_cell_model.specs.History.{History}
 use Rattle.async_cell_model.specs.Legal.{IsLegal, Runs, wakes_after}
 use Rattle.async_cell_model.proofs.LegalHistories.{Runs-join}
 use Rattle.async_cell_model.proofs.Machine.{model_of}
-use Rattle.async_cell_waiting.specs.Told.{Past, Leads, IsAllowed, IsLawful, OnlyMakes}
+use Rattle.async_cell_waiting.specs.Told.{Past, Leads, IsAllowed, IsLawful, OnlyMakes, Puts}
+use Rattle.async_cell_waiting.proofs.PutIn.{step_holds}
 use Rattle.std.specs.List.{All}
 use Rattle.std.proofs.lemmas.List.Elements.{All-append, All-cons, All-nil, All-weaker}
 use Rattle.async_cell_model.specs.declared.entry.Kept.{Kept}
 
 module _ {T W : Type 0} (will_wake : W → W → Bool) (sure : Bool) where
-  -- the calls that are one more lead to the state after it
-  pub leads_more : (past now : Past T W) (from to : State T W) (e : Entry T W) (woken : List W) → Leads will_wake sure past from → Does will_wake sure from e woken to → now.begun ≡ past.begun → now.calls ≡ past.calls ++ e ∷ [] → Leads will_wake sure now to
-  leads_more past now from to e woken led does begun calls =
+  -- calls that run to a state
+  abbrev pub RunsTo : Past T W → State T W → Type 0
+  RunsTo past at = Runs will_wake sure past.begun.start past.calls (wakes_after will_wake past.begun.start [] past.calls) at
+
+  -- the calls that are one more run to the state after it
+  pub runs_more : (past now : Past T W) (from to : State T W) (e : Entry T W) (woken : List W) → RunsTo past from → Does will_wake sure from e woken to → now.begun ≡ past.begun → now.calls ≡ past.calls ++ e ∷ [] → RunsTo now to
+  runs_more past now from to e woken led does begun calls =
       let both = Runs-join will_wake sure past.begun.start from to past.calls (e ∷ []) _ (woken ∷ []) led (model_of will_wake sure from to e.call e.reply woken does) in
       let longer : Runs will_wake sure past.begun.start (past.calls ++ e ∷ []) (wakes_after will_wake past.begun.start [] (past.calls ++ e ∷ [])) to = record {
         sound = both.sound;
@@ -25,6 +30,13 @@ module _ {T W : Type 0} (will_wake : W → W → Bool) (sure : Bool) where
         wakes_are = refl;
       } in
       rw (begun, calls) longer
+
+  -- and they lead there, if the call puts in what satisfies the rule
+  pub leads_more : (holds : T → Type 0) (past now : Past T W) (from to : State T W) (e : Entry T W) (woken : List W) → Leads will_wake sure holds past from → Does will_wake sure from e woken to → Puts holds e.call → now.begun ≡ past.begun → now.calls ≡ past.calls ++ e ∷ [] → Leads will_wake sure holds now to
+  leads_more holds past now from to e woken led does puts begun calls = (
+    runs_more past now from to e woken led.0 does begun calls,
+    subst (λ c. IfSome (content c) holds) (sym does.cell_is) (step_holds holds from.cell e led.1 puts),
+  )
 
 module _ {T W : Type 0} (may : Kept T W → Type 0) where
   -- lawful calls, and one more that is legal and allowed

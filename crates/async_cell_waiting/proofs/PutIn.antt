@@ -1,6 +1,6 @@
 -- What was put in satisfies a fact, so what is taken does.
-use Rattle.std.proofs.Common.{◌≡◌, ℕ, Bool, true, false, [], ◌∷◌, Option, Some, subst, IfSome, ◌⊎◌, inl, inr, rules, arith}
-use Rattle.std.specs.Prelude.{if◌then◌else◌}
+use Rattle.std.proofs.Common.{◌≡◌, ℕ, Bool, true, false, [], ◌∷◌, Option, Some, None, subst, IfSome, ◌⊎◌, inl, inr, rules, arith}
+use Rattle.std.specs.Prelude.{⊤, if◌then◌else◌}
 use Rattle.std.specs.List.{All}
 use Rattle.std.proofs.lemmas.List.Elements.{All-head, All-tail, All-pop}
 use Rattle.async_cell_model.specs.declared.cell.Cell.{Cell}
@@ -29,20 +29,26 @@ module _ {T W : Type 0} (P : T → Type 0) where
   next_holds value n TakeInner holds puts = either (λ c. IfSome (content c) P) _ Closed (Open value n) tt holds
   next_holds value n call holds puts = search rules
 
-  step_holds : (c : Cell T) (e : Entry T W) → IfSome (content c) P → Puts P e.call → IfSome (content (next c e)) P
+  pub step_holds : (c : Cell T) (e : Entry T W) → IfSome (content c) P → Puts P e.call → IfSome (content (next c e)) P
   step_holds Closed e holds puts = tt
   step_holds (Open value n) e holds puts = either (λ c. IfSome (content c) P) (is_memory e.reply) (Open value n) (next_open value n e.call) holds (next_holds value n e.call holds puts)
+
+-- without a rule, each content keeps it
+pub some_any : {T : Type 0} (held : Option T) → IfSome held (λ _. ⊤)
+some_any None = tt
+some_any (Some v) = tt
+
+-- a call that is allowed puts in what each call that may be made puts in
+pub allowed_puts : {T W : Type 0} (may : Kept T W → Type 0) (P : T → Type 0) (keeps : (call : Kept T W) → may call → Puts P call) (call : Kept T W) → IsAllowed may call → Puts P call
+allowed_puts may P keeps call allowed = search rules
 
 module _ {T W : Type 0} (may : Kept T W → Type 0) (only : PutsWhatSetsMay may) where
   abbrev MaySet : T → Type 0
   MaySet v = may (Set v)
 
-  puts_of : (call : Kept T W) → IsAllowed may call → Puts MaySet call
-  puts_of call allowed = search rules
-
   after_holds : (c : Cell T) (h : History T W) → IfSome (content c) MaySet → All (λ e. IsAllowed may e.call) h → IfSome (content (cell_after c h)) MaySet
   after_holds c [] holds all = holds
-  after_holds c (e ∷ h) holds all = after_holds (next c e) h (step_holds MaySet c e holds (puts_of e.call (All-head (λ x. IsAllowed may x.call) e h all))) (All-tail (λ x. IsAllowed may x.call) e h all)
+  after_holds c (e ∷ h) holds all = after_holds (next c e) h (step_holds MaySet c e holds (allowed_puts may MaySet only e.call (All-head (λ x. IsAllowed may x.call) e h all))) (All-tail (λ x. IsAllowed may x.call) e h all)
 
   module _ (rules : WakerRules W) (named : Option (Begun T W)) (seen now : History T W) (v : T) (first : IfSome (content (start_of named).cell) MaySet) (lawful : IsLawful rules.will_wake rules.SURE_CLONE may (start_of named) now) where
     found : (call : Kept T W) → ((c : Cell T) → Value (Some v) ≡ reply c call → content c ≡ Some v) → IsTold rules named seen call (Value (Some v)) now → MaySet v

@@ -96,10 +96,10 @@ module _ {T W : Type 0} where
   BeganWith held named = start_of named ≡ record { cell = Open held 1; waiting = []; room = 0 }
 
 module _ {T W : Type 0} (will_wake : W → W → Bool) (sure_wakers : Bool) where
-  -- the calls are legal, and lead from the first state to this one
-  abbrev pub Leads : Past T W → State T W → Type 0
-  Leads past at = Runs will_wake sure_wakers past.begun.start past.calls
-      (wakes_after will_wake past.begun.start [] past.calls) at
+  -- the calls are legal, and lead from the first state to this one, where a value satisfies `holds`
+  abbrev pub Leads : (T → Type 0) → Past T W → State T W → Type 0
+  Leads holds past at = Runs will_wake sure_wakers past.begun.start past.calls
+      (wakes_after will_wake past.begun.start [] past.calls) at × IfSome (content at.cell) holds
 
   -- from this state the calls are legal, and the changes among them are allowed
   pub record IsLawful (may : Kept T W → Type 0) (start : State T W) (calls : History T W)
@@ -164,6 +164,10 @@ abbrev pub IsToldUpTo : {T W : Type 0} → (T → T → Type 0) → WakerRules W
 IsToldUpTo {T} is_clone rules named seen call reply now = (own : Reply T)
     × IsTold rules named seen call own now × UpToClones is_clone call own reply
 
+-- a clone of a value that satisfies `P`
+abbrev pub IsCloneOfOne : {T : Type 0} → (T → T → Type 0) → (T → Type 0) → T → Type 0
+IsCloneOfOne {T} is_clone P copy = (value : T) × P value × is_clone value copy
+
 -- The reply that stands for what a call returned.
 module _ {T : Type 0} where
   -- of `set`
@@ -207,6 +211,24 @@ module _ {T W : Type 0} where
   Puts P (Update saw put) = IfSome put P
   Puts P (UpdateSome saw put) = IfSome put P
   Puts P _ = ⊤
+
+  -- without a rule, each call puts in what keeps it
+  abbrev pub puts_any : (call : Kept T W) → Puts (λ _. ⊤) call
+  puts_any (Set x) = tt
+  puts_any (OrSet x) = tt
+  puts_any (Replace x) = tt
+  puts_any (Update saw None) = tt
+  puts_any (Update saw (Some x)) = tt
+  puts_any (UpdateSome saw None) = tt
+  puts_any (UpdateSome saw (Some x)) = tt
+  puts_any TryTake = tt
+  puts_any TryGet = tt
+  puts_any IsSet = tt
+  puts_any (PollTake w) = tt
+  puts_any (PollGet w) = tt
+  puts_any AddOwner = tt
+  puts_any EndOwner = tt
+  puts_any TakeInner = tt
 
   -- each value that a change may put in, a `set` may put in too
   abbrev pub PutsWhatSetsMay : (Kept T W → Type 0) → Type 0

@@ -1,6 +1,6 @@
 //! The end of a step, and what comes out of a core meanwhile. The core is released, then wakers are
 //! woken, and then the caller gets what it may drop. What is held is let go by an end alone.
-ghost use Rattle.std.specs.Prelude.{◌≡◌, Ok, Err, Some, IfOk, IfErr, IsSome, IsTrue};
+ghost use Rattle.std.specs.Prelude.{◌≡◌, ⊤, Ok, Err, Some, IfOk, IfErr, IsSome, IsTrue};
 ghost use Rattle.async_cell_model.specs.Refusal.{FailsWithClosed, FailsWithMemory, FailsWithMemoryOrClosed};
 ghost use Rattle.async_cell_waiting.specs.Held.{answer_of};
 
@@ -95,8 +95,16 @@ pub trait Writes<T> {
     /// Whom a write wakes.
     type Waker: Wakes;
 
+    /// The values that may be written.
+    ghost may: { T → Type 0 } = { λ _. ⊤ };
+
+    /// What is known of what was replaced.
+    ghost gives: { Self.Old → Type 0 } = { λ _. ⊤ };
+
     /// Writes the value, and holds the old one. If that is refused, the value comes back.
     fn write(&mut self, value: T) -> Held<Result<Self::Old, T>, Option<Wakers<Self::Waker>>>
+        requires may { may value }
+        ensures gives { IfOk result.answer gives }
         ensures comes_back { IfErr result.answer (λ back. back ≡ value) };
 }
 
@@ -107,6 +115,8 @@ pub fn write_held<C: Writes<T>, G: Step<Core = C>, T>(
     mut step: G,
     value: Held<T>,
 ) -> Result<C::Old, T>
+    requires may { C.may value.answer }
+    ensures gives { IfOk result C.gives }
     ensures comes_back { IfErr result (λ back. back ≡ value.answer) }
 {
     let Held { answer, woken: _ } = value;
@@ -119,6 +129,7 @@ pub fn write_held<C: Writes<T>, G: Step<Core = C>, T>(
 pub fn put_held<C: Writes<T>, G: Step<Core = C>, T: Drop>(step: G, value: Held<T>)
 where
     C::Old: Drop,
+    requires may { C.may value.answer }
 {
     let _ = write_held(step, value);
 }

@@ -20,5 +20,7 @@ pub use polls::poll;
 pub use query::Query;
 pub use room::Room;
 pub use store::{Lender, Lent, Lock, Locked, OneThread, Opens, Step, StoredCore, Stores};
-pub use told::{Author, MayTake, Naming, Opened, Unnamed, Witness};
+pub use told::{
+    Author, Blank, Cancel, Free, MayTake, Naming, Opened, Rule, Ruled, Takeable, Unnamed, Witness,
+};
 pub use with::{At, Places, Polled, Request, Takes, Upgrade, Values, With, weakly};

@@ -25,6 +25,7 @@ pub fn poll<'a, C: Room, M: Stores<Core = C>, Q: Query<C>, R: Opens<'a, M>>(
     cx: &mut Context<'_>,
     rt: &R,
 ) -> Poll<Result<Q::Answer, Refusal>>
+    requires asks { Q.asks query }
     ensures told { IfReady result (λ answer. IfOk answer (λ told. Q.gives query told)) }
     ensures armed { OnPending result (IsArmed cx.new) }
     ensures heard { OnPending result (Hears cx.new source.now.id) }
@@ -110,6 +111,7 @@ fn renew<'a, C: Room, M: Stores<Core = C>, Q: Query<C>, R: Opens<'a, M>>(
     cx: &mut Context<'_>,
     rt: &R,
 ) -> Poll<Result<Q::Answer, Refusal>>
+    requires asks { Q.asks query }
     ensures told { IfReady result (λ answer. IfOk answer (λ told. Q.gives query told)) }
     ensures armed { OnPending result (IsArmed cx.new) }
     ensures heard { OnPending result (Hears cx.new source.now.id) }

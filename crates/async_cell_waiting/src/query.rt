@@ -10,6 +10,9 @@ pub trait Query<C: Room>: Drop {
     /// What the poll returns.
     type Answer;
 
+    /// What has to be known for it to be asked.
+    ghost asks: { Self → Type 0 } = { λ _. ⊤ };
+
     /// What is known of the answer.
     ghost gives: { Self → Self.Answer → Type 0 } = { λ _ _. ⊤ };
 
@@ -19,6 +22,7 @@ pub trait Query<C: Room>: Drop {
 
     /// Makes the answer of a poll that need not wait.
     fn answer(self, core: &mut C) -> Held<Result<Self::Answer, Refusal>>
+        requires asks { asks self }
         ensures gives { IfOk result.answer (λ answer. gives self answer) }
         ensures refused { FailsWithMemoryOrClosed result.answer };
 }

@@ -82,7 +82,8 @@ impl<T: Drop, R: Wait + Drop, N: Naming<T, TaskWaker>> ToldOwner<T, R, N> {
         change: F,
     ) -> Result<(), Refusal>
         requires callable { F.IsAlwaysCallable change }
-        requires may { (saw put : Option T) → F.post change saw put → N.may (Kept.Update saw put) }
+        requires may { (saw put : Option T) → IfSome saw N.holds → F.post change saw put
+            → N.may (Kept.Update saw put) }
         requires may_fail { N.may (Kept.Update None None) }
         ensures told { OnOk result ((saw put : Option T)
             × IsTold ⟦<TaskWaker as Wakes>⟧ N.named self.old.seen.calls
@@ -99,7 +100,7 @@ impl<T: Drop, R: Wait + Drop, N: Naming<T, TaskWaker>> ToldOwner<T, R, N> {
     /// closure.
     pub fn update_some<F: FnOnce(T) -> T + Drop>(&mut self, change: F) -> Result<(), Refusal>
         requires callable { F.IsAlwaysCallable change }
-        requires may { (old new : T) → F.post change old new
+        requires may { (old new : T) → N.holds old → F.post change old new
             → N.may (Kept.UpdateSome (Some old) (Some new)) }
         requires may_fail { N.may (Kept.UpdateSome None None) }
         ensures told { OnOk result ((saw put : Option T)

@@ -1,5 +1,6 @@
-ghost use Rattle.std.specs.Prelude.{◌≡◌, [], Some, None, IfOk, IfErr, OnOk, length};
+ghost use Rattle.std.specs.Prelude.{◌≡◌, [], Some, None, IfOk, IfErr, IfSome, OnOk, length};
 ghost use mathlib.Core.List.{IsPrefix};
+ghost use Rattle.async_cell_model.specs.Machine.{content};
 ghost use Rattle.async_cell_model.specs.Refusal.{FailsWithMemory, IsOwnerRefusal};
 ghost use Rattle.async_cell_waiting.specs.Told.{IsLawful, IsSigned, IsTold, start_of};
 
@@ -42,6 +43,7 @@ impl<T: Drop, R: Wait + Copy, N: Naming<T, TaskWaker>> ToldOwner<T, R, N> {
     ) -> Result<Self, Refusal>
         requires named { N.named ≡ Some opened }
         requires begins { opened.start ≡ core }
+        requires rule { IfSome (content core.cell) N.holds }
         ensures new { IfOk result (λ owner. owner.seen.calls ≡ []) }
         ensures refused { FailsWithMemory result }
     {

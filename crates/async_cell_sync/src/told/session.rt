@@ -1,6 +1,6 @@
 //! Two threads that share a cell of which each call is told, without a proof by the caller of which
 //! cell it is.
-ghost use Rattle.std.specs.Prelude.{◌≡◌, [], Option, None, Some, IfOk, IfErr};
+ghost use Rattle.std.specs.Prelude.{◌≡◌, [], Option, None, Some, IfOk, IfErr, IfSome};
 ghost use Rattle.async_cell_model.specs.declared.cell.Cell.TheVariants.{Open};
 ghost use Rattle.async_cell_model.specs.declared.entry.Kept.{Kept};
 ghost use Rattle.async_cell_model.specs.Refusal.{IsOwnerRefusal};
@@ -98,6 +98,7 @@ impl Author for Second {
 /// owner of its own; both end after the threads. Fails if there is no memory for the cell or its
 /// owners. If no thread can be made, the two come one after another, so neither may wait for the
 /// other then.
+#[tactic(auto, using(async_cell_waiting::proofs::PutIn::some_any))]
 pub fn with_told<T, A, B, S, R>(rt: R, content: Option<T>, session: &S) -> Result<(A, B), Refusal>
 where
     T: Drop + Send,
@@ -133,6 +134,7 @@ where
     requires new { core
         ≡ record { cell = Open (S.holds session.now) 1; waiting = []; room = 0 } }
     requires may { Agree N.may (S.may session.now) }
+    requires no_rule { IfSome (S.holds session.now) N.holds }
     ensures gives { IfOk result (λ both. S.gives session.now both.0 both.1) }
     ensures refused { IfErr result IsOwnerRefusal }
 {

@@ -4,7 +4,7 @@ ghost use Rattle.std.specs.Prelude.{◌≡◌, ◌⊎◌, [], false, Option, Som
 ghost use Rattle.std.specs.Fn.{FnOnceReturnsAt};
 ghost use Rattle.async_cell_model.specs.Machine.{content, is_closed, is_vacant, IsSound, UpToClones};
 ghost use Rattle.async_cell_core.specs.Polled.{IsCloneOf, poll_reply};
-ghost use Rattle.async_cell_waiting.specs.Told.{Fits, Leads, Made, start_of, set_reply, write_reply, done_reply, end_reply, get_reply, own_poll};
+ghost use Rattle.async_cell_waiting.specs.Told.{Fits, IsCloneOfOne, Leads, Made, start_of, set_reply, write_reply, done_reply, end_reply, get_reply, own_poll};
 ghost use mathlib.Core.List.{IsPrefix};
 ghost use Rattle.async_cell_model.specs.Refusal.{FailsWithClosed, FailsWithMemory};
 
@@ -26,7 +26,7 @@ pub struct CellCore<T, W: Wakes, N: Naming<T, W> = Unnamed> {
     past: Past<T, W, N>,
 }
 
-/// Contracts see the state of the core, and its past, which leads to it.
+/// Contracts see the state of the core, and its past, which leads to it. Its value keeps the rule.
 impl<T, W: Wakes, N: Naming<T, W>> Model for CellCore<T, W, N> {
     ghost use Rattle.async_cell_waiting.specs.Told.{Desk, Leads};
 
@@ -34,23 +34,25 @@ impl<T, W: Wakes, N: Naming<T, W>> Model for CellCore<T, W, N> {
 
     ghost view = { λ c. record { inner = c.inner; past = c.past } };
 
-    ghost invariant = { λ c. Leads W.will_wake W.SURE_CLONE c.past c.inner };
-}
-
-impl<T: Drop, W: Wakes> CellCore<T, W> {
-    /// Wraps the core, whatever its state.
-    pub fn of(core: Core<T, W>) -> Self {
-        let opened = Opened::of(&core);
-        CellCore::begin(core, opened)
-    }
+    ghost invariant = { λ c. Leads W.will_wake W.SURE_CLONE N.holds c.past c.inner };
 }
 
 impl<T: Drop, W: Wakes, N: Naming<T, W>> CellCore<T, W, N> {
+    /// Wraps the core of a cell without a name, whatever its state.
+    pub fn of(core: Core<T, W>) -> Self
+        requires nameless { N.named ≡ None }
+        requires rule { IfSome (content core.cell) N.holds }
+    {
+        let opened = Opened::of(&core);
+        CellCore::begin(core, opened)
+    }
+
     /// Wraps the core, which begins its history.
     #[inline(always)]
     pub fn begin(core: Core<T, W>, opened: Opened<T, W>) -> Self
         requires named { Fits N.named opened }
         requires begins { opened.start ≡ core }
+        requires rule { IfSome (content core.cell) N.holds }
         ensures begun { result.past.begun ≡ opened }
         ensures empty { result.past.calls ≡ [] }
     {
@@ -63,7 +65,8 @@ impl<T: Drop, W: Wakes, N: Naming<T, W>> CellCore<T, W, N> {
 
     /// Returns the core. Ensures what holds of every core.
     pub fn into_core(self) -> Core<T, W>
-        ensures { IsSound W.will_wake result }
+        ensures sound { IsSound W.will_wake result }
+        ensures rule { IfSome (content result.cell) N.holds }
     {
         let CellCore { inner, past: _ } = self;
         inner.soundness();
@@ -97,7 +100,7 @@ impl<T: Drop, W: Wakes, N: Naming<T, W>> CellCore<T, W, N> {
         ensures author { witness.new.author ≡ witness.old.author }
         ensures begun { self.new.past.begun.start ≡ start_of N.named }
         ensures stays { self.new.inner ≡ self.old.inner }
-        ensures led { Leads W.will_wake W.SURE_CLONE self.new.past self.new.inner }
+        ensures led { Leads W.will_wake W.SURE_CLONE N.holds self.new.past self.new.inner }
     {
         witness.take_hand(&mut self.past);
     }
@@ -148,9 +151,12 @@ impl<T: Drop, W: Wakes, N: Naming<T, W>> CellCore<T, W, N> {
     }
 
     #[inline(always)]
+    #[tactic(auto, using(crate::proofs::Found::cloned_ones))]
     pub(crate) fn try_get(&self) -> Held<Result<Option<T>, Refusal>>
     where
         T: Clone,
+        ensures rule { IfOk result.answer (λ found.
+            IfSome found (IsCloneOfOne T.is_clone N.holds)) }
         ensures if_infallible { ((value : T) → T.is_infallible value) → IsOk result.answer }
         ensures refused { FailsWithMemory result.answer }
     {
@@ -162,6 +168,7 @@ impl<T: Drop, W: Wakes, N: Naming<T, W>> CellCore<T, W, N> {
         requires { F.IsAlwaysCallable look }
         ensures called { IfOk result.answer (λ answer. IsSomeAnd (content self.now.inner.cell)
             (λ seen. FnOnceReturnsAt F.FnOnce look seen answer)) }
+        ensures rule { IfSome (content self.now.inner.cell) N.holds }
     {
         Held::of(self.inner.peek(look))
     }
@@ -180,6 +187,7 @@ impl<T: Drop, W: Wakes, N: Naming<T, W>> CellCore<T, W, N> {
     #[inline(always)]
     pub(crate) fn overwrite(&mut self, value: T) -> Held<Result<T, T>>
         requires may { N.may (Kept.Replace value) }
+        ensures rule { IfOk result.answer N.holds }
         ensures comes_back { IfErr result.answer (λ back. back ≡ value) }
     {
         let asked = Asked::of(&self.inner, &value);
@@ -208,6 +216,7 @@ impl<T: Drop, W: Wakes, N: Naming<T, W>> CellCore<T, W, N> {
     #[inline(always)]
     pub(crate) fn put_quiet(&mut self, value: T) -> Result<(), Held<T>>
         requires may { N.may (Kept.Replace value) }
+        ensures comes_back { IfErr result (λ back. back.answer ≡ value) }
     {
         let asked = Asked::of(&self.inner, &value);
         match self.inner.put_quiet(value) {
@@ -222,6 +231,7 @@ impl<T: Drop, W: Wakes, N: Naming<T, W>> CellCore<T, W, N> {
     #[inline(always)]
     pub(crate) fn replace(&mut self, value: T) -> Held<Result<Option<T>, T>, Option<Wakers<W>>>
         requires may { N.may (Kept.Replace value) }
+        ensures rule { IfOk result.answer (λ old. IfSome old N.holds) }
         ensures comes_back { IfErr result.answer (λ back. back ≡ value) }
         ensures made { Made W.will_wake W.SURE_CLONE self.old
             (Kept.Replace value) (write_reply result.answer) self.new }
@@ -271,7 +281,8 @@ impl<T: Drop, W: Wakes, N: Naming<T, W>> CellCore<T, W, N> {
     where
         F: FnOnce(Option<T>) -> Option<T> + Drop,
         requires callable { F.IsAlwaysCallable change }
-        requires may { (saw put : Option T) → F.post change saw put → N.may (Kept.Update saw put) }
+        requires may { (saw put : Option T) → IfSome saw N.holds → F.post change saw put
+            → N.may (Kept.Update saw put) }
         requires may_fail { N.may (Kept.Update None None) }
         ensures called { OnOk result.answer
             (F.post change (content self.old.inner.cell) (content self.new.inner.cell)) }
@@ -295,7 +306,7 @@ impl<T: Drop, W: Wakes, N: Naming<T, W>> CellCore<T, W, N> {
     where
         F: FnOnce(T) -> T + Drop,
         requires callable { F.IsAlwaysCallable change }
-        requires may { (old new : T) → F.post change old new
+        requires may { (old new : T) → N.holds old → F.post change old new
             → N.may (Kept.UpdateSome (Some old) (Some new)) }
         requires may_fail { N.may (Kept.UpdateSome None None) }
         ensures called { IfSome (content self.old.inner.cell) (λ old.
@@ -328,6 +339,7 @@ impl<T: Drop, W: Wakes, N: Naming<T, W>> CellCore<T, W, N> {
     #[inline(always)]
     pub(crate) fn try_take(&mut self) -> Held<Option<T>>
         requires may { N.may Kept.TryTake }
+        ensures rule { IfSome result.answer N.holds }
         ensures made { Made W.will_wake W.SURE_CLONE self.old
             Kept.TryTake (Reply.Value result.answer) self.new }
     {
@@ -339,10 +351,13 @@ impl<T: Drop, W: Wakes, N: Naming<T, W>> CellCore<T, W, N> {
 
     /// `try_get`, which is entered.
     #[inline(always)]
+    #[tactic(auto, using(crate::proofs::Found::cloned_ones))]
     pub(crate) fn get(&mut self) -> Held<Result<Option<T>, Refusal>>
     where
         T: Clone,
         ensures clones { IfOk result.answer (IsCloneOf T.is_clone (content self.old.inner.cell)) }
+        ensures rule { IfOk result.answer (λ found.
+            IfSome found (IsCloneOfOne T.is_clone N.holds)) }
         ensures refused { FailsWithMemory result.answer }
         ensures made { Made W.will_wake W.SURE_CLONE self.old Kept.TryGet
             (get_reply (content self.old.inner.cell) result.answer) self.new }
@@ -480,6 +495,7 @@ impl<T: Drop, W: Wakes, N: Naming<T, W>> CellCore<T, W, N> {
     #[inline(always)]
     pub(crate) fn take_inner(&mut self) -> Held<Result<Option<T>, Refusal>, Option<Wakers<W>>>
         requires may { N.may Kept.TakeInner }
+        ensures rule { IfOk result.answer (λ content. IfSome content N.holds) }
         ensures refused { IfErr result.answer (λ why.
             (why ≡ Refusal.Closed) ⊎ (why ≡ Refusal.StillShared)) }
         ensures made { Made W.will_wake W.SURE_CLONE self.old
@@ -492,10 +508,16 @@ impl<T: Drop, W: Wakes, N: Naming<T, W>> CellCore<T, W, N> {
     }
 }
 
-impl<T: Drop, W: Wakes> Writes<T> for CellCore<T, W> {
+impl<T: Drop, W: Wakes, N: Naming<T, W>> Writes<T> for CellCore<T, W, N> {
+    ghost use Rattle.async_cell_model.specs.declared.entry.Kept.TheVariants.{Replace};
+
     type Old = Option<T>;
 
     type Waker = W;
+
+    ghost may = { λ value. N.may (Replace value) };
+
+    ghost gives = { λ old. IfSome old N.holds };
 
     #[inline(always)]
     fn write(&mut self, value: T) -> Held<Result<Option<T>, T>, Option<Wakers<W>>> {

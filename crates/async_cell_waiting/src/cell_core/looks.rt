@@ -1,17 +1,19 @@
 //! The calls that change nothing.
-ghost use Rattle.std.specs.Prelude.{IsOk, IsSome, IsTrue, IfSome};
+ghost use Rattle.std.specs.Prelude.{IfOk, IsOk, IsSome, IsTrue, IfSome};
 ghost use Rattle.std.specs.Fn.{FnOnceReturnsAt};
 ghost use Rattle.async_cell_model.specs.Machine.{IsSound};
 ghost use Rattle.async_cell_model.specs.Refusal.{FailsWithMemory};
+ghost use Rattle.async_cell_waiting.specs.Told.{IsCloneOfOne};
 
 use super::CellCore;
 use crate::ended::{Held, end};
 use crate::store::{Opens, Step, StoredCore, Stores};
+use crate::told::Naming;
 use async_cell_core::{Refusal, Wakes};
 use std::alloc::Global;
 use std::fmt;
 
-impl<M: Stores<Core = CellCore<T, W>>, T: Drop, W: Wakes> StoredCore<M> {
+impl<M: Stores<Core = CellCore<T, W, N>>, T: Drop, W: Wakes, N: Naming<T, W>> StoredCore<M> {
     /// Lends the core for a look, which `end` of `async_cell_waiting` ends. Ensures what holds of
     /// the core whenever it is lent, whatever other steps did: its state is sound.
     #[inline(always)]
@@ -28,6 +30,7 @@ impl<M: Stores<Core = CellCore<T, W>>, T: Drop, W: Wakes> StoredCore<M> {
     pub fn try_get<'a, R: Opens<'a, M>>(&'a self, rt: &R) -> Result<Option<T>, Refusal>
     where
         T: Clone,
+        ensures rule { IfOk result (λ found. IfSome found (IsCloneOfOne T.is_clone N.holds)) }
         ensures if_infallible { ((value : T) → T.is_infallible value) → IsOk result }
         ensures refused { FailsWithMemory result }
     {
@@ -46,7 +49,7 @@ impl<M: Stores<Core = CellCore<T, W>>, T: Drop, W: Wakes> StoredCore<M> {
         F: FnOnce(&T) -> A + Drop,
         requires { F.IsAlwaysCallable look }
         ensures called { IfSome result (λ answer. (seen : T)
-            × FnOnceReturnsAt F.FnOnce look seen answer) }
+            × N.holds seen × FnOnceReturnsAt F.FnOnce look seen answer) }
     {
         let step = self.look(rt)?;
         let looked = step.shown().peek(look);

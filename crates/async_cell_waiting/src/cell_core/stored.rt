@@ -1,22 +1,27 @@
 //! The calls of a cell, over any store: each makes its change in one step.
-ghost use Rattle.std.specs.Prelude.{◌≡◌, ◌⊎◌, [], Option, Some, IfErr, OnOk};
-ghost use Rattle.async_cell_model.specs.Machine.{IsSound};
+ghost use Rattle.std.specs.Prelude.{◌≡◌, ◌⊎◌, [], Option, Some, None, IfErr, IfOk, IfSome, OnOk};
+ghost use Rattle.async_cell_model.specs.Machine.{content, IsSound};
 ghost use Rattle.async_cell_model.specs.Refusal.{FailsWithClosed, FailsWithMemory};
 
 use super::CellCore;
 use crate::ended::{Held, end, end_and_wake, end_and_wake_one, put_held, write_held};
 use crate::store::{Opens, Step, StoredCore, Stores, opened};
-use crate::told::{Naming, Opened, Witness};
+use crate::told::{Blank, Naming, Opened, Witness};
 use async_cell_core::{Core, Poll, Refusal, Wakes};
+use async_cell_model::Kept;
 
 impl<M: Stores<Core = CellCore<T, W>>, T: Drop, W: Wakes> StoredCore<M> {
     /// Stores the core, whatever its state.
     pub fn new(core: Core<T, W>) -> Self {
         StoredCore::of(CellCore::of(core))
     }
+}
 
+impl<M: Stores<Core = CellCore<T, W, N>>, T: Drop, W: Wakes, N: Naming<T, W>> StoredCore<M> {
     /// Returns the content, whatever the number of owners. Wakes all waiters. Takes no lock.
-    pub fn into_inner(self) -> Option<T> {
+    pub fn into_inner(self) -> Option<T>
+        ensures rule { IfSome result N.holds }
+    {
         let (content, woken) = self.into_core().into_inner();
         woken.wake_all();
         content
@@ -24,6 +29,7 @@ impl<M: Stores<Core = CellCore<T, W>>, T: Drop, W: Wakes> StoredCore<M> {
 
     /// Sets the value, drops the old one and wakes all waiters. A closed cell gives the value back.
     pub fn set<'a, R: Opens<'a, M>>(&'a self, value: T, rt: &R) -> Result<(), T>
+        requires may { N.may (Kept.Replace value) }
         ensures comes_back { IfErr result (λ back. back ≡ value) }
     {
         let old = self.replace(value, rt)?;
@@ -33,7 +39,9 @@ impl<M: Stores<Core = CellCore<T, W>>, T: Drop, W: Wakes> StoredCore<M> {
 
     /// `set`, where nobody reads what comes back: a closed cell drops the value.
     #[inline]
-    pub fn put<'a, R: Opens<'a, M>>(&'a self, value: T, rt: &R) {
+    pub fn put<'a, R: Opens<'a, M>>(&'a self, value: T, rt: &R)
+        requires may { N.may (Kept.Replace value) }
+    {
         let mut step = opened!(rt, self, else return);
         if step.shown().is_set() {
             let old = step.lend().overwrite(value); // Nobody waits on a full cell.
@@ -49,6 +57,8 @@ impl<M: Stores<Core = CellCore<T, W>>, T: Drop, W: Wakes> StoredCore<M> {
     /// Sets the value, wakes all waiters, returns the old one. A closed cell gives the value back.
     #[inline]
     pub fn replace<'a, R: Opens<'a, M>>(&'a self, value: T, rt: &R) -> Result<Option<T>, T>
+        requires may { N.may (Kept.Replace value) }
+        ensures rule { IfOk result (λ old. IfSome old N.holds) }
         ensures comes_back { IfErr result (λ back. back ≡ value) }
     {
         let mut step = opened!(rt, self, else return Err(value));
@@ -68,6 +78,7 @@ impl<M: Stores<Core = CellCore<T, W>>, T: Drop, W: Wakes> StoredCore<M> {
     /// Sets the value and wakes all waiters, if the cell holds no value. Drops `value` otherwise.
     /// Fails on a closed cell; the value is returned in the error.
     pub fn or_set<'a, R: Opens<'a, M>>(&'a self, value: T, rt: &R) -> Result<(), T>
+        requires may { N.may (Kept.OrSet value) }
         ensures comes_back { IfErr result (λ back. back ≡ value) }
     {
         let Some(mut step) = rt.open(self) else {
@@ -81,6 +92,7 @@ impl<M: Stores<Core = CellCore<T, W>>, T: Drop, W: Wakes> StoredCore<M> {
 
     /// `or_set`, which returns an unused `value` in the error, also on a closed cell.
     pub fn try_set<'a, R: Opens<'a, M>>(&'a self, value: T, rt: &R) -> Result<(), T>
+        requires may { N.may (Kept.OrSet value) }
         ensures comes_back { IfErr result (λ back. back ≡ value) }
     {
         let Some(mut step) = rt.open(self) else {
@@ -97,7 +109,10 @@ impl<M: Stores<Core = CellCore<T, W>>, T: Drop, W: Wakes> StoredCore<M> {
     pub fn update<'a, F, R: Opens<'a, M>>(&'a self, change: F, rt: &R) -> Result<(), Refusal>
     where
         F: FnOnce(Option<T>) -> Option<T> + Drop,
-        requires { F.IsAlwaysCallable change }
+        requires callable { F.IsAlwaysCallable change }
+        requires may { (saw put : Option T) → IfSome saw N.holds → F.post change saw put
+            → N.may (Kept.Update saw put) }
+        requires may_fail { N.may (Kept.Update None None) }
         ensures called { OnOk result ((saw put : Option T) × F.post change saw put) }
         ensures refused { FailsWithClosed result }
     {
@@ -116,7 +131,10 @@ impl<M: Stores<Core = CellCore<T, W>>, T: Drop, W: Wakes> StoredCore<M> {
     pub fn update_some<'a, F, R: Opens<'a, M>>(&'a self, change: F, rt: &R) -> Result<(), Refusal>
     where
         F: FnOnce(T) -> T + Drop,
-        requires { F.IsAlwaysCallable change }
+        requires callable { F.IsAlwaysCallable change }
+        requires may { (old new : T) → N.holds old → F.post change old new
+            → N.may (Kept.UpdateSome (Some old) (Some new)) }
+        requires may_fail { N.may (Kept.UpdateSome None None) }
         ensures refused { FailsWithClosed result }
     {
         let mut step = rt.open(self).ok_or(Refusal::Closed)?;
@@ -134,7 +152,9 @@ impl<M: Stores<Core = CellCore<T, W>>, T: Drop, W: Wakes> StoredCore<M> {
 
     /// `put`, of a value that was taken out of the cell.
     #[doc(hidden)]
-    pub fn put_back<'a, R: Opens<'a, M>>(&'a self, value: T, rt: &R) {
+    pub fn put_back<'a, R: Opens<'a, M>>(&'a self, value: T, rt: &R)
+        requires may { N.may (Kept.Replace value) }
+    {
         let mut step = opened!(rt, self, else return);
         match step.lend().put_quiet(value) {
             Ok(()) => end(step, Held::of(())),
@@ -144,7 +164,10 @@ impl<M: Stores<Core = CellCore<T, W>>, T: Drop, W: Wakes> StoredCore<M> {
 
     /// Takes the value, if there is one. The waiters stay registered.
     #[inline]
-    pub fn try_take<'a, R: Opens<'a, M>>(&'a self, rt: &R) -> Option<T> {
+    pub fn try_take<'a, R: Opens<'a, M>>(&'a self, rt: &R) -> Option<T>
+        requires may { N.may Kept.TryTake }
+        ensures rule { IfSome result N.holds }
+    {
         let mut step = opened!(rt, self, else return None);
         let taken = step.lend().try_take();
         end(step, taken)
@@ -152,7 +175,10 @@ impl<M: Stores<Core = CellCore<T, W>>, T: Drop, W: Wakes> StoredCore<M> {
 
     /// Takes the content out; `None` if the cell is closed.
     #[doc(hidden)]
-    pub fn take_out<'a, R: Opens<'a, M>>(&'a self, rt: &R) -> Option<Option<T>> {
+    pub fn take_out<'a, R: Opens<'a, M>>(&'a self, rt: &R) -> Option<Option<T>>
+        requires may { N.may Kept.TryTake }
+        ensures rule { IfSome result (λ content. IfSome content N.holds) }
+    {
         let mut step = rt.open(self)?;
         if step.shown().is_closed() {
             return end(step, Held::of(None));
@@ -168,6 +194,7 @@ impl<M: Stores<Core = CellCore<T, W>>, T: Drop, W: Wakes> StoredCore<M> {
         waker: &W,
         rt: &R,
     ) -> Result<Poll<Option<T>>, Refusal>
+        requires may { N.may (Kept.PollTake waker.now) }
         ensures refused { FailsWithMemory result }
     {
         let mut step = rt.open(self).ok_or(Refusal::Memory)?;
@@ -202,7 +229,9 @@ impl<M: Stores<Core = CellCore<T, W>>, T: Drop, W: Wakes> StoredCore<M> {
 
     /// Ends a guard: `cancel` is `None` if it was released.
     #[doc(hidden)]
-    pub fn end_guard<'a, R: Opens<'a, M>>(&'a self, cancel: Option<T>, rt: &R) {
+    pub fn end_guard<'a, R: Opens<'a, M>>(&'a self, cancel: Option<T>, rt: &R)
+        requires may { IfSome cancel (λ value. N.may (Kept.OrSet value)) }
+    {
         if let Some(mut step) = rt.open(self) {
             let ended = step.lend().end_guard(cancel);
             drop(end_and_wake(step, ended));
@@ -212,6 +241,8 @@ impl<M: Stores<Core = CellCore<T, W>>, T: Drop, W: Wakes> StoredCore<M> {
     /// Closes the cell, wakes all waiters and returns the value, if there is one owner. Fails with
     /// `Closed` on a closed cell, and with `StillShared` if there are other owners.
     pub fn take_inner<'a, R: Opens<'a, M>>(&'a self, rt: &R) -> Result<Option<T>, Refusal>
+        requires may { N.may Kept.TakeInner }
+        ensures rule { IfOk result (λ content. IfSome content N.holds) }
         ensures refused { IfErr result (λ why.
             (why ≡ Refusal.Closed) ⊎ (why ≡ Refusal.StillShared)) }
     {
@@ -219,14 +250,36 @@ impl<M: Stores<Core = CellCore<T, W>>, T: Drop, W: Wakes> StoredCore<M> {
         let closed = step.lend().take_inner();
         end_and_wake(step, closed)
     }
-}
 
-impl<M: Stores<Core = CellCore<T, W, N>>, T: Drop, W: Wakes, N: Naming<T, W>> StoredCore<M> {
+    /// Stores the core of a cell without a name.
+    #[doc(hidden)]
+    pub fn nameless(core: Core<T, W>) -> Self
+        requires nameless { N.named ≡ None }
+        requires rule { IfSome (content core.cell) N.holds }
+    {
+        StoredCore::of(CellCore::of(core))
+    }
+
+    /// Stores the core of a blank, and makes the first witness of its history.
+    #[doc(hidden)]
+    pub fn of_blank(blank: Blank<T, W>) -> (Self, Witness<T, W, N>)
+        requires named { N.named ≡ Some blank }
+        requires rule { IfSome (content blank.start.cell) N.holds }
+        ensures new { result.1.calls ≡ [] }
+        ensures nobody { result.1.author ≡ 0 }
+    {
+        let (core, opened) = blank.into_parts();
+        let core = CellCore::begin(core, opened);
+        let witness = core.witness();
+        (StoredCore::of(core), witness)
+    }
+
     /// Stores the core, which begins its history, and makes the first witness of it.
     #[doc(hidden)]
     pub fn named(core: Core<T, W>, opened: Opened<T, W>) -> (Self, Witness<T, W, N>)
         requires named { N.named ≡ Some opened }
         requires begins { opened.start ≡ core }
+        requires rule { IfSome (content core.cell) N.holds }
         ensures new { result.1.calls ≡ [] }
     {
         let core = CellCore::begin(core, opened);
@@ -237,7 +290,8 @@ impl<M: Stores<Core = CellCore<T, W, N>>, T: Drop, W: Wakes, N: Naming<T, W>> St
     /// Returns the core. Waits for no step.
     #[doc(hidden)]
     pub fn into_core(self) -> Core<T, W>
-        ensures { IsSound W.will_wake result }
+        ensures sound { IsSound W.will_wake result }
+        ensures rule { IfSome (content result.cell) N.holds }
     {
         self.into_stored().into_core()
     }

@@ -13,30 +13,40 @@ pub struct Taking;
 #[derive(Clone, Copy, Drop)]
 pub struct Cloning;
 
-impl<T: Drop> Query<CellCore<T, TaskWaker>> for Taking {
+impl<T: Drop, N: Naming<T, TaskWaker>> Query<CellCore<T, TaskWaker, N>> for Taking {
+    ghost use Rattle.async_cell_model.specs.declared.entry.Kept.TheVariants.{TryTake};
+
     type Answer = T;
 
+    ghost asks = { λ _. N.may TryTake };
+
+    ghost gives = { λ _ value. N.holds value };
+
     #[inline(always)]
-    fn must_wait(&self, core: &CellCore<T, TaskWaker>) -> bool {
+    fn must_wait(&self, core: &CellCore<T, TaskWaker, N>) -> bool {
         core.is_vacant()
     }
 
     #[inline(always)]
-    fn answer(self, core: &mut CellCore<T, TaskWaker>) -> Held<Result<T, Refusal>> {
+    fn answer(self, core: &mut CellCore<T, TaskWaker, N>) -> Held<Result<T, Refusal>> {
         core.try_take().or_closed()
     }
 }
 
-impl<T: Clone> Query<CellCore<T, TaskWaker>> for Cloning {
+impl<T: Clone, N: Naming<T, TaskWaker>> Query<CellCore<T, TaskWaker, N>> for Cloning {
+    ghost use Rattle.async_cell_waiting.specs.Told.{IsCloneOfOne};
+
     type Answer = T;
 
+    ghost gives = { λ _ value. IsCloneOfOne T.is_clone N.holds value };
+
     #[inline(always)]
-    fn must_wait(&self, core: &CellCore<T, TaskWaker>) -> bool {
+    fn must_wait(&self, core: &CellCore<T, TaskWaker, N>) -> bool {
         Taking.must_wait(core)
     }
 
     #[inline(always)]
-    fn answer(self, core: &mut CellCore<T, TaskWaker>) -> Held<Result<T, Refusal>> {
+    fn answer(self, core: &mut CellCore<T, TaskWaker, N>) -> Held<Result<T, Refusal>> {
         core.try_get().or_closed()
     }
 }

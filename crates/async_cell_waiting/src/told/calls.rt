@@ -139,7 +139,8 @@ impl<T: Drop, W: Wakes, N: Naming<T, W>> Witness<T, W, N> {
     where
         F: FnOnce(Option<T>) -> Option<T> + Drop,
         requires callable { F.IsAlwaysCallable change }
-        requires may { (saw put : Option T) → F.post change saw put → N.may (Kept.Update saw put) }
+        requires may { (saw put : Option T) → IfSome saw N.holds → F.post change saw put
+            → N.may (Kept.Update saw put) }
         requires may_fail { N.may (Kept.Update None None) }
         ensures told { IsTrue R.always → OnOk result ((saw put : Option T)
             × IsTold W.Wakes N.named self.old.calls (Kept.Update saw put)
@@ -174,7 +175,7 @@ impl<T: Drop, W: Wakes, N: Naming<T, W>> Witness<T, W, N> {
     where
         F: FnOnce(T) -> T + Drop,
         requires callable { F.IsAlwaysCallable change }
-        requires may { (old new : T) → F.post change old new
+        requires may { (old new : T) → N.holds old → F.post change old new
             → N.may (Kept.UpdateSome (Some old) (Some new)) }
         requires may_fail { N.may (Kept.UpdateSome None None) }
         ensures told { IsTrue R.always → OnOk result ((saw put : Option T)

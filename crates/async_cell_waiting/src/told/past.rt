@@ -138,13 +138,13 @@ impl<C, T, W: Wakes> Asked<C, T, W> {
         returned: &A,
         to: &Core<T, W>,
     )
-        requires led { Leads W.will_wake W.SURE_CLONE past.old self.now.from.value }
+        requires led { Leads W.will_wake W.SURE_CLONE N.holds past.old self.now.from.value }
         requires step { IsStep W.Wakes self.now.from.value
             (M.call self.now.from.value self.now.passed.value to.now)
             (M.answer self.now.from.value returned.now) to.now }
         requires allowed { IsAllowed N.may
             (M.call self.now.from.value self.now.passed.value to.now) }
-        ensures leads { Leads W.will_wake W.SURE_CLONE past.new to.now }
+        ensures leads { Leads W.will_wake W.SURE_CLONE N.holds past.new to.now }
         ensures begun { past.new.begun ≡ past.old.begun }
         ensures entered { past.new.calls ≡ past.old.calls ++ entry_of
             (M.call self.now.from.value self.now.passed.value to.now)
@@ -169,7 +169,7 @@ impl<C, T, W: Wakes> Asked<C, T, W> {
         stored: &Result<Option<W>, W>,
         to: &Core<T, W>,
     )
-        requires led { Leads W.will_wake W.SURE_CLONE past.old self.now.from.value }
+        requires led { Leads W.will_wake W.SURE_CLONE N.holds past.old self.now.from.value }
         requires step { IfOk stored.now (λ before. MatchOption before
             (IsStep W.Wakes self.now.from.value
             (M.call self.now.from.value self.now.passed.value to.now)
@@ -178,7 +178,7 @@ impl<C, T, W: Wakes> Asked<C, T, W> {
         requires allowed { IsAllowed N.may
             (M.call self.now.from.value self.now.passed.value to.now) }
         requires unchanged { OnErr stored.now (to.now ≡ self.now.from.value) }
-        ensures leads { Leads W.will_wake W.SURE_CLONE past.new to.now }
+        ensures leads { Leads W.will_wake W.SURE_CLONE N.holds past.new to.now }
         ensures stands { IfOk stored.now (λ before. IfSome before (λ _. past.new ≡ past.old)) }
         ensures unchanged { OnErr stored.now (past.new ≡ past.old) }
     {

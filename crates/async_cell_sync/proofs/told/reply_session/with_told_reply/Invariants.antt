@@ -4,4 +4,4 @@ use Rattle.async_cell_sync.proofs.told.reply_session.with_told_reply.Given as go
 
 -- the cell is that of this core, and the values put in are those of the session
 abbrev pub ghosts-reply_named : goal.ghosts-reply_named
-ghosts-reply_named g a = record { named = Some a.opened; may = Puts (g.S.ReplySession.sets a.session.now) }
+ghosts-reply_named g a = record { named = Some a.opened; may = Puts (g.S.ReplySession.sets a.session.now); holds = g.S.ReplySession.sets a.session.now; keeps = λ _ may. may }

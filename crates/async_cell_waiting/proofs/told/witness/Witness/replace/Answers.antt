@@ -5,4 +5,4 @@ use Rattle.async_cell_waiting.proofs.told.witness.Witness.replace.Goals as goal
 
 pub returns-clause-told : goal.returns-clause-told
 returns-clause-told g c always =
-    told_held _ g.N.Naming.named c.hand_to.new.self c.replace-written.new.self c.args.self.now.calls c.tell.new.witness.calls (Replace c.args.value) write_reply c.replace-written.result.answer c.end_and_wake.result c.hand_to.ensures.led c.replace-written.ensures.made c.hand_to.ensures.begun c.hand_to.ensures.goes_on c.tell.ensures.whole c.end_and_wake.ensures.answers
+    told_held _ g.N.Naming.named c.hand_to.new.self c.replace-written.new.self c.args.self.now.calls c.tell.new.witness.calls (Replace c.args.value) write_reply c.replace-written.result.answer c.end_and_wake.result c.hand_to.ensures.led.0 c.replace-written.ensures.made c.hand_to.ensures.begun c.hand_to.ensures.goes_on c.tell.ensures.whole c.end_and_wake.ensures.answers

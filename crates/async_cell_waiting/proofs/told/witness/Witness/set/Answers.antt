@@ -6,8 +6,8 @@ use Rattle.async_cell_waiting.proofs.told.witness.Witness.set.Goals as goal
 
 pub returns-in-Ok-clause-told : goal.returns-in-Ok-clause-told
 returns-in-Ok-clause-told g c always =
-    told_held _ g.N.Naming.named c.hand_to.new.self c.set-written.new.self c.args.self.now.calls c.tell.new.witness.calls (Set c.args.value) set_reply c.set-written.result.answer (Ok c.in-Ok.old) c.hand_to.ensures.led c.set-written.ensures.made c.hand_to.ensures.begun c.hand_to.ensures.goes_on c.tell.ensures.whole (sym c.in-Ok.is ∙ c.end_and_wake.ensures.answers)
+    told_held _ g.N.Naming.named c.hand_to.new.self c.set-written.new.self c.args.self.now.calls c.tell.new.witness.calls (Set c.args.value) set_reply c.set-written.result.answer (Ok c.in-Ok.old) c.hand_to.ensures.led.0 c.set-written.ensures.made c.hand_to.ensures.begun c.hand_to.ensures.goes_on c.tell.ensures.whole (sym c.in-Ok.is ∙ c.end_and_wake.ensures.answers)
 
 pub returns-in-Err-clause-told : goal.returns-in-Err-clause-told
 returns-in-Err-clause-told g c always =
-    told_held _ g.N.Naming.named c.hand_to.new.self c.set-written.new.self c.args.self.now.calls c.tell.new.witness.calls (Set c.args.value) set_reply c.set-written.result.answer (Err c.in-Err.value) c.hand_to.ensures.led c.set-written.ensures.made c.hand_to.ensures.begun c.hand_to.ensures.goes_on c.tell.ensures.whole (sym c.in-Err.is ∙ c.end_and_wake.ensures.answers)
+    told_held _ g.N.Naming.named c.hand_to.new.self c.set-written.new.self c.args.self.now.calls c.tell.new.witness.calls (Set c.args.value) set_reply c.set-written.result.answer (Err c.in-Err.value) c.hand_to.ensures.led.0 c.set-written.ensures.made c.hand_to.ensures.begun c.hand_to.ensures.goes_on c.tell.ensures.whole (sym c.in-Err.is ∙ c.end_and_wake.ensures.answers)
