@@ -23,11 +23,17 @@ struct Far<'a>(&'a sync::AsyncCell<u32>);
 impl sync::CellRef for Far<'_> {
     type Value = u32;
 
+    type Name = sync::Unnamed;
+
     fn cell(&self) -> &sync::AsyncCell<u32> {
         self.0
     }
 
     fn leave<R: Wait>(self, _: &R) {}
+}
+
+impl sync::TakeRef for Far<'_> {
+    ghost takes = { λ _ _. tt };
 }
 
 /// Futures over a pointer of one thread, and over one to that.

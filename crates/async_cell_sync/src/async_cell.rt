@@ -9,7 +9,8 @@ use crate::locked_core::LockedCore;
 use crate::shared::Shared;
 use crate::take::Take;
 use async_cell_core::{Core, Place, Refusal, TaskWaker};
-use async_cell_waiting::{Naming, Places, Unnamed};
+use async_cell_model::Kept;
+use async_cell_waiting::{Naming, Places, Rule, Ruled, Unnamed};
 use futures::task::Source;
 use std::alloc::Global;
 use std::sync::Wait;
@@ -50,20 +51,6 @@ impl<T: Drop, N: Naming<T, TaskWaker>> Drop for AsyncCell<T, N> {
     }
 }
 
-impl<T: Drop, N: Naming<T, TaskWaker>> AsyncCell<T, N> {
-    /// Wraps a core in a cell without a name.
-    pub(crate) fn of(alloc: Global, core: Core<T, TaskWaker>) -> Self
-        requires nameless { N.named ≡ None }
-        requires rule { IfSome (content core.cell) N.holds }
-    {
-        AsyncCell {
-            core: LockedCore::nameless(core),
-            source: Source::new(),
-            alloc,
-        }
-    }
-}
-
 impl<T: Drop> AsyncCell<T> {
     /// Makes a cell without a value. Takes no memory. Stores the allocator for all later growth.
     pub fn new(alloc: Global) -> Self {
@@ -81,9 +68,37 @@ impl<T: Drop> AsyncCell<T> {
     {
         Shared::shared(alloc)
     }
+}
+
+impl<T: Drop, P: Rule<T>> AsyncCell<T, Ruled<P>> {
+    /// Makes a cell without a value, whose values keep the rule `P`. Otherwise it is `new`.
+    pub fn ruled(alloc: Global) -> Self {
+        AsyncCell::of(alloc, Core::new(alloc))
+    }
+
+    /// Makes a cell that holds a value, whose values keep the rule `P`. Otherwise it is `new_with`.
+    pub fn ruled_with(alloc: Global, value: T) -> Self
+        requires rule { P.holds value }
+    {
+        AsyncCell::of(alloc, Core::new_with(alloc, value))
+    }
+}
+
+impl<T: Drop, N: Naming<T, TaskWaker>> AsyncCell<T, N> {
+    /// Wraps a core in a cell without a name.
+    pub(crate) fn of(alloc: Global, core: Core<T, TaskWaker>) -> Self
+        requires nameless { N.named ≡ None }
+        requires rule { IfSome (content core.cell) N.holds }
+    {
+        AsyncCell {
+            core: LockedCore::nameless(core),
+            source: Source::new(),
+            alloc,
+        }
+    }
 
     /// Makes the first counted owner of this cell. Fails with `Memory`, and then returns the cell.
-    pub fn into_shared(self) -> Result<Shared<T>, (Refusal, AsyncCell<T>)>
+    pub fn into_shared(self) -> Result<Shared<T, N>, (Refusal, Self)>
         ensures owns { IfOk result (λ owner. cell_of owner ≡ self) }
         ensures comes_back { IfErr result (λ back. back ≡ (Refusal.Memory, self)) }
     {
@@ -91,7 +106,7 @@ impl<T: Drop> AsyncCell<T> {
     }
 
     /// As `into_shared`, but drops the cell if there is no memory, so that `?` serves.
-    pub fn into_shared_or_drop(self) -> Result<Shared<T>, Refusal>
+    pub fn into_shared_or_drop(self) -> Result<Shared<T, N>, Refusal>
         ensures owns { IfOk result (λ owner. cell_of owner ≡ self) }
         ensures refused { FailsWithMemory result }
     {
@@ -105,7 +120,9 @@ impl<T: Drop> AsyncCell<T> {
     }
 
     /// Returns the content. Wakes all waiters. Does not take the lock.
-    pub fn into_inner(self) -> Option<T> {
+    pub fn into_inner(self) -> Option<T>
+        ensures rule { IfSome result N.holds }
+    {
         let AsyncCell {
             core,
             source: _,
@@ -132,6 +149,7 @@ impl<T: Drop> AsyncCell<T> {
 
     /// Returns a guard, to be consumed: `cancel` sets this value, unless the cell then holds one.
     pub fn guard(&self, cancel: T) -> GuardedCell<T, &Self>
+        requires may { N.may (Kept.OrSet cancel) }
         ensures of_this { result.pointer.now ≡ self.now }
         ensures keeps { result.cancel ≡ cancel }
     {
@@ -149,7 +167,7 @@ impl AsyncCell<()> {
     }
 }
 
-impl<T: Drop, R: Wait> Places<R> for AsyncCell<T> {
+impl<T: Drop, N: Naming<T, TaskWaker>, R: Wait> Places<R> for AsyncCell<T, N> {
     #[inline(always)]
     fn vacate(&self, place: Place, rt: &R) {
         self.core.vacate(place, rt);

@@ -1,35 +1,46 @@
 //! The calls of a cell, and those of an owner, which are its cell's with the right that it keeps.
-ghost use Rattle.std.specs.Prelude.{◌≡◌, IsOk, IfErr, IfSome};
+ghost use Rattle.std.specs.Prelude.{◌≡◌, Option, Some, None, IsOk, IfErr, IfOk, IfSome};
 ghost use Rattle.std.specs.Fn.{FnOnceReturnsAt};
 ghost use Rattle.async_cell_model.specs.Refusal.{FailsWithMemory};
+ghost use Rattle.async_cell_waiting.specs.Told.{IsCloneOfOne};
 ghost use Rattle.async_cell_sync.specs.Owned.{cell_owned};
 
 use crate::async_cell::AsyncCell;
 use crate::owner::Owner;
-use async_cell_core::Refusal;
+use async_cell_core::{Refusal, TaskWaker};
+use async_cell_model::Kept;
+use async_cell_waiting::Naming;
 use std::fmt;
 use std::sync::Wait;
 
-impl<T: Drop> AsyncCell<T> {
+impl<T: Drop, N: Naming<T, TaskWaker>> AsyncCell<T, N> {
     /// Sets the value and drops the old one. Wakes all waiters.
-    pub fn set<R: Wait>(&self, value: T, rt: &R) {
+    pub fn set<R: Wait>(&self, value: T, rt: &R)
+        requires may { N.may (Kept.Replace value) }
+    {
         self.core.put(value, rt);
     }
 
     /// Sets the value and wakes all waiters, if the cell holds no value. Drops `value` otherwise.
-    pub fn or_set<R: Wait>(&self, value: T, rt: &R) {
+    pub fn or_set<R: Wait>(&self, value: T, rt: &R)
+        requires may { N.may (Kept.OrSet value) }
+    {
         let _ = self.core.or_set(value, rt);
     }
 
     /// `or_set`, which returns an unused `value` in the error, also on a closed cell.
     pub fn try_set<R: Wait>(&self, value: T, rt: &R) -> Result<(), T>
+        requires may { N.may (Kept.OrSet value) }
         ensures comes_back { IfErr result (λ back. back ≡ value) }
     {
         self.core.try_set(value, rt)
     }
 
     /// Sets the value and returns the old one. Wakes all waiters.
-    pub fn replace<R: Wait>(&self, value: T, rt: &R) -> Option<T> {
+    pub fn replace<R: Wait>(&self, value: T, rt: &R) -> Option<T>
+        requires may { N.may (Kept.Replace value) }
+        ensures rule { IfSome result N.holds }
+    {
         self.core.replace(value, rt).unwrap_or(None)
     }
 
@@ -37,7 +48,10 @@ impl<T: Drop> AsyncCell<T> {
     /// value. The closure runs under the lock, and what it owns is dropped there: one that calls
     /// its own cell, or owns an `Owner` of it, waits forever (see `AsyncCell`).
     pub fn update<F: FnOnce(Option<T>) -> Option<T> + Drop, R: Wait>(&self, change: F, rt: &R)
-        requires { F.IsAlwaysCallable change }
+        requires callable { F.IsAlwaysCallable change }
+        requires may { (saw put : Option T) → IfSome saw N.holds → F.post change saw put
+            → N.may (Kept.Update saw put) }
+        requires may_fail { N.may (Kept.Update None None) }
     {
         let _ = self.core.update(change, rt);
     }
@@ -45,13 +59,19 @@ impl<T: Drop> AsyncCell<T> {
     /// `update`, of a value: the closure is not called if there is none. It runs, and what it owns
     /// is dropped, under the lock (see `AsyncCell`).
     pub fn update_some<F: FnOnce(T) -> T + Drop, R: Wait>(&self, change: F, rt: &R)
-        requires { F.IsAlwaysCallable change }
+        requires callable { F.IsAlwaysCallable change }
+        requires may { (old new : T) → N.holds old → F.post change old new
+            → N.may (Kept.UpdateSome (Some old) (Some new)) }
+        requires may_fail { N.may (Kept.UpdateSome None None) }
     {
         let _ = self.core.update_some(change, rt);
     }
 
     /// Takes the value, if there is one. The waiters stay registered.
-    pub fn try_take<R: Wait>(&self, rt: &R) -> Option<T> {
+    pub fn try_take<R: Wait>(&self, rt: &R) -> Option<T>
+        requires may { N.may Kept.TryTake }
+        ensures rule { IfSome result N.holds }
+    {
         self.core.try_take(rt)
     }
 
@@ -59,6 +79,7 @@ impl<T: Drop> AsyncCell<T> {
     pub fn try_get<R: Wait>(&self, rt: &R) -> Result<Option<T>, Refusal>
     where
         T: Clone,
+        ensures rule { IfOk result (λ found. IfSome found (IsCloneOfOne T.is_clone N.holds)) }
         ensures if_infallible { ((value : T) → T.is_infallible value) → IsOk result }
         ensures refused { FailsWithMemory result }
     {
@@ -70,7 +91,7 @@ impl<T: Drop> AsyncCell<T> {
     pub fn peek<A, F: FnOnce(&T) -> A + Drop, R: Wait>(&self, look: F, rt: &R) -> Option<A>
         requires { F.IsAlwaysCallable look }
         ensures called { IfSome result (λ answer. (seen : T)
-            × FnOnceReturnsAt F.FnOnce look seen answer) }
+            × N.holds seen × FnOnceReturnsAt F.FnOnce look seen answer) }
     {
         self.core.peek(look, rt)
     }
@@ -112,7 +133,7 @@ impl AsyncCell<()> {
     }
 }
 
-impl<T: Drop, R: Wait + Drop> Owner<T, R> {
+impl<T: Drop, R: Wait + Drop, N: Naming<T, TaskWaker>> Owner<T, R, N> {
     /// Sets the value and drops the old one. Wakes all waiters.
     ///
     /// ```rust
@@ -120,24 +141,32 @@ impl<T: Drop, R: Wait + Drop> Owner<T, R> {
     /// cell.set(7);
     /// println!(rt; "{:?}", cell.try_take())?; // prints Some(7)
     /// ```
-    pub fn set(&self, value: T) {
+    pub fn set(&self, value: T)
+        requires may { N.may (Kept.Replace value) }
+    {
         self.shared.cell.core.put(value, &self.rt);
     }
 
     /// Sets the value and wakes all waiters, if the cell holds no value. Drops `value` otherwise.
-    pub fn or_set(&self, value: T) {
+    pub fn or_set(&self, value: T)
+        requires may { N.may (Kept.OrSet value) }
+    {
         self.shared.cell.or_set(value, &self.rt);
     }
 
     /// `or_set`, which returns an unused `value` in the error, also on a closed cell.
     pub fn try_set(&self, value: T) -> Result<(), T>
+        requires may { N.may (Kept.OrSet value) }
         ensures comes_back { IfErr result (λ back. back ≡ value) }
     {
         self.shared.cell.try_set(value, &self.rt)
     }
 
     /// Sets the value and returns the old one. Wakes all waiters.
-    pub fn replace(&self, value: T) -> Option<T> {
+    pub fn replace(&self, value: T) -> Option<T>
+        requires may { N.may (Kept.Replace value) }
+        ensures rule { IfSome result N.holds }
+    {
         self.shared.cell.replace(value, &self.rt)
     }
 
@@ -151,7 +180,10 @@ impl<T: Drop, R: Wait + Drop> Owner<T, R> {
     /// println!(rt; "{:?}", sum.try_take())?; // prints Some(7)
     /// ```
     pub fn update<F: FnOnce(Option<T>) -> Option<T> + Drop>(&self, change: F)
-        requires { F.IsAlwaysCallable change }
+        requires callable { F.IsAlwaysCallable change }
+        requires may { (saw put : Option T) → IfSome saw N.holds → F.post change saw put
+            → N.may (Kept.Update saw put) }
+        requires may_fail { N.may (Kept.Update None None) }
     {
         self.shared.cell.update(change, &self.rt);
     }
@@ -159,7 +191,10 @@ impl<T: Drop, R: Wait + Drop> Owner<T, R> {
     /// `update`, of a value: the closure is not called if there is none. It runs, and what it owns
     /// is dropped, under the lock (see `AsyncCell`).
     pub fn update_some<F: FnOnce(T) -> T + Drop>(&self, change: F)
-        requires { F.IsAlwaysCallable change }
+        requires callable { F.IsAlwaysCallable change }
+        requires may { (old new : T) → N.holds old → F.post change old new
+            → N.may (Kept.UpdateSome (Some old) (Some new)) }
+        requires may_fail { N.may (Kept.UpdateSome None None) }
     {
         self.shared.cell.update_some(change, &self.rt);
     }
@@ -176,7 +211,10 @@ impl<T: Drop, R: Wait + Drop> Owner<T, R> {
     /// println!(rt; "{:?}", cell.try_take())?; // prints Some(7)
     /// println!(rt; "{:?}", cell.try_take())?; // prints None
     /// ```
-    pub fn try_take(&self) -> Option<T> {
+    pub fn try_take(&self) -> Option<T>
+        requires may { N.may Kept.TryTake }
+        ensures rule { IfSome result N.holds }
+    {
         self.shared.cell.try_take(&self.rt)
     }
 
@@ -184,6 +222,7 @@ impl<T: Drop, R: Wait + Drop> Owner<T, R> {
     pub fn try_get(&self) -> Result<Option<T>, Refusal>
     where
         T: Clone,
+        ensures rule { IfOk result (λ found. IfSome found (IsCloneOfOne T.is_clone N.holds)) }
         ensures if_infallible { ((value : T) → T.is_infallible value) → IsOk result }
         ensures refused { FailsWithMemory result }
     {
@@ -195,7 +234,7 @@ impl<T: Drop, R: Wait + Drop> Owner<T, R> {
     pub fn peek<A, F: FnOnce(&T) -> A + Drop>(&self, look: F) -> Option<A>
         requires { F.IsAlwaysCallable look }
         ensures called { IfSome result (λ answer. (seen : T)
-            × FnOnceReturnsAt F.FnOnce look seen answer) }
+            × N.holds seen × FnOnceReturnsAt F.FnOnce look seen answer) }
     {
         self.shared.cell.peek(look, &self.rt)
     }
@@ -211,7 +250,7 @@ impl<T: Drop, R: Wait + Drop> Owner<T, R> {
     }
 
     /// Returns the cell, to call it with another right to wait.
-    pub fn cell(&self) -> &AsyncCell<T>
+    pub fn cell(&self) -> &AsyncCell<T, N>
         ensures held { result.now ≡ cell_owned self.now }
     {
         self.shared.cell()

@@ -3,6 +3,8 @@ ghost use Rattle.async_cell_sync.specs.Source.{source_of};
 
 use crate::async_cell::AsyncCell;
 use crate::shared::Shared;
+use async_cell_core::TaskWaker;
+use async_cell_waiting::{Naming, Takeable};
 use std::sync::{Arc, Wait};
 
 /// A pointer to a cell. `Take`, `Get` and guards work over any.
@@ -10,48 +12,57 @@ pub trait CellRef {
     /// The type of the value in the cell.
     type Value: Drop;
 
+    /// What is known of the values (see `Rule`): of a plain cell `Unnamed`.
+    type Name: Naming<Self::Value, TaskWaker>;
+
     /// The source that a pending future over this pointer has registered with. Leave it out in your
     /// own impl: nothing is then promised of the source.
     ghost waits_for: { Self → ℕ → Type 0 } = { λ _ _. ⊥ };
 
     /// Returns the cell that it points to: the same one at each call, as futures keep places in it.
-    fn cell(&self) -> &AsyncCell<Self::Value>
+    fn cell(&self) -> &AsyncCell<Self::Value, Self::Name>
         ensures { (s : ℕ) → waits_for self.now s → s ≡ source_of result.now };
 
     /// Gives the pointer up: an owner ends, and any other pointer is only dropped.
     fn leave<R: Wait>(self, rt: &R);
 }
 
-impl<T: Drop> CellRef for &AsyncCell<T> {
+impl<T: Drop, N: Naming<T, TaskWaker>> CellRef for &AsyncCell<T, N> {
     type Value = T;
+
+    type Name = N;
 
     ghost waits_for = { λ p s. s ≡ source_of p.now };
 
-    fn cell(&self) -> &AsyncCell<T> {
+    fn cell(&self) -> &AsyncCell<T, N> {
         *self
     }
 
     fn leave<R: Wait>(self, _: &R) {}
 }
 
-impl<T: Drop> CellRef for Arc<AsyncCell<T>> {
+impl<T: Drop, N: Naming<T, TaskWaker>> CellRef for Arc<AsyncCell<T, N>> {
     type Value = T;
+
+    type Name = N;
 
     ghost waits_for = { λ p s. s ≡ source_of p.value };
 
-    fn cell(&self) -> &AsyncCell<T> {
+    fn cell(&self) -> &AsyncCell<T, N> {
         self.as_ref()
     }
 
     fn leave<R: Wait>(self, _: &R) {}
 }
 
-impl<T: Drop> CellRef for Shared<T> {
+impl<T: Drop, N: Naming<T, TaskWaker>> CellRef for Shared<T, N> {
     type Value = T;
+
+    type Name = N;
 
     ghost waits_for = { λ p s. s ≡ source_of p.cell.value };
 
-    fn cell(&self) -> &AsyncCell<T> {
+    fn cell(&self) -> &AsyncCell<T, N> {
         Shared::cell(self)
     }
 
@@ -64,11 +75,39 @@ impl<T: Drop> CellRef for Shared<T> {
 impl<C: CellRef> CellRef for &C {
     type Value = C::Value;
 
+    type Name = C::Name;
+
     ghost waits_for = { λ p s. C.waits_for p.now s };
 
-    fn cell(&self) -> &AsyncCell<C::Value> {
+    fn cell(&self) -> &AsyncCell<C::Value, C::Name> {
         (**self).cell()
     }
 
     fn leave<R: Wait>(self, _: &R) {}
+}
+
+/// A pointer to a cell whose values may be taken.
+pub trait TakeRef: CellRef {
+    ghost use Rattle.async_cell_model.specs.declared.entry.Kept.{Kept};
+    ghost use Rattle.async_cell_waiting.specs.Told.{IsTake};
+    ghost use Rattle.async_cell_wakers.specs.declared.task_waker.TaskWaker.{TaskWaker};
+
+    /// Each take may be made.
+    ghost takes: { (call : Kept Self.Value TaskWaker) → IsTake call → Self.Name.may call };
+}
+
+impl<T: Drop, N: Takeable<T, TaskWaker>> TakeRef for &AsyncCell<T, N> {
+    ghost takes = { N.takes };
+}
+
+impl<T: Drop, N: Takeable<T, TaskWaker>> TakeRef for Arc<AsyncCell<T, N>> {
+    ghost takes = { N.takes };
+}
+
+impl<T: Drop, N: Takeable<T, TaskWaker>> TakeRef for Shared<T, N> {
+    ghost takes = { N.takes };
+}
+
+impl<C: TakeRef> TakeRef for &C {
+    ghost takes = { C.takes };
 }

@@ -1,7 +1,8 @@
-ghost use Rattle.std.specs.Prelude.{◌≡◌};
+ghost use Rattle.std.specs.Prelude.{◌≡◌, IfOk};
 ghost use Rattle.futures.specs.Poll.{IfReady, OnPending};
 ghost use Rattle.futures.specs.Task.{Covers, Keeps};
 ghost use Rattle.async_cell_model.specs.Refusal.{FailsWithMemoryOrClosed};
+ghost use Rattle.async_cell_waiting.specs.Told.{IsCloneOfOne};
 
 use crate::async_cell::AsyncCell;
 use crate::cell_ref::CellRef;
@@ -27,6 +28,7 @@ impl<C: CellRef<Value: Clone>> Get<C> {
         cx: &mut Context<'_>,
         rt: &R,
     ) -> Poll<Result<C::Value, Refusal>>
+        ensures rule { IfReady result (λ given. IfOk given (IsCloneOfOne C.Value.is_clone C.Name.holds)) }
         ensures registered { OnPending result (Covers cx.new (C.waits_for self.now.0)) }
         ensures kept { Keeps cx.old cx.new }
         ensures refused { IfReady result FailsWithMemoryOrClosed }
@@ -47,9 +49,9 @@ impl<C: CellRef + Drop> Get<C> {
 }
 
 impl<C: CellRef + Drop, R: Wait> Request<R> for Get<C> {
-    type Cell = AsyncCell<C::Value>;
+    type Cell = AsyncCell<C::Value, C::Name>;
 
-    fn cell(&self) -> Option<&AsyncCell<C::Value>> {
+    fn cell(&self) -> Option<&AsyncCell<C::Value, C::Name>> {
         Some(self.0.cell())
     }
 }
@@ -59,7 +61,8 @@ impl<C: CellRef<Value: Clone> + Drop, R: Wait> Polled<R> for Get<C> {
 
     ghost waits_for = { λ get. C.waits_for get.0 };
 
-    ghost may_give = { λ _. FailsWithMemoryOrClosed };
+    ghost may_give = { λ _ given. FailsWithMemoryOrClosed given
+        × IfOk given (IsCloneOfOne C.Value.is_clone C.Name.holds) };
 
     #[inline(always)]
     fn poll_at(&self, at: At<'_>, cx: &mut Context<'_>, rt: &R) -> Poll<Self::Output> {

@@ -4,6 +4,7 @@ ghost use Rattle.async_cell_sync.specs.Source.{source_of};
 use crate::async_cell::AsyncCell;
 use crate::cell_ref::CellRef;
 use crate::guarded_cell::GuardedCell;
+use async_cell_model::Kept;
 use std::sync::Wait;
 
 /// A guard of a cell, with the right to wait for the lock. Its drop sets its cancel value, if the
@@ -23,7 +24,7 @@ pub struct Guard<T: Drop, C: CellRef<Value = T>, R: Wait + Drop> {
 
 impl<T: Drop, C: CellRef<Value = T>, R: Wait + Drop> Guard<T, C, R> {
     /// Returns the cell that it guards.
-    pub fn cell(&self) -> &AsyncCell<T>
+    pub fn cell(&self) -> &AsyncCell<T, C::Name>
         ensures { (s : ℕ) → C.waits_for self.now.guarded.pointer s → s ≡ source_of result.now }
     {
         self.guarded.cell()
@@ -41,13 +42,17 @@ impl<T: Drop, C: CellRef<Value = T>, R: Wait + Drop> Guard<T, C, R> {
     }
 
     /// Sets the value, and releases the guard.
-    pub fn set(self, value: T) {
+    pub fn set(self, value: T)
+        requires may { C.Name.may (Kept.Replace value) }
+    {
         let Guard { guarded, rt } = self;
         guarded.set(value, &rt);
     }
 
     /// Sets the value if the cell holds none, and releases the guard.
-    pub fn or_set(self, value: T) {
+    pub fn or_set(self, value: T)
+        requires may { C.Name.may (Kept.OrSet value) }
+    {
         let Guard { guarded, rt } = self;
         guarded.or_set(value, &rt);
     }

@@ -4,6 +4,8 @@ ghost use Rattle.async_cell_sync.specs.Source.{source_of};
 use crate::async_cell::AsyncCell;
 use crate::cell_ref::CellRef;
 use crate::guard::Guard;
+use async_cell_model::Kept;
+use async_cell_waiting::Cancel;
 use std::sync::Wait;
 
 /// A guard of a cell. It must be consumed: by `cancel`, which sets its cancel value if the cell
@@ -14,15 +16,19 @@ pub struct GuardedCell<T, C: CellRef<Value = T>> {
     #[derive_where(skip)]
     pointer: C,
     #[derive_where(skip)]
-    cancel: T,
+    cancel: Cancel<T, C::Name>,
 }
 
 impl<T: Drop, C: CellRef<Value = T>> GuardedCell<T, C> {
     pub(crate) fn new(pointer: C, cancel: T) -> Self
+        requires may { C.Name.may (Kept.OrSet cancel) }
         ensures of_this { result.pointer ≡ pointer }
         ensures keeps { result.cancel ≡ cancel }
     {
-        GuardedCell { pointer, cancel }
+        GuardedCell {
+            pointer,
+            cancel: Cancel::of(cancel),
+        }
     }
 
     /// Keeps the right to wait beside this guard, which then ends by its drop.
@@ -33,7 +39,7 @@ impl<T: Drop, C: CellRef<Value = T>> GuardedCell<T, C> {
     }
 
     /// Returns the cell that it guards.
-    pub fn cell(&self) -> &AsyncCell<T>
+    pub fn cell(&self) -> &AsyncCell<T, C::Name>
         ensures { (s : ℕ) → C.waits_for self.now.pointer s → s ≡ source_of result.now }
     {
         self.pointer.cell()
@@ -42,7 +48,7 @@ impl<T: Drop, C: CellRef<Value = T>> GuardedCell<T, C> {
     /// Ends the guard: sets its cancel value and wakes all waiters, unless the cell holds a value.
     pub fn cancel<R: Wait>(self, rt: &R) {
         let GuardedCell { pointer, cancel } = self;
-        pointer.cell().core.end_guard(Some(cancel), rt);
+        pointer.cell().core.end_guard(Some(cancel.into_value()), rt);
         pointer.leave(rt);
     }
 
@@ -53,13 +59,17 @@ impl<T: Drop, C: CellRef<Value = T>> GuardedCell<T, C> {
     }
 
     /// Sets the value, and releases the guard.
-    pub fn set<R: Wait>(self, value: T, rt: &R) {
+    pub fn set<R: Wait>(self, value: T, rt: &R)
+        requires may { C.Name.may (Kept.Replace value) }
+    {
         self.cell().set(value, rt);
         self.release(rt);
     }
 
     /// Sets the value if the cell holds none, and releases the guard.
-    pub fn or_set<R: Wait>(self, value: T, rt: &R) {
+    pub fn or_set<R: Wait>(self, value: T, rt: &R)
+        requires may { C.Name.may (Kept.OrSet value) }
+    {
         self.cell().or_set(value, rt);
         self.release(rt);
     }

@@ -26,7 +26,7 @@ pub use async_cell_waiting::Request;
 pub use async_cell_waiting::{
     Author, Naming, Rule, Ruled, Takeable, Unnamed, With, Witness, laws,
 };
-pub use cell_ref::CellRef;
+pub use cell_ref::{CellRef, TakeRef};
 pub use get::Get;
 pub use guard::Guard;
 pub use guarded_cell::GuardedCell;

@@ -1,11 +1,11 @@
-ghost use Rattle.std.specs.Prelude.{◌≡◌, IfOk, IfErr};
+ghost use Rattle.std.specs.Prelude.{◌≡◌, IfOk, IfErr, IfSome};
 ghost use Rattle.async_cell_model.specs.Refusal.{FailsWithMemory, IsOwnerRefusal};
 ghost use Rattle.async_cell_sync.specs.Names.{NamesAtMost};
 ghost use Rattle.async_cell_sync.specs.Owned.{cell_owned};
 ghost use Rattle.async_cell_sync.specs.Source.{source_of};
 
 use crate::async_cell::AsyncCell;
-use crate::cell_ref::CellRef;
+use crate::cell_ref::{CellRef, TakeRef};
 use crate::get::Get;
 use crate::guard::Guard;
 use crate::guarded_cell::GuardedCell;
@@ -13,8 +13,9 @@ use crate::shared::Shared;
 use crate::take::Take;
 use crate::weak::{GetWeak, TakeWeak};
 use crate::weak_owner::WeakOwner;
-use async_cell_core::Refusal;
-use async_cell_waiting::With;
+use async_cell_core::{Refusal, TaskWaker};
+use async_cell_model::Kept;
+use async_cell_waiting::{Naming, Rule, Ruled, Takeable, Unnamed, With};
 use std::alloc::Global;
 use std::sync::{Arc, Wait};
 
@@ -24,18 +25,21 @@ use std::sync::{Arc, Wait};
 ///
 /// **Letting one go may wait for the lock**, as its other calls may. `Shared` is the owner that
 /// must be consumed by a call, so that each end stands in the program.
+///
+/// `N` says what is known of the values (see `Rule`), and to which history a witness sees: of a
+/// plain cell neither.
 #[derive_where(Debug)]
-pub struct Owner<T: Drop, R: Wait + Drop> {
+pub struct Owner<T: Drop, R: Wait + Drop, N: Naming<T, TaskWaker> = Unnamed> {
     #[derive_where(skip)]
-    pub(crate) shared: Shared<T>,
+    pub(crate) shared: Shared<T, N>,
     #[derive_where(skip)]
     pub(crate) rt: R,
 }
 
-impl<T: Drop> AsyncCell<T> {
+impl<T: Drop, N: Naming<T, TaskWaker>> AsyncCell<T, N> {
     /// Makes the first owner of this cell, with the right to wait. Fails with `Memory`, and then
     /// gives the cell back. For `?` write `Owner::new_with`, or `into_shared_or_drop()?.with(rt)`.
-    pub fn into_owner<R: Wait + Drop>(self, rt: R) -> Result<Owner<T, R>, (Refusal, AsyncCell<T>)>
+    pub fn into_owner<R: Wait + Drop>(self, rt: R) -> Result<Owner<T, R, N>, (Refusal, Self)>
         ensures owns { IfOk result (λ owner. cell_owned owner ≡ self) }
         ensures comes_back { IfErr result (λ back. back ≡ (Refusal.Memory, self)) }
     {
@@ -68,7 +72,35 @@ impl<T: Drop, R: Wait + Copy> Owner<T, R> {
         let cell = AsyncCell::new_with(alloc, value);
         cell.into_owner(rt).map_err(|(why, _)| why)
     }
+}
 
+impl<T: Drop, R: Wait + Copy, P: Rule<T>> Owner<T, R, Ruled<P>> {
+    /// Makes a cell without a value, whose values keep the rule `P`, and its first owner. Fails
+    /// with `Memory`.
+    ///
+    /// ```rust
+    /// let even = Owner::<u64, _, Ruled<Even>>::ruled(rt.alloc(), rt)?;
+    /// even.set(42);
+    /// println!(rt; "{:?}", even.try_take())?; // prints Some(42)
+    /// ```
+    pub fn ruled(alloc: Global, rt: R) -> Result<Self, Refusal>
+        ensures refused { FailsWithMemory result }
+    {
+        Ok(AsyncCell::ruled(alloc).into_shared_or_drop()?.with(rt))
+    }
+
+    /// Makes a cell that holds a value, whose values keep the rule `P`, and its first owner. Fails
+    /// with `Memory`, and then drops the value.
+    pub fn ruled_with(alloc: Global, value: T, rt: R) -> Result<Self, Refusal>
+        requires rule { P.holds value }
+        ensures refused { FailsWithMemory result }
+    {
+        let cell = AsyncCell::ruled_with(alloc, value);
+        Ok(cell.into_shared_or_drop()?.with(rt))
+    }
+}
+
+impl<T: Drop, R: Wait + Copy, N: Naming<T, TaskWaker>> Owner<T, R, N> {
     /// Adds an owner, in place of a clone. Fails with `Memory` if the pointer cannot be counted, or
     /// with `OwnersFull`; `Closed` is in the contract, but cannot happen while this owner lives.
     pub fn another(&self) -> Result<Self, Refusal>
@@ -84,7 +116,7 @@ impl<T: Drop, R: Wait + Copy> Owner<T, R> {
     }
 
     /// Returns a weak owner. If its pointer cannot be counted, its calls fail with `Memory`.
-    pub fn downgrade(&self) -> WeakOwner<T, R>
+    pub fn downgrade(&self) -> WeakOwner<T, R, N>
         ensures of_this { NamesAtMost result.weak (cell_owned self.now) }
     {
         self.shared.downgrade().with(self.rt)
@@ -93,6 +125,8 @@ impl<T: Drop, R: Wait + Copy> Owner<T, R> {
     /// Closes the cell and returns its content, if this is the only owner. Wakes all waiters.
     /// Otherwise this owner is returned in the error.
     pub fn try_into_inner(self) -> Result<Option<T>, Self>
+        requires may { N.may Kept.TakeInner }
+        ensures rule { IfOk result (λ content. IfSome content N.holds) }
         ensures comes_back { IfErr result (λ back. back ≡ self) }
     {
         let Owner { shared, rt } = self;
@@ -108,7 +142,7 @@ impl<T: Drop, R: Wait + Copy> Owner<T, R> {
     /// println!(rt; "{}", block_on(&rt, slot.take())??)?; // prints 7
     /// println!(rt; "{}", slot.is_set())?; // prints false
     /// ```
-    pub fn take(&self) -> With<Take<&AsyncCell<T>>, R>
+    pub fn take(&self) -> With<Take<&AsyncCell<T, N>>, R>
         ensures of_this { result.polled.0.now ≡ cell_owned self.now }
     {
         self.cell().take().with(self.rt)
@@ -122,7 +156,7 @@ impl<T: Drop, R: Wait + Copy> Owner<T, R> {
     /// println!(rt; "{}", block_on(&rt, setting.get())??)?; // prints 7
     /// println!(rt; "{}", setting.is_set())?; // prints true
     /// ```
-    pub fn get(&self) -> With<Get<&AsyncCell<T>>, R>
+    pub fn get(&self) -> With<Get<&AsyncCell<T, N>>, R>
     where
         T: Clone,
         ensures of_this { result.polled.0.now ≡ cell_owned self.now }
@@ -169,7 +203,7 @@ impl<T: Drop, R: Wait + Copy> Owner<T, R> {
     /// drop(slot);
     /// println!(rt; "{:?}", block_on(&rt, late)??)?; // prints None
     /// ```
-    pub fn take_weak(&self) -> With<TakeWeak<T>, R>
+    pub fn take_weak(&self) -> With<TakeWeak<T, N>, R>
         ensures of_this { NamesAtMost result.polled.0 (cell_owned self.now) }
     {
         self.shared.take_weak().with(self.rt)
@@ -184,7 +218,7 @@ impl<T: Drop, R: Wait + Copy> Owner<T, R> {
     /// drop(running);
     /// println!(rt; "{:?}", block_on(&rt, stopped)??)?; // prints None
     /// ```
-    pub fn get_weak(&self) -> With<GetWeak<T>, R>
+    pub fn get_weak(&self) -> With<GetWeak<T, N>, R>
     where
         T: Clone,
         ensures of_this { NamesAtMost result.polled.0 (cell_owned self.now) }
@@ -193,7 +227,8 @@ impl<T: Drop, R: Wait + Copy> Owner<T, R> {
     }
 
     /// Returns a guard that sets this value when it is dropped, unless the cell then holds one.
-    pub fn guard(&self, cancel: T) -> Guard<T, &AsyncCell<T>, R>
+    pub fn guard(&self, cancel: T) -> Guard<T, &AsyncCell<T, N>, R>
+        requires may { N.may (Kept.OrSet cancel) }
         ensures of_this { result.guarded.pointer.now ≡ cell_owned self.now }
         ensures keeps { result.guarded.cancel ≡ cancel }
     {
@@ -211,6 +246,7 @@ impl<T: Drop, R: Wait + Copy> Owner<T, R> {
     /// println!(rt; "{}", block_on(&rt, reply)??)?; // prints 42
     /// ```
     pub fn into_guard(self, cancel: T) -> Guard<T, Self, R>
+        requires may { N.may (Kept.OrSet cancel) }
         ensures of_this { result.guarded.pointer ≡ self }
         ensures keeps { result.guarded.cancel ≡ cancel }
     {
@@ -220,6 +256,7 @@ impl<T: Drop, R: Wait + Copy> Owner<T, R> {
 
     /// Returns a guard that is a new owner. Fails as `another` does, and then gives the value back.
     pub fn guard_shared(&self, cancel: T) -> Result<Guard<T, Self, R>, (Refusal, T)>
+        requires may { N.may (Kept.OrSet cancel) }
         ensures of_this { IfOk result (λ guard.
             cell_owned guard.guarded.pointer ≡ cell_owned self.now) }
         ensures keeps { IfOk result (λ guard. guard.guarded.cancel ≡ cancel) }
@@ -241,6 +278,7 @@ impl<T: Drop, R: Wait + Copy> Owner<T, R> {
     /// println!(rt; "{:?}", slot.try_take())?; // prints Some(0)
     /// ```
     pub fn guard_shared_or_drop(&self, cancel: T) -> Result<Guard<T, Self, R>, Refusal>
+        requires may { N.may (Kept.OrSet cancel) }
         ensures of_this { IfOk result (λ guard.
             cell_owned guard.guarded.pointer ≡ cell_owned self.now) }
         ensures keeps { IfOk result (λ guard. guard.guarded.cancel ≡ cancel) }
@@ -270,7 +308,7 @@ impl<R: Wait + Copy> Owner<(), R> {
 }
 
 /// Ends the owner. May wait for the lock.
-impl<T: Drop, R: Wait + Drop> Drop for Owner<T, R> {
+impl<T: Drop, R: Wait + Drop, N: Naming<T, TaskWaker>> Drop for Owner<T, R, N> {
     fn drop(self) {
         let Owner {
             rt,
@@ -283,14 +321,20 @@ impl<T: Drop, R: Wait + Drop> Drop for Owner<T, R> {
     }
 }
 
-impl<T: Drop, R: Wait + Drop> CellRef for Owner<T, R> {
+impl<T: Drop, R: Wait + Drop, N: Naming<T, TaskWaker>> CellRef for Owner<T, R, N> {
     type Value = T;
+
+    type Name = N;
 
     ghost waits_for = { λ p s. s ≡ source_of (cell_owned p) };
 
-    fn cell(&self) -> &AsyncCell<T> {
+    fn cell(&self) -> &AsyncCell<T, N> {
         Owner::cell(self)
     }
 
     fn leave<S: Wait>(self, _: &S) {}
+}
+
+impl<T: Drop, R: Wait + Drop, N: Takeable<T, TaskWaker>> TakeRef for Owner<T, R, N> {
+    ghost takes = { N.takes };
 }

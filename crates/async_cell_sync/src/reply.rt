@@ -131,7 +131,7 @@ impl<T: Drop, R: Wait + Drop, N: Takeable<T, TaskWaker>> Replier<T, R, N> {
 
     /// Returns whether the `Reply` was dropped, so that a value would come back.
     pub fn is_closed(&self) -> bool {
-        self.cell.core.is_closed(&self.rt)
+        self.cell.is_closed(&self.rt)
     }
 }
 

@@ -1,4 +1,4 @@
-ghost use Rattle.std.specs.Prelude.{◌≡◌, IfOk, IfErr};
+ghost use Rattle.std.specs.Prelude.{◌≡◌, IfOk, IfErr, IfSome};
 ghost use Rattle.std.specs.Arc.{arc_value};
 ghost use Rattle.async_cell_model.specs.Refusal.{FailsWithMemory, IsOwnerRefusal};
 ghost use Rattle.async_cell_sync.specs.Names.{cell_of, NamesAtMost};
@@ -9,7 +9,9 @@ use crate::guarded_cell::GuardedCell;
 use crate::owner::Owner;
 use crate::take::Take;
 use crate::weak::{GetWeak, TakeWeak, Weak};
-use async_cell_core::Refusal;
+use async_cell_core::{Refusal, TaskWaker};
+use async_cell_model::Kept;
+use async_cell_waiting::{Naming, Unnamed};
 use std::alloc::{AllocFailed, Global};
 use std::sync::{Arc, Wait};
 
@@ -19,9 +21,9 @@ use std::sync::{Arc, Wait};
 /// It is not `Drop` and must be consumed: by `end`, `leave` or `try_into_inner`, or by `with`,
 /// which makes it an `Owner`, and that ends by its drop.
 #[derive_where(Debug)]
-pub struct Shared<T> {
+pub struct Shared<T, N: Naming<T, TaskWaker> = Unnamed> {
     #[derive_where(skip)]
-    pub(crate) cell: Arc<AsyncCell<T>>,
+    pub(crate) cell: Arc<AsyncCell<T, N>>,
 }
 
 impl<T: Drop> Shared<T> {
@@ -31,10 +33,12 @@ impl<T: Drop> Shared<T> {
     {
         Shared::into_shared(AsyncCell::new(alloc)).map_err(|(why, _)| why)
     }
+}
 
+impl<T: Drop, N: Naming<T, TaskWaker>> Shared<T, N> {
     /// Makes the first owner of this cell. Fails with `Memory`; the cell is then returned in the
     /// error. `AsyncCell::into_shared_or_drop` is the form for `?`.
-    pub fn into_shared(cell: AsyncCell<T>) -> Result<Self, (Refusal, AsyncCell<T>)>
+    pub fn into_shared(cell: AsyncCell<T, N>) -> Result<Self, (Refusal, AsyncCell<T, N>)>
         ensures owns { IfOk result (λ owner. cell_of owner ≡ cell) }
         ensures comes_back { IfErr result (λ back. back ≡ (Refusal.Memory, cell)) }
     {
@@ -45,14 +49,14 @@ impl<T: Drop> Shared<T> {
     }
 
     /// Returns the cell, to call it.
-    pub fn cell(&self) -> &AsyncCell<T>
+    pub fn cell(&self) -> &AsyncCell<T, N>
         ensures held { result.now ≡ cell_of self.now }
     {
         self.cell.as_ref()
     }
 
     /// Keeps the right to wait beside this owner, which then ends by its drop.
-    pub fn with<R: Wait + Drop>(self, rt: R) -> Owner<T, R>
+    pub fn with<R: Wait + Drop>(self, rt: R) -> Owner<T, R, N>
         ensures keeps { result.shared ≡ self }
     {
         Owner { shared: self, rt }
@@ -91,6 +95,7 @@ impl<T: Drop> Shared<T> {
         cancel: T,
         rt: &R,
     ) -> Result<GuardedCell<T, Self>, (Refusal, T)>
+        requires may { N.may (Kept.OrSet cancel) }
         ensures of_this { IfOk result (λ guard. cell_of guard.pointer ≡ cell_of self.now) }
         ensures keeps { IfOk result (λ guard. guard.cancel ≡ cancel) }
         ensures refused { IfErr result (λ back. IsOwnerRefusal back.0) }
@@ -108,6 +113,7 @@ impl<T: Drop> Shared<T> {
         cancel: T,
         rt: &R,
     ) -> Result<GuardedCell<T, Self>, Refusal>
+        requires may { N.may (Kept.OrSet cancel) }
         ensures of_this { IfOk result (λ guard. cell_of guard.pointer ≡ cell_of self.now) }
         ensures keeps { IfOk result (λ guard. guard.cancel ≡ cancel) }
         ensures refused { IfErr result IsOwnerRefusal }
@@ -116,21 +122,21 @@ impl<T: Drop> Shared<T> {
     }
 
     /// Returns a weak pointer to the cell. If it cannot be counted, its calls fail with `Memory`.
-    pub fn downgrade(&self) -> Weak<T>
+    pub fn downgrade(&self) -> Weak<T, N>
         ensures of_this { NamesAtMost result (cell_of self.now) }
     {
         Weak::of(&self.cell)
     }
 
     /// Returns a future that takes the value and is not an owner.
-    pub fn take_weak(&self) -> TakeWeak<T>
+    pub fn take_weak(&self) -> TakeWeak<T, N>
         ensures of_this { NamesAtMost result.0 (cell_of self.now) }
     {
         TakeWeak(Weak::of(&self.cell))
     }
 
     /// Returns a future that clones the value, leaves it, and is not an owner.
-    pub fn get_weak(&self) -> GetWeak<T>
+    pub fn get_weak(&self) -> GetWeak<T, N>
     where
         T: Clone,
         ensures of_this { NamesAtMost result.0 (cell_of self.now) }
@@ -141,6 +147,8 @@ impl<T: Drop> Shared<T> {
     /// Closes the cell and returns its content, if this is the only owner. Wakes all waiters.
     /// Otherwise this owner is returned in the error.
     pub fn try_into_inner<R: Wait>(self, rt: &R) -> Result<Option<T>, Self>
+        requires may { N.may Kept.TakeInner }
+        ensures rule { IfOk result (λ content. IfSome content N.holds) }
         ensures comes_back { IfErr result (λ back. back ≡ self) }
     {
         match self.cell.core.take_inner(rt) {
@@ -159,7 +167,7 @@ impl<T: Drop> Shared<T> {
     }
 
     /// Makes a new owner. Fails with `Memory` (checked first), `Closed` or `OwnersFull`.
-    pub(crate) fn owning<R: Wait>(cell: &Arc<AsyncCell<T>>, rt: &R) -> Result<Self, Refusal>
+    pub(crate) fn owning<R: Wait>(cell: &Arc<AsyncCell<T, N>>, rt: &R) -> Result<Self, Refusal>
         ensures of_this { IfOk result (λ owner. cell_of owner ≡ arc_value cell.now) }
         ensures refused { IfErr result IsOwnerRefusal }
     {

@@ -1,10 +1,10 @@
-ghost use Rattle.std.specs.Prelude.{◌≡◌};
+ghost use Rattle.std.specs.Prelude.{◌≡◌, IfOk};
 ghost use Rattle.futures.specs.Poll.{IfReady, OnPending};
 ghost use Rattle.futures.specs.Task.{Covers, Keeps};
 ghost use Rattle.async_cell_model.specs.Refusal.{FailsWithMemoryOrClosed};
 
 use crate::async_cell::AsyncCell;
-use crate::cell_ref::CellRef;
+use crate::cell_ref::{CellRef, TakeRef};
 use async_cell_core::Refusal;
 use async_cell_waiting::{At, Polled, Request, Taking, With, poll};
 use futures::task::{Context, Poll};
@@ -19,7 +19,7 @@ use std::sync::Wait;
 #[derive_where(Debug)]
 pub struct Take<C>(#[derive_where(skip)] pub C);
 
-impl<C: CellRef> Take<C> {
+impl<C: TakeRef> Take<C> {
     /// Polls by a shared reference. Takes the value, which leaves the cell empty, or waits. Fails
     /// with `Memory` if there is no memory to wait, and with `Closed` on a closed cell.
     pub fn poll_shared<R: Wait>(
@@ -27,6 +27,7 @@ impl<C: CellRef> Take<C> {
         cx: &mut Context<'_>,
         rt: &R,
     ) -> Poll<Result<C::Value, Refusal>>
+        ensures rule { IfReady result (λ given. IfOk given C.Name.holds) }
         ensures registered { OnPending result (Covers cx.new (C.waits_for self.now.0)) }
         ensures kept { Keeps cx.old cx.new }
         ensures refused { IfReady result FailsWithMemoryOrClosed }
@@ -52,19 +53,20 @@ impl<C: CellRef + Drop> Take<C> {
 }
 
 impl<C: CellRef + Drop, R: Wait> Request<R> for Take<C> {
-    type Cell = AsyncCell<C::Value>;
+    type Cell = AsyncCell<C::Value, C::Name>;
 
-    fn cell(&self) -> Option<&AsyncCell<C::Value>> {
+    fn cell(&self) -> Option<&AsyncCell<C::Value, C::Name>> {
         Some(self.0.cell())
     }
 }
 
-impl<C: CellRef + Drop, R: Wait> Polled<R> for Take<C> {
+impl<C: TakeRef + Drop, R: Wait> Polled<R> for Take<C> {
     type Output = Result<C::Value, Refusal>;
 
     ghost waits_for = { λ take. C.waits_for take.0 };
 
-    ghost may_give = { λ _. FailsWithMemoryOrClosed };
+    ghost may_give = { λ _ given. FailsWithMemoryOrClosed given
+        × IfOk given C.Name.holds };
 
     #[inline(always)]
     fn poll_at(&self, at: At<'_>, cx: &mut Context<'_>, rt: &R) -> Poll<Self::Output> {

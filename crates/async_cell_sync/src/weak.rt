@@ -3,6 +3,7 @@ ghost use Rattle.std.specs.Arc.{arc_value};
 ghost use Rattle.futures.specs.Poll.{IfReady, OnPending};
 ghost use Rattle.futures.specs.Task.{Covers, Keeps};
 ghost use Rattle.async_cell_model.specs.Refusal.{FailsWithMemory};
+ghost use Rattle.async_cell_waiting.specs.Told.{IsCloneOfOne};
 ghost use Rattle.async_cell_waiting.specs.Upgrade.{FailsToUpgrade};
 ghost use Rattle.async_cell_sync.specs.Names.{IsLost, NameAtMostTheSame, Names, NamesAtMost};
 ghost use Rattle.async_cell_sync.specs.Names.{NameTheSame, OwnsNamed};
@@ -16,9 +17,10 @@ use crate::owner::Owner;
 use crate::shared::Shared;
 use crate::take::Take;
 use crate::weak_owner::WeakOwner;
-use async_cell_core::Refusal;
+use async_cell_core::{Refusal, TaskWaker};
 use async_cell_waiting::{
-    At, Cloning, Polled, Request, Takes, Taking, Upgrade, With, poll, weakly,
+    At, Cloning, Naming, Polled, Request, Takeable, Takes, Taking, Unnamed, Upgrade, With, poll,
+    weakly,
 };
 use futures::task::{Context, Poll};
 use std::alloc::AllocError;
@@ -36,20 +38,20 @@ use std::sync::{Arc, Wait};
 /// drop(states);
 /// println!(rt; "{:?}", block_on(&rt, values.next())?)?; // prints None
 /// ```
-pub type Values<T, R> = async_cell_waiting::Values<TakeWeak<T>, R>;
+pub type Values<T, R, N = Unnamed> = async_cell_waiting::Values<TakeWeak<T, N>, R>;
 
 /// A weak pointer to a cell, which does not count as an owner. `Shared::downgrade` makes one.
 /// `TakeWeak` and `GetWeak` make a future of it, `with` a `WeakOwner`, whose calls take no `rt`.
 #[derive(Drop)]
 #[derive_where(Debug)]
-pub struct Weak<T> {
+pub struct Weak<T, N: Naming<T, TaskWaker> = Unnamed> {
     /// `None` if the pointer could not be counted when it was made.
     #[derive_where(skip)]
-    cell: Option<Arc<AsyncCell<T>>>,
+    cell: Option<Arc<AsyncCell<T, N>>>,
 }
 
-impl<T: Drop> Weak<T> {
-    pub(crate) fn of(cell: &Arc<AsyncCell<T>>) -> Self
+impl<T: Drop, N: Naming<T, TaskWaker>> Weak<T, N> {
+    pub(crate) fn of(cell: &Arc<AsyncCell<T, N>>) -> Self
         ensures of_this { NamesAtMost result (arc_value cell.now) }
     {
         Weak {
@@ -58,7 +60,7 @@ impl<T: Drop> Weak<T> {
     }
 
     /// Returns the cell. Fails with `Memory` if the pointer could not be counted when it was made.
-    pub(crate) fn cell(&self) -> Result<&AsyncCell<T>, Refusal>
+    pub(crate) fn cell(&self) -> Result<&AsyncCell<T, N>, Refusal>
         ensures source { IfOk result (λ c. (s : ℕ) → IsSourceOf self.now s → s ≡ source_of c.now) }
         ensures lost { IsLost self.now → result ≡ Err Refusal.Memory }
         ensures refused { FailsWithMemory result }
@@ -76,14 +78,14 @@ impl<T: Drop> Weak<T> {
     }
 
     /// Keeps the right to wait beside this pointer, so that its calls take no `rt`.
-    pub fn with<R: Wait>(self, rt: R) -> WeakOwner<T, R>
+    pub fn with<R: Wait>(self, rt: R) -> WeakOwner<T, R, N>
         ensures points { result.weak ≡ self }
     {
         WeakOwner { weak: self, rt }
     }
 
     /// Makes an owner; `None` if closed. Fails with `Memory` (checked first) or `OwnersFull`.
-    pub fn upgrade<R: Wait>(&self, rt: &R) -> Result<Option<Shared<T>>, Refusal>
+    pub fn upgrade<R: Wait>(&self, rt: &R) -> Result<Option<Shared<T, N>>, Refusal>
         ensures of_this { IfOk result (λ found. IfSome found (OwnsNamed self.now)) }
         ensures lost { IsLost self.now → result ≡ Err Refusal.Memory }
         ensures refused { FailsToUpgrade result }
@@ -98,10 +100,10 @@ impl<T: Drop> Weak<T> {
 }
 
 /// A clone points to the same cell.
-impl<T: Drop> Clone for Weak<T> {
+impl<T: Drop, N: Naming<T, TaskWaker>> Clone for Weak<T, N> {
     ghost is_clone = { λ weak copy. NameTheSame weak copy };
 
-    fn clone(&self) -> Result<Weak<T>, AllocError> {
+    fn clone(&self) -> Result<Weak<T, N>, AllocError> {
         let cell = self.cell.clone()?;
         Ok(Weak { cell })
     }
@@ -112,9 +114,9 @@ impl<T: Drop> Clone for Weak<T> {
 #[derive(Drop)]
 #[derive_where(Clone; T: Drop)]
 #[derive_where(Debug)]
-pub struct TakeWeak<T>(pub Weak<T>);
+pub struct TakeWeak<T, N: Naming<T, TaskWaker> = Unnamed>(pub Weak<T, N>);
 
-impl<T: Drop> TakeWeak<T> {
+impl<T: Drop, N: Takeable<T, TaskWaker>> TakeWeak<T, N> {
     /// Polls by a shared reference. Takes the value, or waits; `None` on a closed cell. Fails with
     /// `Memory` if there is no memory to wait.
     pub fn poll_shared<R: Wait>(
@@ -122,6 +124,7 @@ impl<T: Drop> TakeWeak<T> {
         cx: &mut Context<'_>,
         rt: &R,
     ) -> Poll<Result<Option<T>, Refusal>>
+        ensures rule { IfReady result (λ given. IfOk given (λ found. IfSome found N.holds)) }
         ensures lost { IsLost self.now.0 → result ≡ Poll.Ready (Err Refusal.Memory) }
         ensures registered { OnPending result (Covers cx.new (IsSourceOf self.now.0)) }
         ensures kept { Keeps cx.old cx.new }
@@ -129,7 +132,9 @@ impl<T: Drop> TakeWeak<T> {
     {
         self.poll_at(None, cx, rt)
     }
+}
 
+impl<T: Drop, N: Naming<T, TaskWaker>> TakeWeak<T, N> {
     /// Returns the future, which keeps `rt`: a poll of `futures` is passed no right to wait.
     pub fn with<R: Wait>(self, rt: R) -> With<Self, R>
         ensures polls { result.polled ≡ self }
@@ -138,7 +143,7 @@ impl<T: Drop> TakeWeak<T> {
     }
 
     /// Makes a `Take` that is a new owner. Fails, and returns `None`, as `Weak::upgrade` does.
-    pub fn upgrade<R: Wait>(&self, rt: &R) -> Result<Option<Take<Shared<T>>>, Refusal>
+    pub fn upgrade<R: Wait>(&self, rt: &R) -> Result<Option<Take<Shared<T, N>>>, Refusal>
         ensures of_this { IfOk result (λ found. IfSome found (λ take.
             OwnsNamed self.now.0 take.0)) }
         ensures lost { IsLost self.now.0 → result ≡ Err Refusal.Memory }
@@ -148,22 +153,22 @@ impl<T: Drop> TakeWeak<T> {
     }
 }
 
-impl<T: Drop, R: Wait> Request<R> for TakeWeak<T> {
-    type Cell = AsyncCell<T>;
+impl<T: Drop, R: Wait, N: Naming<T, TaskWaker>> Request<R> for TakeWeak<T, N> {
+    type Cell = AsyncCell<T, N>;
 
     ghost is_lost = { λ weak. IsLost weak.0 };
 
-    fn cell(&self) -> Option<&AsyncCell<T>> {
+    fn cell(&self) -> Option<&AsyncCell<T, N>> {
         self.0.cell().ok()
     }
 }
 
-impl<T: Drop, R: Wait> Polled<R> for TakeWeak<T> {
+impl<T: Drop, R: Wait, N: Takeable<T, TaskWaker>> Polled<R> for TakeWeak<T, N> {
     type Output = Result<Option<T>, Refusal>;
 
     ghost waits_for = { λ take. IsSourceOf take.0 };
 
-    ghost may_give = { λ take. GivesWeakly take.0 };
+    ghost may_give = { λ take. GivesWeakly N.holds take.0 };
 
     fn poll_at(&self, at: At<'_>, cx: &mut Context<'_>, rt: &R) -> Poll<Self::Output> {
         match self.0.cell() {
@@ -173,21 +178,25 @@ impl<T: Drop, R: Wait> Polled<R> for TakeWeak<T> {
     }
 }
 
-impl<T: Drop, R: Wait + Copy> Upgrade<R> for TakeWeak<T> {
-    type Owning = Take<Owner<T, R>>;
+impl<T: Drop, R: Wait + Copy, N: Naming<T, TaskWaker>> Upgrade<R> for TakeWeak<T, N> {
+    type Owning = Take<Owner<T, R, N>>;
 
     ghost owned_by = { λ weak owning. Names weak.0 (cell_owned owning.0) };
 
-    fn owning(&self, rt: &R) -> Result<Option<Take<Owner<T, R>>>, Refusal> {
+    fn owning(&self, rt: &R) -> Result<Option<Take<Owner<T, R, N>>>, Refusal> {
         let owner = self.0.upgrade(rt)?;
         Ok(owner.map(|owner| Take(owner.with(*rt))))
     }
 }
 
-impl<T: Drop, R: Wait> Takes<R> for TakeWeak<T> {
+impl<T: Drop, R: Wait, N: Takeable<T, TaskWaker>> Takes<R> for TakeWeak<T, N> {
     type Value = T;
 
+    ghost holds = { N.holds };
+
     ghost lacks_memory = { λ _ _ given. given.0 };
+
+    ghost gives_held = { λ _ _ given. given.2 };
 }
 
 /// Clones the value of a cell and is no owner of it. Make the future by `with`. It may be polled
@@ -195,9 +204,9 @@ impl<T: Drop, R: Wait> Takes<R> for TakeWeak<T> {
 #[derive(Drop)]
 #[derive_where(Clone; T: Drop)]
 #[derive_where(Debug)]
-pub struct GetWeak<T>(pub Weak<T>);
+pub struct GetWeak<T, N: Naming<T, TaskWaker> = Unnamed>(pub Weak<T, N>);
 
-impl<T: Clone> GetWeak<T> {
+impl<T: Clone, N: Naming<T, TaskWaker>> GetWeak<T, N> {
     /// Polls by a shared reference. Clones the value, or waits; `None` on a closed cell. Fails with
     /// `Memory` if there is no memory for that.
     pub fn poll_shared<R: Wait>(
@@ -205,6 +214,8 @@ impl<T: Clone> GetWeak<T> {
         cx: &mut Context<'_>,
         rt: &R,
     ) -> Poll<Result<Option<T>, Refusal>>
+        ensures rule { IfReady result (λ given. IfOk given (λ found.
+            IfSome found (IsCloneOfOne T.is_clone N.holds))) }
         ensures lost { IsLost self.now.0 → result ≡ Poll.Ready (Err Refusal.Memory) }
         ensures registered { OnPending result (Covers cx.new (IsSourceOf self.now.0)) }
         ensures kept { Keeps cx.old cx.new }
@@ -214,7 +225,7 @@ impl<T: Clone> GetWeak<T> {
     }
 }
 
-impl<T: Drop> GetWeak<T> {
+impl<T: Drop, N: Naming<T, TaskWaker>> GetWeak<T, N> {
     /// Returns the future, which keeps `rt`: a poll of `futures` is passed no right to wait.
     pub fn with<R: Wait>(self, rt: R) -> With<Self, R>
         ensures polls { result.polled ≡ self }
@@ -223,7 +234,7 @@ impl<T: Drop> GetWeak<T> {
     }
 
     /// Makes a `Get` that is a new owner. Fails, and returns `None`, as `Weak::upgrade` does.
-    pub fn upgrade<R: Wait>(&self, rt: &R) -> Result<Option<Get<Shared<T>>>, Refusal>
+    pub fn upgrade<R: Wait>(&self, rt: &R) -> Result<Option<Get<Shared<T, N>>>, Refusal>
         ensures of_this { IfOk result (λ found. IfSome found (λ get. OwnsNamed self.now.0 get.0)) }
         ensures lost { IsLost self.now.0 → result ≡ Err Refusal.Memory }
         ensures refused { FailsToUpgrade result }
@@ -232,22 +243,22 @@ impl<T: Drop> GetWeak<T> {
     }
 }
 
-impl<T: Drop, R: Wait> Request<R> for GetWeak<T> {
-    type Cell = AsyncCell<T>;
+impl<T: Drop, R: Wait, N: Naming<T, TaskWaker>> Request<R> for GetWeak<T, N> {
+    type Cell = AsyncCell<T, N>;
 
     ghost is_lost = { λ weak. IsLost weak.0 };
 
-    fn cell(&self) -> Option<&AsyncCell<T>> {
+    fn cell(&self) -> Option<&AsyncCell<T, N>> {
         self.0.cell().ok()
     }
 }
 
-impl<T: Clone, R: Wait> Polled<R> for GetWeak<T> {
+impl<T: Clone, R: Wait, N: Naming<T, TaskWaker>> Polled<R> for GetWeak<T, N> {
     type Output = Result<Option<T>, Refusal>;
 
     ghost waits_for = { λ get. IsSourceOf get.0 };
 
-    ghost may_give = { λ get. GivesWeakly get.0 };
+    ghost may_give = { λ get. GivesWeakly (IsCloneOfOne T.is_clone N.holds) get.0 };
 
     fn poll_at(&self, at: At<'_>, cx: &mut Context<'_>, rt: &R) -> Poll<Self::Output> {
         match self.0.cell() {
@@ -257,12 +268,12 @@ impl<T: Clone, R: Wait> Polled<R> for GetWeak<T> {
     }
 }
 
-impl<T: Drop, R: Wait + Copy> Upgrade<R> for GetWeak<T> {
-    type Owning = Get<Owner<T, R>>;
+impl<T: Drop, R: Wait + Copy, N: Naming<T, TaskWaker>> Upgrade<R> for GetWeak<T, N> {
+    type Owning = Get<Owner<T, R, N>>;
 
     ghost owned_by = { λ weak owning. Names weak.0 (cell_owned owning.0) };
 
-    fn owning(&self, rt: &R) -> Result<Option<Get<Owner<T, R>>>, Refusal> {
+    fn owning(&self, rt: &R) -> Result<Option<Get<Owner<T, R, N>>>, Refusal> {
         let owner = self.0.upgrade(rt)?;
         Ok(owner.map(|owner| Get(owner.with(*rt))))
     }

@@ -5,8 +5,8 @@ ghost use Rattle.async_cell_sync.specs.Owned.{cell_owned};
 
 use crate::owner::Owner;
 use crate::weak::{GetWeak, TakeWeak, Weak};
-use async_cell_core::Refusal;
-use async_cell_waiting::With;
+use async_cell_core::{Refusal, TaskWaker};
+use async_cell_waiting::{Naming, Unnamed, With};
 use std::alloc::AllocError;
 use std::sync::Wait;
 
@@ -16,14 +16,14 @@ use std::sync::Wait;
 /// Its drop does not take the lock. Dropping a future that it made may wait for it (see `With`).
 #[derive(Drop)]
 #[derive_where(Debug)]
-pub struct WeakOwner<T, R> {
+pub struct WeakOwner<T, R, N: Naming<T, TaskWaker> = Unnamed> {
     #[derive_where(skip)]
-    pub(crate) weak: Weak<T>,
+    pub(crate) weak: Weak<T, N>,
     #[derive_where(skip)]
     pub(crate) rt: R,
 }
 
-impl<T: Drop, R: Wait + Copy> WeakOwner<T, R> {
+impl<T: Drop, R: Wait + Copy, N: Naming<T, TaskWaker>> WeakOwner<T, R, N> {
     /// Makes an owner; `None` if closed. Fails with `Memory` (checked first) or `OwnersFull`.
     ///
     /// ```rust
@@ -33,7 +33,7 @@ impl<T: Drop, R: Wait + Copy> WeakOwner<T, R> {
     /// drop(slot);
     /// println!(rt; "{}", weak.upgrade()?.is_some())?; // prints false
     /// ```
-    pub fn upgrade(&self) -> Result<Option<Owner<T, R>>, Refusal>
+    pub fn upgrade(&self) -> Result<Option<Owner<T, R, N>>, Refusal>
         ensures of_this { IfOk result (λ found. IfSome found (λ owner.
             Names self.now.weak (cell_owned owner))) }
         ensures lost { IsLost self.now.weak → result ≡ Err Refusal.Memory }
@@ -45,7 +45,7 @@ impl<T: Drop, R: Wait + Copy> WeakOwner<T, R> {
 
     /// Returns a future that takes the value and is no owner: `None` once the last owner has ended.
     /// If the pointer cannot be counted, it fails with `Memory`.
-    pub fn take(&self) -> With<TakeWeak<T>, R>
+    pub fn take(&self) -> With<TakeWeak<T, N>, R>
         ensures of_this { NameAtMostTheSame self.now.weak result.polled.0 }
     {
         TakeWeak(self.weak.again()).with(self.rt)
@@ -53,7 +53,7 @@ impl<T: Drop, R: Wait + Copy> WeakOwner<T, R> {
 
     /// Returns a future that clones the value and is no owner: `None` once the last owner has
     /// ended. If the pointer cannot be counted, it fails with `Memory`.
-    pub fn get(&self) -> With<GetWeak<T>, R>
+    pub fn get(&self) -> With<GetWeak<T, N>, R>
     where
         T: Clone,
         ensures of_this { NameAtMostTheSame self.now.weak result.polled.0 }
@@ -63,10 +63,10 @@ impl<T: Drop, R: Wait + Copy> WeakOwner<T, R> {
 }
 
 /// A clone points to the same cell.
-impl<T: Drop, R: Copy> Clone for WeakOwner<T, R> {
+impl<T: Drop, R: Copy, N: Naming<T, TaskWaker>> Clone for WeakOwner<T, R, N> {
     ghost is_clone = { λ weak copy. NameTheSame weak.weak copy.weak };
 
-    fn clone(&self) -> Result<WeakOwner<T, R>, AllocError> {
+    fn clone(&self) -> Result<WeakOwner<T, R, N>, AllocError> {
         Ok(WeakOwner {
             weak: self.weak.clone()?,
             rt: self.rt,

@@ -21,6 +21,8 @@ pub use async_cell_core::{Refusal, TaskWaker};
 #[doc(hidden)]
 pub use async_cell_waiting::Request;
 pub use cell_ref::CellRef;
+#[doc(hidden)]
+pub use cell_ref::CellRef as TakeRef; // Of a cell of one thread each value may be taken.
 pub use get::Get;
 pub use guarded_cell::{Guard, GuardedCell};
 pub use owner::Owner;

@@ -1,4 +1,4 @@
-ghost use Rattle.std.specs.Prelude.{◌≡◌, ℕ, Err, IfOk, IfSome};
+ghost use Rattle.std.specs.Prelude.{◌≡◌, ℕ, Ok, Err, IfOk, IfSome};
 ghost use Rattle.futures.specs.Poll.{IfReady, OnPending};
 ghost use Rattle.futures.specs.Task.{Covers, Keeps};
 ghost use Rattle.async_cell_model.specs.Refusal.{FailsWithMemory, FailsWithMemoryOrClosed};
@@ -158,6 +158,8 @@ impl<P: Polled<R>, R: Drop> Future for With<P, R> {
 #[inline(always)]
 pub fn weakly<T>(polled: Poll<Result<T, Refusal>>) -> Poll<Result<Option<T>, Refusal>>
     requires { IfReady polled FailsWithMemoryOrClosed }
+    ensures found { IfReady result (λ answer. IfOk answer (λ found. IfSome found (λ value.
+        polled ≡ Poll.Ready (Ok value)))) }
     ensures pending { OnPending result (polled ≡ Poll.Pending) }
     ensures refused { IfReady result FailsWithMemory }
 {

@@ -1,5 +1,5 @@
 //! The values of a cell, as a stream.
-ghost use Rattle.std.specs.Prelude.{◌≡◌, IfSome};
+ghost use Rattle.std.specs.Prelude.{◌≡◌, ⊤, IfOk, IfSome};
 ghost use Rattle.std.specs.List.{AllByRecursion};
 ghost use Rattle.async_cell_model.specs.Refusal.{FailsWithMemory};
 
@@ -13,9 +13,16 @@ pub trait Takes<R>: Polled<R, Output = Result<Option<Self::Value>, Refusal>> {
     /// The type of the values.
     type Value: Drop;
 
+    /// What is known of each value.
+    ghost holds: { Self.Value → Type 0 } = { λ _. ⊤ };
+
     /// A poll fails with `Memory`, and with nothing else.
     ghost lacks_memory: { (take : Self) (given : _)
         → ⟦<Self as Polled<R>>⟧.may_give take given → FailsWithMemory given };
+
+    /// Of each value that a poll takes this is known.
+    ghost gives_held: { (take : Self) (given : _) → ⟦<Self as Polled<R>>⟧.may_give take given
+        → IfOk given (λ found. IfSome found holds) };
 }
 
 /// The values of a cell, as a stream: it takes each value that it is in time for, and ends when the
@@ -58,7 +65,8 @@ impl<P: Takes<R>, R: Drop> Stream for Values<P, R> {
     ghost needs = { λ values. P.waits_for values.taker.polled };
 
     ghost yields = { λ _ items last.
-        AllByRecursion FailsWithMemory items × IfSome last FailsWithMemory };
+        AllByRecursion (λ item. FailsWithMemory item × IfOk item P.holds) items
+        × IfSome last (λ item. FailsWithMemory item × IfOk item P.holds) };
 
     fn poll_next(&mut self, cx: &mut Context<'_>) -> Poll<Option<Result<P::Value, Refusal>>> {
         let taker = &mut self.taker;
