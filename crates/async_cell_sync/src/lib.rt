@@ -24,7 +24,7 @@ pub use async_cell_core::{Core, Poll, Refusal, TaskWaker, Wakers, Wakes};
 #[doc(hidden)]
 pub use async_cell_waiting::Request;
 pub use async_cell_waiting::{
-    Author, Naming, Rule, Ruled, Takeable, Unnamed, With, Witness, laws,
+    Author, Blank, Naming, Rule, Ruled, Takeable, Unnamed, With, Witness, laws,
 };
 pub use cell_ref::{CellRef, TakeRef};
 pub use get::Get;
@@ -36,8 +36,8 @@ pub use reply::{Replier, Reply, reply_slot, reply_slot_of};
 pub use shared::Shared;
 pub use take::Take;
 pub use told::{
-    ReplySession, Session, ToldGet, ToldOwner, ToldReplier, ToldReply, ToldTake, with_told,
-    with_told_reply,
+    GetAs, ReplySession, Session, TakeAs, ToldGet, ToldOwner, ToldReplier, ToldReply, ToldTake,
+    with_told, with_told_reply,
 };
 pub use weak::{GetWeak, TakeWeak, Values, Weak};
 pub use weak_owner::WeakOwner;
