@@ -11,6 +11,8 @@ struct Near<'a>(&'a unsync::AsyncCell<u32>);
 impl unsync::CellRef for Near<'_> {
     type Value = u32;
 
+    type Name = unsync::Unnamed;
+
     fn cell(&self) -> &unsync::AsyncCell<u32> {
         self.0
     }

@@ -1,7 +1,8 @@
-ghost use Rattle.std.specs.Prelude.{◌≡◌, IsOk, IfOk, IfErr, IfSome, Some};
+ghost use Rattle.std.specs.Prelude.{◌≡◌, Option, IsOk, IfOk, IfErr, IfSome, None, Some};
 ghost use Rattle.std.specs.Fn.{FnOnceReturnsAt};
-ghost use Rattle.async_cell_model.specs.Machine.{IsSound};
+ghost use Rattle.async_cell_model.specs.Machine.{content, IsSound};
 ghost use Rattle.async_cell_model.specs.Refusal.{FailsWithMemory};
+ghost use Rattle.async_cell_waiting.specs.Told.{IsCloneOfOne};
 ghost use Rattle.async_cell_unsync.specs.Names.{cell_of};
 
 use crate::get::Get;
@@ -9,7 +10,7 @@ use crate::guarded_cell::GuardedCell;
 use crate::shared::Shared;
 use crate::take::Take;
 use async_cell_core::{Core, Place, Refusal, TaskWaker, Wakes};
-use async_cell_waiting::{CellCore, Lender, OneThread, Places};
+use async_cell_waiting::{CellCore, Free, Lender, OneThread, Places, Rule, Ruled, Unnamed};
 use futures::task::Source;
 use std::alloc::Global;
 use std::fmt;
@@ -27,15 +28,17 @@ use std::fmt;
 /// A future made by `with` holds one place in the wait list while it waits (see `With`), so the
 /// list is no longer than the number of such futures that were alive at once. Each poll of any
 /// other future that waits adds a waker. It outlives that future, until the next write or close.
-pub struct AsyncCell<T> {
-    pub(crate) core: Lender<CellCore<T, TaskWaker>>,
+///
+/// `N` says what is known of the values (see `Rule`).
+pub struct AsyncCell<T, N: Free<T, TaskWaker> = Unnamed> {
+    pub(crate) core: Lender<CellCore<T, TaskWaker, N>>,
     /// The source that waiting tasks register with.
     pub(crate) source: Source,
     pub(crate) alloc: Global,
 }
 
 /// Wakes all waiters.
-impl<T: Drop> Drop for AsyncCell<T> {
+impl<T: Drop, N: Free<T, TaskWaker>> Drop for AsyncCell<T, N> {
     #[inline(always)]
     fn drop(self) {
         let AsyncCell {
@@ -47,16 +50,21 @@ impl<T: Drop> Drop for AsyncCell<T> {
     }
 }
 
-impl<T: Drop> AsyncCell<T> {
-    /// Wraps a core in a cell.
-    fn of(alloc: Global, core: Core<T, TaskWaker>) -> Self {
+impl<T: Drop, N: Free<T, TaskWaker>> AsyncCell<T, N> {
+    /// Wraps a core in a cell without a name.
+    pub(crate) fn of(alloc: Global, core: Core<T, TaskWaker>) -> Self
+        requires nameless { N.named ≡ None }
+        requires rule { IfSome (content core.cell) N.holds }
+    {
         AsyncCell {
-            core: Lender::new(core),
+            core: Lender::nameless(core),
             source: Source::new(),
             alloc,
         }
     }
+}
 
+impl<T: Drop> AsyncCell<T> {
     /// Makes a cell without a value. Takes no memory. Stores the allocator for all later growth.
     pub fn new(alloc: Global) -> Self {
         AsyncCell::of(alloc, Core::new(alloc))
@@ -73,9 +81,25 @@ impl<T: Drop> AsyncCell<T> {
     {
         Shared::shared(alloc)
     }
+}
 
+impl<T: Drop, P: Rule<T>> AsyncCell<T, Ruled<P>> {
+    /// Makes a cell without a value, whose values keep the rule `P`. Otherwise it is `new`.
+    pub fn ruled(alloc: Global) -> Self {
+        AsyncCell::of(alloc, Core::new(alloc))
+    }
+
+    /// Makes a cell that holds a value, whose values keep the rule `P`. Otherwise it is `new_with`.
+    pub fn ruled_with(alloc: Global, value: T) -> Self
+        requires rule { P.holds value }
+    {
+        AsyncCell::of(alloc, Core::new_with(alloc, value))
+    }
+}
+
+impl<T: Drop, N: Free<T, TaskWaker>> AsyncCell<T, N> {
     /// Makes the first counted owner of this cell. Fails with `Memory`, and then returns the cell.
-    pub fn into_shared(self) -> Result<Shared<T>, (Refusal, AsyncCell<T>)>
+    pub fn into_shared(self) -> Result<Shared<T, N>, (Refusal, AsyncCell<T, N>)>
         ensures owns { IfOk result (λ owner. cell_of owner ≡ self) }
         ensures comes_back { IfErr result (λ back. back ≡ (Refusal.Memory, self)) }
     {
@@ -83,7 +107,7 @@ impl<T: Drop> AsyncCell<T> {
     }
 
     /// As `into_shared`, but drops the cell if there is no memory, so that `?` serves.
-    pub fn into_shared_or_drop(self) -> Result<Shared<T>, Refusal>
+    pub fn into_shared_or_drop(self) -> Result<Shared<T, N>, Refusal>
         ensures owns { IfOk result (λ owner. cell_of owner ≡ self) }
         ensures refused { FailsWithMemory result }
     {
@@ -91,17 +115,22 @@ impl<T: Drop> AsyncCell<T> {
     }
 
     /// Sets the value and drops the old one. Wakes all waiters.
-    pub fn set(&self, value: T) {
+    pub fn set(&self, value: T)
+        requires rule { N.holds value }
+    {
         self.core.put(value, &OneThread);
     }
 
     /// Sets the value and wakes all waiters, if the cell holds no value. Drops `value` otherwise.
-    pub fn or_set(&self, value: T) {
+    pub fn or_set(&self, value: T)
+        requires rule { N.holds value }
+    {
         let _ = self.core.or_set(value, &OneThread);
     }
 
     /// `or_set`, which returns an unused `value` in the error, also on a closed cell.
     pub fn try_set(&self, value: T) -> Result<(), T>
+        requires rule { N.holds value }
         ensures comes_back { IfErr result (λ back. back ≡ value) }
     {
         self.core.try_set(value, &OneThread)
@@ -109,14 +138,19 @@ impl<T: Drop> AsyncCell<T> {
 
     /// Sets the value and returns the old one. Wakes all waiters.
     #[inline]
-    pub fn replace(&self, value: T) -> Option<T> {
+    pub fn replace(&self, value: T) -> Option<T>
+        requires rule { N.holds value }
+        ensures rule { IfSome result N.holds }
+    {
         self.core.replace(value, &OneThread).unwrap_or(None)
     }
 
     /// Calls the closure on the content and stores what it returns, over whatever calls made from
     /// inside have left. Wakes all waiters if the closure returns a value.
     pub fn update<F: FnOnce(Option<T>) -> Option<T> + Drop>(&self, change: F)
-        requires { F.IsAlwaysCallable change }
+        requires callable { F.IsAlwaysCallable change }
+        requires rule { (saw put : Option T) → IfSome saw N.holds → F.post change saw put
+            → IfSome put N.holds }
     {
         if let Some(content) = self.core.take_out(&OneThread) {
             self.put_back(change(content));
@@ -125,7 +159,8 @@ impl<T: Drop> AsyncCell<T> {
 
     /// `update`, of a value: the closure is not called if there is none.
     pub fn update_some<F: FnOnce(T) -> T + Drop>(&self, change: F)
-        requires { F.IsAlwaysCallable change }
+        requires callable { F.IsAlwaysCallable change }
+        requires rule { (old new : T) → N.holds old → F.post change old new → N.holds new }
     {
         if let Some(value) = self.try_take() {
             self.put_back(Some(change(value)));
@@ -133,7 +168,9 @@ impl<T: Drop> AsyncCell<T> {
     }
 
     /// Takes the value, if there is one. The waiters stay registered.
-    pub fn try_take(&self) -> Option<T> {
+    pub fn try_take(&self) -> Option<T>
+        ensures rule { IfSome result N.holds }
+    {
         self.core.try_take(&OneThread)
     }
 
@@ -142,6 +179,7 @@ impl<T: Drop> AsyncCell<T> {
     pub fn try_get(&self) -> Result<Option<T>, Refusal>
     where
         T: Clone,
+        ensures rule { IfOk result (λ found. IfSome found (IsCloneOfOne T.is_clone N.holds)) }
         ensures if_infallible { ((value : T) → T.is_infallible value) → IsOk result }
         ensures refused { FailsWithMemory result }
     {
@@ -157,7 +195,7 @@ impl<T: Drop> AsyncCell<T> {
     pub fn peek<A, F: FnOnce(&T) -> A + Drop>(&self, look: F) -> Option<A>
         requires { F.IsAlwaysCallable look }
         ensures called { IfSome result (λ answer. (seen : T)
-            × FnOnceReturnsAt F.FnOnce look seen answer) }
+            × N.holds seen × FnOnceReturnsAt F.FnOnce look seen answer) }
     {
         let value = self.try_take()?;
         let answer = look(&value);
@@ -199,7 +237,9 @@ impl<T: Drop> AsyncCell<T> {
     }
 
     /// Returns the content. Wakes all waiters.
-    pub fn into_inner(self) -> Option<T> {
+    pub fn into_inner(self) -> Option<T>
+        ensures rule { IfSome result N.holds }
+    {
         let AsyncCell {
             core,
             source: _,
@@ -239,6 +279,7 @@ impl<T: Drop> AsyncCell<T> {
 
     /// Returns a guard that sets this value by its drop, if unreleased and the cell then is empty.
     pub fn guard(&self, cancel: T) -> GuardedCell<T, &Self>
+        requires rule { N.holds cancel }
         ensures of_this { result.pointer.now ≡ self.now }
         ensures keeps { result.cancel ≡ Some cancel }
     {
@@ -246,7 +287,9 @@ impl<T: Drop> AsyncCell<T> {
     }
 
     /// Stores a content again, over whatever came meanwhile. A cell that was closed stays closed.
-    fn put_back(&self, content: Option<T>) {
+    fn put_back(&self, content: Option<T>)
+        requires rule { IfSome content N.holds }
+    {
         drop(match content {
             Some(value) => self.replace(value),
             None => self.try_take(),
@@ -258,6 +301,8 @@ impl<T: Drop> AsyncCell<T> {
     pub(crate) fn copy_back(&self, value: T) -> Result<T, Refusal>
     where
         T: Clone,
+        requires rule { N.holds value }
+        ensures rule { IfOk result (IsCloneOfOne T.is_clone N.holds) }
         ensures if_infallible { ((value : T) → T.is_infallible value) → IsOk result }
         ensures refused { FailsWithMemory result }
     {
@@ -283,7 +328,7 @@ impl AsyncCell<()> {
     }
 }
 
-impl<T: Drop> Places<OneThread> for AsyncCell<T> {
+impl<T: Drop, N: Free<T, TaskWaker>> Places<OneThread> for AsyncCell<T, N> {
     #[inline(always)]
     fn vacate(&self, place: Place, rt: &OneThread) {
         self.core.vacate(place, rt);
@@ -297,7 +342,7 @@ impl<T: Drop> Places<OneThread> for AsyncCell<T> {
 /// Prints `AsyncCell::Empty`, `AsyncCell::Pending` if a task waits, `AsyncCell::Full(..)` with the
 /// value's own text, or `AsyncCell::Closed`. The value is taken out while it prints, and then
 /// stored over whatever calls made from inside have left.
-impl<T: fmt::Debug + Drop> fmt::Debug for AsyncCell<T> {
+impl<T: fmt::Debug + Drop, N: Free<T, TaskWaker>> fmt::Debug for AsyncCell<T, N> {
     fn fmt<F: fmt::Write>(&self, f: &mut fmt::Formatter<F>) -> fmt::Result {
         let Some(value) = self.try_take() else {
             return f.write_str(match self.core.is_pending(&OneThread) {

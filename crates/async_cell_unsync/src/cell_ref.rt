@@ -3,6 +3,8 @@ ghost use Rattle.async_cell_unsync.specs.Source.{source_of};
 
 use crate::async_cell::AsyncCell;
 use crate::shared::Shared;
+use async_cell_core::TaskWaker;
+use async_cell_waiting::Free;
 use std::rc::Rc;
 
 /// A pointer to a cell. `Take`, `Get` and guards work over any.
@@ -10,41 +12,50 @@ pub trait CellRef: Drop {
     /// The type of the value in the cell.
     type Value: Drop;
 
+    /// What is known of the values (see `Rule`): of a plain cell `Unnamed`.
+    type Name: Free<Self::Value, TaskWaker>;
+
     /// The source that a pending future over this pointer has registered with. Leave it out in your
     /// own impl: nothing is then promised of the source.
     ghost waits_for: { Self → ℕ → Type 0 } = { λ _ _. ⊥ };
 
     /// Returns the cell that it points to: the same one at each call, as futures keep places in it.
-    fn cell(&self) -> &AsyncCell<Self::Value>
+    fn cell(&self) -> &AsyncCell<Self::Value, Self::Name>
         ensures { (s : ℕ) → waits_for self.now s → s ≡ source_of result.now };
 }
 
-impl<T: Drop> CellRef for &AsyncCell<T> {
+impl<T: Drop, N: Free<T, TaskWaker>> CellRef for &AsyncCell<T, N> {
     type Value = T;
+
+    type Name = N;
 
     ghost waits_for = { λ p s. s ≡ source_of p.now };
 
-    fn cell(&self) -> &AsyncCell<T> {
+    fn cell(&self) -> &AsyncCell<T, N> {
         *self
     }
 }
 
-impl<T: Drop> CellRef for Rc<AsyncCell<T>> {
+impl<T: Drop, N: Free<T, TaskWaker>> CellRef for Rc<AsyncCell<T, N>> {
     type Value = T;
+
+    type Name = N;
 
     ghost waits_for = { λ p s. s ≡ source_of p.value };
 
-    fn cell(&self) -> &AsyncCell<T> {
+    fn cell(&self) -> &AsyncCell<T, N> {
         self.as_ref()
     }
 }
 
-impl<T: Drop> CellRef for Shared<T> {
+impl<T: Drop, N: Free<T, TaskWaker>> CellRef for Shared<T, N> {
     type Value = T;
+
+    type Name = N;
 
     ghost waits_for = { λ p s. s ≡ source_of p.cell.value };
 
-    fn cell(&self) -> &AsyncCell<T> {
+    fn cell(&self) -> &AsyncCell<T, N> {
         Shared::cell(self)
     }
 }
@@ -53,9 +64,11 @@ impl<T: Drop> CellRef for Shared<T> {
 impl<C: CellRef> CellRef for &C {
     type Value = C::Value;
 
+    type Name = C::Name;
+
     ghost waits_for = { λ p s. C.waits_for p.now s };
 
-    fn cell(&self) -> &AsyncCell<C::Value> {
+    fn cell(&self) -> &AsyncCell<C::Value, C::Name> {
         (**self).cell()
     }
 }

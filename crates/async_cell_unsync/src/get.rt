@@ -1,7 +1,8 @@
-ghost use Rattle.std.specs.Prelude.{◌≡◌};
+ghost use Rattle.std.specs.Prelude.{◌≡◌, IfOk};
 ghost use Rattle.futures.specs.Poll.{IfReady, OnPending};
 ghost use Rattle.futures.specs.Task.{Covers, Keeps};
 ghost use Rattle.async_cell_model.specs.Refusal.{FailsWithMemoryOrClosed};
+ghost use Rattle.async_cell_waiting.specs.Told.{IsCloneOfOne};
 
 use crate::async_cell::AsyncCell;
 use crate::cell_ref::CellRef;
@@ -27,6 +28,7 @@ impl<C: CellRef> Get<C> {
     pub fn poll_shared(&self, cx: &mut Context<'_>) -> Poll<Result<C::Value, Refusal>>
     where
         C::Value: Clone,
+        ensures rule { IfReady result (λ given. IfOk given (IsCloneOfOne C.Value.is_clone C.Name.holds)) }
         ensures registered { OnPending result (Covers cx.new (C.waits_for self.now.0)) }
         ensures kept { Keeps cx.old cx.new }
         ensures refused { IfReady result FailsWithMemoryOrClosed }
@@ -48,7 +50,7 @@ impl<C: CellRef> Get<C> {
 }
 
 impl<C: CellRef> Request<OneThread> for Get<C> {
-    type Cell = AsyncCell<C::Value>;
+    type Cell = AsyncCell<C::Value, C::Name>;
 
     fn cell(&self) -> Option<&Self::Cell> {
         Some(self.0.cell())
@@ -60,7 +62,8 @@ impl<C: CellRef<Value: Clone>> Polled<OneThread> for Get<C> {
 
     ghost waits_for = { λ polled. C.waits_for polled.0 };
 
-    ghost may_give = { λ _. FailsWithMemoryOrClosed };
+    ghost may_give = { λ _ given. FailsWithMemoryOrClosed given
+        × IfOk given (IsCloneOfOne C.Value.is_clone C.Name.holds) };
 
     #[inline(always)]
     fn poll_at(&self, at: At<'_>, cx: &mut Context<'_>, rt: &OneThread) -> Poll<Self::Output> {
@@ -78,7 +81,8 @@ impl<C: CellRef<Value: Clone>> Future for Get<C> {
 
     ghost needs = { λ future. C.waits_for future.0 };
 
-    ghost gives = { λ _. FailsWithMemoryOrClosed };
+    ghost gives = { λ _ given. FailsWithMemoryOrClosed given
+        × IfOk given (IsCloneOfOne C.Value.is_clone C.Name.holds) };
 
     fn poll(&mut self, cx: &mut Context<'_>) -> Poll<Self::Output> {
         self.poll_shared(cx)

@@ -3,7 +3,7 @@ ghost use Rattle.async_cell_unsync.specs.Source.{source_of};
 
 use crate::async_cell::AsyncCell;
 use crate::cell_ref::CellRef;
-use async_cell_waiting::OneThread;
+use async_cell_waiting::{Cancel, OneThread};
 
 /// A guard of a cell. Its drop sets its cancel value if the cell holds no value, unless the guard
 /// was released, and then drops its pointer: a guard that is an owner ends its owner.
@@ -13,7 +13,7 @@ pub struct GuardedCell<T, C: CellRef<Value = T>> {
     pointer: C,
     /// `None` once it is released.
     #[derive_where(skip)]
-    cancel: Option<T>,
+    cancel: Option<Cancel<T, C::Name>>,
 }
 
 /// The name of a guard that is made by `with` or by an `Owner`: every guard ends by its drop here.
@@ -21,17 +21,18 @@ pub type Guard<T, C> = GuardedCell<T, C>;
 
 impl<T: Drop, C: CellRef<Value = T>> GuardedCell<T, C> {
     pub(crate) fn new(pointer: C, cancel: T) -> Self
+        requires rule { C.Name.holds cancel }
         ensures of_this { result.pointer ≡ pointer }
         ensures keeps { result.cancel ≡ Some cancel }
     {
         GuardedCell {
             pointer,
-            cancel: Some(cancel),
+            cancel: Some(Cancel::of(cancel)),
         }
     }
 
     /// Returns the cell that it guards.
-    pub fn cell(&self) -> &AsyncCell<T>
+    pub fn cell(&self) -> &AsyncCell<T, C::Name>
         ensures { (s : ℕ) → C.waits_for self.now.pointer s → s ≡ source_of result.now }
     {
         self.pointer.cell()
@@ -55,13 +56,17 @@ impl<T: Drop, C: CellRef<Value = T>> GuardedCell<T, C> {
     }
 
     /// Sets the value, and releases the guard.
-    pub fn set(self, value: T) {
+    pub fn set(self, value: T)
+        requires rule { C.Name.holds value }
+    {
         self.cell().set(value);
         self.release();
     }
 
     /// Sets the value if the cell holds none, and releases the guard.
-    pub fn or_set(self, value: T) {
+    pub fn or_set(self, value: T)
+        requires rule { C.Name.holds value }
+    {
         self.cell().or_set(value);
         self.release();
     }
@@ -71,6 +76,10 @@ impl<T: Drop, C: CellRef<Value = T>> GuardedCell<T, C> {
 impl<T: Drop, C: CellRef<Value = T>> Drop for GuardedCell<T, C> {
     fn drop(self) {
         let GuardedCell { pointer, cancel } = self;
+        let cancel = match cancel {
+            Some(cancel) => Some(cancel.into_value()),
+            None => None,
+        };
         pointer.cell().core.end_guard(cancel, &OneThread);
     }
 }

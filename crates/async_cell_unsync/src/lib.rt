@@ -20,13 +20,14 @@ pub use async_cell::AsyncCell;
 pub use async_cell_core::{Refusal, TaskWaker};
 #[doc(hidden)]
 pub use async_cell_waiting::Request;
+pub use async_cell_waiting::{Free, Naming, Rule, Ruled, Unnamed};
 pub use cell_ref::CellRef;
 #[doc(hidden)]
 pub use cell_ref::CellRef as TakeRef; // Of a cell of one thread each value may be taken.
 pub use get::Get;
 pub use guarded_cell::{Guard, GuardedCell};
 pub use owner::Owner;
-pub use reply::{Replier, Reply, reply_slot};
+pub use reply::{Replier, Reply, reply_slot, reply_slot_of};
 pub use shared::Shared;
 pub use take::Take;
 pub use weak::{GetWeak, TakeWeak, Weak};

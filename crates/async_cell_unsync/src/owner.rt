@@ -1,4 +1,4 @@
-ghost use Rattle.std.specs.Prelude.{◌≡◌, IfOk, IfErr, Some};
+ghost use Rattle.std.specs.Prelude.{◌≡◌, IfOk, IfErr, IfSome, Some};
 ghost use Rattle.async_cell_model.specs.Refusal.{FailsWithMemory, IsOwnerRefusal};
 ghost use Rattle.async_cell_unsync.specs.Names.{NamesAtMost};
 ghost use Rattle.async_cell_unsync.specs.Owned.{cell_owned};
@@ -13,7 +13,8 @@ use crate::take::Take;
 use crate::weak::{GetWeak, TakeWeak};
 use crate::weak_owner::WeakOwner;
 use crate::with::With;
-use async_cell_core::Refusal;
+use async_cell_core::{Refusal, TaskWaker};
+use async_cell_waiting::{Free, Rule, Ruled, Unnamed};
 use std::alloc::Global;
 use std::ops::Deref;
 
@@ -25,15 +26,15 @@ use std::ops::Deref;
 /// until their `with` is called.
 #[derive(Drop)]
 #[derive_where(Debug)]
-pub struct Owner<T: Drop> {
+pub struct Owner<T: Drop, N: Free<T, TaskWaker> = Unnamed> {
     #[derive_where(skip)]
-    pub(crate) shared: Shared<T>,
+    pub(crate) shared: Shared<T, N>,
 }
 
-impl<T: Drop> AsyncCell<T> {
+impl<T: Drop, N: Free<T, TaskWaker>> AsyncCell<T, N> {
     /// Makes the first owner of this cell. Fails with `Memory`, and then gives the cell back. For
     /// `?` write `Owner::new_with`, or `into_shared_or_drop()?.with()`.
-    pub fn into_owner(self) -> Result<Owner<T>, (Refusal, AsyncCell<T>)>
+    pub fn into_owner(self) -> Result<Owner<T, N>, (Refusal, AsyncCell<T, N>)>
         ensures owns { IfOk result (λ owner. cell_owned owner ≡ self) }
         ensures comes_back { IfErr result (λ back. back ≡ (Refusal.Memory, self)) }
     {
@@ -66,7 +67,29 @@ impl<T: Drop> Owner<T> {
         let cell = AsyncCell::new_with(alloc, value);
         cell.into_owner().map_err(|(why, _)| why)
     }
+}
 
+impl<T: Drop, P: Rule<T>> Owner<T, Ruled<P>> {
+    /// Makes a cell without a value, whose values keep the rule `P`, and its first owner. Fails
+    /// with `Memory`.
+    pub fn ruled(alloc: Global) -> Result<Self, Refusal>
+        ensures refused { FailsWithMemory result }
+    {
+        Ok(AsyncCell::ruled(alloc).into_shared_or_drop()?.with())
+    }
+
+    /// Makes a cell that holds a value, whose values keep the rule `P`, and its first owner. Fails
+    /// with `Memory`, and then drops the value.
+    pub fn ruled_with(alloc: Global, value: T) -> Result<Self, Refusal>
+        requires rule { P.holds value }
+        ensures refused { FailsWithMemory result }
+    {
+        let cell = AsyncCell::ruled_with(alloc, value);
+        Ok(cell.into_shared_or_drop()?.with())
+    }
+}
+
+impl<T: Drop, N: Free<T, TaskWaker>> Owner<T, N> {
     /// Adds an owner, in place of a clone. Fails with `Memory` if the pointer cannot be counted, or
     /// with `OwnersFull`; `Closed` is in the contract, but cannot happen while this owner lives.
     pub fn another(&self) -> Result<Self, Refusal>
@@ -77,7 +100,7 @@ impl<T: Drop> Owner<T> {
     }
 
     /// Returns a weak owner. If its pointer cannot be counted, its calls fail with `Memory`.
-    pub fn downgrade(&self) -> WeakOwner<T>
+    pub fn downgrade(&self) -> WeakOwner<T, N>
         ensures of_this { NamesAtMost result.weak (cell_owned self.now) }
     {
         self.shared.downgrade().with()
@@ -86,13 +109,14 @@ impl<T: Drop> Owner<T> {
     /// Closes the cell and returns its content, if this is the only owner. Wakes all waiters.
     /// Otherwise this owner is returned in the error.
     pub fn try_into_inner(self) -> Result<Option<T>, Self>
+        ensures rule { IfOk result (λ content. IfSome content N.holds) }
         ensures comes_back { IfErr result (λ back. back ≡ self) }
     {
         self.shared.try_into_inner().map_err(|shared| shared.with())
     }
 
     /// Returns the cell, to call it.
-    pub fn cell(&self) -> &AsyncCell<T>
+    pub fn cell(&self) -> &AsyncCell<T, N>
         ensures held { result.now ≡ cell_owned self.now }
     {
         self.shared.cell()
@@ -100,7 +124,7 @@ impl<T: Drop> Owner<T> {
 
     /// Returns a future that takes the value (`try_take` takes it at once). It borrows this owner,
     /// which keeps the cell open: it waits forever if nobody sets a value.
-    pub fn take(&self) -> With<Take<&AsyncCell<T>>>
+    pub fn take(&self) -> With<Take<&AsyncCell<T, N>>>
         ensures of_this { result.polled.0.now ≡ cell_owned self.now }
     {
         self.cell().take().with()
@@ -108,7 +132,7 @@ impl<T: Drop> Owner<T> {
 
     /// Returns a future that clones the value and leaves it: polled again, it is ready at once. It
     /// borrows this owner, which keeps the cell open.
-    pub fn get(&self) -> With<Get<&AsyncCell<T>>>
+    pub fn get(&self) -> With<Get<&AsyncCell<T, N>>>
     where
         T: Clone,
         ensures of_this { result.polled.0.now ≡ cell_owned self.now }
@@ -138,7 +162,7 @@ impl<T: Drop> Owner<T> {
 
     /// Returns a future that takes the value and is not an owner. It is `None` once the last owner
     /// has ended: a value that was not taken by then is lost.
-    pub fn take_weak(&self) -> With<TakeWeak<T>>
+    pub fn take_weak(&self) -> With<TakeWeak<T, N>>
         ensures of_this { NamesAtMost result.polled.0 (cell_owned self.now) }
     {
         self.shared.take_weak().with()
@@ -146,7 +170,7 @@ impl<T: Drop> Owner<T> {
 
     /// Returns a future that clones the value, leaves it, and is not an owner. It is `None` once
     /// the last owner has ended.
-    pub fn get_weak(&self) -> With<GetWeak<T>>
+    pub fn get_weak(&self) -> With<GetWeak<T, N>>
     where
         T: Clone,
         ensures of_this { NamesAtMost result.polled.0 (cell_owned self.now) }
@@ -165,6 +189,7 @@ impl<T: Drop> Owner<T> {
     /// println!(rt; "{}", block_on(&rt, reply)??)?; // prints 42
     /// ```
     pub fn into_guard(self, cancel: T) -> Guard<T, Self>
+        requires rule { N.holds cancel }
         ensures of_this { result.pointer ≡ self }
         ensures keeps { result.cancel ≡ Some cancel }
     {
@@ -173,6 +198,7 @@ impl<T: Drop> Owner<T> {
 
     /// Returns a guard that is a new owner. Fails as `another` does, and then gives the value back.
     pub fn guard_shared(&self, cancel: T) -> Result<Guard<T, Self>, (Refusal, T)>
+        requires rule { N.holds cancel }
         ensures of_this { IfOk result (λ guard. cell_owned guard.pointer ≡ cell_owned self.now) }
         ensures keeps { IfOk result (λ guard. guard.cancel ≡ Some cancel) }
         ensures refused { IfErr result (λ back. IsOwnerRefusal back.0) }
@@ -186,6 +212,7 @@ impl<T: Drop> Owner<T> {
 
     /// As `guard_shared`, but drops the value if it fails, so that `?` serves.
     pub fn guard_shared_or_drop(&self, cancel: T) -> Result<Guard<T, Self>, Refusal>
+        requires rule { N.holds cancel }
         ensures of_this { IfOk result (λ guard. cell_owned guard.pointer ≡ cell_owned self.now) }
         ensures keeps { IfOk result (λ guard. guard.cancel ≡ Some cancel) }
         ensures refused { IfErr result IsOwnerRefusal }
@@ -212,23 +239,25 @@ impl Owner<()> {
     }
 }
 
-impl<T: Drop> Deref for Owner<T> {
-    type Target = AsyncCell<T>;
+impl<T: Drop, N: Free<T, TaskWaker>> Deref for Owner<T, N> {
+    type Target = AsyncCell<T, N>;
 
     ghost deref_gives = { λ owner cell. cell ≡ cell_owned owner };
 
     #[inline(always)]
-    fn deref(&self) -> &AsyncCell<T> {
+    fn deref(&self) -> &AsyncCell<T, N> {
         self.shared.cell()
     }
 }
 
-impl<T: Drop> CellRef for Owner<T> {
+impl<T: Drop, N: Free<T, TaskWaker>> CellRef for Owner<T, N> {
     type Value = T;
+
+    type Name = N;
 
     ghost waits_for = { λ p s. s ≡ source_of (cell_owned p) };
 
-    fn cell(&self) -> &AsyncCell<T> {
+    fn cell(&self) -> &AsyncCell<T, N> {
         Owner::cell(self)
     }
 }

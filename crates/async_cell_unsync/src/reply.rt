@@ -7,8 +7,8 @@ ghost use Rattle.async_cell_model.specs.declared.refusal.Refusal.TheVariants.{Cl
 ghost use Rattle.async_cell_unsync.specs.Source.{source_of};
 
 use crate::async_cell::AsyncCell;
-use async_cell_core::{Place, Refusal};
-use async_cell_waiting::{OneThread, Taking, poll};
+use async_cell_core::{Core, Place, Refusal, TaskWaker};
+use async_cell_waiting::{Free, OneThread, Rule, Ruled, Taking, Unnamed, poll};
 use futures::future::Future;
 use futures::task::{Context, Poll};
 use std::alloc::Global;
@@ -17,9 +17,9 @@ use std::rc::Rc;
 /// The side of a reply slot that replies, once, by `set`. If it is dropped without that, as at `?`
 /// or an early `return`, the slot is closed, and the `Reply` is ready with `Closed`.
 #[derive_where(Debug)]
-pub struct Replier<T: Drop> {
+pub struct Replier<T: Drop, N: Free<T, TaskWaker> = Unnamed> {
     #[derive_where(skip)]
-    cell: Rc<AsyncCell<T>>,
+    cell: Rc<AsyncCell<T, N>>,
 }
 
 /// The side of a reply slot that waits: a future of the value. It fails with `Closed` if the
@@ -35,10 +35,10 @@ pub struct Replier<T: Drop> {
 /// println!(rt; "{:?}", block_on(&rt, reply)?)?; // prints Err(Closed)
 /// ```
 #[derive_where(Debug)]
-pub struct Reply<T: Drop> {
+pub struct Reply<T: Drop, N: Free<T, TaskWaker> = Unnamed> {
     /// `None` once it was ready.
     #[derive_where(skip)]
-    cell: Option<Rc<AsyncCell<T>>>,
+    cell: Option<Rc<AsyncCell<T, N>>>,
     #[derive_where(skip)]
     place: Place,
 }
@@ -55,7 +55,38 @@ pub fn reply_slot<T: Drop>(alloc: Global) -> Result<(Replier<T>, Reply<T>), Refu
         rc_value cell ≡ rc_value sides.0.cell)) }
     ensures refused { FailsWithMemory result }
 {
-    let Ok(cell) = Rc::new(alloc, AsyncCell::new(alloc)) else {
+    sides(alloc)
+}
+
+/// Makes a reply slot whose value keeps the rule `P`: `set` requires it, and the poll of the reply
+/// ensures it. Otherwise it is a `reply_slot`.
+///
+/// ```rust
+/// let (replier, reply) = reply_slot_of::<Even, u64>(rt.alloc())?;
+/// let _ = replier.set(42);
+/// println!(rt; "an even reply: {}", block_on(&rt, reply)??)?; // prints an even reply: 42
+/// ```
+pub fn reply_slot_of<P: Rule<T>, T: Drop>(
+    alloc: Global,
+) -> Result<(Replier<T, Ruled<P>>, Reply<T, Ruled<P>>), Refusal>
+    ensures of_one { IfOk result (λ sides. IsSomeAnd sides.1.cell (λ cell.
+        rc_value cell ≡ rc_value sides.0.cell)) }
+    ensures refused { FailsWithMemory result }
+{
+    sides(alloc)
+}
+
+/// Makes both sides of a slot without a name.
+#[inline(always)]
+fn sides<T: Drop, N: Free<T, TaskWaker>>(
+    alloc: Global,
+) -> Result<(Replier<T, N>, Reply<T, N>), Refusal>
+    requires nameless { N.named ≡ None }
+    ensures of_one { IfOk result (λ sides. IsSomeAnd sides.1.cell (λ cell.
+        rc_value cell ≡ rc_value sides.0.cell)) }
+    ensures refused { FailsWithMemory result }
+{
+    let Ok(cell) = Rc::new(alloc, AsyncCell::of(alloc, Core::new(alloc))) else {
         return Err(Refusal::Memory);
     };
     let reply = Reply {
@@ -65,7 +96,7 @@ pub fn reply_slot<T: Drop>(alloc: Global) -> Result<(Replier<T>, Reply<T>), Refu
     Ok((Replier { cell }, reply))
 }
 
-impl<T: Drop> Replier<T> {
+impl<T: Drop, N: Free<T, TaskWaker>> Replier<T, N> {
     /// Sets the value, and wakes the task that waits for it. The value stays until the `Reply`
     /// takes it or is dropped. If the `Reply` was dropped before, the value comes back.
     ///
@@ -75,6 +106,7 @@ impl<T: Drop> Replier<T> {
     /// println!(rt; "nobody waits: {:?}", replier.set(42))?; // prints nobody waits: Err(42)
     /// ```
     pub fn set(self, value: T) -> Result<(), T>
+        requires rule { N.holds value }
         ensures comes_back { IfErr result (λ back. back ≡ value) }
     {
         let Replier { cell } = self; // Without the drop, which closes.
@@ -88,22 +120,23 @@ impl<T: Drop> Replier<T> {
 }
 
 /// Closes the slot.
-impl<T: Drop> Drop for Replier<T> {
+impl<T: Drop, N: Free<T, TaskWaker>> Drop for Replier<T, N> {
     fn drop(self) {
         let Replier { cell } = self;
         let _ = cell.core.end_owner(&OneThread); // The cell has one owner: both sides together.
     }
 }
 
-impl<T: Drop> Future for Reply<T> {
+impl<T: Drop, N: Free<T, TaskWaker>> Future for Reply<T, N> {
     type Output = Result<T, Refusal>;
 
     ghost needs = { λ reply s. IsSomeAnd reply.cell (λ cell. s ≡ source_of cell.value) };
 
-    ghost gives = { λ reply given. FailsWithMemoryOrClosed given
+    ghost gives = { λ reply given. IfOk given N.holds × FailsWithMemoryOrClosed given
         × (reply.cell ≡ None → given ≡ Err Closed) };
 
     fn poll(&mut self, cx: &mut Context<'_>) -> Poll<Self::Output>
+        ensures rule { IfReady result (λ given. IfOk given N.holds) }
         ensures closed { self.old.cell ≡ None → result ≡ Poll.Ready (Err Refusal.Closed) }
         ensures over { IfReady result (λ given.
             ¬ (given ≡ Err Refusal.Memory) → self.new.cell ≡ None) }
@@ -129,7 +162,7 @@ impl<T: Drop> Future for Reply<T> {
 }
 
 /// Closes the slot, unless it was ready.
-impl<T: Drop> Drop for Reply<T> {
+impl<T: Drop, N: Free<T, TaskWaker>> Drop for Reply<T, N> {
     fn drop(self) {
         let Reply { cell, place: _ } = self;
         if let Some(cell) = cell {

@@ -1,4 +1,4 @@
-ghost use Rattle.std.specs.Prelude.{◌≡◌, IfOk, IfErr, Some};
+ghost use Rattle.std.specs.Prelude.{◌≡◌, IfOk, IfErr, IfSome, Some};
 ghost use Rattle.std.specs.Rc.{rc_value};
 ghost use Rattle.async_cell_model.specs.Refusal.{FailsWithMemory, IsOwnerRefusal};
 ghost use Rattle.async_cell_unsync.specs.Names.{cell_of, NamesAtMost};
@@ -9,17 +9,17 @@ use crate::guarded_cell::GuardedCell;
 use crate::owner::Owner;
 use crate::take::Take;
 use crate::weak::{GetWeak, TakeWeak, Weak};
-use async_cell_core::Refusal;
-use async_cell_waiting::OneThread;
+use async_cell_core::{Refusal, TaskWaker};
+use async_cell_waiting::{Free, OneThread, Unnamed};
 use std::alloc::{AllocFailed, Global};
 use std::rc::Rc;
 
 /// One counted owner of a cell. Dropping it ends the owner. The last one closes the cell: the value
 /// is dropped, all waiters are woken, and weak futures are ready with `None`.
 #[derive_where(Debug)]
-pub struct Shared<T> {
+pub struct Shared<T, N: Free<T, TaskWaker> = Unnamed> {
     #[derive_where(skip)]
-    pub(crate) cell: Rc<AsyncCell<T>>,
+    pub(crate) cell: Rc<AsyncCell<T, N>>,
 }
 
 impl<T: Drop> Shared<T> {
@@ -29,10 +29,12 @@ impl<T: Drop> Shared<T> {
     {
         Shared::into_shared(AsyncCell::new(alloc)).map_err(|(why, _)| why)
     }
+}
 
+impl<T: Drop, N: Free<T, TaskWaker>> Shared<T, N> {
     /// Makes the first owner of this cell. Fails with `Memory`; the cell is then returned in the
     /// error. `AsyncCell::into_shared_or_drop` is the form for `?`.
-    pub fn into_shared(cell: AsyncCell<T>) -> Result<Self, (Refusal, AsyncCell<T>)>
+    pub fn into_shared(cell: AsyncCell<T, N>) -> Result<Self, (Refusal, AsyncCell<T, N>)>
         ensures owns { IfOk result (λ owner. cell_of owner ≡ cell) }
         ensures comes_back { IfErr result (λ back. back ≡ (Refusal.Memory, cell)) }
     {
@@ -43,14 +45,14 @@ impl<T: Drop> Shared<T> {
     }
 
     /// Returns the cell, to call it.
-    pub fn cell(&self) -> &AsyncCell<T>
+    pub fn cell(&self) -> &AsyncCell<T, N>
         ensures held { result.now ≡ cell_of self.now }
     {
         self.cell.as_ref()
     }
 
     /// Makes this owner one with the cell's calls.
-    pub fn with(self) -> Owner<T>
+    pub fn with(self) -> Owner<T, N>
         ensures keeps { result.shared ≡ self }
     {
         Owner { shared: self }
@@ -85,6 +87,7 @@ impl<T: Drop> Shared<T> {
 
     /// Returns a guard that is a new owner. Fails as `another` does, and then gives the value back.
     pub fn guard_shared(&self, cancel: T) -> Result<GuardedCell<T, Self>, (Refusal, T)>
+        requires rule { N.holds cancel }
         ensures of_this { IfOk result (λ guard. cell_of guard.pointer ≡ cell_of self.now) }
         ensures keeps { IfOk result (λ guard. guard.cancel ≡ Some cancel) }
         ensures refused { IfErr result (λ back. IsOwnerRefusal back.0) }
@@ -98,6 +101,7 @@ impl<T: Drop> Shared<T> {
 
     /// As `guard_shared`, but drops the value if it fails, so that `?` serves.
     pub fn guard_shared_or_drop(&self, cancel: T) -> Result<GuardedCell<T, Self>, Refusal>
+        requires rule { N.holds cancel }
         ensures of_this { IfOk result (λ guard. cell_of guard.pointer ≡ cell_of self.now) }
         ensures keeps { IfOk result (λ guard. guard.cancel ≡ Some cancel) }
         ensures refused { IfErr result IsOwnerRefusal }
@@ -106,21 +110,21 @@ impl<T: Drop> Shared<T> {
     }
 
     /// Returns a weak pointer to the cell. If it cannot be counted, its calls fail with `Memory`.
-    pub fn downgrade(&self) -> Weak<T>
+    pub fn downgrade(&self) -> Weak<T, N>
         ensures of_this { NamesAtMost result (cell_of self.now) }
     {
         Weak::of(&self.cell)
     }
 
     /// Returns a future that takes the value and is not an owner.
-    pub fn take_weak(&self) -> TakeWeak<T>
+    pub fn take_weak(&self) -> TakeWeak<T, N>
         ensures of_this { NamesAtMost result.0 (cell_of self.now) }
     {
         TakeWeak(Weak::of(&self.cell))
     }
 
     /// Returns a future that clones the value, leaves it, and is not an owner.
-    pub fn get_weak(&self) -> GetWeak<T>
+    pub fn get_weak(&self) -> GetWeak<T, N>
     where
         T: Clone,
         ensures of_this { NamesAtMost result.0 (cell_of self.now) }
@@ -131,6 +135,7 @@ impl<T: Drop> Shared<T> {
     /// Closes the cell and returns its content, if this is the only owner. Wakes all waiters.
     /// Otherwise this owner is returned in the error.
     pub fn try_into_inner(self) -> Result<Option<T>, Self>
+        ensures rule { IfOk result (λ content. IfSome content N.holds) }
         ensures comes_back { IfErr result (λ back. back ≡ self) }
     {
         match self.cell.core.take_inner(&OneThread) {
@@ -143,7 +148,7 @@ impl<T: Drop> Shared<T> {
     }
 
     /// Makes a new owner. Fails with `Memory` (checked first), `Closed` or `OwnersFull`.
-    pub(crate) fn owning(cell: &Rc<AsyncCell<T>>) -> Result<Self, Refusal>
+    pub(crate) fn owning(cell: &Rc<AsyncCell<T, N>>) -> Result<Self, Refusal>
         ensures of_this { IfOk result (λ owner. cell_of owner ≡ rc_value cell.now) }
         ensures refused { IfErr result IsOwnerRefusal }
     {
@@ -164,7 +169,7 @@ impl Shared<()> {
 }
 
 /// Dropping it ends the owner.
-impl<T: Drop> Drop for Shared<T> {
+impl<T: Drop, N: Free<T, TaskWaker>> Drop for Shared<T, N> {
     fn drop(self) {
         let Shared { cell } = self;
         // The only pointer: its drop is the end of the cell.

@@ -8,6 +8,7 @@ ghost use Rattle.async_cell_unsync.specs.Names.{NameTheSame, OwnsNamed};
 ghost use Rattle.async_cell_unsync.specs.Owned.{cell_owned};
 ghost use Rattle.async_cell_unsync.specs.Refused.{GivesWeakly};
 ghost use Rattle.async_cell_unsync.specs.Source.{source_of, IsSourceOf};
+ghost use Rattle.async_cell_waiting.specs.Told.{IsCloneOfOne};
 ghost use Rattle.async_cell_waiting.specs.Upgrade.{FailsToUpgrade};
 
 use crate::async_cell::AsyncCell;
@@ -17,8 +18,10 @@ use crate::shared::Shared;
 use crate::take::Take;
 use crate::weak_owner::WeakOwner;
 use crate::with::With;
-use async_cell_core::Refusal;
-use async_cell_waiting::{At, OneThread, Polled, Request, Takes, Taking, Upgrade, poll, weakly};
+use async_cell_core::{Refusal, TaskWaker};
+use async_cell_waiting::{
+    At, Free, OneThread, Polled, Request, Takes, Taking, Unnamed, Upgrade, poll, weakly,
+};
 use futures::future::Future;
 use futures::task::{Context, Poll};
 use std::alloc::AllocError;
@@ -28,14 +31,14 @@ use std::rc::Rc;
 /// `TakeWeak` and `GetWeak` make a future of it, and `with` a `WeakOwner`.
 #[derive(Drop)]
 #[derive_where(Debug)]
-pub struct Weak<T> {
+pub struct Weak<T, N: Free<T, TaskWaker> = Unnamed> {
     /// `None` if the pointer could not be counted when it was made.
     #[derive_where(skip)]
-    cell: Option<Rc<AsyncCell<T>>>,
+    cell: Option<Rc<AsyncCell<T, N>>>,
 }
 
-impl<T: Drop> Weak<T> {
-    pub(crate) fn of(cell: &Rc<AsyncCell<T>>) -> Self
+impl<T: Drop, N: Free<T, TaskWaker>> Weak<T, N> {
+    pub(crate) fn of(cell: &Rc<AsyncCell<T, N>>) -> Self
         ensures of_this { NamesAtMost result (rc_value cell.now) }
     {
         let pointer: Result<_, _> = cell.clone();
@@ -43,7 +46,7 @@ impl<T: Drop> Weak<T> {
     }
 
     /// Returns the cell. Fails with `Memory` if the pointer could not be counted when it was made.
-    pub(crate) fn cell(&self) -> Result<&AsyncCell<T>, Refusal>
+    pub(crate) fn cell(&self) -> Result<&AsyncCell<T, N>, Refusal>
         ensures source { IfOk result (λ c. (s : ℕ) → IsSourceOf self.now s → s ≡ source_of c.now) }
         ensures lost { IsLost self.now → result ≡ Err Refusal.Memory }
         ensures refused { FailsWithMemory result }
@@ -61,14 +64,14 @@ impl<T: Drop> Weak<T> {
     }
 
     /// Makes this pointer a weak owner: what it upgrades to is an `Owner`.
-    pub fn with(self) -> WeakOwner<T>
+    pub fn with(self) -> WeakOwner<T, N>
         ensures points { result.weak ≡ self }
     {
         WeakOwner { weak: self }
     }
 
     /// Makes an owner; `None` if closed. Fails with `Memory` (checked first) or `OwnersFull`.
-    pub fn upgrade(&self) -> Result<Option<Shared<T>>, Refusal>
+    pub fn upgrade(&self) -> Result<Option<Shared<T, N>>, Refusal>
         ensures of_this { IfOk result (λ found. IfSome found (OwnsNamed self.now)) }
         ensures lost { IsLost self.now → result ≡ Err Refusal.Memory }
         ensures refused { FailsToUpgrade result }
@@ -83,10 +86,10 @@ impl<T: Drop> Weak<T> {
 }
 
 /// A clone points to the same cell.
-impl<T: Drop> Clone for Weak<T> {
+impl<T: Drop, N: Free<T, TaskWaker>> Clone for Weak<T, N> {
     ghost is_clone = { λ weak copy. NameTheSame weak copy };
 
-    fn clone(&self) -> Result<Weak<T>, AllocError> {
+    fn clone(&self) -> Result<Weak<T, N>, AllocError> {
         let cell = self.cell.clone()?;
         Ok(Weak { cell })
     }
@@ -97,12 +100,13 @@ impl<T: Drop> Clone for Weak<T> {
 #[derive(Drop)]
 #[derive_where(Clone; T: Drop)]
 #[derive_where(Debug)]
-pub struct TakeWeak<T>(pub Weak<T>);
+pub struct TakeWeak<T, N: Free<T, TaskWaker> = Unnamed>(pub Weak<T, N>);
 
-impl<T: Drop> TakeWeak<T> {
+impl<T: Drop, N: Free<T, TaskWaker>> TakeWeak<T, N> {
     /// Polls by a shared reference. Takes the value, or waits; `None` on a closed cell. Fails with
     /// `Memory` if there is no memory to wait.
     pub fn poll_shared(&self, cx: &mut Context<'_>) -> Poll<Result<Option<T>, Refusal>>
+        ensures rule { IfReady result (λ given. IfOk given (λ found. IfSome found N.holds)) }
         ensures lost { IsLost self.now.0 → result ≡ Poll.Ready (Err Refusal.Memory) }
         ensures registered { OnPending result (Covers cx.new (IsSourceOf self.now.0)) }
         ensures kept { Keeps cx.old cx.new }
@@ -119,7 +123,7 @@ impl<T: Drop> TakeWeak<T> {
     }
 
     /// Makes a `Take` that is a new owner. Fails, and returns `None`, as `Weak::upgrade` does.
-    pub fn upgrade(&self) -> Result<Option<Take<Shared<T>>>, Refusal>
+    pub fn upgrade(&self) -> Result<Option<Take<Shared<T, N>>>, Refusal>
         ensures of_this { IfOk result (λ found. IfSome found (λ own. OwnsNamed self.now.0 own.0)) }
         ensures lost { IsLost self.now.0 → result ≡ Err Refusal.Memory }
         ensures refused { FailsToUpgrade result }
@@ -128,8 +132,8 @@ impl<T: Drop> TakeWeak<T> {
     }
 }
 
-impl<T: Drop> Request<OneThread> for TakeWeak<T> {
-    type Cell = AsyncCell<T>;
+impl<T: Drop, N: Free<T, TaskWaker>> Request<OneThread> for TakeWeak<T, N> {
+    type Cell = AsyncCell<T, N>;
 
     ghost is_lost = { λ weak. IsLost weak.0 };
 
@@ -138,12 +142,12 @@ impl<T: Drop> Request<OneThread> for TakeWeak<T> {
     }
 }
 
-impl<T: Drop> Polled<OneThread> for TakeWeak<T> {
+impl<T: Drop, N: Free<T, TaskWaker>> Polled<OneThread> for TakeWeak<T, N> {
     type Output = Result<Option<T>, Refusal>;
 
     ghost waits_for = { λ polled. IsSourceOf polled.0 };
 
-    ghost may_give = { λ polled. GivesWeakly polled.0 };
+    ghost may_give = { λ polled. GivesWeakly N.holds polled.0 };
 
     fn poll_at(&self, at: At<'_>, cx: &mut Context<'_>, rt: &OneThread) -> Poll<Self::Output> {
         match self.0.cell() {
@@ -153,8 +157,8 @@ impl<T: Drop> Polled<OneThread> for TakeWeak<T> {
     }
 }
 
-impl<T: Drop> Upgrade<OneThread> for TakeWeak<T> {
-    type Owning = Take<Owner<T>>;
+impl<T: Drop, N: Free<T, TaskWaker>> Upgrade<OneThread> for TakeWeak<T, N> {
+    type Owning = Take<Owner<T, N>>;
 
     ghost owned_by = { λ weak owning. Names weak.0 (cell_owned owning.0) };
 
@@ -163,18 +167,22 @@ impl<T: Drop> Upgrade<OneThread> for TakeWeak<T> {
     }
 }
 
-impl<T: Drop> Takes<OneThread> for TakeWeak<T> {
+impl<T: Drop, N: Free<T, TaskWaker>> Takes<OneThread> for TakeWeak<T, N> {
     type Value = T;
 
+    ghost holds = { N.holds };
+
     ghost lacks_memory = { λ _ _ given. given.0 };
+
+    ghost gives_held = { λ _ _ given. given.2 };
 }
 
-impl<T: Drop> Future for TakeWeak<T> {
+impl<T: Drop, N: Free<T, TaskWaker>> Future for TakeWeak<T, N> {
     type Output = Result<Option<T>, Refusal>;
 
     ghost needs = { λ future. IsSourceOf future.0 };
 
-    ghost gives = { λ future. GivesWeakly future.0 };
+    ghost gives = { λ future. GivesWeakly N.holds future.0 };
 
     fn poll(&mut self, cx: &mut Context<'_>) -> Poll<Self::Output> {
         self.poll_shared(cx)
@@ -186,14 +194,16 @@ impl<T: Drop> Future for TakeWeak<T> {
 #[derive(Drop)]
 #[derive_where(Clone; T: Drop)]
 #[derive_where(Debug)]
-pub struct GetWeak<T>(pub Weak<T>);
+pub struct GetWeak<T, N: Free<T, TaskWaker> = Unnamed>(pub Weak<T, N>);
 
-impl<T: Drop> GetWeak<T> {
+impl<T: Drop, N: Free<T, TaskWaker>> GetWeak<T, N> {
     /// Polls by a shared reference. Clones the value, or waits; `None` on a closed cell. Fails with
     /// `Memory` if there is no memory for that.
     pub fn poll_shared(&self, cx: &mut Context<'_>) -> Poll<Result<Option<T>, Refusal>>
     where
         T: Clone,
+        ensures rule { IfReady result (λ given. IfOk given (λ found.
+            IfSome found (IsCloneOfOne T.is_clone N.holds))) }
         ensures lost { IsLost self.now.0 → result ≡ Poll.Ready (Err Refusal.Memory) }
         ensures registered { OnPending result (Covers cx.new (IsSourceOf self.now.0)) }
         ensures kept { Keeps cx.old cx.new }
@@ -210,7 +220,7 @@ impl<T: Drop> GetWeak<T> {
     }
 
     /// Makes a `Get` that is a new owner. Fails, and returns `None`, as `Weak::upgrade` does.
-    pub fn upgrade(&self) -> Result<Option<Get<Shared<T>>>, Refusal>
+    pub fn upgrade(&self) -> Result<Option<Get<Shared<T, N>>>, Refusal>
         ensures of_this { IfOk result (λ found. IfSome found (λ own. OwnsNamed self.now.0 own.0)) }
         ensures lost { IsLost self.now.0 → result ≡ Err Refusal.Memory }
         ensures refused { FailsToUpgrade result }
@@ -219,8 +229,8 @@ impl<T: Drop> GetWeak<T> {
     }
 }
 
-impl<T: Drop> Request<OneThread> for GetWeak<T> {
-    type Cell = AsyncCell<T>;
+impl<T: Drop, N: Free<T, TaskWaker>> Request<OneThread> for GetWeak<T, N> {
+    type Cell = AsyncCell<T, N>;
 
     ghost is_lost = { λ weak. IsLost weak.0 };
 
@@ -229,12 +239,12 @@ impl<T: Drop> Request<OneThread> for GetWeak<T> {
     }
 }
 
-impl<T: Clone> Polled<OneThread> for GetWeak<T> {
+impl<T: Clone, N: Free<T, TaskWaker>> Polled<OneThread> for GetWeak<T, N> {
     type Output = Result<Option<T>, Refusal>;
 
     ghost waits_for = { λ polled. IsSourceOf polled.0 };
 
-    ghost may_give = { λ polled. GivesWeakly polled.0 };
+    ghost may_give = { λ polled. GivesWeakly (IsCloneOfOne T.is_clone N.holds) polled.0 };
 
     fn poll_at(&self, at: At<'_>, cx: &mut Context<'_>, rt: &OneThread) -> Poll<Self::Output> {
         match self.0.cell() {
@@ -244,8 +254,8 @@ impl<T: Clone> Polled<OneThread> for GetWeak<T> {
     }
 }
 
-impl<T: Drop> Upgrade<OneThread> for GetWeak<T> {
-    type Owning = Get<Owner<T>>;
+impl<T: Drop, N: Free<T, TaskWaker>> Upgrade<OneThread> for GetWeak<T, N> {
+    type Owning = Get<Owner<T, N>>;
 
     ghost owned_by = { λ weak owning. Names weak.0 (cell_owned owning.0) };
 
@@ -254,12 +264,12 @@ impl<T: Drop> Upgrade<OneThread> for GetWeak<T> {
     }
 }
 
-impl<T: Clone> Future for GetWeak<T> {
+impl<T: Clone, N: Free<T, TaskWaker>> Future for GetWeak<T, N> {
     type Output = Result<Option<T>, Refusal>;
 
     ghost needs = { λ future. IsSourceOf future.0 };
 
-    ghost gives = { λ future. GivesWeakly future.0 };
+    ghost gives = { λ future. GivesWeakly (IsCloneOfOne T.is_clone N.holds) future.0 };
 
     fn poll(&mut self, cx: &mut Context<'_>) -> Poll<Self::Output> {
         self.poll_shared(cx)

@@ -6,21 +6,22 @@ ghost use Rattle.async_cell_waiting.specs.Upgrade.{FailsToUpgrade};
 use crate::owner::Owner;
 use crate::weak::{GetWeak, TakeWeak, Weak};
 use crate::with::With;
-use async_cell_core::Refusal;
+use async_cell_core::{Refusal, TaskWaker};
+use async_cell_waiting::{Free, Unnamed};
 use std::alloc::AllocError;
 
 /// A weak pointer to a cell, which makes owners and futures. It does not count as an owner, and
 /// keeps the cell's memory alive, not its value. `Owner::downgrade` makes one.
 #[derive(Drop)]
 #[derive_where(Debug)]
-pub struct WeakOwner<T> {
+pub struct WeakOwner<T, N: Free<T, TaskWaker> = Unnamed> {
     #[derive_where(skip)]
-    pub(crate) weak: Weak<T>,
+    pub(crate) weak: Weak<T, N>,
 }
 
-impl<T: Drop> WeakOwner<T> {
+impl<T: Drop, N: Free<T, TaskWaker>> WeakOwner<T, N> {
     /// Makes an owner; `None` if closed. Fails with `Memory` (checked first) or `OwnersFull`.
-    pub fn upgrade(&self) -> Result<Option<Owner<T>>, Refusal>
+    pub fn upgrade(&self) -> Result<Option<Owner<T, N>>, Refusal>
         ensures of_this { IfOk result (λ found. IfSome found (λ owner.
             Names self.now.weak (cell_owned owner))) }
         ensures lost { IsLost self.now.weak → result ≡ Err Refusal.Memory }
@@ -31,7 +32,7 @@ impl<T: Drop> WeakOwner<T> {
 
     /// Returns a future that takes the value and is no owner: `None` once the last owner has ended.
     /// If the pointer cannot be counted, it fails with `Memory`.
-    pub fn take(&self) -> With<TakeWeak<T>>
+    pub fn take(&self) -> With<TakeWeak<T, N>>
         ensures of_this { NameAtMostTheSame self.now.weak result.polled.0 }
     {
         TakeWeak(self.weak.again()).with()
@@ -39,7 +40,7 @@ impl<T: Drop> WeakOwner<T> {
 
     /// Returns a future that clones the value and is no owner: `None` once the last owner has
     /// ended. If the pointer cannot be counted, it fails with `Memory`.
-    pub fn get(&self) -> With<GetWeak<T>>
+    pub fn get(&self) -> With<GetWeak<T, N>>
     where
         T: Clone,
         ensures of_this { NameAtMostTheSame self.now.weak result.polled.0 }
@@ -49,10 +50,10 @@ impl<T: Drop> WeakOwner<T> {
 }
 
 /// A clone points to the same cell.
-impl<T: Drop> Clone for WeakOwner<T> {
+impl<T: Drop, N: Free<T, TaskWaker>> Clone for WeakOwner<T, N> {
     ghost is_clone = { λ weak copy. NameTheSame weak.weak copy.weak };
 
-    fn clone(&self) -> Result<WeakOwner<T>, AllocError> {
+    fn clone(&self) -> Result<WeakOwner<T, N>, AllocError> {
         Ok(self.weak.clone()?.with())
     }
 }
