@@ -22,10 +22,6 @@ module _ {T : Type 0} (is_clone : T → T → Type 0) where
         shown_second = next.clone;
       }
 
-  -- what is shown may be written
-  pub last_may : (may : List T → T → Type 0) (seen now : Life T) (x : T) → IsShown is_clone seen x now → IsLawful may now.values → ((a b : T) → is_clone a b → b ≡ a) → (before : List T) × (value : T) × (x ≡ value) × may before value
-  last_may may seen now x shown lawful exact = (shown.ends.0, shown.value, exact shown.value x shown.clone, lawful.each shown.ends.0 [] shown.value shown.ends.1)
-
 -- one list has one last value
 one_last : (xs ys : List ℕ) (x y : ℕ) → xs ++ x ∷ [] ≡ ys ++ y ∷ [] → x ≡ y
 one_last [] [] x y is = cc is

@@ -1,7 +1,9 @@
 //! Callers of `async_cell_latest_sync`, under the name of the facade.
+ghost use Rattle.std.specs.Prelude.{◌≡◌, ◌%◌, IfOk};
+
 use crate::{Host, half};
 use async_cell::Refusal;
-use async_cell::latest::Owner;
+use async_cell::latest::{Owner, Rule, Ruled};
 use futures::StreamExt;
 use futures::executor::block_on;
 use std::mem;
@@ -32,4 +34,29 @@ pub fn of_follower<R: Host>(rt: R) -> Result<(), Refusal> {
     let mut states = follower.states();
     let _ = block_on(&rt, states.next());
     Ok(())
+}
+
+/// A rule of values: each is even.
+struct Even;
+
+impl Rule<u32> for Even {
+    ghost use Rattle.std.specs.Prelude.{◌≡◌, ◌%◌};
+
+    ghost holds = { λ value. value % 2 ≡ 0 };
+}
+
+/// Each write of a state whose values are even, and a read.
+pub fn of_ruled<R: Host>(rt: R) -> Result<u32, Refusal>
+    ensures { IfOk result (λ value. value % 2 ≡ 0) }
+{
+    let owner = Owner::<u32, R, Ruled<Even>>::ruled(rt.alloc(), 42, rt)?;
+    owner.set(6);
+    let _ = owner.replace(8);
+    owner.update(|value| value / 2 * 2);
+    let _ = owner.modify(|value| *value = 4);
+    let _ = owner.modify_if(|value| {
+        *value = 2;
+        true
+    });
+    owner.follow()?.read()
 }

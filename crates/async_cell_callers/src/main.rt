@@ -7,9 +7,9 @@
 
 mod cells;
 mod latest;
+mod latest_as;
 mod pointers;
 mod sync;
-mod told_latest;
 mod told_takers;
 mod unsync;
 
@@ -36,6 +36,7 @@ fn main(rt: HostRuntime) -> Result<()> {
     pointers::at_far(rt);
     latest::of_owner(rt)?;
     latest::of_follower(rt)?;
-    told_latest::watch_gauge(rt)?;
+    latest::of_ruled(rt)?;
+    latest_as::watch_gauge(rt, 100)?;
     Ok(())
 }

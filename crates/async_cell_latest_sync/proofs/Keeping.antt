@@ -1,5 +1,5 @@
 -- The life beside a state is that of the state: what each call keeps of that.
-use Rattle.std.proofs.Common.{◌≡◌, ℕ, ◌+◌, ◌-◌, Bool, true, false, [], ◌∷◌, ◌++◌, Option, Result, Ok, Err, refl, ap, sym, subst, ◌∙◌, arith, length-append, rules}
+use Rattle.std.proofs.Common.{◌≡◌, ℕ, ◌+◌, ◌-◌, Bool, true, false, [], ◌∷◌, ◌++◌, Option, None, IsSome, Result, Ok, Err, refl, ap, sym, subst, ◌∙◌, arith, length-append, rules}
 use Rattle.std.specs.Prelude.{◌↔◌, ◌&&◌, not, nat_eq, OnOk, OnErr, if◌then◌else◌}
 use Rattle.std.proofs.lemmas.Bool.Decides.{nat_tests}
 use Rattle.async_cell_model.specs.declared.refusal.Refusal.{Refusal}
@@ -24,36 +24,38 @@ one_is_some n = grind (arith, nat_tests)
 some_was_some : (n : ℕ) → nat_eq (n - 1) 0 ≡ false → nat_eq n 0 ≡ false
 some_was_some n is = grind (arith, nat_tests)
 
-module _ {T W : Type 0} where
+module _ {T W : Type 0} (named : Option ℕ) (holds : T → Type 0) where
   writable_open : (s : State T W) → is_writable s ≡ true → is_closed s ≡ false
   writable_open s writable = left_of (is_closed s) _ writable
 
   -- before a write that is not refused the life has not ended
-  pub open_life : (named : Option ℕ) (s : State T W) (life : Life T) → IsOf named s life → is_writable s ≡ true → life.closed ≡ false
-  open_life named s life of writable = of.closed ∙ writable_open s writable
+  pub open_life : (s : State T W) (life : Life T) → IsOf named holds s life → is_writable s ≡ true → life.closed ≡ false
+  open_life s life of writable = of.closed ∙ writable_open s writable
 
   -- a write is refused of a life that takes no further value
-  pub full_life : (named : Option ℕ) (s : State T W) (life : Life T) → IsOf named s life → is_writable s ≡ false → TakesNoMore life
-  full_life named s life of full = grind (arith, nat_tests)
+  pub full_life : (s : State T W) (life : Life T) → IsOf named holds s life → is_writable s ≡ false → TakesNoMore life
+  full_life s life of full = grind (arith, nat_tests)
 
   -- a write that is not refused adds the value that it left
-  pub of_written : (rules : WakerRules W) (named : Option ℕ) (old new : State T W) (life : Life T) (x : T) (answer : Answer T W)
-      → IsOf named old life → IsStep rules old (Write x) answer new → is_memory answer.reply ≡ false → is_writable old ≡ true
-      → IsOf named new (record { values = life.values ++ new.value ∷ []; closed = false })
-  of_written rules named old new life x answer of step replied writable =
+  pub of_written : (rules : WakerRules W) (old new : State T W) (life : Life T) (x : T) (answer : Answer T W)
+      → IsOf named holds old life → IsStep rules old (Write x) answer new → is_memory answer.reply ≡ false → is_writable old ≡ true → holds new.value
+      → IsOf named holds new (record { values = life.values ++ new.value ∷ []; closed = false })
+  of_written rules old new life x answer of step replied writable kept =
       let stays : Stays (written old x) new = rw (replied, writable) at step.stays in
       record {
         counted = omega (arith, length-append life.values (new.value ∷ []), of.counted, stays.1);
         closed = sym (ap (λ n. nat_eq n 0) stays.2 ∙ writable_open old writable);
         last = λ there. (life.values, refl);
+        rule = kept;
       }
 
   -- what leaves the value, the version and the writers leaves the life
-  pub of_stays : (named : Option ℕ) (old new : State T W) (life : Life T) → IsOf named old life → Stays old new → IsOf named new life
-  of_stays named old new life of stays = record {
+  pub of_stays : (old new : State T W) (life : Life T) → IsOf named holds old life → Stays old new → IsOf named holds new life
+  of_stays old new life of stays = record {
     counted = of.counted ∙ sym stays.1;
     closed = of.closed ∙ sym (ap (λ n. nat_eq n 0) stays.2);
     last = λ there. subst (λ v. EndsIn life.values v) (sym stays.0) (of.last there);
+    rule = subst holds (sym stays.0) of.rule;
   }
 
   added_stays : (b : Bool) (s : State T W) (n : ℕ) → ((if b then s else record s { writers = n }).value ≡ s.value) × ((if b then s else record s { writers = n }).version ≡ s.version)
@@ -61,37 +63,50 @@ module _ {T W : Type 0} where
   added_stays false s n = (refl, refl)
 
   -- one more writer leaves the life
-  pub of_added : {A : Type 0} (rules : WakerRules W) (named : Option ℕ) (old new : State T W) (life : Life T) (added : Result A Refusal)
-      → IsOf named old life → IsStep rules old AddWriter (add_answer added) new
+  pub of_added : {A : Type 0} (rules : WakerRules W) (old new : State T W) (life : Life T) (added : Result A Refusal)
+      → IsOf named holds old life → IsStep rules old AddWriter (add_answer added) new
       → ((added ≡ Err why.Closed) ↔ (is_closed old ≡ true)) → OnOk added (new.writers ≡ old.writers + 1) → OnErr added (new ≡ old)
-      → IsOf named new life
-  of_added rules named old new life (Ok done) of step refused counted same =
+      → IsOf named holds new life
+  of_added rules old new life (Ok done) of step refused counted same =
       let was : is_closed old ≡ false = not_true (is_closed old) (λ is. absurd (cc (refused.1 is))) in
       let stays = added_stays _ old (old.writers + 1) in
       record {
         counted = of.counted ∙ sym (step.stays.1 ∙ stays.1);
         closed = of.closed ∙ (was ∙ sym (ap (λ n. nat_eq n 0) counted ∙ one_is_some old.writers));
         last = λ there. subst (λ v. EndsIn life.values v) (sym (step.stays.0 ∙ stays.0)) (of.last there);
+        rule = subst holds (sym (step.stays.0 ∙ stays.0)) of.rule;
       }
-  of_added rules named old new life (Err why) of step refused counted same = subst (λ s. IsOf named s life) (sym same) of
+  of_added rules old new life (Err why) of step refused counted same = subst (λ s. IsOf named holds s life) (sym same) of
 
   -- the end of a writer leaves the values, and the last one closes the life
-  pub of_closed : (named : Option ℕ) (old new : State T W) (life : Life T) → IsOf named old life
+  pub of_closed : (old new : State T W) (life : Life T) → IsOf named holds old life
       → new.value ≡ old.value → new.version ≡ old.version → is_closed new ≡ true
-      → IsOf named new (record { values = life.values; closed = true })
-  of_closed named old new life of value version closed = record {
+      → IsOf named holds new (record { values = life.values; closed = true })
+  of_closed old new life of value version closed = record {
     counted = of.counted ∙ sym version;
     closed = sym closed;
     last = λ there. subst (λ v. EndsIn life.values v) (sym value) (of.last there);
+    rule = subst holds (sym value) of.rule;
   }
 
-  pub of_ended : (named : Option ℕ) (old new : State T W) (life : Life T) → IsOf named old life
+  pub of_ended : (old new : State T W) (life : Life T) → IsOf named holds old life
       → new.value ≡ old.value → new.version ≡ old.version → new.writers ≡ old.writers - 1 → is_closed new ≡ false
-      → IsOf named new life
-  of_ended named old new life of value version writers closed =
+      → IsOf named holds new life
+  of_ended old new life of value version writers closed =
       let was : nat_eq old.writers 0 ≡ false = some_was_some old.writers (rw writers at closed) in
       record {
         counted = of.counted ∙ sym version;
         closed = of.closed ∙ (was ∙ sym closed);
         last = λ there. subst (λ v. EndsIn life.values v) (sym value) (of.last there);
+        rule = subst holds (sym value) of.rule;
       }
+
+  -- a change without a write leaves the life of a state without a name
+  pub of_changed : (old new : State T W) (life : Life T) → IsOf named holds old life
+      → named ≡ None → new ≡ record old { value = new.value } → holds new.value → IsOf named holds new life
+  of_changed old new life of unnamed is kept = record {
+    counted = of.counted ∙ sym (ap (λ (s : State T W). s.version) is);
+    closed = of.closed ∙ sym (ap is_closed is);
+    last = λ there. absurd (cc (subst IsSome unnamed there));
+    rule = kept;
+  }

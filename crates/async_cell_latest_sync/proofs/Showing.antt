@@ -23,9 +23,9 @@ module _ {T : Type 0} where
   whole (x ∷ xs) (y ∷ ys) begins same =
       let rest = whole xs ys (begins.0, cc begins.1) (cc same) in cc (begins.1, rest)
 
-  module _ {W : Type 0} (named : Option ℕ) (state : State T W) (seen now : Life T) where
+  module _ {W : Type 0} (named : Option ℕ) (holds : T → Type 0) (state : State T W) (seen now : Life T) where
     -- a state of another version shows a value that was not seen
-    pub shown_next : (is_clone : T → T → Type 0) (copy : T) → IsSome named → IsOf named state now → GoesOn seen now → length seen.values ≢ state.version → is_clone state.value copy → IsShownNext is_clone seen copy now
+    pub shown_next : (is_clone : T → T → Type 0) (copy : T) → IsSome named → IsOf named holds state now → GoesOn seen now → length seen.values ≢ state.version → is_clone state.value copy → IsShownNext is_clone seen copy now
     shown_next is_clone copy there of on other clone =
         let last : EndsIn now.values state.value = of.last there in
         record {
@@ -38,11 +38,11 @@ module _ {T : Type 0} where
         }
 
     -- a closed state of the version that was seen shows nothing
-    pub shown_all : (is_clone : T → T → Type 0) → IsOf named state now → GoesOn seen now → length seen.values ≡ state.version → is_closed state ≡ true → IsNext is_clone seen None now
+    pub shown_all : (is_clone : T → T → Type 0) → IsOf named holds state now → GoesOn seen now → length seen.values ≡ state.version → is_closed state ≡ true → IsNext is_clone seen None now
     shown_all is_clone of on same closed = (on, whole seen.values now.values on.begins (same ∙ sym of.counted), of.closed ∙ closed)
 
     -- a look shows the last value
-    pub shown : (is_clone : T → T → Type 0) (copy : T) → IsSome named → IsOf named state now → GoesOn seen now → is_clone state.value copy → IsShown is_clone seen copy now
+    pub shown : (is_clone : T → T → Type 0) (copy : T) → IsSome named → IsOf named holds state now → GoesOn seen now → is_clone state.value copy → IsShown is_clone seen copy now
     shown is_clone copy there of on clone = record {
       goes_on = on;
       value = state.value;
@@ -71,25 +71,25 @@ module _ {T : Type 0} where
   }
 
   -- and the value that it replaced
-  pub replaced : {W : Type 0} (named : Option ℕ) (state : State T W) (old now : Life T) (value was : T) → IsSome named → IsOf named state old → was ≡ state.value → now ≡ record { values = old.values ++ value ∷ []; closed = false } → (before : List T) × (now.values ≡ before ++ was ∷ value ∷ [])
-  replaced named state old now value was there of is_old is =
+  pub replaced : {W : Type 0} (named : Option ℕ) (holds : T → Type 0) (state : State T W) (old now : Life T) (value was : T) → IsSome named → IsOf named holds state old → was ≡ state.value → now ≡ record { values = old.values ++ value ∷ []; closed = false } → (before : List T) × (now.values ≡ before ++ was ∷ value ∷ [])
+  replaced named holds state old now value was there of is_old is =
       let last : EndsIn old.values state.value = of.last there in
       let split : old.values ++ value ∷ [] ≡ last.0 ++ was ∷ value ∷ [] =
       ap (λ l. l ++ value ∷ []) (last.1 ∙ ap (λ v. last.0 ++ v ∷ []) (sym is_old)) ∙ append_assoc last.0 (was ∷ []) (value ∷ []) in
       (last.0, ap (λ (l : Life T). l.values) is ∙ split)
 
-  module _ {W : Type 0} (named : Option ℕ) (state : State T W) (seen old : Life T) (P : T → T → Type 0) where
+  module _ {W : Type 0} (named : Option ℕ) (holds : T → Type 0) (state : State T W) (seen old : Life T) (P : T → T → Type 0) where
     -- what may be written over the last value may be written over that of the state
-    pub may_update : (may : List T → T → Type 0) → MayUpdate may seen P → IsSome named → IsOf named state old → GoesOn seen old → IsLawful may old.values → (new : T) → P state.value new → may old.values new
+    pub may_update : (may : List T → T → Type 0) → MayUpdate may seen P → IsSome named → IsOf named holds state old → GoesOn seen old → IsLawful may old.values → (new : T) → P state.value new → may old.values new
     may_update may allowed there of on lawful new made =
         let last : EndsIn old.values state.value = of.last there in
         subst (λ l. may l new) (sym last.1)
         (allowed last.0 state.value new (subst (λ l. IsPrefix seen.values l) last.1 on.begins) (subst (IsLawful may) last.1 lawful) made)
 
     -- an update that was seen from before it until after it
-    pub updated : (now : Life T) (new : T) → IsSome named → IsOf named state old → GoesOn seen old → GoesOn old now → P state.value new → now ≡ record { values = old.values ++ new ∷ []; closed = false } → IsUpdated seen P now
+    pub updated : (now : Life T) (new : T) → IsSome named → IsOf named holds state old → GoesOn seen old → GoesOn old now → P state.value new → now ≡ record { values = old.values ++ new ∷ []; closed = false } → IsUpdated seen P now
     updated now new there of on more made is =
-        let both = replaced named state old now new state.value there of refl is in
+        let both = replaced named holds state old now new state.value there of refl is in
         record {
           before = both.0;
           old = state.value;

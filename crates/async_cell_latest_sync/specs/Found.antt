@@ -5,11 +5,11 @@ use Rattle.std.specs.Borrow.{Bor}
 use Rattle.std.specs.Fn.{Mut, CalledAt}
 use Rattle.async_cell_model.specs.declared.refusal.Refusal.{Refusal}
 use Rattle.async_cell_model.specs.Refusal.{FailsWithMemory, FailsWithMemoryOrClosed}
+use Rattle.async_cell_waiting.specs.Told.{IsCloneOfOne}
 
--- an item of a stream: a clone of a value, or there was no memory for one
-abbrev pub IsItem : {T : Type 0} → (T → T → Type 0) → Result T Refusal → Type 0
-IsItem {T} is_clone item =
-    FailsWithMemory item × IfOk item (λ copy. (value : T) × is_clone value copy)
+-- an item of a stream: a clone of a value that keeps the rule, or there was no memory for one
+abbrev pub IsItem : {T : Type 0} → (T → T → Type 0) → (T → Type 0) → Result T Refusal → Type 0
+IsItem is_clone holds item = FailsWithMemory item × IfOk item (IsCloneOfOne is_clone holds)
 
 module _ {F T : Type 0} (calls : Mut F (Bor T × Unit {0}) Bool) where
   -- the predicate was false on some values, one after the other, and then true on this one
@@ -19,11 +19,13 @@ module _ {F T : Type 0} (calls : Mut F (Bor T × Unit {0}) Bool) where
       × FoldsTo (λ p x q. CalledAt calls p x false q) predicate denied f
       × CalledAt calls f value true g
 
-  -- the answer is a clone of the first value that the predicate holds of, or why there is none
-  abbrev pub IsFound : (T → T → Type 0) → F → Result T Refusal → Type 0
-  IsFound is_clone predicate answer =
+  -- the answer is a clone of the first value that the predicate holds of, which keeps the rule, or
+  -- why there is none
+  abbrev pub IsFound : (T → T → Type 0) → (T → Type 0) → F → Result T Refusal → Type 0
+  IsFound is_clone holds predicate answer =
       FailsWithMemoryOrClosed answer
-      × IfOk answer (λ copy. (value : T) × is_clone value copy × HoldsFirstOf predicate value)
+      × IfOk answer (λ copy. (value : T)
+      × holds value × is_clone value copy × HoldsFirstOf predicate value)
 
   -- what a test of this value finds: a clone of it, if the predicate holds of it
   abbrev pub IsTested : (T → T → Type 0) → F → T → Result (Option T) Refusal → F → Type 0

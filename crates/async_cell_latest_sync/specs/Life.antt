@@ -46,12 +46,13 @@ module _ {T : Type 0} where
   EndsIn values last = (before : List T) × (values ≡ before ++ last ∷ [])
 
   -- the life of a state, as it is now: its version counts its values, of which its own is the last
-  -- (a state without a name may have changed its value without a write)
-  pub record IsOf {W : Type 0} (named : Option ℕ) (state : State T W) (life : Life T)
-      : Type 0 where
+  -- (a state without a name may have changed its value without a write). The value keeps the rule.
+  pub record IsOf {W : Type 0} (named : Option ℕ) (holds : T → Type 0) (state : State T W)
+      (life : Life T) : Type 0 where
     pub counted : length life.values ≡ state.version
     pub closed : life.closed ≡ is_closed state
     pub last : IsSome named → EndsIn life.values state.value
+    pub rule : holds state.value
 
   -- a life goes on: values are added at its end, but none after the close
   pub record GoesOn (life now : Life T) : Type 0 where

@@ -5,15 +5,15 @@ use Rattle.async_cell_latest_sync.specs.declared.cell.LatestCell.{LatestCell}
 use Rattle.async_cell_latest_sync.specs.declared.owner.Owner.{Owner}
 use Rattle.async_cell_latest_sync.specs.declared.follower.Follower.{Follower}
 
-module _ {T R : Type 0} where
+module _ {T R N : Type 0} where
   -- the cell of an owner
-  abbrev pub cell_owned : Owner T R → LatestCell T
+  abbrev pub cell_owned : Owner T R N → LatestCell T N
   cell_owned owner = arc_value owner.cell
 
   -- the cell that a follower follows
-  abbrev pub cell_followed : Follower T R → LatestCell T
+  abbrev pub cell_followed : Follower T R N → LatestCell T N
   cell_followed follower = arc_value follower.cell
 
   -- the source that the tasks that wait for it register with
-  abbrev pub sources : Follower T R → ℕ → Type 0
+  abbrev pub sources : Follower T R N → ℕ → Type 0
   sources follower s = s ≡ (cell_followed follower).source.id

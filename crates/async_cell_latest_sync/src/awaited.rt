@@ -10,6 +10,7 @@ ghost use Rattle.async_cell_latest_sync.specs.Names.{cell_followed, sources};
 
 use crate::cell::{Unseen, UnseenState};
 use crate::follower::Follower;
+use crate::history::{Listed, Unlisted};
 use async_cell_latest::{Place, Refusal};
 use async_cell_waiting::poll;
 use futures::future::Future;
@@ -25,14 +26,14 @@ use std::sync::Wait;
 /// place is then free for the next such future, and the task that polled the dropped one may be
 /// woken once more.
 #[derive_where(Debug)]
-pub struct Changed<'a, T: Drop, R: Wait + Drop> {
+pub struct Changed<'a, T: Drop, R: Wait + Drop, N: Listed<T> = Unlisted> {
     #[derive_where(skip)]
-    pub(crate) follower: &'a mut Follower<T, R>,
+    pub(crate) follower: &'a mut Follower<T, R, N>,
     #[derive_where(skip)]
     pub(crate) place: Place,
 }
 
-impl<T: Drop, R: Wait + Drop> Changed<'_, T, R> {
+impl<T: Drop, R: Wait + Drop, N: Listed<T>> Changed<'_, T, R, N> {
     /// Drops the future, and the waker that it left in the state: the task that polled it last is
     /// polled once more. A waker keeps what its executor needs to wake the task, so cancel a wait
     /// that came to nothing on a state that is written seldom, as when its time is up. May wait for
@@ -44,14 +45,14 @@ impl<T: Drop, R: Wait + Drop> Changed<'_, T, R> {
 }
 
 /// Leaves its place in the wait list free.
-impl<T: Drop, R: Wait + Drop> Drop for Changed<'_, T, R> {
+impl<T: Drop, R: Wait + Drop, N: Listed<T>> Drop for Changed<'_, T, R, N> {
     fn drop(self) {
         let Changed { follower, place } = self;
         follower.cell.core.vacate(place, &follower.rt);
     }
 }
 
-impl<T: Drop, R: Wait + Drop> Future for Changed<'_, T, R> {
+impl<T: Drop, R: Wait + Drop, N: Listed<T>> Future for Changed<'_, T, R, N> {
     type Output = Result<(), Refusal>;
 
     ghost needs = { λ future. sources future.follower.now };
@@ -96,9 +97,9 @@ impl<T: Drop, R: Wait + Drop> Future for Changed<'_, T, R> {
 /// While it waits it holds one place in the wait list, as `Changed` does. **Dropping it may wait
 /// for the lock**, and wakes nobody.
 #[derive_where(Debug)]
-pub struct WaitFor<'a, T: Drop, R: Wait + Drop, F: Drop> {
+pub struct WaitFor<'a, T: Drop, R: Wait + Drop, F: Drop, N: Listed<T> = Unlisted> {
     #[derive_where(skip)]
-    pub(crate) follower: &'a mut Follower<T, R>,
+    pub(crate) follower: &'a mut Follower<T, R, N>,
     #[derive_where(skip)]
     pub(crate) place: Place,
     #[derive_where(skip)]
@@ -108,7 +109,7 @@ pub struct WaitFor<'a, T: Drop, R: Wait + Drop, F: Drop> {
     pub(crate) looked_at: u64,
 }
 
-impl<T: Drop, R: Wait + Drop, F: Drop> WaitFor<'_, T, R, F> {
+impl<T: Drop, R: Wait + Drop, F: Drop, N: Listed<T>> WaitFor<'_, T, R, F, N> {
     /// Drops the future, and the waker that it left in the state: the task that polled it last is
     /// polled once more (see `Changed::cancel`). May wait for the lock.
     pub fn cancel(self) {
@@ -123,7 +124,7 @@ impl<T: Drop, R: Wait + Drop, F: Drop> WaitFor<'_, T, R, F> {
 }
 
 /// Leaves its place in the wait list free.
-impl<T: Drop, R: Wait + Drop, F: Drop> Drop for WaitFor<'_, T, R, F> {
+impl<T: Drop, R: Wait + Drop, F: Drop, N: Listed<T>> Drop for WaitFor<'_, T, R, F, N> {
     fn drop(self) {
         let WaitFor {
             follower,
@@ -135,26 +136,27 @@ impl<T: Drop, R: Wait + Drop, F: Drop> Drop for WaitFor<'_, T, R, F> {
     }
 }
 
-impl<T: Clone, R: Wait + Drop, F: FnMut(&T) -> bool + Drop> Future for WaitFor<'_, T, R, F> {
+impl<T: Clone, R: Wait + Drop, F: FnMut(&T) -> bool + Drop, N: Listed<T>> Future
+    for WaitFor<'_, T, R, F, N> {
     type Output = Result<T, Refusal>;
 
     ghost can_poll = { λ future. F.IsAlwaysCallable future.predicate };
 
     ghost needs = { λ future. sources future.follower.now };
 
-    ghost gives = { λ future. IsFound F.FnMut T.is_clone future.predicate };
+    ghost gives = { λ future. IsFound F.FnMut T.is_clone N.holds future.predicate };
 
     fn poll(&mut self, cx: &mut Context<'_>) -> Poll<Result<T, Refusal>>
         requires can_poll { F.IsAlwaysCallable self.old.predicate }
         ensures called { IfReady result (λ answer. IfOk answer (λ copy. (value : T)
-            × T.is_clone value copy
+            × N.holds value × T.is_clone value copy
             × CalledAt F.FnMut self.old.predicate value true self.new.predicate)) }
         ensures unmarked { result ≡ Poll.Ready (Err Refusal.Memory)
             → self.new.follower.now ≡ self.old.follower.now }
-        ensures value { IfReady result (IsFound F.FnMut T.is_clone self.old.predicate) }
+        ensures value { IfReady result (IsFound F.FnMut T.is_clone N.holds self.old.predicate) }
         ensures same { OnPending result ((answer : _)
-            → IsFound F.FnMut T.is_clone self.new.predicate answer
-            → IsFound F.FnMut T.is_clone self.old.predicate answer) }
+            → IsFound F.FnMut T.is_clone N.holds self.new.predicate answer
+            → IsFound F.FnMut T.is_clone N.holds self.old.predicate answer) }
         ensures again { OnPending result (F.IsAlwaysCallable self.new.predicate) }
         ensures looked { OnPending result (((self.new.predicate ≡ self.old.predicate)
             × (self.new.follower.now ≡ self.old.follower.now))
@@ -227,14 +229,14 @@ impl<T: Clone, R: Wait + Drop, F: FnMut(&T) -> bool + Drop> Future for WaitFor<'
 /// While it waits it holds one place in the wait list, as `Changed` does. **Dropping it may wait
 /// for the lock**, and wakes nobody.
 #[derive_where(Debug)]
-pub struct States<T: Drop, R: Wait + Drop> {
+pub struct States<T: Drop, R: Wait + Drop, N: Listed<T> = Unlisted> {
     #[derive_where(skip)]
-    pub(crate) follower: Follower<T, R>,
+    pub(crate) follower: Follower<T, R, N>,
     #[derive_where(skip)]
     pub(crate) place: Place,
 }
 
-impl<T: Drop, R: Wait + Drop> States<T, R> {
+impl<T: Drop, R: Wait + Drop, N: Listed<T>> States<T, R, N> {
     /// Drops the stream, and the waker that it left in the state: the task that polled it last is
     /// polled once more (see `Changed::cancel`). May wait for the lock.
     pub fn cancel(self) {
@@ -244,23 +246,23 @@ impl<T: Drop, R: Wait + Drop> States<T, R> {
 }
 
 /// Leaves its place in the wait list free.
-impl<T: Drop, R: Wait + Drop> Drop for States<T, R> {
+impl<T: Drop, R: Wait + Drop, N: Listed<T>> Drop for States<T, R, N> {
     fn drop(self) {
         let States { follower, place } = self;
         follower.cell.core.vacate(place, &follower.rt);
     }
 }
 
-impl<T: Clone, R: Wait + Drop> Stream for States<T, R> {
+impl<T: Clone, R: Wait + Drop, N: Listed<T>> Stream for States<T, R, N> {
     type Item = Result<T, Refusal>;
 
     ghost needs = { λ states. sources states.follower };
 
     ghost yields = { λ _ items last.
-        AllByRecursion (IsItem T.is_clone) items × IfSome last (IsItem T.is_clone) };
+        AllByRecursion (IsItem T.is_clone N.holds) items × IfSome last (IsItem T.is_clone N.holds) };
 
     fn poll_next(&mut self, cx: &mut Context<'_>) -> Poll<Option<Result<T, Refusal>>>
-        ensures value { IfReady result (λ item. IfSome item (IsItem T.is_clone)) }
+        ensures value { IfReady result (λ item. IfSome item (IsItem T.is_clone N.holds)) }
         ensures marks { IfReady result (λ item. IfSome item (λ told. OnOk told
             (self.new.follower.seen ≢ self.old.follower.seen))) }
         ensures unmarked { IfReady result (λ item. IfSome item (λ told. OnErr told

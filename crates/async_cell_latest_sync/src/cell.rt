@@ -4,25 +4,25 @@ mod looks;
 mod waits;
 mod writes;
 
+use crate::history::{Listed, Unlisted};
 use async_cell_waiting::Lock;
 pub use calls::LatestCore;
 use futures::task::Source;
-use std::alloc::Global;
 pub use waits::{Unseen, UnseenState};
 
 /// A state that threads share, behind a lock.
 #[derive(Drop)]
-pub struct LatestCell<T> {
-    pub(crate) core: Lock<LatestCore<T>>,
+pub struct LatestCell<T, N: Listed<T> = Unlisted> {
+    pub(crate) core: Lock<LatestCore<T, N>>,
     /// The source that waiting tasks register with.
     pub(crate) source: Source,
 }
 
-impl<T: Drop> LatestCell<T> {
-    /// Makes a cell of one owner that holds this value.
-    pub(crate) fn new(alloc: Global, value: T) -> Self {
+impl<T: Drop, N: Listed<T>> LatestCell<T, N> {
+    /// Makes the cell of this state.
+    pub(crate) fn of(core: LatestCore<T, N>) -> Self {
         LatestCell {
-            core: Lock::of(LatestCore::new(alloc, value)),
+            core: Lock::of(core),
             source: Source::new(),
         }
     }

@@ -2,10 +2,12 @@ ghost use Rattle.std.specs.Prelude.{◌≡◌, IsOk, IfOk, OnErr};
 ghost use Rattle.std.specs.Arc.{arc_value};
 ghost use Rattle.std.specs.Fn.{FnOnceReturnsAt};
 ghost use Rattle.async_cell_model.specs.Refusal.{FailsWithMemory};
+ghost use Rattle.async_cell_waiting.specs.Told.{IsCloneOfOne};
 ghost use Rattle.async_cell_latest_sync.specs.Names.{cell_followed};
 
 use crate::awaited::{Changed, States, WaitFor};
 use crate::cell::LatestCell;
+use crate::history::{Listed, Unlisted};
 use async_cell_latest::{Place, Refusal};
 use std::alloc::AllocError;
 use std::sync::{Arc, Wait};
@@ -20,9 +22,9 @@ use std::sync::{Arc, Wait};
 /// Its drop does not take the lock. Dropping a future that it made may wait for it.
 #[derive(Drop)]
 #[derive_where(Debug)]
-pub struct Follower<T: Drop, R> {
+pub struct Follower<T: Drop, R, N: Listed<T> = Unlisted> {
     #[derive_where(skip)]
-    pub(crate) cell: Arc<LatestCell<T>>,
+    pub(crate) cell: Arc<LatestCell<T, N>>,
     /// The version that it has seen; 0 if none.
     #[derive_where(skip)]
     pub(crate) seen: u64,
@@ -30,9 +32,9 @@ pub struct Follower<T: Drop, R> {
     pub(crate) rt: R,
 }
 
-impl<T: Drop, R: Wait + Drop> Follower<T, R> {
+impl<T: Drop, R: Wait + Drop, N: Listed<T>> Follower<T, R, N> {
     /// Makes a follower that has seen the current state.
-    pub(crate) fn new(cell: Arc<LatestCell<T>>, rt: R) -> Self
+    pub(crate) fn new(cell: Arc<LatestCell<T, N>>, rt: R) -> Self
         ensures of_this { cell_followed result ≡ arc_value cell }
     {
         let seen = cell.version(&rt);
@@ -50,7 +52,7 @@ impl<T: Drop, R: Wait + Drop> Follower<T, R> {
     /// println!(rt; "{:?}", block_on(&rt, follower.changed())?)?; // prints Ok(())
     /// println!(rt; "{:?}", block_on(&rt, follower.changed())?)?; // prints Err(Closed)
     /// ```
-    pub fn changed(&mut self) -> Changed<'_, T, R>
+    pub fn changed(&mut self) -> Changed<'_, T, R, N>
         ensures of_this { result.follower.now ≡ self.old }
     {
         Changed {
@@ -75,7 +77,7 @@ impl<T: Drop, R: Wait + Drop> Follower<T, R> {
     /// let found = block_on(&rt, follower.wait_for(|value: &u32| *value > 1))?;
     /// println!(rt; "{found:?}")?; // prints Ok(2)
     /// ```
-    pub fn wait_for<F: FnMut(&T) -> bool + Drop>(&mut self, predicate: F) -> WaitFor<'_, T, R, F>
+    pub fn wait_for<F: FnMut(&T) -> bool + Drop>(&mut self, predicate: F) -> WaitFor<'_, T, R, F, N>
         ensures of_this { result.follower.now ≡ self.old }
         ensures looks { result.predicate ≡ predicate }
     {
@@ -96,7 +98,7 @@ impl<T: Drop, R: Wait + Drop> Follower<T, R> {
     /// println!(rt; "{:?}", block_on(&rt, states.next())?)?; // prints Some(Ok(2))
     /// println!(rt; "{:?}", block_on(&rt, states.next())?)?; // prints None
     /// ```
-    pub fn states(self) -> States<T, R>
+    pub fn states(self) -> States<T, R, N>
         ensures of_this { result.follower ≡ self }
     {
         let follower = self;
@@ -110,7 +112,7 @@ impl<T: Drop, R: Wait + Drop> Follower<T, R> {
     pub fn read(&self) -> Result<T, Refusal>
     where
         T: Clone,
-        ensures clones { IfOk result (λ copy. (value : T) × T.is_clone value copy) }
+        ensures rule { IfOk result (IsCloneOfOne T.is_clone N.holds) }
         ensures if_infallible { ((value : T) → T.is_infallible value) → IsOk result }
         ensures refused { FailsWithMemory result }
     {
@@ -121,7 +123,7 @@ impl<T: Drop, R: Wait + Drop> Follower<T, R> {
     pub fn read_and_update(&mut self) -> Result<T, Refusal>
     where
         T: Clone,
-        ensures clones { IfOk result (λ copy. (value : T) × T.is_clone value copy) }
+        ensures rule { IfOk result (IsCloneOfOne T.is_clone N.holds) }
         ensures if_infallible { ((value : T) → T.is_infallible value) → IsOk result }
         ensures refused { FailsWithMemory result }
         ensures unmarked { OnErr result (self.new ≡ self.old) }
@@ -136,7 +138,7 @@ impl<T: Drop, R: Wait + Drop> Follower<T, R> {
     /// seen. The lock is held meanwhile: a closure that calls its own state waits forever.
     pub fn peek<A, F: FnOnce(&T) -> A>(&self, look: F) -> A
         requires { F.IsAlwaysCallable look }
-        ensures called { (seen : T) × FnOnceReturnsAt F.FnOnce look seen result }
+        ensures called { (seen : T) × N.holds seen × FnOnceReturnsAt F.FnOnce look seen result }
     {
         self.cell.peek(look, &self.rt).1
     }
@@ -144,7 +146,7 @@ impl<T: Drop, R: Wait + Drop> Follower<T, R> {
     /// `peek`, of a value that is then marked as seen.
     pub fn peek_and_update<A, F: FnOnce(&T) -> A>(&mut self, look: F) -> A
         requires { F.IsAlwaysCallable look }
-        ensures called { (seen : T) × FnOnceReturnsAt F.FnOnce look seen result }
+        ensures called { (seen : T) × N.holds seen × FnOnceReturnsAt F.FnOnce look seen result }
         ensures of_this { cell_followed self.new ≡ cell_followed self.old }
     {
         let (version, answer) = self.cell.peek(look, &self.rt);
@@ -179,11 +181,11 @@ impl<T: Drop, R: Wait + Drop> Follower<T, R> {
 }
 
 /// A clone follows the same state, and has seen what this follower has seen.
-impl<T: Drop, R: Copy> Clone for Follower<T, R> {
+impl<T: Drop, R: Copy, N: Listed<T>> Clone for Follower<T, R, N> {
     ghost is_clone = { λ follower copy.
         (cell_followed copy ≡ cell_followed follower) × (copy.seen ≡ follower.seen) };
 
-    fn clone(&self) -> Result<Follower<T, R>, AllocError> {
+    fn clone(&self) -> Result<Follower<T, R, N>, AllocError> {
         Ok(Follower {
             cell: Arc::try_clone(&self.cell)?,
             seen: self.seen,

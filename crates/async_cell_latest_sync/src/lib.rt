@@ -2,13 +2,17 @@
 #![tactic(auto)]
 
 mod awaited;
+mod calls_as;
 mod cell;
 mod follower;
+mod history;
+mod next_as;
 mod owner;
-mod told;
 
 pub use async_cell_latest::{Refusal, TaskWaker};
+pub use async_cell_waiting::{Rule, Ruled, With};
 pub use awaited::{Changed, States, WaitFor};
 pub use follower::Follower;
+pub use history::{Blank, Listed, Unlisted, Witness};
+pub use next_as::NextAs;
 pub use owner::Owner;
-pub use told::{Listed, StateSession, ToldFollower, ToldNext, ToldOwner, with_told_state};

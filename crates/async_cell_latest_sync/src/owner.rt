@@ -1,11 +1,15 @@
-ghost use Rattle.std.specs.Prelude.{◌≡◌, IsOk, IfOk};
+ghost use Rattle.std.specs.Prelude.{◌≡◌, [], ◌∷◌, false, Some, IsOk, IfOk};
 ghost use Rattle.std.specs.Fn.{FnOnceReturnsAt};
 ghost use Rattle.async_cell_model.specs.Refusal.{FailsWithMemory};
+ghost use Rattle.async_cell_waiting.specs.Told.{IsCloneOfOne};
+ghost use Rattle.async_cell_latest_sync.specs.Life.{GoesOn};
 ghost use Rattle.async_cell_latest_sync.specs.Names.{cell_followed, cell_owned};
 
-use crate::cell::LatestCell;
+use crate::cell::{LatestCell, LatestCore};
 use crate::follower::Follower;
+use crate::history::{Blank, Listed, Unlisted, Witness};
 use async_cell_latest::Refusal;
+use async_cell_waiting::{Rule, Ruled, Step, end_and_wake};
 use std::alloc::{AllocFailed, Global};
 use std::sync::{Arc, Wait};
 
@@ -21,10 +25,13 @@ use std::sync::{Arc, Wait};
 /// A state takes 18,446,744,073,709,551,614 writes, and no further one.
 ///
 /// **Letting one go may wait for the lock**, as its other calls may.
+///
+/// `N` says what is known of the values (see `Rule`), and to which list of them a witness sees: of
+/// a state of `Owner::new` neither.
 #[derive_where(Debug)]
-pub struct Owner<T: Drop, R: Wait + Drop> {
+pub struct Owner<T: Drop, R: Wait + Drop, N: Listed<T> = Unlisted> {
     #[derive_where(skip)]
-    pub(crate) cell: Arc<LatestCell<T>>,
+    pub(crate) cell: Arc<LatestCell<T, N>>,
     #[derive_where(skip)]
     pub(crate) rt: R,
 }
@@ -40,7 +47,51 @@ impl<T: Drop, R: Wait + Copy> Owner<T, R> {
     pub fn new(alloc: Global, value: T, rt: R) -> Result<Self, Refusal>
         ensures refused { FailsWithMemory result }
     {
-        match Arc::new(alloc, LatestCell::new(alloc, value)) {
+        Owner::of(alloc, LatestCore::new(alloc, value), rt)
+    }
+}
+
+impl<T: Drop, R: Wait + Copy, P: Rule<T>> Owner<T, R, Ruled<P>> {
+    /// Makes a state of this value, whose values keep the rule `P`, and its first owner. Fails with
+    /// `Memory`, and drops the value.
+    ///
+    /// ```rust
+    /// let even = Owner::<u64, _, Ruled<Even>>::ruled(rt.alloc(), 42, rt)?;
+    /// println!(rt; "{}", even.read()?)?; // prints 42
+    /// ```
+    pub fn ruled(alloc: Global, value: T, rt: R) -> Result<Self, Refusal>
+        requires rule { P.holds value }
+        ensures refused { FailsWithMemory result }
+    {
+        Owner::of(alloc, LatestCore::new(alloc, value), rt)
+    }
+}
+
+impl<T: Drop, R: Wait + Copy, N: Listed<T>> Owner<T, R, N> {
+    /// Makes a state of this value, which `N` names, its first owner, and a witness that has seen
+    /// the value. Fails with `Memory`, and drops the value.
+    pub fn named(
+        alloc: Global,
+        value: T,
+        blank: Blank<T>,
+        rt: R,
+    ) -> Result<(Self, Witness<T, N>), Refusal>
+        requires named { N.named ≡ Some blank }
+        requires may { N.may [] value }
+        ensures new { IfOk result (λ made.
+            made.1 ≡ record { values = value ∷ []; closed = false }) }
+        ensures refused { FailsWithMemory result }
+    {
+        let core = LatestCore::<T, N>::begin(alloc, value, blank.into_log());
+        let seen = core.witness();
+        Ok((Owner::of(alloc, core, rt)?, seen))
+    }
+
+    /// Makes the first owner of this state. Fails with `Memory`.
+    fn of(alloc: Global, core: LatestCore<T, N>, rt: R) -> Result<Self, Refusal>
+        ensures refused { FailsWithMemory result }
+    {
+        match Arc::new(alloc, LatestCell::of(core)) {
             Ok(cell) => Ok(Owner { cell, rt }),
             Err(AllocFailed { value: _ }) => Err(Refusal::Memory),
         }
@@ -56,7 +107,7 @@ impl<T: Drop, R: Wait + Copy> Owner<T, R> {
     /// setting.set(2);
     /// println!(rt; "{}", follower.read_and_update()?)?; // prints 2
     /// ```
-    pub fn follow(&self) -> Result<Follower<T, R>, Refusal>
+    pub fn follow(&self) -> Result<Follower<T, R, N>, Refusal>
         ensures of_this { IfOk result (λ follower. cell_followed follower ≡ cell_owned self.now) }
         ensures refused { FailsWithMemory result }
     {
@@ -64,12 +115,12 @@ impl<T: Drop, R: Wait + Copy> Owner<T, R> {
     }
 }
 
-impl<T: Drop, R: Wait + Drop> Owner<T, R> {
+impl<T: Drop, R: Wait + Drop, N: Listed<T>> Owner<T, R, N> {
     /// Returns a clone of the value. Fails with `Memory` if the clone fails.
     pub fn read(&self) -> Result<T, Refusal>
     where
         T: Clone,
-        ensures clones { IfOk result (λ copy. (value : T) × T.is_clone value copy) }
+        ensures rule { IfOk result (IsCloneOfOne T.is_clone N.holds) }
         ensures if_infallible { ((value : T) → T.is_infallible value) → IsOk result }
         ensures refused { FailsWithMemory result }
     {
@@ -85,7 +136,7 @@ impl<T: Drop, R: Wait + Drop> Owner<T, R> {
     /// ```
     pub fn peek<A, F: FnOnce(&T) -> A>(&self, look: F) -> A
         requires { F.IsAlwaysCallable look }
-        ensures called { (seen : T) × FnOnceReturnsAt F.FnOnce look seen result }
+        ensures called { (seen : T) × N.holds seen × FnOnceReturnsAt F.FnOnce look seen result }
     {
         self.cell.peek(look, &self.rt).1
     }
@@ -103,10 +154,25 @@ impl<T: Drop, R: Wait + Drop> Owner<T, R> {
     pub fn waiting(&self) -> usize {
         self.cell.core.places(&self.rt)
     }
+
+    /// Ends this owner, as its drop does. Returns whether the state is closed, as this was the last
+    /// one: then it takes no further write, and a follower that has seen all values is told so.
+    pub fn end_as(self, seen: &mut Witness<T, N>) -> bool
+        ensures told { GoesOn seen.old seen.new }
+        ensures closed { result ≡ seen.new.closed }
+    {
+        let Owner { cell, rt } = self;
+        let mut step = cell.core.lock(&rt);
+        let ended = step.lend().end_writer();
+        step.shown().tell(seen);
+        let is_closed = step.shown().is_closed();
+        end_and_wake(step, ended);
+        is_closed
+    }
 }
 
 /// Ends the owner. May wait for the lock.
-impl<T: Drop, R: Wait + Drop> Drop for Owner<T, R> {
+impl<T: Drop, R: Wait + Drop, N: Listed<T>> Drop for Owner<T, R, N> {
     fn drop(self) {
         let Owner { cell, rt } = self;
         cell.end_owner(&rt);

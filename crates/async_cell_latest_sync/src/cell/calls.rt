@@ -1,12 +1,13 @@
 //! The calls that a step may make of a state. Only this module sees the state: each function makes
 //! one call of it, and holds what comes out. So no other text can wake or drop that during a step.
-ghost use Rattle.std.specs.Prelude.{◌≡◌, ◌≢◌, ◌↔◌, [], ◌∷◌, ◌++◌, true, false, IsOk, IfOk, IfErr, IsSome, OnOk, OnErr};
+ghost use Rattle.std.specs.Prelude.{◌≡◌, ◌≢◌, ◌↔◌, [], ◌∷◌, ◌++◌, Bool, true, false, None, IsOk, IfOk, IfErr, IsSome, OnOk, OnErr};
 ghost use Rattle.std.specs.Fn.{FnOnceReturnsAt, FnOnceReturnsAtMut};
 ghost use Rattle.async_cell_model.specs.Refusal.{FailsWithClosed, FailsWithMemory, FailsWithMemoryOrClosed, IsOwnerRefusal};
+ghost use Rattle.async_cell_waiting.specs.Told.{IsCloneOfOne};
 ghost use Rattle.async_cell_latest.specs.State.{is_closed};
 ghost use Rattle.async_cell_latest_sync.specs.Life.{Fits, GoesOn, IsNext, IsOf, TakesNoMore};
 
-use crate::told::{Listed, Shown, Unlisted, Values, Witness};
+use crate::history::{Listed, Unlisted, Values, Witness};
 use async_cell_latest::{Latest, Place, Refusal, TaskWaker, Wakers};
 use async_cell_waiting::{Held, Room, Writes};
 use futures::task::Waker;
@@ -22,7 +23,7 @@ pub struct LatestCore<T, N: Listed<T> = Unlisted> {
     values: Values<T, N>,
 }
 
-/// Contracts see the state, and its life.
+/// Contracts see the state, and its life. Its value keeps the rule.
 impl<T, N: Listed<T>> Model for LatestCore<T, N> {
     ghost use Rattle.async_cell_wakers.specs.declared.task_waker.TaskWaker.{TaskWaker};
     ghost use Rattle.async_cell_latest_sync.specs.Life.{Desk, IsOf};
@@ -31,37 +32,18 @@ impl<T, N: Listed<T>> Model for LatestCore<T, N> {
 
     ghost view = { λ c. record { state = c.state; life = c.values } };
 
-    ghost invariant = { λ c. IsOf N.named c.state c.values };
-}
-
-impl<T: Drop> LatestCore<T> {
-    pub(crate) fn new(alloc: Global, value: T) -> Self {
-        LatestCore::begin(alloc, value, Log::open())
-    }
-
-    /// No state with a name has it: a closure that returned `false` may have changed the value.
-    #[tactic(auto, using(crate::proofs::Keeping::of_written, crate::proofs::Keeping::open_life))]
-    pub(crate) fn modify_if<F: FnOnce(&mut T) -> bool + Drop>(
-        &mut self,
-        change: F,
-    ) -> Held<Result<bool, Refusal>, Option<Wakers<TaskWaker>>>
-        requires { F.IsAlwaysCallable change }
-        ensures called { IfOk result.answer (λ changed. (old new : T)
-            × FnOnceReturnsAtMut F.FnOnce change old changed new) }
-        ensures refused { FailsWithClosed result.answer }
-    {
-        match self.state.modify_if(change) {
-            Ok(Some(woken)) => {
-                self.values.add(&self.state);
-                Held::waking(Ok(true), Some(woken))
-            }
-            Ok(None) => Held::waking(Ok(false), None),
-            Err(why) => Held::waking(Err(why), None),
-        }
-    }
+    ghost invariant = { λ c. IsOf N.named N.holds c.state c.values };
 }
 
 impl<T: Drop, N: Listed<T>> LatestCore<T, N> {
+    /// Makes a state of this value, and of one writer, without a name.
+    pub(crate) fn new(alloc: Global, value: T) -> Self
+        requires unnamed { N.named ≡ None }
+        requires may { N.may [] value }
+    {
+        LatestCore::begin(alloc, value, Log::open())
+    }
+
     /// Makes a state of this value, and of one writer, whose list has this name.
     pub(crate) fn begin(alloc: Global, value: T, log: Log<Option<T>>) -> Self
         requires named { Fits N.named log.name }
@@ -74,27 +56,29 @@ impl<T: Drop, N: Listed<T>> LatestCore<T, N> {
         LatestCore { state, values }
     }
 
-    /// Returns what comes next for a follower that was shown this: a clone of the value if it was
-    /// not shown yet, or nothing if the state is closed. Otherwise, and then it has to wait,
+    /// Returns what comes next for who has seen this: a clone of the value if it was not seen yet, or nothing if the state is closed. Otherwise, and then it has to wait,
     /// `Closed`.
     #[inline(always)]
-    pub(crate) fn next(&self, seen: Shown<T, N>) -> Held<Result<(Option<T>, Shown<T, N>), Refusal>>
+    pub(crate) fn next(
+        &self,
+        seen: Witness<T, N>,
+    ) -> Held<Result<(Option<T>, Witness<T, N>), Refusal>>
     where
         T: Clone,
         ensures next { IfOk result.answer (λ both. IsNext T.is_clone seen both.0 both.1) }
         ensures refused { FailsWithMemoryOrClosed result.answer }
     {
-        let mut now = seen.witness();
-        now.learn(&self.values);
+        let mut now = seen.again();
+        now.learn(&self.values, self.state.version());
         if self.state.is_unseen(seen.version()) {
-            let (version, value) = match self.state.get() {
+            let (_, value) = match self.state.get() {
                 Ok(shown) => shown,
                 Err(why) => return Held::of(Err(why)),
             };
-            return Held::of(Ok((Some(value), Shown::of(version, now))));
+            return Held::of(Ok((Some(value), now)));
         }
         if self.state.is_closed() {
-            return Held::of(Ok((None, Shown::of(seen.version(), now))));
+            return Held::of(Ok((None, now)));
         }
         Held::of(Err(Refusal::Closed))
     }
@@ -104,7 +88,7 @@ impl<T: Drop, N: Listed<T>> LatestCore<T, N> {
         requires { IsSome N.named }
         ensures { result ≡ self.now.life }
     {
-        Witness::of(&self.values)
+        Witness::of(&self.values, self.state.version())
     }
 
     /// Lets a witness see the whole life, which is that of the state.
@@ -112,16 +96,17 @@ impl<T: Drop, N: Listed<T>> LatestCore<T, N> {
     pub(crate) fn tell(&self, witness: &mut Witness<T, N>)
         ensures whole { witness.new ≡ self.now.life }
         ensures goes_on { GoesOn witness.old self.now.life }
-        ensures of_state { IsOf N.named self.now.state self.now.life }
+        ensures of_state { IsOf N.named N.holds self.now.state self.now.life }
         ensures named { IsSome N.named }
     {
-        witness.learn(&self.values);
+        witness.learn(&self.values, self.state.version());
     }
 
     #[inline(always)]
     pub(crate) fn read(&self) -> (u64, &T)
         ensures version { result.0 ≡ self.now.state.version }
         ensures gives { result.1.now ≡ self.now.state.value }
+        ensures rule { N.holds result.1.now }
     {
         self.state.read()
     }
@@ -153,6 +138,7 @@ impl<T: Drop, N: Listed<T>> LatestCore<T, N> {
         T: Clone,
         ensures version { IfOk result.answer (λ shown. shown.0 ≡ self.now.state.version) }
         ensures clones { IfOk result.answer (λ shown. T.is_clone self.now.state.value shown.1) }
+        ensures rule { IfOk result.answer (λ shown. IsCloneOfOne T.is_clone N.holds shown.1) }
         ensures if_infallible { ((value : T) → T.is_infallible value) → IsOk result.answer }
         ensures refused { FailsWithMemory result.answer }
     {
@@ -163,6 +149,7 @@ impl<T: Drop, N: Listed<T>> LatestCore<T, N> {
     #[tactic(auto, using(crate::proofs::Keeping::of_written, crate::proofs::Keeping::open_life))]
     pub(crate) fn write_first(&mut self, value: T) -> Result<Held<T, Option<TaskWaker>>, Held<T>>
         requires may { N.may self.old.life.values value }
+        ensures comes_back { IfErr result (λ held. held.answer ≡ value) }
     {
         match self.state.write_first(value) {
             Ok((old, first)) => {
@@ -180,6 +167,7 @@ impl<T: Drop, N: Listed<T>> LatestCore<T, N> {
         ensures entered { OnOk result.answer (self.new.life ≡ record
             { values = self.old.life.values ++ value ∷ []; closed = false }) }
         ensures gives_old { IfOk result.answer (λ old. old ≡ self.old.state.value) }
+        ensures rule { IfOk result.answer N.holds }
         ensures unchanged { OnErr result.answer (self.new.life ≡ self.old.life) }
         ensures full { OnErr result.answer (TakesNoMore self.new.life) }
         ensures comes_back { IfErr result.answer (λ back. back ≡ value) }
@@ -199,7 +187,8 @@ impl<T: Drop, N: Listed<T>> LatestCore<T, N> {
         change: F,
     ) -> Held<Result<T, T>, Option<Wakers<TaskWaker>>>
         requires callable { F.IsAlwaysCallable change }
-        requires may { (new : T) → FnOnceReturnsAt F.FnOnce change self.old.state.value new
+        requires may { (new : T) → N.holds self.old.state.value
+            → FnOnceReturnsAt F.FnOnce change self.old.state.value new
             → N.may self.old.life.values new }
         ensures called { (old new : T) × FnOnceReturnsAt F.FnOnce change old new }
         ensures makes { OnOk result.answer
@@ -225,7 +214,9 @@ impl<T: Drop, N: Listed<T>> LatestCore<T, N> {
         change: F,
     ) -> Held<Result<A, Refusal>, Option<Wakers<TaskWaker>>>
         requires callable { F.IsAlwaysCallable change }
-        requires may { (value : T) → N.may self.old.life.values value }
+        requires may { (answer : A) (new : T) → N.holds self.old.state.value
+            → FnOnceReturnsAtMut F.FnOnce change self.old.state.value answer new
+            → N.may self.old.life.values new }
         ensures called { IfOk result.answer (λ answer. (old new : T)
             × FnOnceReturnsAtMut F.FnOnce change old answer new) }
         ensures refused { FailsWithClosed result.answer }
@@ -235,6 +226,31 @@ impl<T: Drop, N: Listed<T>> LatestCore<T, N> {
                 self.values.add(&self.state);
                 Held::waking(Ok(answer), Some(woken))
             }
+            Err(why) => Held::waking(Err(why), None),
+        }
+    }
+
+    /// No state with a name has it: a closure that returned `false` may have changed the value.
+    #[tactic(auto, using(crate::proofs::Keeping::of_written, crate::proofs::Keeping::open_life))]
+    pub(crate) fn modify_if<F: FnOnce(&mut T) -> bool + Drop>(
+        &mut self,
+        change: F,
+    ) -> Held<Result<bool, Refusal>, Option<Wakers<TaskWaker>>>
+        requires callable { F.IsAlwaysCallable change }
+        requires unnamed { N.named ≡ None }
+        requires may { (changed : Bool) (new : T) → N.holds self.old.state.value
+            → FnOnceReturnsAtMut F.FnOnce change self.old.state.value changed new
+            → N.may self.old.life.values new }
+        ensures called { IfOk result.answer (λ changed. (old new : T)
+            × FnOnceReturnsAtMut F.FnOnce change old changed new) }
+        ensures refused { FailsWithClosed result.answer }
+    {
+        match self.state.modify_if(change) {
+            Ok(Some(woken)) => {
+                self.values.add(&self.state);
+                Held::waking(Ok(true), Some(woken))
+            }
+            Ok(None) => Held::waking(Ok(false), None),
             Err(why) => Held::waking(Err(why), None),
         }
     }
@@ -256,10 +272,16 @@ impl<T: Drop, N: Listed<T>> LatestCore<T, N> {
     }
 }
 
-impl<T: Drop> Writes<T> for LatestCore<T> {
+impl<T: Drop, N: Listed<T>> Writes<T> for LatestCore<T, N> {
+    ghost use Rattle.std.specs.Prelude.{List};
+
     type Old = T;
 
     type Waker = TaskWaker;
+
+    ghost may = { λ value. (before : List T) → N.may before value };
+
+    ghost gives = { N.holds };
 
     #[inline(always)]
     fn write(&mut self, value: T) -> Held<Result<T, T>, Option<Wakers<TaskWaker>>> {

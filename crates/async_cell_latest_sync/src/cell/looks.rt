@@ -2,19 +2,21 @@
 ghost use Rattle.std.specs.Prelude.{◌≡◌, ◌≢◌, IsOk, IfOk, IfSome, IfNone};
 ghost use Rattle.std.specs.Fn.{FnOnceReturnsAt};
 ghost use Rattle.async_cell_model.specs.Refusal.{FailsWithMemory};
+ghost use Rattle.async_cell_waiting.specs.Told.{IsCloneOfOne};
 ghost use Rattle.async_cell_latest_sync.specs.Found.{IsTested};
 
 use super::LatestCell;
+use crate::history::Listed;
 use async_cell_latest::Refusal;
 use async_cell_waiting::{Held, Step, end};
 use std::alloc::AllocError;
 use std::sync::Wait;
 
-impl<T: Drop> LatestCell<T> {
+impl<T: Drop, N: Listed<T>> LatestCell<T, N> {
     /// Calls the closure on the value, while the lock is held. Returns the version too.
     pub(crate) fn peek<A, F: FnOnce(&T) -> A, R: Wait>(&self, look: F, rt: &R) -> (u64, A)
         requires { F.IsAlwaysCallable look }
-        ensures called { (seen : T) × FnOnceReturnsAt F.FnOnce look seen result.1 }
+        ensures called { (seen : T) × N.holds seen × FnOnceReturnsAt F.FnOnce look seen result.1 }
     {
         let step = self.core.lock(rt);
         let (version, value) = step.shown().read();
@@ -27,7 +29,7 @@ impl<T: Drop> LatestCell<T> {
     pub(crate) fn get<R: Wait>(&self, rt: &R) -> Result<(u64, T), Refusal>
     where
         T: Clone,
-        ensures clones { IfOk result (λ shown. (value : T) × T.is_clone value shown.1) }
+        ensures rule { IfOk result (λ shown. IsCloneOfOne T.is_clone N.holds shown.1) }
         ensures if_infallible { ((value : T) → T.is_infallible value) → IsOk result }
         ensures refused { FailsWithMemory result }
     {
@@ -49,7 +51,7 @@ impl<T: Drop> LatestCell<T> {
         T: Clone,
         requires { P.IsAlwaysCallable predicate.old }
         ensures tested { IfSome result (λ tested. (value : T)
-            × IsTested P.FnMut T.is_clone predicate.old value tested.1 predicate.new) }
+            × N.holds value × IsTested P.FnMut T.is_clone predicate.old value tested.1 predicate.new) }
         ensures unseen { IfSome result (λ tested. tested.0 ≢ seen) }
         ensures uncalled { IfNone result (predicate.new ≡ predicate.old) }
         ensures again { P.IsAlwaysCallable predicate.new }

@@ -1,5 +1,6 @@
 //! What polls ask a state.
 use super::LatestCore;
+use crate::history::Listed;
 use async_cell_latest::Refusal;
 use async_cell_waiting::{Held, Query};
 
@@ -11,7 +12,7 @@ pub struct Unseen(pub u64);
 #[derive(Clone, Copy, Drop)]
 pub struct UnseenState(pub u64);
 
-impl<T: Drop> Query<LatestCore<T>> for Unseen {
+impl<T: Drop, N: Listed<T>> Query<LatestCore<T, N>> for Unseen {
     ghost use Rattle.std.specs.Prelude.{◌≢◌};
 
     type Answer = u64;
@@ -19,12 +20,12 @@ impl<T: Drop> Query<LatestCore<T>> for Unseen {
     ghost gives = { λ asked version. version ≢ asked.0 };
 
     #[inline(always)]
-    fn must_wait(&self, core: &LatestCore<T>) -> bool {
+    fn must_wait(&self, core: &LatestCore<T, N>) -> bool {
         !core.is_unseen(self.0) && !core.is_closed()
     }
 
     #[inline(always)]
-    fn answer(self, core: &mut LatestCore<T>) -> Held<Result<u64, Refusal>> {
+    fn answer(self, core: &mut LatestCore<T, N>) -> Held<Result<u64, Refusal>> {
         match core.is_unseen(self.0) {
             true => Held::of(Ok(core.version())),
             false => Held::of(Err(Refusal::Closed)),
@@ -32,21 +33,22 @@ impl<T: Drop> Query<LatestCore<T>> for Unseen {
     }
 }
 
-impl<T: Clone> Query<LatestCore<T>> for UnseenState {
+impl<T: Clone, N: Listed<T>> Query<LatestCore<T, N>> for UnseenState {
     ghost use Rattle.std.specs.Prelude.{◌≢◌};
+    ghost use Rattle.async_cell_waiting.specs.Told.{IsCloneOfOne};
 
     type Answer = (u64, T);
 
     ghost gives = { λ asked shown.
-        (shown.0 ≢ asked.0) × ((value : T) × T.is_clone value shown.1) };
+        (shown.0 ≢ asked.0) × IsCloneOfOne T.is_clone N.holds shown.1 };
 
     #[inline(always)]
-    fn must_wait(&self, core: &LatestCore<T>) -> bool {
+    fn must_wait(&self, core: &LatestCore<T, N>) -> bool {
         Unseen(self.0).must_wait(core)
     }
 
     #[inline(always)]
-    fn answer(self, core: &mut LatestCore<T>) -> Held<Result<(u64, T), Refusal>> {
+    fn answer(self, core: &mut LatestCore<T, N>) -> Held<Result<(u64, T), Refusal>> {
         match core.is_unseen(self.0) {
             true => core.get(),
             false => Held::of(Err(Refusal::Closed)),

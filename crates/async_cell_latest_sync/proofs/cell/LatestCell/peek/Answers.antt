@@ -5,4 +5,4 @@ use Rattle.async_cell_latest_sync.proofs.cell.LatestCell.peek.Goals as goal
 pub returns : goal.returns
 returns g c =
     let read = c.read-version.result.1 in
-    record { called = (read.now, (read, c.look-answer.ensures, refl)) }
+    record { called = (read.now, c.read-version.ensures.rule, (read, c.look-answer.ensures, refl)) }

@@ -33,7 +33,8 @@ impl<T: Drop, N: Listed<T>> Values<T, N> {
         requires named { Fits N.named log.name }
         requires empty { log.list ≡ [] }
         requires may { N.may [] state.now.value }
-        ensures { result ≡ record { values = state.now.value ∷ []; closed = false } }
+        ensures begun { result ≡ record { values = state.now.value ∷ []; closed = false } }
+        ensures rule { N.holds state.now.value }
     {
         let mut log = log;
         log.push::<_, Written>(state);
@@ -49,8 +50,9 @@ impl<T: Drop, N: Listed<T>> Values<T, N> {
     pub(crate) fn add(&mut self, state: &Latest<T, TaskWaker>)
         requires open { self.old.closed ≡ false }
         requires may { N.may self.old.values state.now.value }
-        ensures { self.new ≡ record
+        ensures added { self.new ≡ record
             { values = self.old.values ++ state.now.value ∷ []; closed = false } }
+        ensures rule { N.holds state.now.value }
     {
         self.log.push::<_, Written>(state);
     }

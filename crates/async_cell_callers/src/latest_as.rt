@@ -1,0 +1,114 @@
+//! A watcher of a state never goes back: what it is shown later was written later.
+ghost use Rattle.std.specs.Prelude.{◌≡◌, ◌<◌, ◌≤◌, ℕ, List, Some, IfOk, IfSome};
+ghost use Rattle.async_cell_latest_sync.specs.Life.{Agree};
+ghost use Rattle.async_cell_callers.specs.InOrder.{AreInOrder, NeverFalls};
+
+use anyhow::Result;
+use async_cell::latest::{Blank, Follower, Listed, Owner, Witness};
+use futures::executor::block_on;
+use std::alloc::AllocGlobal;
+use std::marker::Brand;
+use std::random::RandomSource;
+use std::sync::Wait;
+use std::thread::{Threads, join};
+
+/// Is shown a value, and then an unseen one, unless the state is closed before: of all values of
+/// the state, the second was written after the first.
+#[tactic(auto, using(crate::proofs::InOrder::in_order))]
+pub fn watch<T, R, N>(
+    rt: R,
+    follower: &mut Follower<T, R, N>,
+    seen: Witness<T, N>,
+) -> Result<(T, Option<T>, Witness<T, N>)>
+where
+    T: Clone,
+    R: Wait + RandomSource + AllocGlobal + Copy,
+    N: Listed<T>,
+    ensures in_order { IfOk result (λ shown. IfSome shown.1 (λ next.
+        AreInOrder T.is_clone shown.0 next shown.2.values)) }
+{
+    let mut seen = seen;
+    let first = follower.read_and_update_as(&mut seen)?;
+    let (next, later) = block_on(&rt, follower.next_as(seen))??;
+    Ok((first, next, later))
+}
+
+/// Writes a gauge in one thread, always below this limit, and watches it in another.
+pub fn watch_gauge<R>(rt: R, limit: u64) -> Result<u64>
+where
+    R: Threads + Wait + RandomSource + AllocGlobal + Copy + Send + Sync,
+    requires limit { 0 < limit }
+    ensures below { IfOk result (λ value. value < limit) }
+{
+    let blank = Blank::new();
+    watch_named::<Brand, R>(rt, limit, blank)
+}
+
+/// Does so with the state that `N` names.
+fn watch_named<N, R>(rt: R, limit: u64, blank: Blank<u64>) -> Result<u64>
+where
+    N: Listed<u64> + Send + Sync,
+    R: Threads + Wait + RandomSource + AllocGlobal + Copy + Send + Sync,
+    requires limit { 0 < limit }
+    requires named { N.named ≡ Some blank }
+    requires may { (before : List ℕ) (value : ℕ) → value < limit → N.may before value }
+    requires rule { (value : ℕ) → N.holds value → value < limit }
+    ensures below { IfOk result (λ value. value < limit) }
+{
+    let (owner, seen) = Owner::<u64, R, N>::named(rt.alloc(), 0, blank, rt)?;
+    let mut follower = owner.follow()?;
+    let mut writer = seen.again();
+    let write = move || -> bool
+        requires { (before : List ℕ) (value : ℕ) → value < limit → N.may before value }
+    {
+        if limit > 7 {
+            let _ = owner.set_as(&mut writer, 7);
+        }
+        owner.end_as(&mut writer)
+    };
+    let follow = move || -> Result<u64>
+        requires { (value : ℕ) → N.holds value → value < limit }
+        ensures { IfOk result (λ value. value < limit) }
+    {
+        let _ = &limit; // for the contract
+        let (_, _, mut seen) = watch(rt, &mut follower, seen)?;
+        Ok(follower.read_and_update_as(&mut seen)?)
+    };
+    join(&rt, write, follow).1
+}
+
+/// Returns one more, or the last number.
+fn one_more(value: &u64) -> u64
+    ensures { value.now ≤ result }
+{
+    value.saturating_add(1)
+}
+
+/// Raises a gauge that never falls, whoever else writes it. Returns whether it took the value.
+#[tactic(auto, using(crate::proofs::InOrder::may_rise))]
+pub fn raise<R, N>(owner: &Owner<u64, R, N>, seen: &mut Witness<u64, N>) -> bool
+where
+    R: Wait + Drop,
+    N: Listed<u64>,
+    requires may { Agree N.may NeverFalls }
+{
+    owner.update_as(seen, one_more).is_ok()
+}
+
+/// What is shown later of a gauge that never falls is no less.
+#[tactic(auto, using(crate::proofs::InOrder::rises))]
+pub fn watch_rise<R, N>(
+    rt: R,
+    follower: &mut Follower<u64, R, N>,
+    seen: Witness<u64, N>,
+) -> Result<(u64, u64)>
+where
+    R: Wait + RandomSource + AllocGlobal + Copy,
+    N: Listed<u64>,
+    requires may { Agree N.may NeverFalls }
+    ensures rises { IfOk result (λ shown. shown.0 ≤ shown.1) }
+{
+    let (first, next, later) = watch(rt, follower, seen)?;
+    later.lawful();
+    Ok((first, next.unwrap_or(first)))
+}
