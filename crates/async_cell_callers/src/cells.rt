@@ -36,5 +36,21 @@ macro_rules! waits {
     }};
 }
 
+/// An owner and a cell whose values are even: what a write puts in is, so what is taken is. `$ruled`
+/// makes the owner of a cell that holds 2.
+macro_rules! ruled {
+    ($rt:ident, $ruled:expr $(, $right:expr)?) => {{
+        let owner = $ruled?;
+        owner.set(4);
+        owner.update(|content| content.map(|value| if value > 100 { 0 } else { value + 2 }));
+        drop(owner.guard_shared(6).ok());
+        let cell = AsyncCell::<u32, Ruled<Even>>::ruled_with($rt.alloc(), 2);
+        cell.set(owner.replace(8).unwrap_or(0) $(, $right)?);
+        cell.update_some(|value| if value > 100 { 0 } else { value + 2 } $(, $right)?);
+        Ok(cell.try_take($($right)?))
+    }};
+}
+
 pub(crate) use content;
+pub(crate) use ruled;
 pub(crate) use waits;

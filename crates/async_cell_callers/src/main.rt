@@ -5,15 +5,18 @@
 //! requiring as much of its own callers, needs no call here; what calls do is for cases and tests.
 #![tactic(auto)]
 
+ghost use Rattle.std.specs.Prelude.{◌≡◌, ◌%◌};
+
 mod cells;
 mod latest;
 mod latest_as;
 mod pointers;
 mod sync;
-mod told_takers;
+mod takers;
 mod unsync;
 
 use anyhow::Result;
+use async_cell_sync::Rule;
 use std::alloc::AllocGlobal;
 use std::random::RandomSource;
 use std::sync::Wait;
@@ -23,6 +26,13 @@ trait Host: AllocGlobal + Copy + RandomSource + Wait {}
 
 impl<R: AllocGlobal + Copy + RandomSource + Wait> Host for R {}
 
+/// The rule of an even value.
+struct Even;
+
+impl Rule<u32> for Even {
+    ghost holds = { λ value. value % 2 ≡ 0 };
+}
+
 /// A look at a value.
 fn half(value: &u32) -> u32 {
     value / 2
@@ -31,7 +41,7 @@ fn half(value: &u32) -> u32 {
 fn main(rt: HostRuntime) -> Result<()> {
     sync::all(rt)?;
     unsync::all(rt)?;
-    told_takers::all(rt)?;
+    takers::all(rt)?;
     pointers::at_near(rt);
     pointers::at_far(rt);
     latest::of_owner(rt)?;

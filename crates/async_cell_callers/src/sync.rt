@@ -1,8 +1,10 @@
 //! Callers of `async_cell_sync`, under the names of the facade but for a `LockedCore`.
-use crate::cells::{content, waits};
-use crate::{Host, half};
+ghost use Rattle.std.specs.Prelude.{◌≡◌, ◌%◌, IfOk, IfSome};
+
+use crate::cells::{content, ruled, waits};
+use crate::{Even, Host, half};
 use async_cell::Refusal;
-use async_cell::sync::{AsyncCell, Owner, reply_slot};
+use async_cell::sync::{AsyncCell, Owner, Ruled, reply_slot};
 use async_cell_core::{Core, Named};
 use async_cell_sync::LockedCore;
 use futures::StreamExt;
@@ -29,6 +31,16 @@ fn waits<R: Host>(rt: R) -> Result<(), Refusal> {
     waits!(rt, rt)
 }
 
+fn ruled<R: Host>(rt: R) -> Result<Option<u32>, Refusal>
+    ensures rule { IfOk result (λ taken. IfSome taken (λ value. value % 2 ≡ 0)) }
+{
+    ruled!(
+        rt,
+        Owner::<u32, R, Ruled<Even>>::ruled_with(rt.alloc(), 2, rt),
+        &rt
+    )
+}
+
 /// Polls by a shared reference.
 fn polls<R: Host>(rt: R) -> anyhow::Result<()> {
     let (task, cell) = (MockTask::new(&rt)?, AsyncCell::new_with(rt.alloc(), 1u32));
@@ -47,5 +59,6 @@ pub fn all<R: Host>(rt: R) -> anyhow::Result<()> {
     locked_core(rt);
     owner(rt)?;
     waits(rt)?;
+    let _ = ruled(rt)?;
     polls(rt)
 }

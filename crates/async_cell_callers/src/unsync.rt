@@ -1,8 +1,10 @@
 //! Callers of `async_cell_unsync`, under the names of the facade.
-use crate::cells::{content, waits};
-use crate::{Host, half};
+ghost use Rattle.std.specs.Prelude.{◌≡◌, ◌%◌, IfOk, IfSome};
+
+use crate::cells::{content, ruled, waits};
+use crate::{Even, Host, half};
 use async_cell::Refusal;
-use async_cell::unsync::{AsyncCell, Owner, reply_slot};
+use async_cell::unsync::{AsyncCell, Owner, Ruled, reply_slot};
 use futures::StreamExt;
 use futures::executor::block_on;
 
@@ -12,6 +14,12 @@ fn cell<R: Host>(rt: R) {
 
 fn waits<R: Host>(rt: R) -> Result<(), Refusal> {
     waits!(rt)
+}
+
+fn ruled<R: Host>(rt: R) -> Result<Option<u32>, Refusal>
+    ensures rule { IfOk result (λ taken. IfSome taken (λ value. value % 2 ≡ 0)) }
+{
+    ruled!(rt, Owner::<u32, Ruled<Even>>::ruled_with(rt.alloc(), 2))
 }
 
 /// The futures of a `Shared`, which are polled as they are.
@@ -27,5 +35,6 @@ fn shared<R: Host>(rt: R) -> Result<(), Refusal> {
 pub fn all<R: Host>(rt: R) -> Result<(), Refusal> {
     cell(rt);
     waits(rt)?;
+    let _ = ruled(rt)?;
     shared(rt)
 }

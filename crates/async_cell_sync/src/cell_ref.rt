@@ -1,4 +1,7 @@
 ghost use Rattle.std.specs.Prelude.{◌≡◌, ℕ};
+ghost use Rattle.async_cell_model.specs.declared.entry.Kept.{Kept};
+ghost use Rattle.async_cell_waiting.specs.Told.{IsTake};
+ghost use Rattle.async_cell_wakers.specs.declared.task_waker.TaskWaker.{TaskWaker as Waker};
 ghost use Rattle.async_cell_sync.specs.Source.{source_of};
 
 use crate::async_cell::AsyncCell;
@@ -88,12 +91,8 @@ impl<C: CellRef> CellRef for &C {
 
 /// A pointer to a cell whose values may be taken.
 pub trait TakeRef: CellRef {
-    ghost use Rattle.async_cell_model.specs.declared.entry.Kept.{Kept};
-    ghost use Rattle.async_cell_waiting.specs.Told.{IsTake};
-    ghost use Rattle.async_cell_wakers.specs.declared.task_waker.TaskWaker.{TaskWaker};
-
     /// Each take may be made.
-    ghost takes: { (call : Kept Self.Value TaskWaker) → IsTake call → Self.Name.may call };
+    ghost takes: { (call : Kept Self.Value Waker) → IsTake call → Self.Name.may call };
 }
 
 impl<T: Drop, N: Takeable<T, TaskWaker>> TakeRef for &AsyncCell<T, N> {

@@ -6,16 +6,18 @@
 
 mod async_cell;
 mod calls;
+mod calls_as;
 mod cell_ref;
 mod get;
 mod guard;
 mod guarded_cell;
 mod locked_core;
+mod named;
 mod owner;
 mod reply;
 mod shared;
 mod take;
-mod told;
+mod take_as;
 mod weak;
 mod weak_owner;
 
@@ -35,9 +37,6 @@ pub use owner::Owner;
 pub use reply::{Replier, Reply, reply_slot, reply_slot_of};
 pub use shared::Shared;
 pub use take::Take;
-pub use told::{
-    GetAs, ReplySession, Session, TakeAs, ToldGet, ToldOwner, ToldReplier, ToldReply, ToldTake,
-    with_told, with_told_reply,
-};
+pub use take_as::{GetAs, TakeAs};
 pub use weak::{GetWeak, TakeWeak, Values, Weak};
 pub use weak_owner::WeakOwner;

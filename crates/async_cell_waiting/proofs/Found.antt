@@ -1,4 +1,4 @@
--- What a future that is told gives: what a take or a get found.
+-- What a future gives that tells a witness: what a take or a get found.
 use Rattle.std.proofs.Common.{◌≡◌, inl, inr, Option, Some, None, Result, Ok, Err, refl, sym, subst, IfOk, IfSome, OnOk}
 use Rattle.async_cell_model.specs.declared.entry.Kept.{Kept}
 use Rattle.async_cell_model.specs.declared.entry.Kept.TheVariants.{TryTake, TryGet, PollGet}
@@ -45,20 +45,21 @@ module _ {T W : Type 0} (rules : WakerRules W) (named : Option (Begun T W)) (see
       subst (λ r. OnOk r ((s : Option T) × (p : Option T) × IsTold rules named seen (kept s p) Done now × P s p)) (sym same) (put_as now kept saw put held P told called)
 
 module _ {T W : Type 0} (rules : WakerRules W) (named : Option (Begun T W)) (old : Seen T W) where
-  -- a take that found a value
-  pub told_taken : (now : Seen T W) (taken : Option T) (found : Result T Refusal) (given : Result (T × Seen T W) Refusal) → IsTold rules named old.calls TryTake (Value taken) now.calls → IsSigned old now → IfOk found (λ it. taken ≡ Some it)
-      → IfOk given (λ both. (found ≡ Ok both.0) × (both.1 ≡ now)) → IfOk given (λ both. IsTold rules named old.calls TryTake (Value (Some both.0)) both.1.calls × IsSigned old both.1)
-  told_taken now taken found (Err why) told signed is both = tt
-  told_taken now taken found (Ok (x, h)) told signed is (same, whole) =
+  -- a take that found a value, of which P holds
+  pub told_taken : (P : T → Type 0) (now : Seen T W) (taken : Option T) (found : Result T Refusal) (given : Result (T × Seen T W) Refusal) → IfSome taken P → IsTold rules named old.calls TryTake (Value taken) now.calls → IsSigned old now → IfOk found (λ it. taken ≡ Some it)
+      → IfOk given (λ both. (found ≡ Ok both.0) × (both.1 ≡ now)) → IfOk given (λ both. P both.0 × IsTold rules named old.calls TryTake (Value (Some both.0)) both.1.calls × IsSigned old both.1)
+  told_taken P now taken found (Err why) holds told signed is both = tt
+  told_taken P now taken found (Ok (x, h)) holds told signed is (same, whole) =
       let some : taken ≡ Some x = subst (λ f. IfOk f (λ it. taken ≡ Some it)) same is in
-      (subst (λ t. IsTold rules named old.calls TryTake (Value t) h.calls) some (subst (λ (l : Seen T W). IsTold rules named old.calls TryTake (Value taken) l.calls) (sym whole) told), subst (λ (l : Seen T W). IsSigned old l) (sym whole) signed)
+      (subst (λ t. IfSome t P) some holds, subst (λ t. IsTold rules named old.calls TryTake (Value t) h.calls) some (subst (λ (l : Seen T W). IsTold rules named old.calls TryTake (Value taken) l.calls) (sym whole) told), subst (λ (l : Seen T W). IsSigned old l) (sym whole) signed)
 
-  -- a get that found one
-  pub told_copied : (is_clone : T → T → Type 0) (now : Seen T W) (held : Option T) (copied : Result (Option T) Refusal) (found : Result T Refusal) (given : Result (T × Seen T W) Refusal) → IsTold rules named old.calls TryGet (get_reply held copied) now.calls → IsSigned old now → IfOk copied (IsCloneOf is_clone held)
-      → IfOk found (λ it. copied ≡ Ok (Some it)) → IfOk given (λ both. (found ≡ Ok both.0) × (both.1 ≡ now)) → IfOk given (λ both. IsToldUpTo is_clone rules named old.calls TryGet (Value (Some both.0)) both.1.calls × IsSigned old both.1)
-  told_copied is_clone now held copied found (Err why) told signed clones is both = tt
-  told_copied is_clone now held copied found (Ok (x, h)) told signed clones is (same, whole) =
+  -- a get that found one, of whose clone P holds
+  pub told_copied : (is_clone : T → T → Type 0) (P : T → Type 0) (now : Seen T W) (held : Option T) (copied : Result (Option T) Refusal) (found : Result T Refusal) (given : Result (T × Seen T W) Refusal) → IfOk copied (λ some. IfSome some P) → IsTold rules named old.calls TryGet (get_reply held copied) now.calls → IsSigned old now
+      → IfOk copied (IsCloneOf is_clone held) → IfOk found (λ it. copied ≡ Ok (Some it)) → IfOk given (λ both. (found ≡ Ok both.0) × (both.1 ≡ now)) → IfOk given (λ both. P both.0 × IsToldUpTo is_clone rules named old.calls TryGet (Value (Some both.0)) both.1.calls × IsSigned old both.1)
+  told_copied is_clone P now held copied found (Err why) holds told signed clones is both = tt
+  told_copied is_clone P now held copied found (Ok (x, h)) holds told signed clones is (same, whole) =
       let some : copied ≡ Ok (Some x) = subst (λ f. IfOk f (λ it. copied ≡ Ok (Some it))) same is in (
+        subst (λ c. IfOk c (λ found. IfSome found P)) some holds,
         copied_as rules named old.calls is_clone h.calls held x (subst (λ c. IsTold rules named old.calls TryGet (get_reply held c) h.calls) some (subst (λ (l : Seen T W). IsTold rules named old.calls TryGet (get_reply held copied) l.calls) (sym whole) told))
             (subst (λ c. IfOk c (IsCloneOf is_clone held)) some clones),
         subst (λ (l : Seen T W). IsSigned old l) (sym whole) signed,

@@ -1,6 +1,6 @@
 -- What was put in satisfies a fact, so what is taken does.
 use Rattle.std.proofs.Common.{◌≡◌, ℕ, Bool, true, false, [], ◌∷◌, Option, Some, None, subst, IfSome, ◌⊎◌, inl, inr, rules, arith}
-use Rattle.std.specs.Prelude.{⊤, if◌then◌else◌}
+use Rattle.std.specs.Prelude.{if◌then◌else◌}
 use Rattle.std.specs.List.{All}
 use Rattle.std.proofs.lemmas.List.Elements.{All-head, All-tail, All-pop}
 use Rattle.async_cell_model.specs.declared.cell.Cell.{Cell}
@@ -32,11 +32,6 @@ module _ {T W : Type 0} (P : T → Type 0) where
   pub step_holds : (c : Cell T) (e : Entry T W) → IfSome (content c) P → Puts P e.call → IfSome (content (next c e)) P
   step_holds Closed e holds puts = tt
   step_holds (Open value n) e holds puts = either (λ c. IfSome (content c) P) (is_memory e.reply) (Open value n) (next_open value n e.call) holds (next_holds value n e.call holds puts)
-
--- without a rule, each content keeps it
-pub some_any : {T : Type 0} (held : Option T) → IfSome held (λ _. ⊤)
-some_any None = tt
-some_any (Some v) = tt
 
 -- a call that is allowed puts in what each call that may be made puts in
 pub allowed_puts : {T W : Type 0} (may : Kept T W → Type 0) (P : T → Type 0) (keeps : (call : Kept T W) → may call → Puts P call) (call : Kept T W) → IsAllowed may call → Puts P call

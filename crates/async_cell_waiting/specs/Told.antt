@@ -87,14 +87,6 @@ module _ {T W : Type 0} where
   abbrev pub IsAllowed : (Kept T W → Type 0) → Kept T W → Type 0
   IsAllowed may call = is_change call ≡ true → may call
 
-  -- the same changes may be made by both
-  abbrev pub Agree : (Kept T W → Type 0) → (Kept T W → Type 0) → Type 0
-  Agree may also = (call : Kept T W) → (may call → also call) × (also call → may call)
-
-  -- the cell began open, with this content, one owner, and nobody waiting
-  abbrev pub BeganWith : Option T → Option (Begun T W) → Type 0
-  BeganWith held named = start_of named ≡ record { cell = Open held 1; waiting = []; room = 0 }
-
 module _ {T W : Type 0} (will_wake : W → W → Bool) (sure_wakers : Bool) where
   -- the calls are legal, and lead from the first state to this one, where a value satisfies `holds`
   abbrev pub Leads : (T → Type 0) → Past T W → State T W → Type 0
@@ -273,11 +265,6 @@ module _ {T W : Type 0} where
   -- among these calls is this one, with this reply
   pub record HasEntry (calls : History T W) (call : Kept T W) (reply : Reply T) : Type 0 where
     pub there : Contains calls (record { call = call; reply = reply })
-
-  -- P holds of a part of what was seen: of a beginning of its calls, with their authors
-  abbrev pub IsPartOf : Seen T W → (Seen T W → Type 0) → Type 0
-  IsPartOf all P = (part : Seen T W)
-      × IsPrefix part.calls all.calls × IsPrefix part.authors all.authors × P part
 
   -- the call is an `or_set`
   abbrev pub IsOrSet : Kept T W → Type 0

@@ -14,13 +14,11 @@ mod store;
 mod told;
 mod with;
 
-pub use cell_core::{CellCore, Cloning, Taking, ToldCloning, ToldTaking};
+pub use cell_core::{CellCore, Cloning, CloningAs, Taking, TakingAs};
 pub use ended::{Held, Writes, end, end_and_wake, end_and_wake_one, open_holding, put_held};
 pub use polls::poll;
 pub use query::Query;
 pub use room::Room;
 pub use store::{Lender, Lent, Lock, Locked, OneThread, Opens, Step, StoredCore, Stores};
-pub use told::{
-    Author, Blank, Cancel, Free, MayTake, Naming, Opened, Rule, Ruled, Takeable, Unnamed, Witness,
-};
+pub use told::{Author, Blank, Cancel, Free, Naming, Rule, Ruled, Takeable, Unnamed, Witness};
 pub use with::{At, Places, Polled, Request, Takes, Upgrade, Values, With, weakly};

@@ -1,75 +1,28 @@
 //! One job and two takers. Both ask for it at once, and one of them at most gets it.
-ghost use Rattle.std.specs.Prelude.{Some, IfOk, IfSome};
-ghost use Rattle.async_cell_waiting.specs.Told.{IsTake, Took};
+ghost use Rattle.std.specs.Prelude.{◌≡◌, Some, IfOk, IfSome};
+ghost use Rattle.async_cell_model.specs.Machine.{content};
+ghost use Rattle.async_cell_waiting.specs.Told.{IsTake, OnlyMakes, Took};
 
 use async_cell_model::{Kept, Refusal};
-use async_cell_sync::{Naming, Session, TaskWaker, ToldOwner, Witness, laws, with_told};
+use async_cell_sync::{Author, Blank, Naming, Owner, TaskWaker, Witness, laws};
 use std::alloc::AllocGlobal;
+use std::marker::Brand;
 use std::random::RandomSource;
 use std::sync::Wait;
-use std::thread::Threads;
+use std::thread::{Threads, join};
 
-/// The job, which the cell begins with.
-#[derive(Drop)]
-struct Job {
-    number: u64,
+/// The number that the first taker signs with.
+struct First;
+
+impl Author for First {
+    ghost number = { 1 };
 }
 
-/// Values are taken, and none is put in.
-impl Session for Job {
-    type Value = u64;
+/// The number that the second taker signs with.
+struct Second;
 
-    type First = Option<u64>;
-
-    type Second = Option<u64>;
-
-    ghost may = { λ _ call. IsTake call };
-
-    ghost holds = { λ job. Some job.number };
-
-    ghost first_knows = { λ _ taken seen. IfSome taken (λ v. Took 1 v seen) };
-
-    ghost second_knows = { λ _ taken seen. IfSome taken (λ v. Took 2 v seen) };
-
-    ghost gives = { λ _ first second. IfSome first (λ _. IfSome second (λ _. ⊥)) };
-
-    fn first<N, R>(&self, _: R, owner: &mut ToldOwner<u64, R, N>) -> Option<u64>
-    where
-        N: Naming<u64, TaskWaker> + Send + Sync,
-        R: Threads + Wait + RandomSource + AllocGlobal + Copy + Send + Sync,
-    {
-        ask(owner)
-    }
-
-    fn second<N, R>(&self, _: R, owner: &mut ToldOwner<u64, R, N>) -> Option<u64>
-    where
-        N: Naming<u64, TaskWaker> + Send + Sync,
-        R: Threads + Wait + RandomSource + AllocGlobal + Copy + Send + Sync,
-    {
-        ask(owner)
-    }
-
-    fn join<N: Naming<u64, TaskWaker>>(
-        &self,
-        _: &Option<u64>,
-        _: &Option<u64>,
-        seen: &Witness<u64, TaskWaker, N>,
-    ) {
-        seen.lawful();
-        laws::a_told_take_is_of_its_author::<u64, TaskWaker, N>();
-        laws::of_takers_alone_one_gets::<u64, TaskWaker, N>();
-    }
-}
-
-/// Takes the job, if it is there.
-fn ask<N: Naming<u64, TaskWaker>, R: Wait + Copy>(owner: &mut ToldOwner<u64, R, N>) -> Option<u64>
-    requires may { N.may Kept.TryTake }
-    ensures took { IfSome result (λ v. Took owner.old.seen.author v owner.new.seen) }
-{
-    let taken = owner.try_take()?;
-    owner.lawful();
-    laws::a_told_take_is_of_its_author::<u64, TaskWaker, N>();
-    Some(taken)
+impl Author for Second {
+    ghost number = { 2 };
 }
 
 /// Two threads ask for one job. Never do both get it.
@@ -78,6 +31,58 @@ where
     R: Threads + Wait + RandomSource + AllocGlobal + Copy + Send + Sync,
     ensures once { IfOk result (λ both. IfSome both.0 (λ _. IfSome both.1 (λ _. ⊥))) }
 {
-    let job = Job { number: 7 };
-    with_told(rt, Some(job.number), &job)
+    let job = Blank::new(rt.alloc(), Some(7));
+    share_named::<Brand, R>(rt, job)
+}
+
+/// Does so on the cell that `N` names.
+fn share_named<N, R>(
+    rt: R,
+    job: Blank<u64, TaskWaker>,
+) -> Result<(Option<u64>, Option<u64>), Refusal>
+where
+    N: Naming<u64, TaskWaker> + Send + Sync,
+    R: Threads + Wait + RandomSource + AllocGlobal + Copy + Send + Sync,
+    requires named { N.named ≡ Some job }
+    requires rule { IfSome (content job.start.cell) N.holds }
+    requires only { OnlyMakes N.may IsTake }
+    requires may { N.may Kept.TryTake }
+    ensures once { IfOk result (λ both. IfSome both.0 (λ _. IfSome both.1 (λ _. ⊥))) }
+{
+    let (owner, seen) = Owner::<u64, R, N>::named(rt.alloc(), job, rt)?;
+    let other = owner.another()?;
+    let mut one = seen.again();
+    one.sign_as::<First>();
+    let mut two = seen;
+    two.sign_as::<Second>();
+    let ((first, one), (second, two)) = join(
+        &rt,
+        move || -> (Option<u64>, Witness<u64, TaskWaker, N>)
+            requires { N.may Kept.TryTake × (one.author ≡ 1) }
+            ensures { IfSome result.0 (λ v. Took 1 v result.1) }
+        { (ask(&owner, &mut one), one) },
+        move || -> (Option<u64>, Witness<u64, TaskWaker, N>)
+            requires { N.may Kept.TryTake × (two.author ≡ 2) }
+            ensures { IfSome result.0 (λ v. Took 2 v result.1) }
+        { (ask(&other, &mut two), two) },
+    );
+    let seen = one.longer(&two);
+    seen.lawful();
+    laws::a_told_take_is_of_its_author::<u64, TaskWaker, N>();
+    laws::of_takers_alone_one_gets::<u64, TaskWaker, N>();
+    Ok((first, second))
+}
+
+/// Takes the job, if it is there.
+fn ask<N, R>(owner: &Owner<u64, R, N>, seen: &mut Witness<u64, TaskWaker, N>) -> Option<u64>
+where
+    N: Naming<u64, TaskWaker>,
+    R: Wait + Drop,
+    requires may { N.may Kept.TryTake }
+    ensures took { IfSome result (λ v. Took seen.old.author v seen.new) }
+{
+    let taken = owner.try_take_as(seen)?;
+    seen.lawful();
+    laws::a_told_take_is_of_its_author::<u64, TaskWaker, N>();
+    Some(taken)
 }

@@ -1,5 +1,6 @@
-//! Programs of two threads that share a cell of which each call is told. Each has a theorem in its
-//! contracts: of what the two threads returned, on every schedule, or of whom a call of one wakes.
+//! Programs of two threads that share a cell, and tell witnesses of its history. Each has a theorem
+//! in its contracts: of what the two threads returned, on every schedule, or of whom a call of one
+//! wakes. The cell is named by a type, `N`, which a call at `Brand` picks in the proofs.
 #![tactic(auto)]
 
 mod job;
@@ -13,11 +14,9 @@ fn main(rt: HostRuntime) -> Result<()> {
     let (first, second) = startup::start(rt)?;
     println!(rt; "two threads got one start-up value: {}", first? == second?)?;
     let (first, second) = job::share(rt)?;
-    println!(rt;
-        "both threads got the job: {}",
-        first.is_some() && second.is_some()
-    )?;
-    let (low, high) = watcher::watch(rt)?.1?;
+    let takers = u8::from(first.is_some()) + u8::from(second.is_some());
+    println!(rt; "threads that got the job: {takers}")?;
+    let (low, high) = watcher::watch(rt)??;
     println!(rt; "the level fell: {}", low > high)?;
     println!(rt; "the server has stopped: {}", shutdown::run(rt)?.1.is_ok())?;
     Ok(())

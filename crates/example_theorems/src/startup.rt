@@ -1,85 +1,19 @@
 //! A start-up value. Two threads offer one each, the first that comes is set, and both get it.
-ghost use Rattle.std.specs.Prelude.{◌≡◌, Some, IfOk};
+ghost use Rattle.std.specs.Prelude.{◌≡◌, ℕ, Some, IfOk, IfSome};
+ghost use Rattle.async_cell_model.specs.Machine.{content};
 ghost use Rattle.async_cell_model.specs.declared.entry.Kept.TheVariants.{TryGet};
 ghost use Rattle.async_cell_model.specs.declared.reply.Reply.TheVariants.{Value};
-ghost use Rattle.async_cell_waiting.specs.Told.{HasEntry, IsOrSet};
+ghost use Rattle.async_cell_waiting.specs.Told.{HasEntry, IsOrSet, OnlyMakes};
 
 use async_cell_model::{Kept, Refusal};
-use async_cell_sync::{Naming, Session, TaskWaker, ToldOwner, Witness, laws, with_told};
+use async_cell_sync::{Blank, Naming, Owner, TaskWaker, Witness, laws};
 use futures::executor::block_on;
 use std::alloc::AllocGlobal;
 use std::io;
+use std::marker::Brand;
 use std::random::RandomSource;
 use std::sync::Wait;
-use std::thread::Threads;
-
-/// What each thread offers.
-struct Offers {
-    first: u64,
-    second: u64,
-}
-
-/// Values are set where there is none, and in no other way.
-impl Session for Offers {
-    type Value = u64;
-
-    type First = io::Result<u64>;
-
-    type Second = io::Result<u64>;
-
-    ghost may = { λ _ call. IsOrSet call };
-
-    ghost first_knows = { λ _ got seen. IfOk got (λ v.
-        HasEntry seen.calls TryGet (Value (Some v))) };
-
-    ghost second_knows = { λ _ got seen. IfOk got (λ v.
-        HasEntry seen.calls TryGet (Value (Some v))) };
-
-    ghost gives = { λ _ first second. IfOk first (λ v. IfOk second (λ w. v ≡ w)) };
-
-    fn first<N, R>(&self, rt: R, owner: &mut ToldOwner<u64, R, N>) -> io::Result<u64>
-    where
-        N: Naming<u64, TaskWaker> + Send + Sync,
-        R: Threads + Wait + RandomSource + AllocGlobal + Copy + Send + Sync,
-    {
-        offer(self.first, rt, owner)
-    }
-
-    fn second<N, R>(&self, rt: R, owner: &mut ToldOwner<u64, R, N>) -> io::Result<u64>
-    where
-        N: Naming<u64, TaskWaker> + Send + Sync,
-        R: Threads + Wait + RandomSource + AllocGlobal + Copy + Send + Sync,
-    {
-        offer(self.second, rt, owner)
-    }
-
-    fn join<N: Naming<u64, TaskWaker>>(
-        &self,
-        _: &io::Result<u64>,
-        _: &io::Result<u64>,
-        seen: &Witness<u64, TaskWaker, N>,
-    ) {
-        seen.lawful();
-        laws::what_was_told_stays::<u64, TaskWaker, N>();
-        laws::what_is_set_once_all_get::<u64, TaskWaker, N>();
-    }
-}
-
-/// Sets this value if there is none, and gets the one that is there.
-fn offer<N, R>(value: u64, rt: R, owner: &mut ToldOwner<u64, R, N>) -> io::Result<u64>
-where
-    N: Naming<u64, TaskWaker>,
-    R: Wait + RandomSource + AllocGlobal + Copy,
-    requires may { N.may (Kept.OrSet value) }
-    ensures got { IfOk result (λ v. HasEntry owner.new.seen.calls TryGet (Value (Some v))) }
-{
-    let _ = owner.or_set(value);
-    let (value, getter) = block_on(&rt, owner.another()?.into_get())??;
-    owner.learn(&getter);
-    laws::an_exact_get_is_told::<u64, TaskWaker, N>();
-    laws::what_was_told_stays::<u64, TaskWaker, N>();
-    Ok(value)
-}
+use std::thread::{Threads, join};
 
 /// Two threads get one and the same value, if both get one.
 pub fn start<R>(rt: R) -> Result<(io::Result<u64>, io::Result<u64>), Refusal>
@@ -87,12 +21,62 @@ where
     R: Threads + Wait + RandomSource + AllocGlobal + Copy + Send + Sync,
     ensures alike { IfOk result (λ both. IfOk both.0 (λ v. IfOk both.1 (λ w. v ≡ w))) }
 {
-    with_told(
-        rt,
-        None,
-        &Offers {
-            first: 1,
-            second: 2,
-        },
-    )
+    let value = Blank::new(rt.alloc(), None);
+    start_named::<Brand, R>(rt, value)
+}
+
+/// Does so on the cell that `N` names: values are set where there is none, and in no other way.
+fn start_named<N, R>(
+    rt: R,
+    value: Blank<u64, TaskWaker>,
+) -> Result<(io::Result<u64>, io::Result<u64>), Refusal>
+where
+    N: Naming<u64, TaskWaker> + Send + Sync,
+    R: Threads + Wait + RandomSource + AllocGlobal + Copy + Send + Sync,
+    requires named { N.named ≡ Some value }
+    requires rule { IfSome (content value.start.cell) N.holds }
+    requires only { OnlyMakes N.may IsOrSet }
+    requires may { (value : ℕ) → N.may (Kept.OrSet value) }
+    ensures alike { IfOk result (λ both. IfOk both.0 (λ v. IfOk both.1 (λ w. v ≡ w))) }
+{
+    let (owner, seen) = Owner::<u64, R, N>::named(rt.alloc(), value, rt)?;
+    let other = owner.another()?;
+    let (mut one, mut two) = (seen.again(), seen);
+    let ((first, one), (second, two)) = join(
+        &rt,
+        move || -> (io::Result<u64>, Witness<u64, TaskWaker, N>)
+            requires { (value : ℕ) → N.may (Kept.OrSet value) }
+            ensures { IfOk result.0 (λ v. HasEntry result.1.calls TryGet (Value (Some v))) }
+        { (offer(1, rt, &owner, &mut one), one) },
+        move || -> (io::Result<u64>, Witness<u64, TaskWaker, N>)
+            requires { (value : ℕ) → N.may (Kept.OrSet value) }
+            ensures { IfOk result.0 (λ v. HasEntry result.1.calls TryGet (Value (Some v))) }
+        { (offer(2, rt, &other, &mut two), two) },
+    );
+    let seen = one.longer(&two);
+    seen.lawful();
+    laws::what_was_told_stays::<u64, TaskWaker, N>();
+    laws::what_is_set_once_all_get::<u64, TaskWaker, N>();
+    Ok((first, second))
+}
+
+/// Sets this value if there is none, and gets the one that is there.
+fn offer<N, R>(
+    value: u64,
+    rt: R,
+    owner: &Owner<u64, R, N>,
+    seen: &mut Witness<u64, TaskWaker, N>,
+) -> io::Result<u64>
+where
+    N: Naming<u64, TaskWaker>,
+    R: Wait + RandomSource + AllocGlobal + Copy,
+    requires may { N.may (Kept.OrSet value) }
+    ensures got { IfOk result (λ v. HasEntry seen.new.calls TryGet (Value (Some v))) }
+{
+    let _ = owner.try_set(value);
+    let (value, now) = block_on(&rt, owner.get_as(seen.again()))??;
+    *seen = now;
+    laws::an_exact_get_is_told::<u64, TaskWaker, N>();
+    laws::what_was_told_stays::<u64, TaskWaker, N>();
+    Ok(value)
 }

@@ -49,7 +49,7 @@ impl<T: Drop, W: Wakes, N: Naming<T, W>> CellCore<T, W, N> {
 
     /// Wraps the core, which begins its history.
     #[inline(always)]
-    pub fn begin(core: Core<T, W>, opened: Opened<T, W>) -> Self
+    pub(crate) fn begin(core: Core<T, W>, opened: Opened<T, W>) -> Self
         requires named { Fits N.named opened }
         requires begins { opened.start ≡ core }
         requires rule { IfSome (content core.cell) N.holds }

@@ -6,7 +6,7 @@ ghost use Rattle.async_cell_model.specs.Refusal.{FailsWithClosed, FailsWithMemor
 use super::CellCore;
 use crate::ended::{Held, end, end_and_wake, end_and_wake_one, put_held, write_held};
 use crate::store::{Opens, Step, StoredCore, Stores, opened};
-use crate::told::{Blank, Naming, Opened, Witness};
+use crate::told::{Blank, Naming, Witness};
 use async_cell_core::{Core, Poll, Refusal, Wakes};
 use async_cell_model::Kept;
 
@@ -269,19 +269,6 @@ impl<M: Stores<Core = CellCore<T, W, N>>, T: Drop, W: Wakes, N: Naming<T, W>> St
         ensures nobody { result.1.author ≡ 0 }
     {
         let (core, opened) = blank.into_parts();
-        let core = CellCore::begin(core, opened);
-        let witness = core.witness();
-        (StoredCore::of(core), witness)
-    }
-
-    /// Stores the core, which begins its history, and makes the first witness of it.
-    #[doc(hidden)]
-    pub fn named(core: Core<T, W>, opened: Opened<T, W>) -> (Self, Witness<T, W, N>)
-        requires named { N.named ≡ Some opened }
-        requires begins { opened.start ≡ core }
-        requires rule { IfSome (content core.cell) N.holds }
-        ensures new { result.1.calls ≡ [] }
-    {
         let core = CellCore::begin(core, opened);
         let witness = core.witness();
         (StoredCore::of(core), witness)

@@ -2,7 +2,7 @@
 use super::CellCore;
 use crate::ended::Held;
 use crate::query::Query;
-use crate::told::{MayTake, Naming, Witness};
+use crate::told::{Naming, Witness};
 use async_cell_core::{Refusal, TaskWaker, Wakes};
 
 /// Takes the value of a cell.
@@ -51,16 +51,16 @@ impl<T: Clone, N: Naming<T, TaskWaker>> Query<CellCore<T, TaskWaker, N>> for Clo
     }
 }
 
-/// `Taking`, of a cell that this is a witness of.
+/// `Taking`, which tells this witness.
 #[derive(Drop)]
-pub struct ToldTaking<T, N: Naming<T, TaskWaker>>(pub Witness<T, TaskWaker, N>, pub MayTake<T, N>);
+pub struct TakingAs<T, N: Naming<T, TaskWaker>>(pub Witness<T, TaskWaker, N>);
 
-/// `Cloning`, of a cell that this is a witness of.
+/// `Cloning`, which tells this witness.
 #[derive(Drop)]
-pub struct ToldCloning<T, N: Naming<T, TaskWaker>>(pub Witness<T, TaskWaker, N>);
+pub struct CloningAs<T, N: Naming<T, TaskWaker>>(pub Witness<T, TaskWaker, N>);
 
 /// Gives the witness back, which has seen that the value was taken.
-impl<T: Drop, N: Naming<T, TaskWaker>> Query<CellCore<T, TaskWaker, N>> for ToldTaking<T, N> {
+impl<T: Drop, N: Naming<T, TaskWaker>> Query<CellCore<T, TaskWaker, N>> for TakingAs<T, N> {
     ghost use Rattle.std.specs.Prelude.{Some};
     ghost use Rattle.async_cell_model.specs.declared.entry.Kept.TheVariants.{TryTake};
     ghost use Rattle.async_cell_model.specs.declared.reply.Reply.TheVariants.{Value};
@@ -68,8 +68,10 @@ impl<T: Drop, N: Naming<T, TaskWaker>> Query<CellCore<T, TaskWaker, N>> for Told
 
     type Answer = (T, Witness<T, TaskWaker, N>);
 
-    ghost gives = { λ asked given. IsTold ⟦<TaskWaker as Wakes>⟧ N.named asked.0.calls
-        TryTake (Value (Some given.0)) given.1.calls × IsSigned asked.0 given.1 };
+    ghost asks = { λ _. N.may TryTake };
+
+    ghost gives = { λ asked given. N.holds given.0 × IsTold ⟦<TaskWaker as Wakes>⟧ N.named
+        asked.0.calls TryTake (Value (Some given.0)) given.1.calls × IsSigned asked.0 given.1 };
 
     #[inline(always)]
     fn must_wait(&self, core: &CellCore<T, TaskWaker, N>) -> bool {
@@ -81,8 +83,7 @@ impl<T: Drop, N: Naming<T, TaskWaker>> Query<CellCore<T, TaskWaker, N>> for Told
         self,
         core: &mut CellCore<T, TaskWaker, N>,
     ) -> Held<Result<(T, Witness<T, TaskWaker, N>), Refusal>> {
-        let ToldTaking(mut seen, may) = self;
-        may.allows();
+        let TakingAs(mut seen) = self;
         core.hand_to(&mut seen);
         let taken = core.try_take();
         core.tell(&mut seen);
@@ -91,15 +92,16 @@ impl<T: Drop, N: Naming<T, TaskWaker>> Query<CellCore<T, TaskWaker, N>> for Told
 }
 
 /// Gives the witness back, which has seen that the value was cloned.
-impl<T: Clone, N: Naming<T, TaskWaker>> Query<CellCore<T, TaskWaker, N>> for ToldCloning<T, N> {
+impl<T: Clone, N: Naming<T, TaskWaker>> Query<CellCore<T, TaskWaker, N>> for CloningAs<T, N> {
     ghost use Rattle.std.specs.Prelude.{Some};
     ghost use Rattle.async_cell_model.specs.declared.entry.Kept.TheVariants.{TryGet};
     ghost use Rattle.async_cell_model.specs.declared.reply.Reply.TheVariants.{Value};
-    ghost use Rattle.async_cell_waiting.specs.Told.{IsSigned, IsToldUpTo};
+    ghost use Rattle.async_cell_waiting.specs.Told.{IsCloneOfOne, IsSigned, IsToldUpTo};
 
     type Answer = (T, Witness<T, TaskWaker, N>);
 
-    ghost gives = { λ asked given. IsToldUpTo T.is_clone ⟦<TaskWaker as Wakes>⟧ N.named
+    ghost gives = { λ asked given. IsCloneOfOne T.is_clone N.holds given.0
+        × IsToldUpTo T.is_clone ⟦<TaskWaker as Wakes>⟧ N.named
         asked.0.calls TryGet (Value (Some given.0)) given.1.calls × IsSigned asked.0 given.1 };
 
     #[inline(always)]
@@ -112,7 +114,7 @@ impl<T: Clone, N: Naming<T, TaskWaker>> Query<CellCore<T, TaskWaker, N>> for Tol
         self,
         core: &mut CellCore<T, TaskWaker, N>,
     ) -> Held<Result<(T, Witness<T, TaskWaker, N>), Refusal>> {
-        let ToldCloning(mut seen) = self;
+        let CloningAs(mut seen) = self;
         core.hand_to(&mut seen);
         let copied = core.get();
         core.tell(&mut seen);

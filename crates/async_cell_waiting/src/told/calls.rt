@@ -1,8 +1,8 @@
 //! The calls of the model, for a thread that is told of the cell's history.
-ghost use Rattle.std.specs.Prelude.{◌≡◌, Option, Some, None, IfErr, IfSome, IsSomeAnd, OnErr, OnOk, IsTrue};
+ghost use Rattle.std.specs.Prelude.{◌≡◌, Option, Some, None, IfErr, IfOk, IfSome, IsSomeAnd, OnErr, OnOk, IsTrue};
 ghost use Rattle.async_cell_model.specs.Refusal.{FailsWithClosed, FailsWithMemory};
 ghost use Rattle.async_cell_core.specs.Polled.{poll_reply};
-ghost use Rattle.async_cell_waiting.specs.Told.{IsSigned, IsTold, IsToldClosed, IsToldUpTo, set_reply, write_reply, done_reply, end_reply};
+ghost use Rattle.async_cell_waiting.specs.Told.{IsCloneOfOne, IsSigned, IsTold, IsToldClosed, IsToldUpTo, set_reply, write_reply, done_reply, end_reply};
 
 use crate::cell_core::CellCore;
 use crate::ended::{Held, end, end_and_wake};
@@ -52,6 +52,7 @@ impl<T: Drop, W: Wakes, N: Naming<T, W>> Witness<T, W, N> {
         ensures told { IsTrue R.always → IsTold W.Wakes N.named self.old.calls
             (Kept.Replace value) (write_reply result) self.new.calls }
         ensures signed { IsTrue R.always → IsSigned self.old self.new }
+        ensures rule { IfOk result (λ old. IfSome old N.holds) }
         ensures comes_back { IfErr result (λ back. back ≡ value) }
     {
         let Some(mut step) = rt.open(cell) else {
@@ -97,6 +98,7 @@ impl<T: Drop, W: Wakes, N: Naming<T, W>> Witness<T, W, N> {
         ensures told { IsTrue R.always → IsTold W.Wakes N.named self.old.calls
             Kept.TryTake (Reply.Value result) self.new.calls }
         ensures signed { IsTrue R.always → IsSigned self.old self.new }
+        ensures rule { IfSome result N.holds }
     {
         let mut step = rt.open(cell)?;
         let core = step.lend();
@@ -117,6 +119,7 @@ impl<T: Drop, W: Wakes, N: Naming<T, W>> Witness<T, W, N> {
         ensures told { IsTrue R.always → IsToldUpTo T.is_clone W.Wakes N.named self.old.calls
             Kept.TryGet (end_reply result) self.new.calls }
         ensures signed { IsTrue R.always → IsSigned self.old self.new }
+        ensures rule { IfOk result (λ found. IfSome found (IsCloneOfOne T.is_clone N.holds)) }
         ensures refused { FailsWithMemory result }
     {
         let mut step = rt.open(cell).ok_or(Refusal::Memory)?;
@@ -314,6 +317,7 @@ impl<T: Drop, W: Wakes, N: Naming<T, W>> Witness<T, W, N> {
         ensures told { IsTrue R.always → IsTold W.Wakes N.named self.old.calls
             Kept.TakeInner (end_reply result) self.new.calls }
         ensures signed { IsTrue R.always → IsSigned self.old self.new }
+        ensures rule { IfOk result (λ content. IfSome content N.holds) }
     {
         let mut step = rt.open(cell).ok_or(Refusal::Closed)?;
         let core = step.lend();

@@ -16,11 +16,12 @@ pub returns : goal.returns
 returns g c =
     let v = c.in_ok-first.first in
     let w = c.in_ok-second.second in
-    let before = c.in_ok-another.field-0.seen.calls in
-    let mid = c.in_ok-first.getter.seen.calls in
-    let now = c.in_ok-second.later.seen.calls in
+    let before = c.get_as.result.polled.seen.calls in
+    let mid = c.in_ok-first.once.calls in
+    let later = c.get_as-2.result.polled.seen.calls in
+    let now = c.in_ok-second.twice.calls in
     record {
-      rises = below v w (c.what_is_got_never_goes_back.ensures nat_le before mid mid now v w itself on c.requires.may c.lawful.ensures.lawful
+      rises = below v w (c.what_is_got_never_goes_back.ensures nat_le before mid later now v w itself on c.requires.may c.lawful.ensures.lawful
           (c.an_exact_get_is_told.ensures (λ a b is. is) before mid v (search rules)) (search rules)
-          (c.an_exact_get_is_told.ensures (λ a b is. is) mid now w (search rules)));
+          (c.an_exact_get_is_told.ensures (λ a b is. is) later now w (search rules)));
     }

@@ -1,0 +1,287 @@
+//! The calls that tell a witness: it then knows the cell's history up to the call, and its reply
+//! there. Any number of threads may make them, each with a witness.
+ghost use Rattle.std.specs.Prelude.{◌≡◌, Option, Some, None, IfErr, IfOk, IfSome, IsSomeAnd, OnErr, OnOk};
+ghost use mathlib.Core.List.{IsPrefix};
+ghost use Rattle.async_cell_model.specs.Refusal.{FailsWithClosed, FailsWithMemory, IsOwnerRefusal};
+ghost use Rattle.async_cell_waiting.specs.Told.{IsCloneOfOne, IsSigned, IsTold, IsToldClosed, IsToldUpTo, set_reply, write_reply, end_reply};
+ghost use Rattle.async_cell_sync.specs.Owned.{cell_owned};
+
+use crate::async_cell::AsyncCell;
+use crate::owner::Owner;
+use crate::shared::Shared;
+use async_cell_core::{Refusal, TaskWaker, Wakes};
+use async_cell_model::{Kept, Reply};
+use async_cell_waiting::{Naming, Witness};
+use std::sync::{Arc, Wait};
+
+impl<T: Drop, N: Naming<T, TaskWaker>> AsyncCell<T, N> {
+    /// Sets the value, drops the old one and wakes all waiters. A closed cell gives the value back.
+    pub fn set_as<R: Wait>(
+        &self,
+        seen: &mut Witness<T, TaskWaker, N>,
+        value: T,
+        rt: &R,
+    ) -> Result<(), T>
+        requires may { N.may (Kept.Set value) }
+        ensures told { IsTold ⟦<TaskWaker as Wakes>⟧ N.named seen.old.calls
+            (Kept.Set value) (set_reply result) seen.new.calls }
+        ensures signed { IsSigned seen.old seen.new }
+        ensures comes_back { IfErr result (λ back. back ≡ value) }
+    {
+        seen.set(&self.core, value, rt)
+    }
+
+    /// Sets the value, wakes all waiters, returns the old one. A closed cell gives the value back.
+    pub fn replace_as<R: Wait>(
+        &self,
+        seen: &mut Witness<T, TaskWaker, N>,
+        value: T,
+        rt: &R,
+    ) -> Result<Option<T>, T>
+        requires may { N.may (Kept.Replace value) }
+        ensures told { IsTold ⟦<TaskWaker as Wakes>⟧ N.named seen.old.calls
+            (Kept.Replace value) (write_reply result) seen.new.calls }
+        ensures signed { IsSigned seen.old seen.new }
+        ensures rule { IfOk result (λ old. IfSome old N.holds) }
+        ensures comes_back { IfErr result (λ back. back ≡ value) }
+    {
+        seen.replace(&self.core, value, rt)
+    }
+
+    /// Sets the value and wakes all waiters, if there is none. Returns an unused `value`.
+    pub fn or_set_as<R: Wait>(
+        &self,
+        seen: &mut Witness<T, TaskWaker, N>,
+        value: T,
+        rt: &R,
+    ) -> Result<Option<T>, T>
+        requires may { N.may (Kept.OrSet value) }
+        ensures told { IsTold ⟦<TaskWaker as Wakes>⟧ N.named seen.old.calls
+            (Kept.OrSet value) (write_reply result) seen.new.calls }
+        ensures signed { IsSigned seen.old seen.new }
+        ensures comes_back { IfErr result (λ back. back ≡ value) }
+    {
+        seen.or_set(&self.core, value, rt)
+    }
+
+    /// Takes the value, if there is one.
+    pub fn try_take_as<R: Wait>(&self, seen: &mut Witness<T, TaskWaker, N>, rt: &R) -> Option<T>
+        requires may { N.may Kept.TryTake }
+        ensures told { IsTold ⟦<TaskWaker as Wakes>⟧ N.named seen.old.calls
+            Kept.TryTake (Reply.Value result) seen.new.calls }
+        ensures signed { IsSigned seen.old seen.new }
+        ensures rule { IfSome result N.holds }
+    {
+        seen.try_take(&self.core, rt)
+    }
+
+    /// Returns a clone of the value, if there is one. Fails with `Memory` if the clone fails.
+    pub fn try_get_as<R: Wait>(
+        &self,
+        seen: &mut Witness<T, TaskWaker, N>,
+        rt: &R,
+    ) -> Result<Option<T>, Refusal>
+    where
+        T: Clone,
+        ensures told { IsToldUpTo T.is_clone ⟦<TaskWaker as Wakes>⟧ N.named seen.old.calls
+            Kept.TryGet (end_reply result) seen.new.calls }
+        ensures signed { IsSigned seen.old seen.new }
+        ensures rule { IfOk result (λ found. IfSome found (IsCloneOfOne T.is_clone N.holds)) }
+        ensures refused { FailsWithMemory result }
+    {
+        seen.try_get(&self.core, rt)
+    }
+
+    /// Returns whether the cell holds a value.
+    pub fn is_set_as<R: Wait>(&self, seen: &mut Witness<T, TaskWaker, N>, rt: &R) -> bool
+        ensures told { IsTold ⟦<TaskWaker as Wakes>⟧ N.named seen.old.calls
+            Kept.IsSet (Reply.Is result) seen.new.calls }
+        ensures signed { IsSigned seen.old seen.new }
+    {
+        seen.is_set(&self.core, rt)
+    }
+
+    /// Calls the closure on the content, under the lock, and stores what it returns. Wakes all
+    /// waiters if that puts a value into an empty cell. On a closed cell it fails with `Closed`, is
+    /// tells that it is closed, and does not call the closure.
+    pub fn update_as<F: FnOnce(Option<T>) -> Option<T> + Drop, R: Wait>(
+        &self,
+        seen: &mut Witness<T, TaskWaker, N>,
+        change: F,
+        rt: &R,
+    ) -> Result<(), Refusal>
+        requires callable { F.IsAlwaysCallable change }
+        requires may { (saw put : Option T) → IfSome saw N.holds → F.post change saw put
+            → N.may (Kept.Update saw put) }
+        requires may_fail { N.may (Kept.Update None None) }
+        ensures told { OnOk result ((saw put : Option T)
+            × IsTold ⟦<TaskWaker as Wakes>⟧ N.named seen.old.calls
+            (Kept.Update saw put) Reply.Done seen.new.calls × F.post change saw put) }
+        ensures signed { OnOk result (IsSigned seen.old seen.new) }
+        ensures told_closed { OnErr result (IsToldClosed N.named seen.old seen.new) }
+        ensures refused { FailsWithClosed result }
+    {
+        seen.update(&self.core, change, rt)
+    }
+
+    /// Calls the closure on the value, if there is one, under the lock, and stores what it returns.
+    /// On a closed cell it fails with `Closed`, is tells that it is closed, and does not call the
+    /// closure.
+    pub fn update_some_as<F: FnOnce(T) -> T + Drop, R: Wait>(
+        &self,
+        seen: &mut Witness<T, TaskWaker, N>,
+        change: F,
+        rt: &R,
+    ) -> Result<(), Refusal>
+        requires callable { F.IsAlwaysCallable change }
+        requires may { (old new : T) → N.holds old → F.post change old new
+            → N.may (Kept.UpdateSome (Some old) (Some new)) }
+        requires may_fail { N.may (Kept.UpdateSome None None) }
+        ensures told { OnOk result ((saw put : Option T)
+            × IsTold ⟦<TaskWaker as Wakes>⟧ N.named seen.old.calls
+            (Kept.UpdateSome saw put) Reply.Done seen.new.calls
+            × IfSome saw (λ old. IsSomeAnd put (λ new. F.post change old new))) }
+        ensures signed { OnOk result (IsSigned seen.old seen.new) }
+        ensures told_closed { OnErr result (IsToldClosed N.named seen.old seen.new) }
+        ensures refused { FailsWithClosed result }
+    {
+        seen.update_some(&self.core, change, rt)
+    }
+}
+
+impl<T: Drop, R: Wait + Drop, N: Naming<T, TaskWaker>> Owner<T, R, N> {
+    /// Sets the value, drops the old one and wakes all waiters. A closed cell gives the value back.
+    pub fn set_as(&self, seen: &mut Witness<T, TaskWaker, N>, value: T) -> Result<(), T>
+        requires may { N.may (Kept.Set value) }
+        ensures told { IsTold ⟦<TaskWaker as Wakes>⟧ N.named seen.old.calls
+            (Kept.Set value) (set_reply result) seen.new.calls }
+        ensures signed { IsSigned seen.old seen.new }
+        ensures comes_back { IfErr result (λ back. back ≡ value) }
+    {
+        self.shared.cell.set_as(seen, value, &self.rt)
+    }
+
+    /// Sets the value, wakes all waiters, returns the old one. A closed cell gives the value back.
+    pub fn replace_as(&self, seen: &mut Witness<T, TaskWaker, N>, value: T) -> Result<Option<T>, T>
+        requires may { N.may (Kept.Replace value) }
+        ensures told { IsTold ⟦<TaskWaker as Wakes>⟧ N.named seen.old.calls
+            (Kept.Replace value) (write_reply result) seen.new.calls }
+        ensures signed { IsSigned seen.old seen.new }
+        ensures rule { IfOk result (λ old. IfSome old N.holds) }
+        ensures comes_back { IfErr result (λ back. back ≡ value) }
+    {
+        self.shared.cell.replace_as(seen, value, &self.rt)
+    }
+
+    /// Sets the value and wakes all waiters, if there is none. Returns an unused `value`.
+    pub fn or_set_as(&self, seen: &mut Witness<T, TaskWaker, N>, value: T) -> Result<Option<T>, T>
+        requires may { N.may (Kept.OrSet value) }
+        ensures told { IsTold ⟦<TaskWaker as Wakes>⟧ N.named seen.old.calls
+            (Kept.OrSet value) (write_reply result) seen.new.calls }
+        ensures signed { IsSigned seen.old seen.new }
+        ensures comes_back { IfErr result (λ back. back ≡ value) }
+    {
+        self.shared.cell.or_set_as(seen, value, &self.rt)
+    }
+
+    /// Takes the value, if there is one.
+    pub fn try_take_as(&self, seen: &mut Witness<T, TaskWaker, N>) -> Option<T>
+        requires may { N.may Kept.TryTake }
+        ensures told { IsTold ⟦<TaskWaker as Wakes>⟧ N.named seen.old.calls
+            Kept.TryTake (Reply.Value result) seen.new.calls }
+        ensures signed { IsSigned seen.old seen.new }
+        ensures rule { IfSome result N.holds }
+    {
+        self.shared.cell.try_take_as(seen, &self.rt)
+    }
+
+    /// Returns a clone of the value, if there is one. Fails with `Memory` if the clone fails.
+    pub fn try_get_as(&self, seen: &mut Witness<T, TaskWaker, N>) -> Result<Option<T>, Refusal>
+    where
+        T: Clone,
+        ensures told { IsToldUpTo T.is_clone ⟦<TaskWaker as Wakes>⟧ N.named seen.old.calls
+            Kept.TryGet (end_reply result) seen.new.calls }
+        ensures signed { IsSigned seen.old seen.new }
+        ensures rule { IfOk result (λ found. IfSome found (IsCloneOfOne T.is_clone N.holds)) }
+        ensures refused { FailsWithMemory result }
+    {
+        self.shared.cell.try_get_as(seen, &self.rt)
+    }
+
+    /// Returns whether the cell holds a value.
+    pub fn is_set_as(&self, seen: &mut Witness<T, TaskWaker, N>) -> bool
+        ensures told { IsTold ⟦<TaskWaker as Wakes>⟧ N.named seen.old.calls
+            Kept.IsSet (Reply.Is result) seen.new.calls }
+        ensures signed { IsSigned seen.old seen.new }
+    {
+        self.shared.cell.is_set_as(seen, &self.rt)
+    }
+
+    /// Calls the closure on the content, under the lock, and stores what it returns. Wakes all
+    /// waiters if that puts a value into an empty cell. On a closed cell it fails with `Closed`, is
+    /// tells that it is closed, and does not call the closure.
+    pub fn update_as<F: FnOnce(Option<T>) -> Option<T> + Drop>(
+        &self,
+        seen: &mut Witness<T, TaskWaker, N>,
+        change: F,
+    ) -> Result<(), Refusal>
+        requires callable { F.IsAlwaysCallable change }
+        requires may { (saw put : Option T) → IfSome saw N.holds → F.post change saw put
+            → N.may (Kept.Update saw put) }
+        requires may_fail { N.may (Kept.Update None None) }
+        ensures told { OnOk result ((saw put : Option T)
+            × IsTold ⟦<TaskWaker as Wakes>⟧ N.named seen.old.calls
+            (Kept.Update saw put) Reply.Done seen.new.calls × F.post change saw put) }
+        ensures signed { OnOk result (IsSigned seen.old seen.new) }
+        ensures told_closed { OnErr result (IsToldClosed N.named seen.old seen.new) }
+        ensures refused { FailsWithClosed result }
+    {
+        self.shared.cell.update_as(seen, change, &self.rt)
+    }
+
+    /// Calls the closure on the value, if there is one, under the lock, and stores what it returns.
+    /// On a closed cell it fails with `Closed`, is tells that it is closed, and does not call the
+    /// closure.
+    pub fn update_some_as<F: FnOnce(T) -> T + Drop>(
+        &self,
+        seen: &mut Witness<T, TaskWaker, N>,
+        change: F,
+    ) -> Result<(), Refusal>
+        requires callable { F.IsAlwaysCallable change }
+        requires may { (old new : T) → N.holds old → F.post change old new
+            → N.may (Kept.UpdateSome (Some old) (Some new)) }
+        requires may_fail { N.may (Kept.UpdateSome None None) }
+        ensures told { OnOk result ((saw put : Option T)
+            × IsTold ⟦<TaskWaker as Wakes>⟧ N.named seen.old.calls
+            (Kept.UpdateSome saw put) Reply.Done seen.new.calls
+            × IfSome saw (λ old. IsSomeAnd put (λ new. F.post change old new))) }
+        ensures signed { OnOk result (IsSigned seen.old seen.new) }
+        ensures told_closed { OnErr result (IsToldClosed N.named seen.old seen.new) }
+        ensures refused { FailsWithClosed result }
+    {
+        self.shared.cell.update_some_as(seen, change, &self.rt)
+    }
+}
+
+impl<T: Drop, R: Wait + Copy, N: Naming<T, TaskWaker>> Owner<T, R, N> {
+    /// Adds an owner, in place of a clone. Fails with `Memory` if the pointer cannot be counted, or
+    /// with `OwnersFull`; `Closed` is in the contract, but cannot happen while this owner lives.
+    pub fn another_as(&self, seen: &mut Witness<T, TaskWaker, N>) -> Result<Self, Refusal>
+        ensures told { OnOk result (IsTold ⟦<TaskWaker as Wakes>⟧ N.named seen.old.calls
+            Kept.AddOwner Reply.Done seen.new.calls) }
+        ensures signed { OnOk result (IsSigned seen.old seen.new) }
+        ensures told_refused { IfErr result (λ why. ¬ (why ≡ Refusal.Memory)
+            → IsTold ⟦<TaskWaker as Wakes>⟧ N.named seen.old.calls
+            Kept.AddOwner (Reply.Refused why None) seen.new.calls) }
+        ensures goes_on { IsPrefix seen.old.calls seen.new.calls }
+        ensures of_this { IfOk result (λ owner. cell_owned owner ≡ cell_owned self.now) }
+        ensures refused { IfErr result IsOwnerRefusal }
+    {
+        let cell = Arc::try_clone(&self.shared.cell)?;
+        seen.add_owner(&cell.core, &self.rt)?;
+        Ok(Owner {
+            shared: Shared { cell },
+            rt: self.rt,
+        })
+    }
+}

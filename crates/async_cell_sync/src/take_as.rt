@@ -1,0 +1,145 @@
+//! Futures that tell a witness.
+ghost use Rattle.std.specs.Prelude.{◌≡◌, Some, IfOk};
+ghost use Rattle.async_cell_model.specs.Refusal.{FailsWithMemoryOrClosed};
+ghost use Rattle.async_cell_model.specs.declared.entry.Kept.TheVariants.{TryTake, TryGet};
+ghost use Rattle.async_cell_model.specs.declared.reply.Reply.TheVariants.{Value};
+ghost use Rattle.async_cell_waiting.specs.Told.{IsCloneOfOne, IsSigned, IsTold, IsToldUpTo};
+ghost use Rattle.async_cell_sync.specs.Owned.{cell_owned};
+
+use crate::async_cell::AsyncCell;
+use crate::cell_ref::CellRef;
+use crate::owner::Owner;
+use async_cell_core::{Refusal, TaskWaker, Wakes};
+use async_cell_waiting::{At, CloningAs, Naming, Polled, Request, TakingAs, With, Witness, poll};
+use futures::task::{Context, Poll};
+use std::marker::Model;
+use std::sync::Wait;
+
+/// Takes the value of a cell and tells a witness, which it gives back: the poll that gives both
+/// is a `try_take` of the history. Otherwise it is a `Take`.
+#[derive(Drop)]
+pub struct TakeAs<C: CellRef> {
+    pointer: C,
+    seen: Taker<C::Value, C::Name>,
+}
+
+/// A witness of a cell whose value may be taken. Contracts see what it has seen.
+#[derive(Drop)]
+struct Taker<T, N: Naming<T, TaskWaker>> {
+    seen: Witness<T, TaskWaker, N>,
+}
+
+impl<T, N: Naming<T, TaskWaker>> Model for Taker<T, N> {
+    ghost use Rattle.async_cell_model.specs.declared.entry.Kept.TheVariants.{TryTake};
+    ghost use Rattle.async_cell_waiting.specs.Told.{Seen};
+    ghost use Rattle.async_cell_wakers.specs.declared.task_waker.TaskWaker.{TaskWaker};
+
+    ghost Value = { Seen T TaskWaker };
+
+    ghost view = { λ t. t.seen };
+
+    ghost invariant = { λ _. N.may TryTake };
+}
+
+impl<T, N: Naming<T, TaskWaker>> Taker<T, N> {
+    /// Keeps that it may.
+    fn of(seen: Witness<T, TaskWaker, N>) -> Self
+        requires may { N.may TryTake }
+        ensures seen { result ≡ seen }
+    {
+        Taker { seen }
+    }
+
+    /// What a poll asks. Ensures that it may.
+    fn query(&self) -> TakingAs<T, N>
+        ensures may { N.may TryTake }
+        ensures seen { result.0 ≡ self.now }
+    {
+        TakingAs(self.seen.again())
+    }
+}
+
+impl<C: CellRef + Drop, R: Wait> Request<R> for TakeAs<C> {
+    type Cell = AsyncCell<C::Value, C::Name>;
+
+    fn cell(&self) -> Option<&AsyncCell<C::Value, C::Name>> {
+        Some(self.pointer.cell())
+    }
+}
+
+impl<C: CellRef + Drop, R: Wait> Polled<R> for TakeAs<C> {
+    type Output = Result<(C::Value, Witness<C::Value, TaskWaker, C::Name>), Refusal>;
+
+    ghost waits_for = { λ asked. C.waits_for asked.pointer };
+
+    ghost may_give = { λ asked given. FailsWithMemoryOrClosed given
+        × IfOk given (λ both. C.Name.holds both.0
+        × IsTold ⟦<TaskWaker as Wakes>⟧ C.Name.named asked.seen.calls
+        TryTake (Value (Some both.0)) both.1.calls × IsSigned asked.seen both.1) };
+
+    #[inline(always)]
+    fn poll_at(&self, at: At<'_>, cx: &mut Context<'_>, rt: &R) -> Poll<Self::Output> {
+        let cell = self.pointer.cell();
+        let query = self.seen.query();
+        poll(&cell.core, &cell.source, query, at, cx, rt)
+    }
+}
+
+/// Clones the value of a cell and tells a witness, which it gives back: the poll that gives both
+/// is a `try_get` of the history. Otherwise it is a `Get`.
+#[derive(Drop)]
+pub struct GetAs<C: CellRef> {
+    pointer: C,
+    seen: Witness<C::Value, TaskWaker, C::Name>,
+}
+
+impl<C: CellRef + Drop, R: Wait> Request<R> for GetAs<C> {
+    type Cell = AsyncCell<C::Value, C::Name>;
+
+    fn cell(&self) -> Option<&AsyncCell<C::Value, C::Name>> {
+        Some(self.pointer.cell())
+    }
+}
+
+impl<C: CellRef<Value: Clone> + Drop, R: Wait> Polled<R> for GetAs<C> {
+    type Output = Result<(C::Value, Witness<C::Value, TaskWaker, C::Name>), Refusal>;
+
+    ghost waits_for = { λ asked. C.waits_for asked.pointer };
+
+    ghost may_give = { λ asked given. FailsWithMemoryOrClosed given
+        × IfOk given (λ both. IsCloneOfOne C.Value.is_clone C.Name.holds both.0
+        × IsToldUpTo C.Value.is_clone ⟦<TaskWaker as Wakes>⟧ C.Name.named asked.seen.calls
+        TryGet (Value (Some both.0)) both.1.calls × IsSigned asked.seen both.1) };
+
+    #[inline(always)]
+    fn poll_at(&self, at: At<'_>, cx: &mut Context<'_>, rt: &R) -> Poll<Self::Output> {
+        let cell = self.pointer.cell();
+        let query = CloningAs(self.seen.again());
+        poll(&cell.core, &cell.source, query, at, cx, rt)
+    }
+}
+
+impl<T: Drop, R: Wait + Copy, N: Naming<T, TaskWaker>> Owner<T, R, N> {
+    /// Returns a future that takes the value and tells the witness, which it gives back. It borrows
+    /// this owner, which keeps the cell open.
+    pub fn take_as(&self, seen: Witness<T, TaskWaker, N>) -> With<TakeAs<&AsyncCell<T, N>>, R>
+        requires may { N.may TryTake }
+        ensures of_this { result.polled.pointer.now ≡ cell_owned self.now }
+        ensures seen { result.polled.seen ≡ seen }
+    {
+        let (pointer, seen) = (self.cell(), Taker::of(seen));
+        With::new(TakeAs { pointer, seen }, self.rt)
+    }
+
+    /// Returns a future that clones the value and tells the witness, which it gives back. It
+    /// borrows this owner, which keeps the cell open.
+    pub fn get_as(&self, seen: Witness<T, TaskWaker, N>) -> With<GetAs<&AsyncCell<T, N>>, R>
+    where
+        T: Clone,
+        ensures of_this { result.polled.pointer.now ≡ cell_owned self.now }
+        ensures seen { result.polled.seen ≡ seen }
+    {
+        let pointer = self.cell();
+        With::new(GetAs { pointer, seen }, self.rt)
+    }
+}
