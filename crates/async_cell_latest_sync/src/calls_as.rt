@@ -89,16 +89,17 @@ impl<T: Clone, R: Wait + Drop, N: Listed<T>> Follower<T, R, N> {
     pub fn read_and_update_as(&mut self, seen: &mut Witness<T, N>) -> Result<T, Refusal>
         ensures told { IfOk result (λ copy. IsShown T.is_clone seen.old copy seen.new) }
         ensures rule { IfOk result (IsCloneOfOne T.is_clone N.holds) }
-        ensures goes_on { GoesOn seen.old seen.new }
-        ensures unmarked { OnErr result (self.new ≡ self.old) }
+        ensures unmarked { OnErr result ((self.new ≡ self.old) × (seen.new ≡ seen.old)) }
         ensures of_this { cell_followed self.new ≡ cell_followed self.old }
         ensures if_infallible { ((value : T) → T.is_infallible value) → IsOk result }
         ensures refused { FailsWithMemory result }
     {
+        let mut now = seen.again();
         let step = self.cell.core.lock(&self.rt);
-        step.shown().tell(seen);
+        step.shown().tell(&mut now);
         let copy = step.shown().get();
         let (version, value) = end(step, copy)?;
+        *seen = now;
         self.seen = version;
         Ok(value)
     }

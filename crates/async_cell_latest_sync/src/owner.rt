@@ -52,13 +52,8 @@ impl<T: Drop, R: Wait + Copy> Owner<T, R> {
 }
 
 impl<T: Drop, R: Wait + Copy, P: Rule<T>> Owner<T, R, Ruled<P>> {
-    /// Makes a state of this value, whose values keep the rule `P`, and its first owner. Fails with
-    /// `Memory`, and drops the value.
-    ///
-    /// ```rust
-    /// let even = Owner::<u64, _, Ruled<Even>>::ruled(rt.alloc(), 42, rt)?;
-    /// println!(rt; "{}", even.read()?)?; // prints 42
-    /// ```
+    /// Makes a state of this value, whose values keep the rule `P`, and its first owner: each write
+    /// requires that it holds, and each read ensures it. Fails with `Memory`, and drops the value.
     pub fn ruled(alloc: Global, value: T, rt: R) -> Result<Self, Refusal>
         requires rule { P.holds value }
         ensures refused { FailsWithMemory result }
