@@ -4,7 +4,7 @@ ghost use Rattle.async_cell_latest_sync.specs.Life.{Agree};
 ghost use Rattle.async_cell_callers.specs.InOrder.{AreInOrder, NeverFalls};
 
 use anyhow::Result;
-use async_cell::latest::{Blank, Follower, Listed, Owner, Witness};
+use async_cell::latest::{Blank, Follower, Protocol, Owner, Witness};
 use futures::executor::block_on;
 use std::alloc::AllocGlobal;
 use std::marker::Brand;
@@ -23,7 +23,7 @@ pub fn watch<T, R, N>(
 where
     T: Clone,
     R: Wait + RandomSource + AllocGlobal + Copy,
-    N: Listed<T>,
+    N: Protocol<T>,
     ensures in_order { IfOk result (λ shown. IfSome shown.1 (λ next.
         AreInOrder T.is_clone shown.0 next shown.2.values)) }
 {
@@ -47,7 +47,7 @@ where
 /// Does so with the state that `N` names.
 fn watch_named<N, R>(rt: R, limit: u64, blank: Blank<u64>) -> Result<u64>
 where
-    N: Listed<u64> + Send + Sync,
+    N: Protocol<u64> + Send + Sync,
     R: Threads + Wait + RandomSource + AllocGlobal + Copy + Send + Sync,
     requires limit { 0 < limit }
     requires named { N.named ≡ Some blank }
@@ -89,7 +89,7 @@ fn one_more(value: &u64) -> u64
 pub fn raise<R, N>(owner: &Owner<u64, R, N>, seen: &mut Witness<u64, N>) -> bool
 where
     R: Wait + Drop,
-    N: Listed<u64>,
+    N: Protocol<u64>,
     requires may { Agree N.may NeverFalls }
 {
     owner.update_as(seen, one_more).is_ok()
@@ -104,7 +104,7 @@ pub fn watch_rise<R, N>(
 ) -> Result<(u64, u64)>
 where
     R: Wait + RandomSource + AllocGlobal + Copy,
-    N: Listed<u64>,
+    N: Protocol<u64>,
     requires may { Agree N.may NeverFalls }
     ensures rises { IfOk result (λ shown. shown.0 ≤ shown.1) }
 {

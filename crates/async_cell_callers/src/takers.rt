@@ -4,12 +4,12 @@ ghost use Rattle.std.specs.List.{count_by};
 ghost use Rattle.async_cell_model.specs.declared.entry.Kept.{Kept as Called};
 ghost use Rattle.async_cell_model.specs.Machine.{content};
 ghost use Rattle.async_cell_model.specs.Taken.{IsDistinct, has_update, put_in};
-ghost use Rattle.async_cell_waiting.specs.Told.{PutsWhatSetsMay, come_out, dropped, gone_in, start_of};
+ghost use Rattle.async_cell_waiting.specs.History.{PutsWhatSetsMay, come_out, dropped, gone_in, start_of};
 ghost use Rattle.async_cell_sync.specs.declared.TaskWaker.{TaskWaker as Waker};
 
 use crate::Host;
 use async_cell_model::Kept;
-use async_cell_sync::{Author, Blank, Naming, Owner, TaskWaker, Witness, laws};
+use async_cell_sync::{Author, Blank, Protocol, Owner, TaskWaker, Witness, laws};
 use futures::executor::block_on;
 use std::marker::Brand;
 use std::sync::Wait;
@@ -29,7 +29,7 @@ impl Author for Second {
 }
 
 /// Each of two witnesses is told of a take. If all that was put in differs, the two values do.
-fn two_take<N: Naming<u64, TaskWaker>, R: Wait + Copy>(
+fn two_take<N: Protocol<u64, TaskWaker>, R: Wait + Copy>(
     owner: &Owner<u64, R, N>,
     one: &mut Witness<u64, TaskWaker, N>,
     other: &mut Witness<u64, TaskWaker, N>,
@@ -53,7 +53,7 @@ fn two_take<N: Naming<u64, TaskWaker>, R: Wait + Copy>(
 }
 
 /// Takes the value, if there is one. All that went in so far has then come out, or was dropped.
-fn take_last<N: Naming<u64, TaskWaker>, R: Wait + Copy>(
+fn take_last<N: Protocol<u64, TaskWaker>, R: Wait + Copy>(
     owner: &Owner<u64, R, N>,
     seen: &mut Witness<u64, TaskWaker, N>,
 ) -> Option<u64>
@@ -71,7 +71,7 @@ fn take_last<N: Naming<u64, TaskWaker>, R: Wait + Copy>(
 }
 
 /// Takes the value, if there is one: one that a `set` may put in, if the others put in such alone.
-fn take_set<N: Naming<u64, TaskWaker>, R: Wait + Copy>(
+fn take_set<N: Protocol<u64, TaskWaker>, R: Wait + Copy>(
     owner: &Owner<u64, R, N>,
     seen: &mut Witness<u64, TaskWaker, N>,
 ) -> Option<u64>
@@ -87,7 +87,7 @@ fn take_set<N: Naming<u64, TaskWaker>, R: Wait + Copy>(
 }
 
 /// Makes each call that tells a witness, on the cell that `N` names.
-fn all_named<N: Naming<u64, TaskWaker>, R: Host>(
+fn all_named<N: Protocol<u64, TaskWaker>, R: Host>(
     rt: R,
     blank: Blank<u64, TaskWaker>,
 ) -> anyhow::Result<()>

@@ -10,7 +10,7 @@ ghost use Rattle.async_cell_latest_sync.specs.Names.{cell_followed, sources};
 
 use crate::cell::{Unseen, UnseenState};
 use crate::follower::Follower;
-use crate::history::{Listed, Unlisted};
+use crate::history::{Protocol, Unruled};
 use async_cell_latest::{Place, Refusal};
 use async_cell_waiting::poll;
 use futures::future::Future;
@@ -26,14 +26,14 @@ use std::sync::Wait;
 /// place is then free for the next such future, and the task that polled the dropped one may be
 /// woken once more.
 #[derive_where(Debug)]
-pub struct Changed<'a, T: Drop, R: Wait + Drop, N: Listed<T> = Unlisted> {
+pub struct Changed<'a, T: Drop, R: Wait + Drop, N: Protocol<T> = Unruled> {
     #[derive_where(skip)]
     pub(crate) follower: &'a mut Follower<T, R, N>,
     #[derive_where(skip)]
     pub(crate) place: Place,
 }
 
-impl<T: Drop, R: Wait + Drop, N: Listed<T>> Changed<'_, T, R, N> {
+impl<T: Drop, R: Wait + Drop, N: Protocol<T>> Changed<'_, T, R, N> {
     /// Drops the future, and the waker that it left in the state: the task that polled it last is
     /// polled once more. A waker keeps what its executor needs to wake the task, so cancel a wait
     /// that came to nothing on a state that is written seldom, as when its time is up. May wait for
@@ -45,14 +45,14 @@ impl<T: Drop, R: Wait + Drop, N: Listed<T>> Changed<'_, T, R, N> {
 }
 
 /// Leaves its place in the wait list free.
-impl<T: Drop, R: Wait + Drop, N: Listed<T>> Drop for Changed<'_, T, R, N> {
+impl<T: Drop, R: Wait + Drop, N: Protocol<T>> Drop for Changed<'_, T, R, N> {
     fn drop(self) {
         let Changed { follower, place } = self;
         follower.cell.core.vacate(place, &follower.rt);
     }
 }
 
-impl<T: Drop, R: Wait + Drop, N: Listed<T>> Future for Changed<'_, T, R, N> {
+impl<T: Drop, R: Wait + Drop, N: Protocol<T>> Future for Changed<'_, T, R, N> {
     type Output = Result<(), Refusal>;
 
     ghost needs = { λ future. sources future.follower.now };
@@ -97,7 +97,7 @@ impl<T: Drop, R: Wait + Drop, N: Listed<T>> Future for Changed<'_, T, R, N> {
 /// While it waits it holds one place in the wait list, as `Changed` does. **Dropping it may wait
 /// for the lock**, and wakes nobody.
 #[derive_where(Debug)]
-pub struct WaitFor<'a, T: Drop, R: Wait + Drop, F: Drop, N: Listed<T> = Unlisted> {
+pub struct WaitFor<'a, T: Drop, R: Wait + Drop, F: Drop, N: Protocol<T> = Unruled> {
     #[derive_where(skip)]
     pub(crate) follower: &'a mut Follower<T, R, N>,
     #[derive_where(skip)]
@@ -109,7 +109,7 @@ pub struct WaitFor<'a, T: Drop, R: Wait + Drop, F: Drop, N: Listed<T> = Unlisted
     pub(crate) looked_at: u64,
 }
 
-impl<T: Drop, R: Wait + Drop, F: Drop, N: Listed<T>> WaitFor<'_, T, R, F, N> {
+impl<T: Drop, R: Wait + Drop, F: Drop, N: Protocol<T>> WaitFor<'_, T, R, F, N> {
     /// Drops the future, and the waker that it left in the state: the task that polled it last is
     /// polled once more (see `Changed::cancel`). May wait for the lock.
     pub fn cancel(self) {
@@ -124,7 +124,7 @@ impl<T: Drop, R: Wait + Drop, F: Drop, N: Listed<T>> WaitFor<'_, T, R, F, N> {
 }
 
 /// Leaves its place in the wait list free.
-impl<T: Drop, R: Wait + Drop, F: Drop, N: Listed<T>> Drop for WaitFor<'_, T, R, F, N> {
+impl<T: Drop, R: Wait + Drop, F: Drop, N: Protocol<T>> Drop for WaitFor<'_, T, R, F, N> {
     fn drop(self) {
         let WaitFor {
             follower,
@@ -136,7 +136,7 @@ impl<T: Drop, R: Wait + Drop, F: Drop, N: Listed<T>> Drop for WaitFor<'_, T, R, 
     }
 }
 
-impl<T: Clone, R: Wait + Drop, F: FnMut(&T) -> bool + Drop, N: Listed<T>> Future
+impl<T: Clone, R: Wait + Drop, F: FnMut(&T) -> bool + Drop, N: Protocol<T>> Future
     for WaitFor<'_, T, R, F, N> {
     type Output = Result<T, Refusal>;
 
@@ -229,14 +229,14 @@ impl<T: Clone, R: Wait + Drop, F: FnMut(&T) -> bool + Drop, N: Listed<T>> Future
 /// While it waits it holds one place in the wait list, as `Changed` does. **Dropping it may wait
 /// for the lock**, and wakes nobody.
 #[derive_where(Debug)]
-pub struct States<T: Drop, R: Wait + Drop, N: Listed<T> = Unlisted> {
+pub struct States<T: Drop, R: Wait + Drop, N: Protocol<T> = Unruled> {
     #[derive_where(skip)]
     pub(crate) follower: Follower<T, R, N>,
     #[derive_where(skip)]
     pub(crate) place: Place,
 }
 
-impl<T: Drop, R: Wait + Drop, N: Listed<T>> States<T, R, N> {
+impl<T: Drop, R: Wait + Drop, N: Protocol<T>> States<T, R, N> {
     /// Drops the stream, and the waker that it left in the state: the task that polled it last is
     /// polled once more (see `Changed::cancel`). May wait for the lock.
     pub fn cancel(self) {
@@ -246,14 +246,14 @@ impl<T: Drop, R: Wait + Drop, N: Listed<T>> States<T, R, N> {
 }
 
 /// Leaves its place in the wait list free.
-impl<T: Drop, R: Wait + Drop, N: Listed<T>> Drop for States<T, R, N> {
+impl<T: Drop, R: Wait + Drop, N: Protocol<T>> Drop for States<T, R, N> {
     fn drop(self) {
         let States { follower, place } = self;
         follower.cell.core.vacate(place, &follower.rt);
     }
 }
 
-impl<T: Clone, R: Wait + Drop, N: Listed<T>> Stream for States<T, R, N> {
+impl<T: Clone, R: Wait + Drop, N: Protocol<T>> Stream for States<T, R, N> {
     type Item = Result<T, Refusal>;
 
     ghost needs = { λ states. sources states.follower };

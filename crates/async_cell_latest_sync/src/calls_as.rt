@@ -2,18 +2,18 @@
 ghost use Rattle.std.specs.Prelude.{◌≡◌, List, [], ◌∷◌, ◌++◌, IsOk, IfOk, IfErr, OnOk, OnErr, false};
 ghost use Rattle.std.specs.Fn.{FnOnceReturnsAt};
 ghost use Rattle.async_cell_model.specs.Refusal.{FailsWithMemory};
-ghost use Rattle.async_cell_waiting.specs.Told.{IsCloneOfOne};
+ghost use Rattle.async_cell_waiting.specs.History.{IsCloneOfOne};
 ghost use Rattle.async_cell_latest_sync.specs.Life.{GoesOn, IsShown, IsUpdated, IsWritten, MayUpdate, MayWrite, TakesNoMore};
 ghost use Rattle.async_cell_latest_sync.specs.Names.{cell_followed};
 
 use crate::follower::Follower;
-use crate::history::{Listed, Witness};
+use crate::history::{Protocol, Witness};
 use crate::owner::Owner;
 use async_cell_latest::Refusal;
 use async_cell_waiting::{Step, end, end_and_wake};
 use std::sync::Wait;
 
-impl<T: Drop, R: Wait + Drop, N: Listed<T>> Owner<T, R, N> {
+impl<T: Drop, R: Wait + Drop, N: Protocol<T>> Owner<T, R, N> {
     /// Sets the value, drops the old one and wakes all followers that wait. If the state takes no
     /// further write, as it has had 18,446,744,073,709,551,615 values, the value is returned in the
     /// error.
@@ -82,7 +82,7 @@ impl<T: Drop, R: Wait + Drop, N: Listed<T>> Owner<T, R, N> {
     }
 }
 
-impl<T: Clone, R: Wait + Drop, N: Listed<T>> Follower<T, R, N> {
+impl<T: Clone, R: Wait + Drop, N: Protocol<T>> Follower<T, R, N> {
     /// Returns a clone of the last value, which is then marked as seen. Fails with `Memory`, and
     /// marks nothing, if the clone fails.
     #[tactic(auto, using(crate::proofs::Showing::shown))]

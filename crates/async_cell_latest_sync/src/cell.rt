@@ -4,7 +4,7 @@ mod looks;
 mod waits;
 mod writes;
 
-use crate::history::{Listed, Unlisted};
+use crate::history::{Protocol, Unruled};
 use async_cell_waiting::Lock;
 pub use calls::LatestCore;
 use futures::task::Source;
@@ -12,13 +12,13 @@ pub use waits::{Unseen, UnseenState};
 
 /// A state that threads share, behind a lock.
 #[derive(Drop)]
-pub struct LatestCell<T, N: Listed<T> = Unlisted> {
+pub struct LatestCell<T, N: Protocol<T> = Unruled> {
     pub(crate) core: Lock<LatestCore<T, N>>,
     /// The source that waiting tasks register with.
     pub(crate) source: Source,
 }
 
-impl<T: Drop, N: Listed<T>> LatestCell<T, N> {
+impl<T: Drop, N: Protocol<T>> LatestCell<T, N> {
     /// Makes the cell of this state.
     pub(crate) fn of(core: LatestCore<T, N>) -> Self {
         LatestCell {

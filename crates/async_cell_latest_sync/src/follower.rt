@@ -2,12 +2,12 @@ ghost use Rattle.std.specs.Prelude.{◌≡◌, IsOk, IfOk, OnErr};
 ghost use Rattle.std.specs.Arc.{arc_value};
 ghost use Rattle.std.specs.Fn.{FnOnceReturnsAt};
 ghost use Rattle.async_cell_model.specs.Refusal.{FailsWithMemory};
-ghost use Rattle.async_cell_waiting.specs.Told.{IsCloneOfOne};
+ghost use Rattle.async_cell_waiting.specs.History.{IsCloneOfOne};
 ghost use Rattle.async_cell_latest_sync.specs.Names.{cell_followed};
 
 use crate::awaited::{Changed, States, WaitFor};
 use crate::cell::LatestCell;
-use crate::history::{Listed, Unlisted};
+use crate::history::{Protocol, Unruled};
 use async_cell_latest::{Place, Refusal};
 use std::alloc::AllocError;
 use std::sync::{Arc, Wait};
@@ -22,7 +22,7 @@ use std::sync::{Arc, Wait};
 /// Its drop does not take the lock. Dropping a future that it made may wait for it.
 #[derive(Drop)]
 #[derive_where(Debug)]
-pub struct Follower<T: Drop, R, N: Listed<T> = Unlisted> {
+pub struct Follower<T: Drop, R, N: Protocol<T> = Unruled> {
     #[derive_where(skip)]
     pub(crate) cell: Arc<LatestCell<T, N>>,
     /// The version that it has seen; 0 if none.
@@ -32,7 +32,7 @@ pub struct Follower<T: Drop, R, N: Listed<T> = Unlisted> {
     pub(crate) rt: R,
 }
 
-impl<T: Drop, R: Wait + Drop, N: Listed<T>> Follower<T, R, N> {
+impl<T: Drop, R: Wait + Drop, N: Protocol<T>> Follower<T, R, N> {
     /// Makes a follower that has seen the current state.
     pub(crate) fn new(cell: Arc<LatestCell<T, N>>, rt: R) -> Self
         ensures of_this { cell_followed result ≡ arc_value cell }
@@ -181,7 +181,7 @@ impl<T: Drop, R: Wait + Drop, N: Listed<T>> Follower<T, R, N> {
 }
 
 /// A clone follows the same state, and has seen what this follower has seen.
-impl<T: Drop, R: Copy, N: Listed<T>> Clone for Follower<T, R, N> {
+impl<T: Drop, R: Copy, N: Protocol<T>> Clone for Follower<T, R, N> {
     ghost is_clone = { λ follower copy.
         (cell_followed copy ≡ cell_followed follower) × (copy.seen ≡ follower.seen) };
 

@@ -13,6 +13,6 @@ pub use async_cell_latest::{Refusal, TaskWaker};
 pub use async_cell_waiting::{Rule, Ruled, With};
 pub use awaited::{Changed, States, WaitFor};
 pub use follower::Follower;
-pub use history::{Blank, Listed, Unlisted, Witness};
+pub use history::{Blank, Protocol, Unruled, Witness};
 pub use next_as::NextAs;
 pub use owner::Owner;

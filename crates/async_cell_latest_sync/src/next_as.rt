@@ -7,7 +7,7 @@ ghost use Rattle.async_cell_latest_sync.specs.Names.{cell_followed};
 
 use crate::cell::{LatestCell, LatestCore};
 use crate::follower::Follower;
-use crate::history::{Listed, Witness};
+use crate::history::{Protocol, Witness};
 use async_cell_latest::{Place, Refusal};
 use async_cell_waiting::{At, Held, Places, Polled, Query, Request, With, poll};
 use futures::task::{Context, Poll};
@@ -15,9 +15,9 @@ use std::sync::Wait;
 
 /// Asks a state for what comes next for a witness.
 #[derive(Drop)]
-struct Next<T, N: Listed<T>>(Witness<T, N>);
+struct Next<T, N: Protocol<T>>(Witness<T, N>);
 
-impl<T: Clone, N: Listed<T>> Query<LatestCore<T, N>> for Next<T, N> {
+impl<T: Clone, N: Protocol<T>> Query<LatestCore<T, N>> for Next<T, N> {
     type Answer = (Option<T>, Witness<T, N>);
 
     ghost gives = { λ asked both. IsNext T.is_clone asked.0 both.0 both.1 };
@@ -41,12 +41,12 @@ impl<T: Clone, N: Listed<T>> Query<LatestCore<T, N>> for Next<T, N> {
 /// has then seen it: `None` for the value once the state is closed and all values were seen. Fails
 /// with `Memory` if there is no memory to wait or for the clone. `Follower::next_as` makes it.
 #[derive(Drop)]
-pub struct NextAs<'a, T: Drop, N: Listed<T>> {
+pub struct NextAs<'a, T: Drop, N: Protocol<T>> {
     cell: &'a LatestCell<T, N>,
     seen: Witness<T, N>,
 }
 
-impl<T: Drop, N: Listed<T>, R: Wait> Request<R> for NextAs<'_, T, N> {
+impl<T: Drop, N: Protocol<T>, R: Wait> Request<R> for NextAs<'_, T, N> {
     type Cell = LatestCell<T, N>;
 
     fn cell(&self) -> Option<&LatestCell<T, N>> {
@@ -54,7 +54,7 @@ impl<T: Drop, N: Listed<T>, R: Wait> Request<R> for NextAs<'_, T, N> {
     }
 }
 
-impl<T: Clone, N: Listed<T>, R: Wait> Polled<R> for NextAs<'_, T, N> {
+impl<T: Clone, N: Protocol<T>, R: Wait> Polled<R> for NextAs<'_, T, N> {
     type Output = Result<(Option<T>, Witness<T, N>), Refusal>;
 
     ghost waits_for = { λ asked s. s ≡ asked.cell.now.source.id };
@@ -69,7 +69,7 @@ impl<T: Clone, N: Listed<T>, R: Wait> Polled<R> for NextAs<'_, T, N> {
     }
 }
 
-impl<T: Drop, N: Listed<T>, R: Wait> Places<R> for LatestCell<T, N> {
+impl<T: Drop, N: Protocol<T>, R: Wait> Places<R> for LatestCell<T, N> {
     fn vacate(&self, place: Place, rt: &R) {
         self.core.vacate(place, rt);
     }
@@ -79,7 +79,7 @@ impl<T: Drop, N: Listed<T>, R: Wait> Places<R> for LatestCell<T, N> {
     }
 }
 
-impl<T: Clone, R: Wait + Copy, N: Listed<T>> Follower<T, R, N> {
+impl<T: Clone, R: Wait + Copy, N: Protocol<T>> Follower<T, R, N> {
     /// Returns a future that waits for a value that the witness has not seen, and then gives a
     /// clone of it, and the witness: `None` for the value once the state is closed and all values
     /// were seen. What this follower has seen stays as it is.

@@ -1,13 +1,13 @@
 ghost use Rattle.std.specs.Prelude.{◌≡◌, [], ◌∷◌, false, Some, IsOk, IfOk};
 ghost use Rattle.std.specs.Fn.{FnOnceReturnsAt};
 ghost use Rattle.async_cell_model.specs.Refusal.{FailsWithMemory};
-ghost use Rattle.async_cell_waiting.specs.Told.{IsCloneOfOne};
+ghost use Rattle.async_cell_waiting.specs.History.{IsCloneOfOne};
 ghost use Rattle.async_cell_latest_sync.specs.Life.{GoesOn};
 ghost use Rattle.async_cell_latest_sync.specs.Names.{cell_followed, cell_owned};
 
 use crate::cell::{LatestCell, LatestCore};
 use crate::follower::Follower;
-use crate::history::{Blank, Listed, Unlisted, Witness};
+use crate::history::{Blank, Protocol, Unruled, Witness};
 use async_cell_latest::Refusal;
 use async_cell_waiting::{Rule, Ruled, Step, end_and_wake};
 use std::alloc::{AllocFailed, Global};
@@ -29,7 +29,7 @@ use std::sync::{Arc, Wait};
 /// `N` says what is known of the values (see `Rule`), and to which list of them a witness sees: of
 /// a state of `Owner::new` neither.
 #[derive_where(Debug)]
-pub struct Owner<T: Drop, R: Wait + Drop, N: Listed<T> = Unlisted> {
+pub struct Owner<T: Drop, R: Wait + Drop, N: Protocol<T> = Unruled> {
     #[derive_where(skip)]
     pub(crate) cell: Arc<LatestCell<T, N>>,
     #[derive_where(skip)]
@@ -62,7 +62,7 @@ impl<T: Drop, R: Wait + Copy, P: Rule<T>> Owner<T, R, Ruled<P>> {
     }
 }
 
-impl<T: Drop, R: Wait + Copy, N: Listed<T>> Owner<T, R, N> {
+impl<T: Drop, R: Wait + Copy, N: Protocol<T>> Owner<T, R, N> {
     /// Makes a state of this value, which `N` names, its first owner, and a witness that has seen
     /// the value. Fails with `Memory`, and drops the value.
     pub fn named(
@@ -110,7 +110,7 @@ impl<T: Drop, R: Wait + Copy, N: Listed<T>> Owner<T, R, N> {
     }
 }
 
-impl<T: Drop, R: Wait + Drop, N: Listed<T>> Owner<T, R, N> {
+impl<T: Drop, R: Wait + Drop, N: Protocol<T>> Owner<T, R, N> {
     /// Returns a clone of the value. Fails with `Memory` if the clone fails.
     pub fn read(&self) -> Result<T, Refusal>
     where
@@ -167,7 +167,7 @@ impl<T: Drop, R: Wait + Drop, N: Listed<T>> Owner<T, R, N> {
 }
 
 /// Ends the owner. May wait for the lock.
-impl<T: Drop, R: Wait + Drop, N: Listed<T>> Drop for Owner<T, R, N> {
+impl<T: Drop, R: Wait + Drop, N: Protocol<T>> Drop for Owner<T, R, N> {
     fn drop(self) {
         let Owner { cell, rt } = self;
         cell.end_owner(&rt);

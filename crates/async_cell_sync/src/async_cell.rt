@@ -10,7 +10,7 @@ use crate::shared::Shared;
 use crate::take::Take;
 use async_cell_core::{Core, Place, Refusal, TaskWaker};
 use async_cell_model::Kept;
-use async_cell_waiting::{Naming, Places, Rule, Ruled, Unnamed};
+use async_cell_waiting::{Protocol, Places, Rule, Ruled, Unruled};
 use futures::task::Source;
 use std::alloc::Global;
 use std::sync::Wait;
@@ -31,7 +31,7 @@ use std::sync::Wait;
 ///
 /// `N` says what is known of the values (see `Rule`), and to which history a witness sees: of a
 /// plain cell neither.
-pub struct AsyncCell<T, N: Naming<T, TaskWaker> = Unnamed> {
+pub struct AsyncCell<T, N: Protocol<T, TaskWaker> = Unruled> {
     pub(crate) core: LockedCore<T, TaskWaker, N>,
     /// The source that waiting tasks register with.
     pub(crate) source: Source,
@@ -39,7 +39,7 @@ pub struct AsyncCell<T, N: Naming<T, TaskWaker> = Unnamed> {
 }
 
 /// Wakes all waiters.
-impl<T: Drop, N: Naming<T, TaskWaker>> Drop for AsyncCell<T, N> {
+impl<T: Drop, N: Protocol<T, TaskWaker>> Drop for AsyncCell<T, N> {
     #[inline(always)]
     fn drop(self) {
         let AsyncCell {
@@ -84,7 +84,7 @@ impl<T: Drop, P: Rule<T>> AsyncCell<T, Ruled<P>> {
     }
 }
 
-impl<T: Drop, N: Naming<T, TaskWaker>> AsyncCell<T, N> {
+impl<T: Drop, N: Protocol<T, TaskWaker>> AsyncCell<T, N> {
     /// Wraps a core in a cell without a name.
     pub(crate) fn of(alloc: Global, core: Core<T, TaskWaker>) -> Self
         requires nameless { N.named ≡ None }
@@ -167,7 +167,7 @@ impl AsyncCell<()> {
     }
 }
 
-impl<T: Drop, N: Naming<T, TaskWaker>, R: Wait> Places<R> for AsyncCell<T, N> {
+impl<T: Drop, N: Protocol<T, TaskWaker>, R: Wait> Places<R> for AsyncCell<T, N> {
     #[inline(always)]
     fn vacate(&self, place: Place, rt: &R) {
         self.core.vacate(place, rt);

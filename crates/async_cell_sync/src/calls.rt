@@ -2,18 +2,18 @@
 ghost use Rattle.std.specs.Prelude.{◌≡◌, Option, Some, None, IsOk, IfErr, IfOk, IfSome};
 ghost use Rattle.std.specs.Fn.{FnOnceReturnsAt};
 ghost use Rattle.async_cell_model.specs.Refusal.{FailsWithMemory};
-ghost use Rattle.async_cell_waiting.specs.Told.{IsCloneOfOne};
+ghost use Rattle.async_cell_waiting.specs.History.{IsCloneOfOne};
 ghost use Rattle.async_cell_sync.specs.Owned.{cell_owned};
 
 use crate::async_cell::AsyncCell;
 use crate::owner::Owner;
 use async_cell_core::{Refusal, TaskWaker};
 use async_cell_model::Kept;
-use async_cell_waiting::Naming;
+use async_cell_waiting::Protocol;
 use std::fmt;
 use std::sync::Wait;
 
-impl<T: Drop, N: Naming<T, TaskWaker>> AsyncCell<T, N> {
+impl<T: Drop, N: Protocol<T, TaskWaker>> AsyncCell<T, N> {
     /// Sets the value and drops the old one. Wakes all waiters.
     pub fn set<R: Wait>(&self, value: T, rt: &R)
         requires may { N.may (Kept.Replace value) }
@@ -133,7 +133,7 @@ impl AsyncCell<()> {
     }
 }
 
-impl<T: Drop, R: Wait + Drop, N: Naming<T, TaskWaker>> Owner<T, R, N> {
+impl<T: Drop, R: Wait + Drop, N: Protocol<T, TaskWaker>> Owner<T, R, N> {
     /// Sets the value and drops the old one. Wakes all waiters.
     ///
     /// ```rust

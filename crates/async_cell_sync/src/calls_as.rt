@@ -3,7 +3,7 @@
 ghost use Rattle.std.specs.Prelude.{◌≡◌, Option, Some, None, IfErr, IfOk, IfSome, IsSomeAnd, OnErr, OnOk};
 ghost use mathlib.Core.List.{IsPrefix};
 ghost use Rattle.async_cell_model.specs.Refusal.{FailsWithClosed, FailsWithMemory, IsOwnerRefusal};
-ghost use Rattle.async_cell_waiting.specs.Told.{IsCloneOfOne, IsSigned, IsTold, IsToldClosed, IsToldUpTo, set_reply, write_reply, end_reply};
+ghost use Rattle.async_cell_waiting.specs.History.{IsCloneOfOne, IsSigned, IsTold, IsToldClosed, IsToldUpTo, set_reply, write_reply, end_reply};
 ghost use Rattle.async_cell_sync.specs.Owned.{cell_owned};
 
 use crate::async_cell::AsyncCell;
@@ -11,10 +11,10 @@ use crate::owner::Owner;
 use crate::shared::Shared;
 use async_cell_core::{Refusal, TaskWaker, Wakes};
 use async_cell_model::{Kept, Reply};
-use async_cell_waiting::{Naming, Witness};
+use async_cell_waiting::{Protocol, Witness};
 use std::sync::{Arc, Wait};
 
-impl<T: Drop, N: Naming<T, TaskWaker>> AsyncCell<T, N> {
+impl<T: Drop, N: Protocol<T, TaskWaker>> AsyncCell<T, N> {
     /// Sets the value, drops the old one and wakes all waiters. A closed cell gives the value back.
     pub fn set_as<R: Wait>(
         &self,
@@ -149,7 +149,7 @@ impl<T: Drop, N: Naming<T, TaskWaker>> AsyncCell<T, N> {
     }
 }
 
-impl<T: Drop, R: Wait + Drop, N: Naming<T, TaskWaker>> Owner<T, R, N> {
+impl<T: Drop, R: Wait + Drop, N: Protocol<T, TaskWaker>> Owner<T, R, N> {
     /// Sets the value, drops the old one and wakes all waiters. A closed cell gives the value back.
     pub fn set_as(&self, seen: &mut Witness<T, TaskWaker, N>, value: T) -> Result<(), T>
         requires may { N.may (Kept.Set value) }
@@ -263,7 +263,7 @@ impl<T: Drop, R: Wait + Drop, N: Naming<T, TaskWaker>> Owner<T, R, N> {
     }
 }
 
-impl<T: Drop, R: Wait + Copy, N: Naming<T, TaskWaker>> Owner<T, R, N> {
+impl<T: Drop, R: Wait + Copy, N: Protocol<T, TaskWaker>> Owner<T, R, N> {
     /// Adds an owner, in place of a clone. Fails with `Memory` if the pointer cannot be counted, or
     /// with `OwnersFull`; `Closed` is in the contract, but cannot happen while this owner lives.
     pub fn another_as(&self, seen: &mut Witness<T, TaskWaker, N>) -> Result<Self, Refusal>

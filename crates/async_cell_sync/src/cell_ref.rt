@@ -1,13 +1,13 @@
 ghost use Rattle.std.specs.Prelude.{◌≡◌, ℕ};
 ghost use Rattle.async_cell_model.specs.declared.entry.Kept.{Kept};
-ghost use Rattle.async_cell_waiting.specs.Told.{IsTake};
+ghost use Rattle.async_cell_waiting.specs.History.{IsTake};
 ghost use Rattle.async_cell_wakers.specs.declared.task_waker.TaskWaker.{TaskWaker as Waker};
 ghost use Rattle.async_cell_sync.specs.Source.{source_of};
 
 use crate::async_cell::AsyncCell;
 use crate::shared::Shared;
 use async_cell_core::TaskWaker;
-use async_cell_waiting::{Naming, Takeable};
+use async_cell_waiting::{Protocol, Takeable};
 use std::sync::{Arc, Wait};
 
 /// A pointer to a cell. `Take`, `Get` and guards work over any.
@@ -15,8 +15,8 @@ pub trait CellRef {
     /// The type of the value in the cell.
     type Value: Drop;
 
-    /// What is known of the values (see `Rule`): of a plain cell `Unnamed`.
-    type Name: Naming<Self::Value, TaskWaker>;
+    /// What is known of the values (see `Rule`): of a plain cell `Unruled`.
+    type Name: Protocol<Self::Value, TaskWaker>;
 
     /// The source that a pending future over this pointer has registered with. Leave it out in your
     /// own impl: nothing is then promised of the source.
@@ -30,7 +30,7 @@ pub trait CellRef {
     fn leave<R: Wait>(self, rt: &R);
 }
 
-impl<T: Drop, N: Naming<T, TaskWaker>> CellRef for &AsyncCell<T, N> {
+impl<T: Drop, N: Protocol<T, TaskWaker>> CellRef for &AsyncCell<T, N> {
     type Value = T;
 
     type Name = N;
@@ -44,7 +44,7 @@ impl<T: Drop, N: Naming<T, TaskWaker>> CellRef for &AsyncCell<T, N> {
     fn leave<R: Wait>(self, _: &R) {}
 }
 
-impl<T: Drop, N: Naming<T, TaskWaker>> CellRef for Arc<AsyncCell<T, N>> {
+impl<T: Drop, N: Protocol<T, TaskWaker>> CellRef for Arc<AsyncCell<T, N>> {
     type Value = T;
 
     type Name = N;
@@ -58,7 +58,7 @@ impl<T: Drop, N: Naming<T, TaskWaker>> CellRef for Arc<AsyncCell<T, N>> {
     fn leave<R: Wait>(self, _: &R) {}
 }
 
-impl<T: Drop, N: Naming<T, TaskWaker>> CellRef for Shared<T, N> {
+impl<T: Drop, N: Protocol<T, TaskWaker>> CellRef for Shared<T, N> {
     type Value = T;
 
     type Name = N;

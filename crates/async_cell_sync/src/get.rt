@@ -2,7 +2,7 @@ ghost use Rattle.std.specs.Prelude.{◌≡◌, IfOk};
 ghost use Rattle.futures.specs.Poll.{IfReady, OnPending};
 ghost use Rattle.futures.specs.Task.{Covers, Keeps};
 ghost use Rattle.async_cell_model.specs.Refusal.{FailsWithMemoryOrClosed};
-ghost use Rattle.async_cell_waiting.specs.Told.{IsCloneOfOne};
+ghost use Rattle.async_cell_waiting.specs.History.{IsCloneOfOne};
 
 use crate::async_cell::AsyncCell;
 use crate::cell_ref::CellRef;

@@ -26,7 +26,7 @@ pub use async_cell_core::{Core, Poll, Refusal, TaskWaker, Wakers, Wakes};
 #[doc(hidden)]
 pub use async_cell_waiting::Request;
 pub use async_cell_waiting::{
-    Author, Blank, Naming, Rule, Ruled, Takeable, Unnamed, With, Witness, laws,
+    Author, Blank, Protocol, Rule, Ruled, Takeable, Unruled, With, Witness, laws,
 };
 pub use cell_ref::{CellRef, TakeRef};
 pub use get::Get;

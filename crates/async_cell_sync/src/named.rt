@@ -7,12 +7,12 @@ use crate::async_cell::AsyncCell;
 use crate::locked_core::LockedCore;
 use crate::owner::Owner;
 use async_cell_core::{Refusal, TaskWaker};
-use async_cell_waiting::{Blank, Naming, Witness};
+use async_cell_waiting::{Blank, Protocol, Witness};
 use futures::task::Source;
 use std::alloc::Global;
 use std::sync::Wait;
 
-impl<T: Drop, R: Wait + Copy, N: Naming<T, TaskWaker>> Owner<T, R, N> {
+impl<T: Drop, R: Wait + Copy, N: Protocol<T, TaskWaker>> Owner<T, R, N> {
     /// Makes the cell of this blank, which `N` names, its first owner, and the first witness of its
     /// history. Fails with `Memory`. Call it in a function over `N`, which is called at
     /// `std::marker::Brand`: the caller's `Invariants.antt` picks the name, the changes that may be

@@ -15,7 +15,7 @@ use crate::weak::{GetWeak, TakeWeak};
 use crate::weak_owner::WeakOwner;
 use async_cell_core::{Refusal, TaskWaker};
 use async_cell_model::Kept;
-use async_cell_waiting::{Naming, Rule, Ruled, Takeable, Unnamed, With};
+use async_cell_waiting::{Protocol, Rule, Ruled, Takeable, Unruled, With};
 use std::alloc::Global;
 use std::sync::{Arc, Wait};
 
@@ -29,14 +29,14 @@ use std::sync::{Arc, Wait};
 /// `N` says what is known of the values (see `Rule`), and to which history a witness sees: of a
 /// plain cell neither.
 #[derive_where(Debug)]
-pub struct Owner<T: Drop, R: Wait + Drop, N: Naming<T, TaskWaker> = Unnamed> {
+pub struct Owner<T: Drop, R: Wait + Drop, N: Protocol<T, TaskWaker> = Unruled> {
     #[derive_where(skip)]
     pub(crate) shared: Shared<T, N>,
     #[derive_where(skip)]
     pub(crate) rt: R,
 }
 
-impl<T: Drop, N: Naming<T, TaskWaker>> AsyncCell<T, N> {
+impl<T: Drop, N: Protocol<T, TaskWaker>> AsyncCell<T, N> {
     /// Makes the first owner of this cell, with the right to wait. Fails with `Memory`, and then
     /// gives the cell back. For `?` write `Owner::new_with`, or `into_shared_or_drop()?.with(rt)`.
     pub fn into_owner<R: Wait + Drop>(self, rt: R) -> Result<Owner<T, R, N>, (Refusal, Self)>
@@ -100,7 +100,7 @@ impl<T: Drop, R: Wait + Copy, P: Rule<T>> Owner<T, R, Ruled<P>> {
     }
 }
 
-impl<T: Drop, R: Wait + Copy, N: Naming<T, TaskWaker>> Owner<T, R, N> {
+impl<T: Drop, R: Wait + Copy, N: Protocol<T, TaskWaker>> Owner<T, R, N> {
     /// Adds an owner, in place of a clone. Fails with `Memory` if the pointer cannot be counted, or
     /// with `OwnersFull`; `Closed` is in the contract, but cannot happen while this owner lives.
     pub fn another(&self) -> Result<Self, Refusal>
@@ -308,7 +308,7 @@ impl<R: Wait + Copy> Owner<(), R> {
 }
 
 /// Ends the owner. May wait for the lock.
-impl<T: Drop, R: Wait + Drop, N: Naming<T, TaskWaker>> Drop for Owner<T, R, N> {
+impl<T: Drop, R: Wait + Drop, N: Protocol<T, TaskWaker>> Drop for Owner<T, R, N> {
     fn drop(self) {
         let Owner {
             rt,
@@ -321,7 +321,7 @@ impl<T: Drop, R: Wait + Drop, N: Naming<T, TaskWaker>> Drop for Owner<T, R, N> {
     }
 }
 
-impl<T: Drop, R: Wait + Drop, N: Naming<T, TaskWaker>> CellRef for Owner<T, R, N> {
+impl<T: Drop, R: Wait + Drop, N: Protocol<T, TaskWaker>> CellRef for Owner<T, R, N> {
     type Value = T;
 
     type Name = N;

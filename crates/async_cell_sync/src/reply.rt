@@ -9,7 +9,7 @@ ghost use Rattle.async_cell_sync.specs.Source.{source_of};
 use crate::async_cell::AsyncCell;
 use async_cell_core::{Core, Place, Refusal, TaskWaker};
 use async_cell_model::Kept;
-use async_cell_waiting::{Naming, Rule, Ruled, Takeable, Taking, Unnamed, poll};
+use async_cell_waiting::{Protocol, Rule, Ruled, Takeable, Taking, Unruled, poll};
 use futures::future::Future;
 use futures::task::{Context, Poll};
 use std::alloc::Global;
@@ -20,7 +20,7 @@ use std::sync::{Arc, Wait};
 ///
 /// **Dropping it may wait for the lock**, as its calls may.
 #[derive_where(Debug)]
-pub struct Replier<T: Drop, R: Wait + Drop, N: Takeable<T, TaskWaker> = Unnamed> {
+pub struct Replier<T: Drop, R: Wait + Drop, N: Takeable<T, TaskWaker> = Unruled> {
     #[derive_where(skip)]
     cell: Arc<AsyncCell<T, N>>,
     #[derive_where(skip)]
@@ -41,7 +41,7 @@ pub struct Replier<T: Drop, R: Wait + Drop, N: Takeable<T, TaskWaker> = Unnamed>
 /// println!(rt; "{:?}", block_on(&rt, reply)?)?; // prints Err(Closed)
 /// ```
 #[derive_where(Debug)]
-pub struct Reply<T: Drop, R: Wait + Drop, N: Takeable<T, TaskWaker> = Unnamed> {
+pub struct Reply<T: Drop, R: Wait + Drop, N: Takeable<T, TaskWaker> = Unruled> {
     /// `None` once it was ready.
     #[derive_where(skip)]
     cell: Option<Arc<AsyncCell<T, N>>>,

@@ -11,7 +11,7 @@ use crate::take::Take;
 use crate::weak::{GetWeak, TakeWeak, Weak};
 use async_cell_core::{Refusal, TaskWaker};
 use async_cell_model::Kept;
-use async_cell_waiting::{Naming, Unnamed};
+use async_cell_waiting::{Protocol, Unruled};
 use std::alloc::{AllocFailed, Global};
 use std::sync::{Arc, Wait};
 
@@ -21,7 +21,7 @@ use std::sync::{Arc, Wait};
 /// It is not `Drop` and must be consumed: by `end`, `leave` or `try_into_inner`, or by `with`,
 /// which makes it an `Owner`, and that ends by its drop.
 #[derive_where(Debug)]
-pub struct Shared<T, N: Naming<T, TaskWaker> = Unnamed> {
+pub struct Shared<T, N: Protocol<T, TaskWaker> = Unruled> {
     #[derive_where(skip)]
     pub(crate) cell: Arc<AsyncCell<T, N>>,
 }
@@ -35,7 +35,7 @@ impl<T: Drop> Shared<T> {
     }
 }
 
-impl<T: Drop, N: Naming<T, TaskWaker>> Shared<T, N> {
+impl<T: Drop, N: Protocol<T, TaskWaker>> Shared<T, N> {
     /// Makes the first owner of this cell. Fails with `Memory`; the cell is then returned in the
     /// error. `AsyncCell::into_shared_or_drop` is the form for `?`.
     pub fn into_shared(cell: AsyncCell<T, N>) -> Result<Self, (Refusal, AsyncCell<T, N>)>

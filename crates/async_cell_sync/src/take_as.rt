@@ -3,14 +3,14 @@ ghost use Rattle.std.specs.Prelude.{◌≡◌, Some, IfOk};
 ghost use Rattle.async_cell_model.specs.Refusal.{FailsWithMemoryOrClosed};
 ghost use Rattle.async_cell_model.specs.declared.entry.Kept.TheVariants.{TryTake, TryGet};
 ghost use Rattle.async_cell_model.specs.declared.reply.Reply.TheVariants.{Value};
-ghost use Rattle.async_cell_waiting.specs.Told.{IsCloneOfOne, IsSigned, IsTold, IsToldUpTo};
+ghost use Rattle.async_cell_waiting.specs.History.{IsCloneOfOne, IsSigned, IsTold, IsToldUpTo};
 ghost use Rattle.async_cell_sync.specs.Owned.{cell_owned};
 
 use crate::async_cell::AsyncCell;
 use crate::cell_ref::CellRef;
 use crate::owner::Owner;
 use async_cell_core::{Refusal, TaskWaker, Wakes};
-use async_cell_waiting::{At, CloningAs, Naming, Polled, Request, TakingAs, With, Witness, poll};
+use async_cell_waiting::{At, CloningAs, Protocol, Polled, Request, TakingAs, With, Witness, poll};
 use futures::task::{Context, Poll};
 use std::marker::Model;
 use std::sync::Wait;
@@ -25,13 +25,13 @@ pub struct TakeAs<C: CellRef> {
 
 /// A witness of a cell whose value may be taken. Contracts see what it has seen.
 #[derive(Drop)]
-struct Taker<T, N: Naming<T, TaskWaker>> {
+struct Taker<T, N: Protocol<T, TaskWaker>> {
     seen: Witness<T, TaskWaker, N>,
 }
 
-impl<T, N: Naming<T, TaskWaker>> Model for Taker<T, N> {
+impl<T, N: Protocol<T, TaskWaker>> Model for Taker<T, N> {
     ghost use Rattle.async_cell_model.specs.declared.entry.Kept.TheVariants.{TryTake};
-    ghost use Rattle.async_cell_waiting.specs.Told.{Seen};
+    ghost use Rattle.async_cell_waiting.specs.History.{Seen};
     ghost use Rattle.async_cell_wakers.specs.declared.task_waker.TaskWaker.{TaskWaker};
 
     ghost Value = { Seen T TaskWaker };
@@ -41,7 +41,7 @@ impl<T, N: Naming<T, TaskWaker>> Model for Taker<T, N> {
     ghost invariant = { λ _. N.may TryTake };
 }
 
-impl<T, N: Naming<T, TaskWaker>> Taker<T, N> {
+impl<T, N: Protocol<T, TaskWaker>> Taker<T, N> {
     /// Keeps that it may.
     fn of(seen: Witness<T, TaskWaker, N>) -> Self
         requires may { N.may TryTake }
@@ -119,7 +119,7 @@ impl<C: CellRef<Value: Clone> + Drop, R: Wait> Polled<R> for GetAs<C> {
     }
 }
 
-impl<T: Drop, R: Wait + Copy, N: Naming<T, TaskWaker>> Owner<T, R, N> {
+impl<T: Drop, R: Wait + Copy, N: Protocol<T, TaskWaker>> Owner<T, R, N> {
     /// Returns a future that takes the value and tells the witness, which it gives back. It borrows
     /// this owner, which keeps the cell open.
     pub fn take_as(&self, seen: Witness<T, TaskWaker, N>) -> With<TakeAs<&AsyncCell<T, N>>, R>

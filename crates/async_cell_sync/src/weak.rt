@@ -3,7 +3,7 @@ ghost use Rattle.std.specs.Arc.{arc_value};
 ghost use Rattle.futures.specs.Poll.{IfReady, OnPending};
 ghost use Rattle.futures.specs.Task.{Covers, Keeps};
 ghost use Rattle.async_cell_model.specs.Refusal.{FailsWithMemory};
-ghost use Rattle.async_cell_waiting.specs.Told.{IsCloneOfOne};
+ghost use Rattle.async_cell_waiting.specs.History.{IsCloneOfOne};
 ghost use Rattle.async_cell_waiting.specs.Upgrade.{FailsToUpgrade};
 ghost use Rattle.async_cell_sync.specs.Names.{IsLost, NameAtMostTheSame, Names, NamesAtMost};
 ghost use Rattle.async_cell_sync.specs.Names.{NameTheSame, OwnsNamed};
@@ -19,7 +19,7 @@ use crate::take::Take;
 use crate::weak_owner::WeakOwner;
 use async_cell_core::{Refusal, TaskWaker};
 use async_cell_waiting::{
-    At, Cloning, Naming, Polled, Request, Takeable, Takes, Taking, Unnamed, Upgrade, With, poll,
+    At, Cloning, Protocol, Polled, Request, Takeable, Takes, Taking, Unruled, Upgrade, With, poll,
     weakly,
 };
 use futures::task::{Context, Poll};
@@ -38,19 +38,19 @@ use std::sync::{Arc, Wait};
 /// drop(states);
 /// println!(rt; "{:?}", block_on(&rt, values.next())?)?; // prints None
 /// ```
-pub type Values<T, R, N = Unnamed> = async_cell_waiting::Values<TakeWeak<T, N>, R>;
+pub type Values<T, R, N = Unruled> = async_cell_waiting::Values<TakeWeak<T, N>, R>;
 
 /// A weak pointer to a cell, which does not count as an owner. `Shared::downgrade` makes one.
 /// `TakeWeak` and `GetWeak` make a future of it, `with` a `WeakOwner`, whose calls take no `rt`.
 #[derive(Drop)]
 #[derive_where(Debug)]
-pub struct Weak<T, N: Naming<T, TaskWaker> = Unnamed> {
+pub struct Weak<T, N: Protocol<T, TaskWaker> = Unruled> {
     /// `None` if the pointer could not be counted when it was made.
     #[derive_where(skip)]
     cell: Option<Arc<AsyncCell<T, N>>>,
 }
 
-impl<T: Drop, N: Naming<T, TaskWaker>> Weak<T, N> {
+impl<T: Drop, N: Protocol<T, TaskWaker>> Weak<T, N> {
     pub(crate) fn of(cell: &Arc<AsyncCell<T, N>>) -> Self
         ensures of_this { NamesAtMost result (arc_value cell.now) }
     {
@@ -100,7 +100,7 @@ impl<T: Drop, N: Naming<T, TaskWaker>> Weak<T, N> {
 }
 
 /// A clone points to the same cell.
-impl<T: Drop, N: Naming<T, TaskWaker>> Clone for Weak<T, N> {
+impl<T: Drop, N: Protocol<T, TaskWaker>> Clone for Weak<T, N> {
     ghost is_clone = { λ weak copy. NameTheSame weak copy };
 
     fn clone(&self) -> Result<Weak<T, N>, AllocError> {
@@ -114,7 +114,7 @@ impl<T: Drop, N: Naming<T, TaskWaker>> Clone for Weak<T, N> {
 #[derive(Drop)]
 #[derive_where(Clone; T: Drop)]
 #[derive_where(Debug)]
-pub struct TakeWeak<T, N: Naming<T, TaskWaker> = Unnamed>(pub Weak<T, N>);
+pub struct TakeWeak<T, N: Protocol<T, TaskWaker> = Unruled>(pub Weak<T, N>);
 
 impl<T: Drop, N: Takeable<T, TaskWaker>> TakeWeak<T, N> {
     /// Polls by a shared reference. Takes the value, or waits; `None` on a closed cell. Fails with
@@ -134,7 +134,7 @@ impl<T: Drop, N: Takeable<T, TaskWaker>> TakeWeak<T, N> {
     }
 }
 
-impl<T: Drop, N: Naming<T, TaskWaker>> TakeWeak<T, N> {
+impl<T: Drop, N: Protocol<T, TaskWaker>> TakeWeak<T, N> {
     /// Returns the future, which keeps `rt`: a poll of `futures` is passed no right to wait.
     pub fn with<R: Wait>(self, rt: R) -> With<Self, R>
         ensures polls { result.polled ≡ self }
@@ -153,7 +153,7 @@ impl<T: Drop, N: Naming<T, TaskWaker>> TakeWeak<T, N> {
     }
 }
 
-impl<T: Drop, R: Wait, N: Naming<T, TaskWaker>> Request<R> for TakeWeak<T, N> {
+impl<T: Drop, R: Wait, N: Protocol<T, TaskWaker>> Request<R> for TakeWeak<T, N> {
     type Cell = AsyncCell<T, N>;
 
     ghost is_lost = { λ weak. IsLost weak.0 };
@@ -178,7 +178,7 @@ impl<T: Drop, R: Wait, N: Takeable<T, TaskWaker>> Polled<R> for TakeWeak<T, N> {
     }
 }
 
-impl<T: Drop, R: Wait + Copy, N: Naming<T, TaskWaker>> Upgrade<R> for TakeWeak<T, N> {
+impl<T: Drop, R: Wait + Copy, N: Protocol<T, TaskWaker>> Upgrade<R> for TakeWeak<T, N> {
     type Owning = Take<Owner<T, R, N>>;
 
     ghost owned_by = { λ weak owning. Names weak.0 (cell_owned owning.0) };
@@ -204,9 +204,9 @@ impl<T: Drop, R: Wait, N: Takeable<T, TaskWaker>> Takes<R> for TakeWeak<T, N> {
 #[derive(Drop)]
 #[derive_where(Clone; T: Drop)]
 #[derive_where(Debug)]
-pub struct GetWeak<T, N: Naming<T, TaskWaker> = Unnamed>(pub Weak<T, N>);
+pub struct GetWeak<T, N: Protocol<T, TaskWaker> = Unruled>(pub Weak<T, N>);
 
-impl<T: Clone, N: Naming<T, TaskWaker>> GetWeak<T, N> {
+impl<T: Clone, N: Protocol<T, TaskWaker>> GetWeak<T, N> {
     /// Polls by a shared reference. Clones the value, or waits; `None` on a closed cell. Fails with
     /// `Memory` if there is no memory for that.
     pub fn poll_shared<R: Wait>(
@@ -225,7 +225,7 @@ impl<T: Clone, N: Naming<T, TaskWaker>> GetWeak<T, N> {
     }
 }
 
-impl<T: Drop, N: Naming<T, TaskWaker>> GetWeak<T, N> {
+impl<T: Drop, N: Protocol<T, TaskWaker>> GetWeak<T, N> {
     /// Returns the future, which keeps `rt`: a poll of `futures` is passed no right to wait.
     pub fn with<R: Wait>(self, rt: R) -> With<Self, R>
         ensures polls { result.polled ≡ self }
@@ -243,7 +243,7 @@ impl<T: Drop, N: Naming<T, TaskWaker>> GetWeak<T, N> {
     }
 }
 
-impl<T: Drop, R: Wait, N: Naming<T, TaskWaker>> Request<R> for GetWeak<T, N> {
+impl<T: Drop, R: Wait, N: Protocol<T, TaskWaker>> Request<R> for GetWeak<T, N> {
     type Cell = AsyncCell<T, N>;
 
     ghost is_lost = { λ weak. IsLost weak.0 };
@@ -253,7 +253,7 @@ impl<T: Drop, R: Wait, N: Naming<T, TaskWaker>> Request<R> for GetWeak<T, N> {
     }
 }
 
-impl<T: Clone, R: Wait, N: Naming<T, TaskWaker>> Polled<R> for GetWeak<T, N> {
+impl<T: Clone, R: Wait, N: Protocol<T, TaskWaker>> Polled<R> for GetWeak<T, N> {
     type Output = Result<Option<T>, Refusal>;
 
     ghost waits_for = { λ get. IsSourceOf get.0 };
@@ -268,7 +268,7 @@ impl<T: Clone, R: Wait, N: Naming<T, TaskWaker>> Polled<R> for GetWeak<T, N> {
     }
 }
 
-impl<T: Drop, R: Wait + Copy, N: Naming<T, TaskWaker>> Upgrade<R> for GetWeak<T, N> {
+impl<T: Drop, R: Wait + Copy, N: Protocol<T, TaskWaker>> Upgrade<R> for GetWeak<T, N> {
     type Owning = Get<Owner<T, R, N>>;
 
     ghost owned_by = { λ weak owning. Names weak.0 (cell_owned owning.0) };

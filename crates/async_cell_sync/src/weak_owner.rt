@@ -6,7 +6,7 @@ ghost use Rattle.async_cell_sync.specs.Owned.{cell_owned};
 use crate::owner::Owner;
 use crate::weak::{GetWeak, TakeWeak, Weak};
 use async_cell_core::{Refusal, TaskWaker};
-use async_cell_waiting::{Naming, Unnamed, With};
+use async_cell_waiting::{Protocol, Unruled, With};
 use std::alloc::AllocError;
 use std::sync::Wait;
 
@@ -16,14 +16,14 @@ use std::sync::Wait;
 /// Its drop does not take the lock. Dropping a future that it made may wait for it (see `With`).
 #[derive(Drop)]
 #[derive_where(Debug)]
-pub struct WeakOwner<T, R, N: Naming<T, TaskWaker> = Unnamed> {
+pub struct WeakOwner<T, R, N: Protocol<T, TaskWaker> = Unruled> {
     #[derive_where(skip)]
     pub(crate) weak: Weak<T, N>,
     #[derive_where(skip)]
     pub(crate) rt: R,
 }
 
-impl<T: Drop, R: Wait + Copy, N: Naming<T, TaskWaker>> WeakOwner<T, R, N> {
+impl<T: Drop, R: Wait + Copy, N: Protocol<T, TaskWaker>> WeakOwner<T, R, N> {
     /// Makes an owner; `None` if closed. Fails with `Memory` (checked first) or `OwnersFull`.
     ///
     /// ```rust
@@ -63,7 +63,7 @@ impl<T: Drop, R: Wait + Copy, N: Naming<T, TaskWaker>> WeakOwner<T, R, N> {
 }
 
 /// A clone points to the same cell.
-impl<T: Drop, R: Copy, N: Naming<T, TaskWaker>> Clone for WeakOwner<T, R, N> {
+impl<T: Drop, R: Copy, N: Protocol<T, TaskWaker>> Clone for WeakOwner<T, R, N> {
     ghost is_clone = { λ weak copy. NameTheSame weak.weak copy.weak };
 
     fn clone(&self) -> Result<WeakOwner<T, R, N>, AllocError> {

@@ -2,7 +2,7 @@ ghost use Rattle.std.specs.Prelude.{◌≡◌, Option, IsOk, IfOk, IfErr, IfSome
 ghost use Rattle.std.specs.Fn.{FnOnceReturnsAt};
 ghost use Rattle.async_cell_model.specs.Machine.{content, IsSound};
 ghost use Rattle.async_cell_model.specs.Refusal.{FailsWithMemory};
-ghost use Rattle.async_cell_waiting.specs.Told.{IsCloneOfOne};
+ghost use Rattle.async_cell_waiting.specs.History.{IsCloneOfOne};
 ghost use Rattle.async_cell_unsync.specs.Names.{cell_of};
 
 use crate::get::Get;
@@ -10,7 +10,7 @@ use crate::guarded_cell::GuardedCell;
 use crate::shared::Shared;
 use crate::take::Take;
 use async_cell_core::{Core, Place, Refusal, TaskWaker, Wakes};
-use async_cell_waiting::{CellCore, Free, Lender, OneThread, Places, Rule, Ruled, Unnamed};
+use async_cell_waiting::{CellCore, Free, Lender, OneThread, Places, Rule, Ruled, Unruled};
 use futures::task::Source;
 use std::alloc::Global;
 use std::fmt;
@@ -30,7 +30,7 @@ use std::fmt;
 /// other future that waits adds a waker. It outlives that future, until the next write or close.
 ///
 /// `N` says what is known of the values (see `Rule`).
-pub struct AsyncCell<T, N: Free<T, TaskWaker> = Unnamed> {
+pub struct AsyncCell<T, N: Free<T, TaskWaker> = Unruled> {
     pub(crate) core: Lender<CellCore<T, TaskWaker, N>>,
     /// The source that waiting tasks register with.
     pub(crate) source: Source,

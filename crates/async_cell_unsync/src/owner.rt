@@ -14,7 +14,7 @@ use crate::weak::{GetWeak, TakeWeak};
 use crate::weak_owner::WeakOwner;
 use crate::with::With;
 use async_cell_core::{Refusal, TaskWaker};
-use async_cell_waiting::{Free, Rule, Ruled, Unnamed};
+use async_cell_waiting::{Free, Rule, Ruled, Unruled};
 use std::alloc::Global;
 use std::ops::Deref;
 
@@ -26,7 +26,7 @@ use std::ops::Deref;
 /// until their `with` is called.
 #[derive(Drop)]
 #[derive_where(Debug)]
-pub struct Owner<T: Drop, N: Free<T, TaskWaker> = Unnamed> {
+pub struct Owner<T: Drop, N: Free<T, TaskWaker> = Unruled> {
     #[derive_where(skip)]
     pub(crate) shared: Shared<T, N>,
 }

@@ -8,7 +8,7 @@ ghost use Rattle.async_cell_unsync.specs.Source.{source_of};
 
 use crate::async_cell::AsyncCell;
 use async_cell_core::{Core, Place, Refusal, TaskWaker};
-use async_cell_waiting::{Free, OneThread, Rule, Ruled, Taking, Unnamed, poll};
+use async_cell_waiting::{Free, OneThread, Rule, Ruled, Taking, Unruled, poll};
 use futures::future::Future;
 use futures::task::{Context, Poll};
 use std::alloc::Global;
@@ -17,7 +17,7 @@ use std::rc::Rc;
 /// The side of a reply slot that replies, once, by `set`. If it is dropped without that, as at `?`
 /// or an early `return`, the slot is closed, and the `Reply` is ready with `Closed`.
 #[derive_where(Debug)]
-pub struct Replier<T: Drop, N: Free<T, TaskWaker> = Unnamed> {
+pub struct Replier<T: Drop, N: Free<T, TaskWaker> = Unruled> {
     #[derive_where(skip)]
     cell: Rc<AsyncCell<T, N>>,
 }
@@ -35,7 +35,7 @@ pub struct Replier<T: Drop, N: Free<T, TaskWaker> = Unnamed> {
 /// println!(rt; "{:?}", block_on(&rt, reply)?)?; // prints Err(Closed)
 /// ```
 #[derive_where(Debug)]
-pub struct Reply<T: Drop, N: Free<T, TaskWaker> = Unnamed> {
+pub struct Reply<T: Drop, N: Free<T, TaskWaker> = Unruled> {
     /// `None` once it was ready.
     #[derive_where(skip)]
     cell: Option<Rc<AsyncCell<T, N>>>,

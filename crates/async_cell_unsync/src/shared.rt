@@ -10,14 +10,14 @@ use crate::owner::Owner;
 use crate::take::Take;
 use crate::weak::{GetWeak, TakeWeak, Weak};
 use async_cell_core::{Refusal, TaskWaker};
-use async_cell_waiting::{Free, OneThread, Unnamed};
+use async_cell_waiting::{Free, OneThread, Unruled};
 use std::alloc::{AllocFailed, Global};
 use std::rc::Rc;
 
 /// One counted owner of a cell. Dropping it ends the owner. The last one closes the cell: the value
 /// is dropped, all waiters are woken, and weak futures are ready with `None`.
 #[derive_where(Debug)]
-pub struct Shared<T, N: Free<T, TaskWaker> = Unnamed> {
+pub struct Shared<T, N: Free<T, TaskWaker> = Unruled> {
     #[derive_where(skip)]
     pub(crate) cell: Rc<AsyncCell<T, N>>,
 }

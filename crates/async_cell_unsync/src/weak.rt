@@ -8,7 +8,7 @@ ghost use Rattle.async_cell_unsync.specs.Names.{NameTheSame, OwnsNamed};
 ghost use Rattle.async_cell_unsync.specs.Owned.{cell_owned};
 ghost use Rattle.async_cell_unsync.specs.Refused.{GivesWeakly};
 ghost use Rattle.async_cell_unsync.specs.Source.{source_of, IsSourceOf};
-ghost use Rattle.async_cell_waiting.specs.Told.{IsCloneOfOne};
+ghost use Rattle.async_cell_waiting.specs.History.{IsCloneOfOne};
 ghost use Rattle.async_cell_waiting.specs.Upgrade.{FailsToUpgrade};
 
 use crate::async_cell::AsyncCell;
@@ -20,7 +20,7 @@ use crate::weak_owner::WeakOwner;
 use crate::with::With;
 use async_cell_core::{Refusal, TaskWaker};
 use async_cell_waiting::{
-    At, Free, OneThread, Polled, Request, Takes, Taking, Unnamed, Upgrade, poll, weakly,
+    At, Free, OneThread, Polled, Request, Takes, Taking, Unruled, Upgrade, poll, weakly,
 };
 use futures::future::Future;
 use futures::task::{Context, Poll};
@@ -31,7 +31,7 @@ use std::rc::Rc;
 /// `TakeWeak` and `GetWeak` make a future of it, and `with` a `WeakOwner`.
 #[derive(Drop)]
 #[derive_where(Debug)]
-pub struct Weak<T, N: Free<T, TaskWaker> = Unnamed> {
+pub struct Weak<T, N: Free<T, TaskWaker> = Unruled> {
     /// `None` if the pointer could not be counted when it was made.
     #[derive_where(skip)]
     cell: Option<Rc<AsyncCell<T, N>>>,
@@ -100,7 +100,7 @@ impl<T: Drop, N: Free<T, TaskWaker>> Clone for Weak<T, N> {
 #[derive(Drop)]
 #[derive_where(Clone; T: Drop)]
 #[derive_where(Debug)]
-pub struct TakeWeak<T, N: Free<T, TaskWaker> = Unnamed>(pub Weak<T, N>);
+pub struct TakeWeak<T, N: Free<T, TaskWaker> = Unruled>(pub Weak<T, N>);
 
 impl<T: Drop, N: Free<T, TaskWaker>> TakeWeak<T, N> {
     /// Polls by a shared reference. Takes the value, or waits; `None` on a closed cell. Fails with
@@ -194,7 +194,7 @@ impl<T: Drop, N: Free<T, TaskWaker>> Future for TakeWeak<T, N> {
 #[derive(Drop)]
 #[derive_where(Clone; T: Drop)]
 #[derive_where(Debug)]
-pub struct GetWeak<T, N: Free<T, TaskWaker> = Unnamed>(pub Weak<T, N>);
+pub struct GetWeak<T, N: Free<T, TaskWaker> = Unruled>(pub Weak<T, N>);
 
 impl<T: Drop, N: Free<T, TaskWaker>> GetWeak<T, N> {
     /// Polls by a shared reference. Clones the value, or waits; `None` on a closed cell. Fails with

@@ -7,14 +7,14 @@ use crate::owner::Owner;
 use crate::weak::{GetWeak, TakeWeak, Weak};
 use crate::with::With;
 use async_cell_core::{Refusal, TaskWaker};
-use async_cell_waiting::{Free, Unnamed};
+use async_cell_waiting::{Free, Unruled};
 use std::alloc::AllocError;
 
 /// A weak pointer to a cell, which makes owners and futures. It does not count as an owner, and
 /// keeps the cell's memory alive, not its value. `Owner::downgrade` makes one.
 #[derive(Drop)]
 #[derive_where(Debug)]
-pub struct WeakOwner<T, N: Free<T, TaskWaker> = Unnamed> {
+pub struct WeakOwner<T, N: Free<T, TaskWaker> = Unruled> {
     #[derive_where(skip)]
     pub(crate) weak: Weak<T, N>,
 }

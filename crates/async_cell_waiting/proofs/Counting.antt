@@ -17,7 +17,7 @@ use Rattle.async_cell_model.specs.Machine.{State, Exactly, FitsUpdate, content, 
 use Rattle.async_cell_model.specs.History.{History, cell_after}
 use Rattle.async_cell_model.specs.Legal.{IsLegalAfterBy, MayFollowBy}
 use Rattle.async_cell_model.proofs.JoinedHistory.{cell_after-append}
-use Rattle.async_cell_waiting.specs.Told.{IsAllowed, IsNoSet, come_out, comes_out, dropped, dropped_by, goes_in, gone_in}
+use Rattle.async_cell_waiting.specs.History.{IsAllowed, IsNoSet, come_out, comes_out, dropped, dropped_by, goes_in, gone_in}
 
 module _ {T : Type 0} (test : T → Bool) where
   abbrev count : Option T → ℕ

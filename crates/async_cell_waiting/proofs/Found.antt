@@ -10,7 +10,7 @@ use Rattle.async_cell_core.specs.Polled.{IsCloneOf, poll_reply}
 use Rattle.async_cell_model.specs.declared.reply.Reply.{Reply}
 use Rattle.async_cell_model.specs.Machine.{UpToClones}
 use Rattle.futures.specs.declared.task.Poll.{Poll}
-use Rattle.async_cell_waiting.specs.Told.{Begun, Seen, IsCloneOfOne, IsSigned, IsTold, IsToldUpTo, get_reply, end_reply, done_reply}
+use Rattle.async_cell_waiting.specs.History.{Begun, Seen, IsCloneOfOne, IsSigned, IsTold, IsToldUpTo, get_reply, end_reply, done_reply}
 
 module _ {T W : Type 0} (rules : WakerRules W) (named : Option (Begun T W)) (seen : History T W) where
   copied_as : (is_clone : T → T → Type 0) (h : History T W) (held : Option T) (x : T) → IsTold rules named seen TryGet (Value held) h → IsCloneOf is_clone held (Some x) → IsToldUpTo is_clone rules named seen TryGet (Value (Some x)) h

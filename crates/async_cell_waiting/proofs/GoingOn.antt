@@ -16,7 +16,7 @@ use Rattle.async_cell_model.specs.History.{History, cell_after, after}
 use Rattle.async_cell_model.specs.Legal.{IsExact, IsLegalAfterBy, MayFollowBy}
 use Rattle.async_cell_model.proofs.JoinedHistory.{cell_after-append}
 use Rattle.async_cell_core.specs.IsStep.{WakerRules}
-use Rattle.async_cell_waiting.specs.Told.{Begun, GoesOn, HasEntry, IsAllowed, IsLawful, IsOrSet, IsTold, IsToldUpTo, OnlyMakes, start_of}
+use Rattle.async_cell_waiting.specs.History.{Begun, GoesOn, HasEntry, IsAllowed, IsLawful, IsOrSet, IsTold, IsToldUpTo, OnlyMakes, start_of}
 use Rattle.async_cell_waiting.proofs.Leading.{all_such}
 use Rattle.async_cell_waiting.proofs.PutIn.{either, full_at}
 use Rattle.async_cell_waiting.proofs.Telling.{second}

@@ -6,7 +6,7 @@ use Rattle.async_cell_model.specs.History.{History}
 use Rattle.async_cell_model.specs.Legal.{IsLegal, Runs, wakes_after}
 use Rattle.async_cell_model.proofs.LegalHistories.{Runs-join}
 use Rattle.async_cell_model.proofs.Machine.{model_of}
-use Rattle.async_cell_waiting.specs.Told.{Past, Leads, IsAllowed, IsLawful, OnlyMakes, Puts}
+use Rattle.async_cell_waiting.specs.History.{Past, Leads, IsAllowed, IsLawful, OnlyMakes, Puts}
 use Rattle.async_cell_waiting.proofs.PutIn.{step_holds}
 use Rattle.std.specs.List.{All}
 use Rattle.std.proofs.lemmas.List.Elements.{All-append, All-cons, All-nil, All-weaker}

@@ -12,7 +12,7 @@ use Rattle.async_cell_model.specs.declared.reply.Reply.TheVariants.{Value}
 use Rattle.async_cell_model.specs.Machine.{content, next, next_open, reply, is_memory}
 use Rattle.async_cell_model.specs.History.{History, cell_after}
 use Rattle.async_cell_core.specs.IsStep.{WakerRules}
-use Rattle.async_cell_waiting.specs.Told.{Begun, IsAllowed, IsLawful, IsTold, Puts, PutsWhatSetsMay, start_of}
+use Rattle.async_cell_waiting.specs.History.{Begun, IsAllowed, IsLawful, IsTold, Puts, PutsWhatSetsMay, start_of}
 
 -- what holds of both holds of either
 pub either : {A : Type 0} (P : A → Type 0) (b : Bool) (x y : A) → P x → P y → P (if b then x else y)

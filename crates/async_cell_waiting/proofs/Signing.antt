@@ -4,7 +4,7 @@ use mathlib.Core.List.{IsPrefix}
 use Rattle.std.proofs.lemmas.List.{map-append}
 use Rattle.async_cell_model.specs.declared.entry.Kept.{Kept}
 use Rattle.async_cell_model.specs.declared.reply.Reply.{Reply}
-use Rattle.async_cell_waiting.specs.Told.{Desk, Made, Seen, IsSigned}
+use Rattle.async_cell_waiting.specs.History.{Desk, Made, Seen, IsSigned}
 
 module _ {A B : Type 0} (f : A → B) where
   -- what begins a list begins it also after a change of each element

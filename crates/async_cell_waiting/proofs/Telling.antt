@@ -12,7 +12,7 @@ use Rattle.async_cell_model.proofs.JoinedHistory.{after-append}
 use Rattle.async_cell_model.proofs.Machine.{machine_of}
 use Rattle.async_cell_model.proofs.Whole.{after-nil, IsSound-after}
 use Rattle.async_cell_core.specs.IsStep.{WakerRules}
-use Rattle.async_cell_waiting.specs.Told.{Begun, Desk, Made, IsTold, start_of}
+use Rattle.async_cell_waiting.specs.History.{Begun, Desk, Made, IsTold, start_of}
 use Rattle.async_cell_waiting.proofs.Leading.{RunsTo, runs_more}
 
 module _ {T W : Type 0} (will_wake : W → W → Bool) (sure : Bool) where

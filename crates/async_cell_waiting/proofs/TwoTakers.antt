@@ -15,7 +15,7 @@ use Rattle.async_cell_model.specs.Taken.{IsDistinct, IsSubsequence, has_update, 
 use Rattle.async_cell_model.proofs.Exact.{NoClone, legal_of_exact}
 use Rattle.async_cell_model.proofs.Once.{IsSubsequence-same, IsSubsequence-nil, IsSubsequence-trans, IsSubsequence-append, pairs_of_subsequence, given_in_order}
 use Rattle.async_cell_core.specs.IsStep.{WakerRules}
-use Rattle.async_cell_waiting.specs.Told.{Begun, Seen, IsAllowed, IsLawful, IsTake, OnlyMakes, IsTold, IsSigned, Took}
+use Rattle.async_cell_waiting.specs.History.{Begun, Seen, IsAllowed, IsLawful, IsTake, OnlyMakes, IsTold, IsSigned, Took}
 use Rattle.async_cell_waiting.proofs.Leading.{all_such}
 use Rattle.ghost_log.proofs.Steps.{shorter_begins}
 

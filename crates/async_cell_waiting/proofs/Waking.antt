@@ -13,7 +13,7 @@ use Rattle.async_cell_model.proofs.Exact.{NoClone, legal_of_exact}
 use Rattle.async_cell_model.proofs.JoinedHistory.{cell_after-append}
 use Rattle.async_cell_model.proofs.Whole.{stays_covered, IsLegalAfter-first}
 use Rattle.async_cell_core.specs.IsStep.{WakerRules}
-use Rattle.async_cell_waiting.specs.Told.{Begun, IsLawful, IsTold, StillWaits, start_of}
+use Rattle.async_cell_waiting.specs.History.{Begun, IsLawful, IsTold, StillWaits, start_of}
 
 -- who still waits is in the wait list before the call, or somebody who would wake it
 waits_there : {T W : Type 0} (rules : WakerRules W) (may : Kept T W → Type 0) (named : Option (Begun T W)) (seen now : History T W) (call : Kept T W) (reply : Reply T) (w : W) (told : IsTold rules named seen call reply now) → IsLawful rules.will_wake rules.SURE_CLONE may (start_of named) now

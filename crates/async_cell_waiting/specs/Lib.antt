@@ -1,3 +1,3 @@
 pub mod Held
-pub mod Told
+pub mod History
 pub mod Upgrade

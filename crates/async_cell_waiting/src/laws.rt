@@ -8,15 +8,15 @@ ghost use Rattle.async_cell_model.specs.Machine.{content, ends_waiting};
 ghost use Rattle.async_cell_model.specs.Legal.{IsExact};
 ghost use Rattle.async_cell_model.specs.History.{History, IsCovered, cell_after};
 ghost use Rattle.async_cell_model.specs.Taken.{IsDistinct, IsSubsequence, has_update, put_in};
-ghost use Rattle.async_cell_waiting.specs.Told.{GoesOn, HasEntry, IsLawful, IsNoSet, IsOrSet, IsSigned, IsTake, IsTold, IsToldUpTo, OnlyMakes, PutsWhatSetsMay, Seen, StillWaits, Took, come_out, dropped, gone_in, start_of};
+ghost use Rattle.async_cell_waiting.specs.History.{GoesOn, HasEntry, IsLawful, IsNoSet, IsOrSet, IsSigned, IsTake, IsTold, IsToldUpTo, OnlyMakes, PutsWhatSetsMay, Seen, StillWaits, Took, come_out, dropped, gone_in, start_of};
 
-use crate::told::Naming;
+use crate::history::Protocol;
 use async_cell_core::Wakes;
 use async_cell_model::{Kept, Reply};
 
 /// A value that is taken or got is one that a `set` may put in, if all other changes put in such
 /// values alone, and the first state has none or such a one.
-pub fn a_value_is_one_that_may_be_set<T, W: Wakes, N: Naming<T, W>>()
+pub fn a_value_is_one_that_may_be_set<T, W: Wakes, N: Protocol<T, W>>()
     ensures taken { PutsWhatSetsMay N.may
         → IfSome (content (start_of N.named).cell) (λ v. N.may (Kept.Set v))
         → (seen now : History T W) (v : T)
@@ -33,7 +33,7 @@ pub fn a_value_is_one_that_may_be_set<T, W: Wakes, N: Naming<T, W>>()
 
 /// A call that fills or closes a cell wakes each waker that still waits there, or one that would
 /// wake it.
-pub fn a_fill_or_close_wakes_who_waits<T, W: Wakes, N: Naming<T, W>>()
+pub fn a_fill_or_close_wakes_who_waits<T, W: Wakes, N: Protocol<T, W>>()
     ensures { (seen now : History T W) (call : Called T W) (reply : Replied T) (w : W)
         (told : IsTold W.Wakes N.named seen call reply now)
         → IsLawful W.will_wake W.SURE_CLONE N.may (start_of N.named) now
@@ -44,7 +44,7 @@ pub fn a_fill_or_close_wakes_who_waits<T, W: Wakes, N: Naming<T, W>>()
 {}
 
 /// A `set` that was done wakes each waker that still waits there, or one that would wake it.
-pub fn a_set_wakes_who_waits<T, W: Wakes, N: Naming<T, W>>()
+pub fn a_set_wakes_who_waits<T, W: Wakes, N: Protocol<T, W>>()
     ensures { (seen now : History T W) (v : T) (w : W)
         (told : IsTold W.Wakes N.named seen (Kept.Set v) Reply.Done now)
         → IsLawful W.will_wake W.SURE_CLONE N.may (start_of N.named) now
@@ -52,7 +52,7 @@ pub fn a_set_wakes_who_waits<T, W: Wakes, N: Naming<T, W>>()
 {}
 
 /// What was told is in the history, and stays there.
-pub fn what_was_told_stays<T, W: Wakes, N: Naming<T, W>>()
+pub fn what_was_told_stays<T, W: Wakes, N: Protocol<T, W>>()
     ensures told { (seen now : History T W) (call : Called T W) (reply : Replied T)
         → IsTold W.Wakes N.named seen call reply now → HasEntry now call reply }
     ensures stays { (seen now : History T W) (call : Called T W) (reply : Replied T)
@@ -60,7 +60,7 @@ pub fn what_was_told_stays<T, W: Wakes, N: Naming<T, W>>()
 {}
 
 /// Where clones are exact, what was got is what the cell held.
-pub fn an_exact_get_is_told<T: Clone, W: Wakes, N: Naming<T, W>>()
+pub fn an_exact_get_is_told<T: Clone, W: Wakes, N: Protocol<T, W>>()
     ensures { IsExact T.is_clone → (seen now : History T W) (v : T)
         → IsToldUpTo T.is_clone W.Wakes N.named seen Kept.TryGet (Reply.Value (Some v)) now
         → IsTold W.Wakes N.named seen Kept.TryGet (Reply.Value (Some v)) now }
@@ -68,7 +68,7 @@ pub fn an_exact_get_is_told<T: Clone, W: Wakes, N: Naming<T, W>>()
 
 /// If an `or_set` is the only change that may be made, each `try_get` of a value finds the same.
 /// What it returned is that value or a clone of it.
-pub fn what_is_set_once_all_get<T, W: Wakes, N: Naming<T, W>>()
+pub fn what_is_set_once_all_get<T, W: Wakes, N: Protocol<T, W>>()
     ensures { (now : History T W) (v w : T)
         → OnlyMakes N.may IsOrSet
         → IsLawful W.will_wake W.SURE_CLONE N.may (start_of N.named) now
@@ -79,7 +79,7 @@ pub fn what_is_set_once_all_get<T, W: Wakes, N: Naming<T, W>>()
 /// What is got never goes back, if only an `or_set` may be made, and an update that leaves in a
 /// full cell a value which follows the one there, by a reflexive and transitive test. What a
 /// `try_get` finds follows what one that it has seen found: each returned that, or a clone of it.
-pub fn what_is_got_never_goes_back<T, W: Wakes, N: Naming<T, W>>()
+pub fn what_is_got_never_goes_back<T, W: Wakes, N: Protocol<T, W>>()
     ensures { (follows : T → T → Bool) (seen first later now : History T W) (v w : T)
         → ((a : T) → follows a a ≡ true)
         → ((a b c : T) → follows a b ≡ true → follows b c ≡ true → follows a c ≡ true)
@@ -92,7 +92,7 @@ pub fn what_is_got_never_goes_back<T, W: Wakes, N: Naming<T, W>>()
 {}
 
 /// A take that an author was told of is one of its own, for ever: also in all that was seen later.
-pub fn a_told_take_is_of_its_author<T, W: Wakes, N: Naming<T, W>>()
+pub fn a_told_take_is_of_its_author<T, W: Wakes, N: Protocol<T, W>>()
     ensures told { (seen now : Seen T W) (v : T)
         → IsTold W.Wakes N.named seen.calls Kept.TryTake (Reply.Value (Some v)) now.calls
         → IsSigned seen now → length now.authors ≡ length now.calls → Took seen.author v now }
@@ -103,7 +103,7 @@ pub fn a_told_take_is_of_its_author<T, W: Wakes, N: Naming<T, W>>()
 /// Two authors take two values. In a history without updates, what they took are two of the values
 /// that the cell held at the start and that were passed to the writes, in the one order or the
 /// other. So if all of those differ, the two values do.
-pub fn two_takers_take_two_values<T, W: Wakes, N: Naming<T, W>>()
+pub fn two_takers_take_two_values<T, W: Wakes, N: Protocol<T, W>>()
     ensures two_put { (all : Seen T W) (m n : ℕ) (v w : T)
         → IsLawful W.will_wake W.SURE_CLONE N.may (start_of N.named) all.calls
         → has_update all.calls ≡ false → Took m v all → Took n w all → m ≢ n
@@ -120,7 +120,7 @@ pub fn two_takers_take_two_values<T, W: Wakes, N: Naming<T, W>>()
 
 /// Of takers alone one gets a value. If takes are the only changes that may be made, all takes of a
 /// value are signed by one author.
-pub fn of_takers_alone_one_gets<T, W: Wakes, N: Naming<T, W>>()
+pub fn of_takers_alone_one_gets<T, W: Wakes, N: Protocol<T, W>>()
     ensures { (all : Seen T W) (m n : ℕ) (v w : T) → OnlyMakes N.may IsTake
         → IsLawful W.will_wake W.SURE_CLONE N.may (start_of N.named) all.calls
         → Took m v all → Took n w all → m ≡ n }
@@ -128,7 +128,7 @@ pub fn of_takers_alone_one_gets<T, W: Wakes, N: Naming<T, W>>()
 
 /// What goes in comes out. Of whatever values are counted, as many as were there at the start and
 /// went in have come out, were dropped by a `set`, or are left. Without a `set` none is dropped.
-pub fn as_many_come_out_or_are_left_as_went_in<T, W: Wakes, N: Naming<T, W>>()
+pub fn as_many_come_out_or_are_left_as_went_in<T, W: Wakes, N: Protocol<T, W>>()
     ensures as_many { (is_counted : T → Bool) (now : History T W)
         → IsLawful W.will_wake W.SURE_CLONE N.may (start_of N.named) now
         → count_by is_counted (come_out now)

@@ -11,7 +11,7 @@ mod polls;
 mod query;
 mod room;
 mod store;
-mod told;
+mod history;
 mod with;
 
 pub use cell_core::{CellCore, Cloning, CloningAs, Taking, TakingAs};
@@ -20,5 +20,5 @@ pub use polls::poll;
 pub use query::Query;
 pub use room::Room;
 pub use store::{Lender, Lent, Lock, Locked, OneThread, Opens, Step, StoredCore, Stores};
-pub use told::{Author, Blank, Cancel, Free, Naming, Rule, Ruled, Takeable, Unnamed, Witness};
+pub use history::{Author, Blank, Cancel, Free, Protocol, Rule, Ruled, Takeable, Unruled, Witness};
 pub use with::{At, Places, Polled, Request, Takes, Upgrade, Values, With, weakly};

@@ -1,10 +1,10 @@
 //! One job and two takers. Both ask for it at once, and one of them at most gets it.
 ghost use Rattle.std.specs.Prelude.{◌≡◌, Some, IfOk, IfSome};
 ghost use Rattle.async_cell_model.specs.Machine.{content};
-ghost use Rattle.async_cell_waiting.specs.Told.{IsTake, OnlyMakes, Took};
+ghost use Rattle.async_cell_waiting.specs.History.{IsTake, OnlyMakes, Took};
 
 use async_cell_model::{Kept, Refusal};
-use async_cell_sync::{Author, Blank, Naming, Owner, TaskWaker, Witness, laws};
+use async_cell_sync::{Author, Blank, Protocol, Owner, TaskWaker, Witness, laws};
 use std::alloc::AllocGlobal;
 use std::marker::Brand;
 use std::random::RandomSource;
@@ -41,7 +41,7 @@ fn share_named<N, R>(
     job: Blank<u64, TaskWaker>,
 ) -> Result<(Option<u64>, Option<u64>), Refusal>
 where
-    N: Naming<u64, TaskWaker> + Send + Sync,
+    N: Protocol<u64, TaskWaker> + Send + Sync,
     R: Threads + Wait + RandomSource + AllocGlobal + Copy + Send + Sync,
     requires named { N.named ≡ Some job }
     requires rule { IfSome (content job.start.cell) N.holds }
@@ -76,7 +76,7 @@ where
 /// Takes the job, if it is there.
 fn ask<N, R>(owner: &Owner<u64, R, N>, seen: &mut Witness<u64, TaskWaker, N>) -> Option<u64>
 where
-    N: Naming<u64, TaskWaker>,
+    N: Protocol<u64, TaskWaker>,
     R: Wait + Drop,
     requires may { N.may Kept.TryTake }
     ensures took { IfSome result (λ v. Took seen.old.author v seen.new) }

@@ -2,11 +2,11 @@
 ghost use Rattle.std.specs.Prelude.{◌≡◌, ⊤, Some, IfSome, OnOk};
 ghost use Rattle.async_cell_model.specs.Machine.{content};
 ghost use Rattle.async_cell_model.specs.History.{IsCovered};
-ghost use Rattle.async_cell_waiting.specs.Told.{IsTold, StillWaits, start_of};
+ghost use Rattle.async_cell_waiting.specs.History.{IsTold, StillWaits, start_of};
 ghost use Rattle.async_cell_sync.specs.declared.TaskWaker.{TaskWaker as Waker};
 
 use async_cell_model::{Kept, Refusal, Reply};
-use async_cell_sync::{Blank, Naming, Owner, TaskWaker, Wakes, Witness, laws};
+use async_cell_sync::{Blank, Protocol, Owner, TaskWaker, Wakes, Witness, laws};
 use futures::executor::block_on;
 use std::alloc::AllocGlobal;
 use std::io;
@@ -30,7 +30,7 @@ fn run_named<N, R>(
     over: Blank<(), TaskWaker>,
 ) -> Result<(Result<(), ()>, io::Result<()>), Refusal>
 where
-    N: Naming<(), TaskWaker> + Send + Sync,
+    N: Protocol<(), TaskWaker> + Send + Sync,
     R: Threads + Wait + RandomSource + AllocGlobal + Copy + Send + Sync,
     requires named { N.named ≡ Some over }
     requires rule { IfSome (content over.start.cell) N.holds }
@@ -50,7 +50,7 @@ where
 /// Says that all is over. It wakes the waker of each poll that waits, or one that would wake it.
 fn stop<N, R>(owner: &Owner<(), R, N>, seen: &mut Witness<(), TaskWaker, N>) -> Result<(), ()>
 where
-    N: Naming<(), TaskWaker>,
+    N: Protocol<(), TaskWaker>,
     R: Wait + Drop,
     requires may { N.may (Kept.Set tt) }
     ensures wakes { OnOk result ((told : IsTold ⟦<TaskWaker as Wakes>⟧ N.named

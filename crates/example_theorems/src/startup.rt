@@ -3,10 +3,10 @@ ghost use Rattle.std.specs.Prelude.{◌≡◌, ℕ, Some, IfOk, IfSome};
 ghost use Rattle.async_cell_model.specs.Machine.{content};
 ghost use Rattle.async_cell_model.specs.declared.entry.Kept.TheVariants.{TryGet};
 ghost use Rattle.async_cell_model.specs.declared.reply.Reply.TheVariants.{Value};
-ghost use Rattle.async_cell_waiting.specs.Told.{HasEntry, IsOrSet, OnlyMakes};
+ghost use Rattle.async_cell_waiting.specs.History.{HasEntry, IsOrSet, OnlyMakes};
 
 use async_cell_model::{Kept, Refusal};
-use async_cell_sync::{Blank, Naming, Owner, TaskWaker, Witness, laws};
+use async_cell_sync::{Blank, Protocol, Owner, TaskWaker, Witness, laws};
 use futures::executor::block_on;
 use std::alloc::AllocGlobal;
 use std::io;
@@ -31,7 +31,7 @@ fn start_named<N, R>(
     value: Blank<u64, TaskWaker>,
 ) -> Result<(io::Result<u64>, io::Result<u64>), Refusal>
 where
-    N: Naming<u64, TaskWaker> + Send + Sync,
+    N: Protocol<u64, TaskWaker> + Send + Sync,
     R: Threads + Wait + RandomSource + AllocGlobal + Copy + Send + Sync,
     requires named { N.named ≡ Some value }
     requires rule { IfSome (content value.start.cell) N.holds }
@@ -68,7 +68,7 @@ fn offer<N, R>(
     seen: &mut Witness<u64, TaskWaker, N>,
 ) -> io::Result<u64>
 where
-    N: Naming<u64, TaskWaker>,
+    N: Protocol<u64, TaskWaker>,
     R: Wait + RandomSource + AllocGlobal + Copy,
     requires may { N.may (Kept.OrSet value) }
     ensures got { IfOk result (λ v. HasEntry seen.new.calls TryGet (Value (Some v))) }

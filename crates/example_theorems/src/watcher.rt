@@ -1,10 +1,10 @@
 //! A watcher. One thread raises a level, and the other looks at it twice: it never sees it fall.
 ghost use Rattle.std.specs.Prelude.{◌≡◌, ◌≤◌, ℕ, true, nat_le, Option, None, Some, IfOk, IfSome};
 ghost use Rattle.async_cell_model.specs.Machine.{content};
-ghost use Rattle.async_cell_waiting.specs.Told.{GoesOn, OnlyMakes};
+ghost use Rattle.async_cell_waiting.specs.History.{GoesOn, OnlyMakes};
 
 use async_cell_model::{Kept, Refusal};
-use async_cell_sync::{Blank, Naming, Owner, TaskWaker, Witness, laws};
+use async_cell_sync::{Blank, Protocol, Owner, TaskWaker, Witness, laws};
 use futures::executor::block_on;
 use std::alloc::AllocGlobal;
 use std::io;
@@ -26,7 +26,7 @@ where
 /// Does so on the cell that `N` names: its level rises, and is never taken out.
 fn watch_named<N, R>(rt: R, level: Blank<u64, TaskWaker>) -> Result<io::Result<(u64, u64)>, Refusal>
 where
-    N: Naming<u64, TaskWaker> + Send + Sync,
+    N: Protocol<u64, TaskWaker> + Send + Sync,
     R: Threads + Wait + RandomSource + AllocGlobal + Copy + Send + Sync,
     requires named { N.named ≡ Some level }
     requires rule { IfSome (content level.start.cell) N.holds }
@@ -58,7 +58,7 @@ where
 /// Raises the level to this one, if it is lower. It tells nobody.
 fn raise<N, R>(level: u64, owner: &Owner<u64, R, N>)
 where
-    N: Naming<u64, TaskWaker>,
+    N: Protocol<u64, TaskWaker>,
     R: Wait + Drop,
     requires may { (old : Option ℕ) (new : ℕ) → IfSome old (λ level. level ≤ new)
         → N.may (Kept.Update old (Some new)) }
@@ -77,7 +77,7 @@ fn look_twice<N, R>(
     seen: Witness<u64, TaskWaker, N>,
 ) -> io::Result<(u64, u64)>
 where
-    N: Naming<u64, TaskWaker>,
+    N: Protocol<u64, TaskWaker>,
     R: Wait + RandomSource + AllocGlobal + Copy,
     requires may { OnlyMakes N.may (GoesOn (λ old new. nat_le old new ≡ true)) }
     ensures rises { IfOk result (λ both. both.0 ≤ both.1) }

@@ -3,11 +3,11 @@
 ghost use Rattle.std.specs.Prelude.{◌≡◌, ◌≢◌, ◌↔◌, [], ◌∷◌, ◌++◌, Bool, true, false, None, IsOk, IfOk, IfErr, IsSome, OnOk, OnErr};
 ghost use Rattle.std.specs.Fn.{FnOnceReturnsAt, FnOnceReturnsAtMut};
 ghost use Rattle.async_cell_model.specs.Refusal.{FailsWithClosed, FailsWithMemory, FailsWithMemoryOrClosed, IsOwnerRefusal};
-ghost use Rattle.async_cell_waiting.specs.Told.{IsCloneOfOne};
+ghost use Rattle.async_cell_waiting.specs.History.{IsCloneOfOne};
 ghost use Rattle.async_cell_latest.specs.State.{is_closed};
 ghost use Rattle.async_cell_latest_sync.specs.Life.{Fits, GoesOn, IsNext, IsOf, TakesNoMore};
 
-use crate::history::{Listed, Unlisted, Values, Witness};
+use crate::history::{Protocol, Unruled, Values, Witness};
 use async_cell_latest::{Latest, Place, Refusal, TaskWaker, Wakers};
 use async_cell_waiting::{Held, Room, Writes};
 use futures::task::Waker;
@@ -18,13 +18,13 @@ use std::marker::Model;
 /// A state, whose own calls it hides: what they return would be woken or dropped during a step. Its
 /// own hold what comes out, and each that writes adds the value to the list beside it.
 #[derive(Drop)]
-pub struct LatestCore<T, N: Listed<T> = Unlisted> {
+pub struct LatestCore<T, N: Protocol<T> = Unruled> {
     state: Latest<T, TaskWaker>,
     values: Values<T, N>,
 }
 
 /// Contracts see the state, and its life. Its value keeps the rule.
-impl<T, N: Listed<T>> Model for LatestCore<T, N> {
+impl<T, N: Protocol<T>> Model for LatestCore<T, N> {
     ghost use Rattle.async_cell_wakers.specs.declared.task_waker.TaskWaker.{TaskWaker};
     ghost use Rattle.async_cell_latest_sync.specs.Life.{Desk, IsOf};
 
@@ -35,7 +35,7 @@ impl<T, N: Listed<T>> Model for LatestCore<T, N> {
     ghost invariant = { λ c. IsOf N.named N.holds c.state c.values };
 }
 
-impl<T: Drop, N: Listed<T>> LatestCore<T, N> {
+impl<T: Drop, N: Protocol<T>> LatestCore<T, N> {
     /// Makes a state of this value, and of one writer, without a name.
     pub(crate) fn new(alloc: Global, value: T) -> Self
         requires unnamed { N.named ≡ None }
@@ -272,7 +272,7 @@ impl<T: Drop, N: Listed<T>> LatestCore<T, N> {
     }
 }
 
-impl<T: Drop, N: Listed<T>> Writes<T> for LatestCore<T, N> {
+impl<T: Drop, N: Protocol<T>> Writes<T> for LatestCore<T, N> {
     ghost use Rattle.std.specs.Prelude.{List};
 
     type Old = T;
@@ -289,7 +289,7 @@ impl<T: Drop, N: Listed<T>> Writes<T> for LatestCore<T, N> {
     }
 }
 
-impl<T: Drop, N: Listed<T>> Room for LatestCore<T, N> {
+impl<T: Drop, N: Protocol<T>> Room for LatestCore<T, N> {
     ghost use Rattle.std.specs.Prelude.{◌≡◌, false};
     ghost use Rattle.async_cell_latest.specs.State.{is_closed};
 

@@ -2,17 +2,17 @@
 ghost use Rattle.std.specs.Prelude.{◌≡◌, ◌≢◌, IsOk, IfOk, IfSome, IfNone};
 ghost use Rattle.std.specs.Fn.{FnOnceReturnsAt};
 ghost use Rattle.async_cell_model.specs.Refusal.{FailsWithMemory};
-ghost use Rattle.async_cell_waiting.specs.Told.{IsCloneOfOne};
+ghost use Rattle.async_cell_waiting.specs.History.{IsCloneOfOne};
 ghost use Rattle.async_cell_latest_sync.specs.Found.{IsTested};
 
 use super::LatestCell;
-use crate::history::Listed;
+use crate::history::Protocol;
 use async_cell_latest::Refusal;
 use async_cell_waiting::{Held, Step, end};
 use std::alloc::AllocError;
 use std::sync::Wait;
 
-impl<T: Drop, N: Listed<T>> LatestCell<T, N> {
+impl<T: Drop, N: Protocol<T>> LatestCell<T, N> {
     /// Calls the closure on the value, while the lock is held. Returns the version too.
     pub(crate) fn peek<A, F: FnOnce(&T) -> A, R: Wait>(&self, look: F, rt: &R) -> (u64, A)
         requires { F.IsAlwaysCallable look }

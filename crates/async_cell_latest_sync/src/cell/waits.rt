@@ -1,6 +1,6 @@
 //! What polls ask a state.
 use super::LatestCore;
-use crate::history::Listed;
+use crate::history::Protocol;
 use async_cell_latest::Refusal;
 use async_cell_waiting::{Held, Query};
 
@@ -12,7 +12,7 @@ pub struct Unseen(pub u64);
 #[derive(Clone, Copy, Drop)]
 pub struct UnseenState(pub u64);
 
-impl<T: Drop, N: Listed<T>> Query<LatestCore<T, N>> for Unseen {
+impl<T: Drop, N: Protocol<T>> Query<LatestCore<T, N>> for Unseen {
     ghost use Rattle.std.specs.Prelude.{◌≢◌};
 
     type Answer = u64;
@@ -33,9 +33,9 @@ impl<T: Drop, N: Listed<T>> Query<LatestCore<T, N>> for Unseen {
     }
 }
 
-impl<T: Clone, N: Listed<T>> Query<LatestCore<T, N>> for UnseenState {
+impl<T: Clone, N: Protocol<T>> Query<LatestCore<T, N>> for UnseenState {
     ghost use Rattle.std.specs.Prelude.{◌≢◌};
-    ghost use Rattle.async_cell_waiting.specs.Told.{IsCloneOfOne};
+    ghost use Rattle.async_cell_waiting.specs.History.{IsCloneOfOne};
 
     type Answer = (u64, T);
 

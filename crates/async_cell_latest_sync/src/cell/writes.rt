@@ -6,13 +6,13 @@ ghost use Rattle.async_cell_model.specs.Refusal.{FailsWithClosed, IsOwnerRefusal
 ghost use Rattle.async_cell_latest_sync.specs.Names.{cell_owned};
 
 use super::LatestCell;
-use crate::history::Listed;
+use crate::history::Protocol;
 use crate::owner::Owner;
 use async_cell_latest::Refusal;
 use async_cell_waiting::{Opens, Step, Writes, end, end_and_wake, end_and_wake_one, put_held};
 use std::sync::{Arc, Wait};
 
-impl<T: Drop, R: Wait + Drop, N: Listed<T>> Owner<T, R, N> {
+impl<T: Drop, R: Wait + Drop, N: Protocol<T>> Owner<T, R, N> {
     /// Sets the value and drops the old one. Wakes all followers that wait.
     pub fn set(&self, value: T)
         requires may { (before : List T) → N.may before value }
@@ -103,7 +103,7 @@ impl<T: Drop, R: Wait + Drop, N: Listed<T>> Owner<T, R, N> {
     }
 }
 
-impl<T: Drop, R: Wait + Copy, N: Listed<T>> Owner<T, R, N> {
+impl<T: Drop, R: Wait + Copy, N: Protocol<T>> Owner<T, R, N> {
     /// Adds an owner, in place of a clone. Fails with `Memory` if the pointer cannot be counted, or
     /// with `OwnersFull`; `Closed` is in the contract, but cannot happen while this owner lives.
     pub fn another(&self) -> Result<Self, Refusal>
@@ -118,7 +118,7 @@ impl<T: Drop, R: Wait + Copy, N: Listed<T>> Owner<T, R, N> {
     }
 }
 
-impl<T: Drop, N: Listed<T>> LatestCell<T, N> {
+impl<T: Drop, N: Protocol<T>> LatestCell<T, N> {
     /// Ends one owner. The last one closes the state, which stays, and wakes all waiters.
     pub(crate) fn end_owner<R: Wait>(&self, rt: &R) {
         let mut step = self.core.lock(rt);

@@ -4,7 +4,7 @@ use ghost_log::Log;
 use std::marker::Model;
 
 /// The empty list of a state that is not made yet. A type may name it: by a function over that
-/// type, which is called at `std::marker::Brand` (see `Listed`). It has no bytes.
+/// type, which is called at `std::marker::Brand` (see `Protocol`). It has no bytes.
 #[derive(Drop)]
 pub struct Blank<T> {
     log: Log<Option<T>>,

@@ -1,7 +1,7 @@
 ghost use Rattle.std.specs.Prelude.{◌≡◌, [], ◌∷◌, ◌++◌, true, false, Some, None};
 ghost use Rattle.async_cell_latest_sync.specs.Life.{Fits};
 
-use super::Listed;
+use super::Protocol;
 use async_cell_latest::{Latest, TaskWaker};
 use ghost_log::{Log, Makes};
 use std::marker::{Model, PhantomData};
@@ -9,13 +9,13 @@ use std::marker::{Model, PhantomData};
 /// All values that a state has had, and the right to add one: it lies beside the state. It has no
 /// bytes.
 #[derive(Drop)]
-pub struct Values<T, N: Listed<T>> {
+pub struct Values<T, N: Protocol<T>> {
     pub(super) log: Log<Option<T>>,
     of: PhantomData<N>,
 }
 
 /// Contracts see the life of the state so far.
-impl<T, N: Listed<T>> Model for Values<T, N> {
+impl<T, N: Protocol<T>> Model for Values<T, N> {
     ghost use Rattle.async_cell_latest_sync.specs.Life.{Fits, IsLawful, Life, life_of, values_of};
 
     ghost Value = { Life T };
@@ -26,7 +26,7 @@ impl<T, N: Listed<T>> Model for Values<T, N> {
         × IsLawful N.may (values_of v.log.list) };
 }
 
-impl<T: Drop, N: Listed<T>> Values<T, N> {
+impl<T: Drop, N: Protocol<T>> Values<T, N> {
     /// Begins the list of a new state.
     #[tactic(auto, using(crate::proofs::Lives::first_lawful))]
     pub(crate) fn begin(log: Log<Option<T>>, state: &Latest<T, TaskWaker>) -> Self

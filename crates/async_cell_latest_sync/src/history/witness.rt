@@ -1,7 +1,7 @@
 ghost use Rattle.std.specs.Prelude.{◌≡◌, ◌⊎◌, IsSome, length};
 ghost use Rattle.async_cell_latest_sync.specs.Life.{GoesOn, IsLawful};
 
-use super::{Listed, Values};
+use super::{Protocol, Values};
 use ghost_log::Seen;
 use std::marker::{Model, PhantomData};
 
@@ -9,14 +9,14 @@ use std::marker::{Model, PhantomData};
 /// `_as` see all values of that moment. It belongs to no owner and no follower, and serves those of
 /// its state. At run time it is the number of values that were seen: the version of the last.
 #[derive(Drop)]
-pub struct Witness<T, N: Listed<T>> {
+pub struct Witness<T, N: Protocol<T>> {
     version: u64,
     seen: Seen<Option<T>>,
     of: PhantomData<N>,
 }
 
 /// Contracts see the life of the state, as far as it was seen.
-impl<T, N: Listed<T>> Model for Witness<T, N> {
+impl<T, N: Protocol<T>> Model for Witness<T, N> {
     ghost use Rattle.std.specs.Prelude.{◌≡◌, Some, length};
     ghost use Rattle.async_cell_latest_sync.specs.Life.{IsLawful, Life, life_of, values_of};
 
@@ -29,7 +29,7 @@ impl<T, N: Listed<T>> Model for Witness<T, N> {
         × (w.version ≡ length (values_of w.seen.list)) };
 }
 
-impl<T, N: Listed<T>> Witness<T, N> {
+impl<T, N: Protocol<T>> Witness<T, N> {
     /// Makes a witness that has seen the whole life, up to this version.
     #[tactic(auto, using(crate::proofs::Lives::named))]
     pub(crate) fn of(values: &Values<T, N>, version: u64) -> Self

@@ -4,13 +4,13 @@ ghost use Rattle.std.specs.Prelude.{◌≡◌, ◌⊎◌, [], false, Option, Som
 ghost use Rattle.std.specs.Fn.{FnOnceReturnsAt};
 ghost use Rattle.async_cell_model.specs.Machine.{content, is_closed, is_vacant, IsSound, UpToClones};
 ghost use Rattle.async_cell_core.specs.Polled.{IsCloneOf, poll_reply};
-ghost use Rattle.async_cell_waiting.specs.Told.{Fits, IsCloneOfOne, Leads, Made, start_of, set_reply, write_reply, done_reply, end_reply, get_reply, own_poll};
+ghost use Rattle.async_cell_waiting.specs.History.{Fits, IsCloneOfOne, Leads, Made, start_of, set_reply, write_reply, done_reply, end_reply, get_reply, own_poll};
 ghost use mathlib.Core.List.{IsPrefix};
 ghost use Rattle.async_cell_model.specs.Refusal.{FailsWithClosed, FailsWithMemory};
 
 use crate::ended::{Held, Writes};
 use crate::room::Room;
-use crate::told::*;
+use crate::history::*;
 use async_cell_core::{Core, Place, Poll, Refusal, TaskWaker, Wakers, Wakes, end_guard};
 use async_cell_model::{Kept, Reply};
 use futures::task::Waker;
@@ -21,14 +21,14 @@ use std::marker::Model;
 /// The core of a cell, whose own calls it hides: what they return would be woken or dropped during
 /// a step. Its own hold what comes out.
 #[derive(Drop)]
-pub struct CellCore<T, W: Wakes, N: Naming<T, W> = Unnamed> {
+pub struct CellCore<T, W: Wakes, N: Protocol<T, W> = Unruled> {
     inner: Core<T, W>,
     past: Past<T, W, N>,
 }
 
 /// Contracts see the state of the core, and its past, which leads to it. Its value keeps the rule.
-impl<T, W: Wakes, N: Naming<T, W>> Model for CellCore<T, W, N> {
-    ghost use Rattle.async_cell_waiting.specs.Told.{Desk, Leads};
+impl<T, W: Wakes, N: Protocol<T, W>> Model for CellCore<T, W, N> {
+    ghost use Rattle.async_cell_waiting.specs.History.{Desk, Leads};
 
     ghost Value = { Desk T W };
 
@@ -37,7 +37,7 @@ impl<T, W: Wakes, N: Naming<T, W>> Model for CellCore<T, W, N> {
     ghost invariant = { λ c. Leads W.will_wake W.SURE_CLONE N.holds c.past c.inner };
 }
 
-impl<T: Drop, W: Wakes, N: Naming<T, W>> CellCore<T, W, N> {
+impl<T: Drop, W: Wakes, N: Protocol<T, W>> CellCore<T, W, N> {
     /// Wraps the core of a cell without a name, whatever its state.
     pub fn of(core: Core<T, W>) -> Self
         requires nameless { N.named ≡ None }
@@ -508,7 +508,7 @@ impl<T: Drop, W: Wakes, N: Naming<T, W>> CellCore<T, W, N> {
     }
 }
 
-impl<T: Drop, W: Wakes, N: Naming<T, W>> Writes<T> for CellCore<T, W, N> {
+impl<T: Drop, W: Wakes, N: Protocol<T, W>> Writes<T> for CellCore<T, W, N> {
     ghost use Rattle.async_cell_model.specs.declared.entry.Kept.TheVariants.{Replace};
 
     type Old = Option<T>;
@@ -525,7 +525,7 @@ impl<T: Drop, W: Wakes, N: Naming<T, W>> Writes<T> for CellCore<T, W, N> {
     }
 }
 
-impl<T: Drop, N: Naming<T, TaskWaker>> Room for CellCore<T, TaskWaker, N> {
+impl<T: Drop, N: Protocol<T, TaskWaker>> Room for CellCore<T, TaskWaker, N> {
     ghost use Rattle.std.specs.Prelude.{◌≡◌, true};
     ghost use Rattle.async_cell_model.specs.Machine.{is_vacant};
 

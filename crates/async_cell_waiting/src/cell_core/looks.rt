@@ -3,17 +3,17 @@ ghost use Rattle.std.specs.Prelude.{IfOk, IsOk, IsSome, IsTrue, IfSome};
 ghost use Rattle.std.specs.Fn.{FnOnceReturnsAt};
 ghost use Rattle.async_cell_model.specs.Machine.{IsSound};
 ghost use Rattle.async_cell_model.specs.Refusal.{FailsWithMemory};
-ghost use Rattle.async_cell_waiting.specs.Told.{IsCloneOfOne};
+ghost use Rattle.async_cell_waiting.specs.History.{IsCloneOfOne};
 
 use super::CellCore;
 use crate::ended::{Held, end};
 use crate::store::{Opens, Step, StoredCore, Stores};
-use crate::told::Naming;
+use crate::history::Protocol;
 use async_cell_core::{Refusal, Wakes};
 use std::alloc::Global;
 use std::fmt;
 
-impl<M: Stores<Core = CellCore<T, W, N>>, T: Drop, W: Wakes, N: Naming<T, W>> StoredCore<M> {
+impl<M: Stores<Core = CellCore<T, W, N>>, T: Drop, W: Wakes, N: Protocol<T, W>> StoredCore<M> {
     /// Lends the core for a look, which `end` of `async_cell_waiting` ends. Ensures what holds of
     /// the core whenever it is lent, whatever other steps did: its state is sound.
     #[inline(always)]

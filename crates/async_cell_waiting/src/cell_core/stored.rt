@@ -6,7 +6,7 @@ ghost use Rattle.async_cell_model.specs.Refusal.{FailsWithClosed, FailsWithMemor
 use super::CellCore;
 use crate::ended::{Held, end, end_and_wake, end_and_wake_one, put_held, write_held};
 use crate::store::{Opens, Step, StoredCore, Stores, opened};
-use crate::told::{Blank, Naming, Witness};
+use crate::history::{Blank, Protocol, Witness};
 use async_cell_core::{Core, Poll, Refusal, Wakes};
 use async_cell_model::Kept;
 
@@ -17,7 +17,7 @@ impl<M: Stores<Core = CellCore<T, W>>, T: Drop, W: Wakes> StoredCore<M> {
     }
 }
 
-impl<M: Stores<Core = CellCore<T, W, N>>, T: Drop, W: Wakes, N: Naming<T, W>> StoredCore<M> {
+impl<M: Stores<Core = CellCore<T, W, N>>, T: Drop, W: Wakes, N: Protocol<T, W>> StoredCore<M> {
     /// Returns the content, whatever the number of owners. Wakes all waiters. Takes no lock.
     pub fn into_inner(self) -> Option<T>
         ensures rule { IfSome result N.holds }
@@ -315,7 +315,7 @@ impl<M: Stores<Core = CellCore<T, W, N>>, T: Drop, W: Wakes, N: Naming<T, W>> St
 
 /// Ends the last owner, of a core that is lent.
 #[inline(never)]
-fn end_last<G: Step<Core = CellCore<T, W, N>>, T: Drop, W: Wakes, N: Naming<T, W>>(
+fn end_last<G: Step<Core = CellCore<T, W, N>>, T: Drop, W: Wakes, N: Protocol<T, W>>(
     mut step: G,
 ) -> Result<(), Refusal>
     ensures refused { FailsWithClosed result }

@@ -2,7 +2,7 @@
 use super::CellCore;
 use crate::ended::Held;
 use crate::query::Query;
-use crate::told::{Naming, Witness};
+use crate::history::{Protocol, Witness};
 use async_cell_core::{Refusal, TaskWaker, Wakes};
 
 /// Takes the value of a cell.
@@ -13,7 +13,7 @@ pub struct Taking;
 #[derive(Clone, Copy, Drop)]
 pub struct Cloning;
 
-impl<T: Drop, N: Naming<T, TaskWaker>> Query<CellCore<T, TaskWaker, N>> for Taking {
+impl<T: Drop, N: Protocol<T, TaskWaker>> Query<CellCore<T, TaskWaker, N>> for Taking {
     ghost use Rattle.async_cell_model.specs.declared.entry.Kept.TheVariants.{TryTake};
 
     type Answer = T;
@@ -33,8 +33,8 @@ impl<T: Drop, N: Naming<T, TaskWaker>> Query<CellCore<T, TaskWaker, N>> for Taki
     }
 }
 
-impl<T: Clone, N: Naming<T, TaskWaker>> Query<CellCore<T, TaskWaker, N>> for Cloning {
-    ghost use Rattle.async_cell_waiting.specs.Told.{IsCloneOfOne};
+impl<T: Clone, N: Protocol<T, TaskWaker>> Query<CellCore<T, TaskWaker, N>> for Cloning {
+    ghost use Rattle.async_cell_waiting.specs.History.{IsCloneOfOne};
 
     type Answer = T;
 
@@ -53,18 +53,18 @@ impl<T: Clone, N: Naming<T, TaskWaker>> Query<CellCore<T, TaskWaker, N>> for Clo
 
 /// `Taking`, which tells this witness.
 #[derive(Drop)]
-pub struct TakingAs<T, N: Naming<T, TaskWaker>>(pub Witness<T, TaskWaker, N>);
+pub struct TakingAs<T, N: Protocol<T, TaskWaker>>(pub Witness<T, TaskWaker, N>);
 
 /// `Cloning`, which tells this witness.
 #[derive(Drop)]
-pub struct CloningAs<T, N: Naming<T, TaskWaker>>(pub Witness<T, TaskWaker, N>);
+pub struct CloningAs<T, N: Protocol<T, TaskWaker>>(pub Witness<T, TaskWaker, N>);
 
 /// Gives the witness back, which has seen that the value was taken.
-impl<T: Drop, N: Naming<T, TaskWaker>> Query<CellCore<T, TaskWaker, N>> for TakingAs<T, N> {
+impl<T: Drop, N: Protocol<T, TaskWaker>> Query<CellCore<T, TaskWaker, N>> for TakingAs<T, N> {
     ghost use Rattle.std.specs.Prelude.{Some};
     ghost use Rattle.async_cell_model.specs.declared.entry.Kept.TheVariants.{TryTake};
     ghost use Rattle.async_cell_model.specs.declared.reply.Reply.TheVariants.{Value};
-    ghost use Rattle.async_cell_waiting.specs.Told.{IsSigned, IsTold};
+    ghost use Rattle.async_cell_waiting.specs.History.{IsSigned, IsTold};
 
     type Answer = (T, Witness<T, TaskWaker, N>);
 
@@ -92,11 +92,11 @@ impl<T: Drop, N: Naming<T, TaskWaker>> Query<CellCore<T, TaskWaker, N>> for Taki
 }
 
 /// Gives the witness back, which has seen that the value was cloned.
-impl<T: Clone, N: Naming<T, TaskWaker>> Query<CellCore<T, TaskWaker, N>> for CloningAs<T, N> {
+impl<T: Clone, N: Protocol<T, TaskWaker>> Query<CellCore<T, TaskWaker, N>> for CloningAs<T, N> {
     ghost use Rattle.std.specs.Prelude.{Some};
     ghost use Rattle.async_cell_model.specs.declared.entry.Kept.TheVariants.{TryGet};
     ghost use Rattle.async_cell_model.specs.declared.reply.Reply.TheVariants.{Value};
-    ghost use Rattle.async_cell_waiting.specs.Told.{IsCloneOfOne, IsSigned, IsToldUpTo};
+    ghost use Rattle.async_cell_waiting.specs.History.{IsCloneOfOne, IsSigned, IsToldUpTo};
 
     type Answer = (T, Witness<T, TaskWaker, N>);
 

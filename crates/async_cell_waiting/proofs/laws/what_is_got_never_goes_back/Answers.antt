@@ -4,4 +4,4 @@ use Rattle.async_cell_waiting.proofs.laws.what_is_got_never_goes_back.Goals as g
 
 pub returns : goal.returns
 returns g c follows seen first later now v w itself on only lawful before leads told =
-    never_back _ g.N.Naming.may g.N.Naming.named (λ a b. follows a b ≡ true) itself on seen first later now v w only lawful before leads told
+    never_back _ g.N.Protocol.may g.N.Protocol.named (λ a b. follows a b ≡ true) itself on seen first later now v w only lawful before leads told

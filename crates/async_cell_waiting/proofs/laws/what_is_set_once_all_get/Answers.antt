@@ -2,4 +2,4 @@ use Rattle.async_cell_waiting.proofs.GoingOn.{all_get}
 use Rattle.async_cell_waiting.proofs.laws.what_is_set_once_all_get.Goals as goal
 
 pub returns : goal.returns
-returns g c now v w only lawful first other = all_get _ _ g.N.Naming.may g.N.Naming.named now v w only lawful first other
+returns g c now v w only lawful first other = all_get _ _ g.N.Protocol.may g.N.Protocol.named now v w only lawful first other

@@ -33,7 +33,7 @@ returns-clause-same g c =
       | in-Ready-Ok-poll w ↦ subst Kept (sym w.self-is) denied
       | in-Pending-poll w ↦ subst Kept (sym w.self-is) denied
     ] in
-    on_pending c.match-poll-3.polled (after_false g.F.FnMut g.T.Clone.is_clone g.N.Listed.holds one.0 kept)
+    on_pending c.match-poll-3.polled (after_false g.F.FnMut g.T.Clone.is_clone g.N.Protocol.holds one.0 kept)
 
 pub returns-clause-looked : goal.returns-clause-looked
 returns-clause-looked g c =

@@ -15,6 +15,6 @@ module _ {A T : Type 0} (H : T → Type 0) (P : T → A → Type 0) where
 pub returns-in-Ok : goal.returns-in-Ok
 returns-in-Ok g c = record {
   called =
-      of_found g.N.Naming.holds (FnOnceReturnsAt g.F.FnOnce c.args.look) _ _ c.in-Ok.answer
+      of_found g.N.Protocol.holds (FnOnceReturnsAt g.F.FnOnce c.args.look) _ _ c.in-Ok.answer
       (sym c.end.ensures.answers ∙ c.in-Ok.is) c.peek-looked.ensures.rule c.peek-looked.ensures.called;
 }

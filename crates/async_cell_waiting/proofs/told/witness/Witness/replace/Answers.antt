@@ -1,8 +1,0 @@
-use Rattle.async_cell_model.specs.declared.entry.Kept.TheVariants.{Replace}
-use Rattle.async_cell_waiting.specs.Told.{write_reply}
-use Rattle.async_cell_waiting.proofs.Telling.{told_held}
-use Rattle.async_cell_waiting.proofs.told.witness.Witness.replace.Goals as goal
-
-pub returns-clause-told : goal.returns-clause-told
-returns-clause-told g c always =
-    told_held _ g.N.Naming.named c.hand_to.new.self c.replace-written.new.self c.args.self.now.calls c.tell.new.witness.calls (Replace c.args.value) write_reply c.replace-written.result.answer c.end_and_wake.result c.hand_to.ensures.led.0 c.replace-written.ensures.made c.hand_to.ensures.begun c.hand_to.ensures.goes_on c.tell.ensures.whole c.end_and_wake.ensures.answers

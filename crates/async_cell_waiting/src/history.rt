@@ -1,0 +1,21 @@
+//! What is told of a cell: its history, which exists in the proofs alone.
+mod blank;
+mod calls;
+mod cancel;
+mod entries;
+mod hand;
+mod protocol;
+mod past;
+mod start;
+mod witness;
+
+pub use blank::Blank;
+pub use cancel::Cancel;
+pub(crate) use entries::*;
+pub use hand::Author;
+use hand::{Hand, Signed};
+pub use protocol::{Free, Protocol, Rule, Ruled, Takeable, Unruled};
+pub use past::Past;
+pub(crate) use past::{Asked, Enters, Opened};
+use start::Start;
+pub use witness::Witness;

@@ -1,0 +1,141 @@
+ghost use Rattle.std.specs.Prelude.{◌≡◌, ◌⊎◌, IsSome, length};
+ghost use mathlib.Core.List.{IsPrefix};
+ghost use Rattle.async_cell_waiting.specs.History.{IsLawful, start_of};
+
+use crate::history::{Author, Hand, Protocol, Past, Signed};
+use async_cell_core::Wakes;
+use ghost_log::Seen;
+use std::marker::{Model, PhantomData};
+
+/// What one thread has seen of the history of the cell that `N` names, and the number that its own
+/// calls are signed with. It has no bytes.
+#[derive(Drop)]
+pub struct Witness<T, W: Wakes, N: Protocol<T, W>> {
+    seen: Seen<Signed<T, W>>,
+    author: Hand,
+    of: PhantomData<N>,
+}
+
+/// Contracts see the calls that were seen, who made each, and who the thread is.
+impl<T, W: Wakes, N: Protocol<T, W>> Model for Witness<T, W, N> {
+    ghost use Rattle.std.specs.Prelude.{map};
+    ghost use Rattle.async_cell_waiting.specs.History.{IsSeen, Seen as SeenCalls};
+
+    ghost Value = { SeenCalls T W };
+
+    ghost view = { λ w. record {
+      calls = map (λ s. s.entry) w.seen.list;
+      authors = map (λ s. s.who) w.seen.list;
+      author = w.author;
+    } };
+
+    ghost invariant = { λ w. IsSeen W.will_wake W.SURE_CLONE N.may N.named w.seen.name
+        (map (λ s. s.entry) w.seen.list) };
+}
+
+impl<T, W: Wakes, N: Protocol<T, W>> Witness<T, W, N> {
+    /// Makes a witness that has seen the whole history. It signs as nobody.
+    pub(crate) fn of(past: &Past<T, W, N>) -> Self
+        requires { IsSome N.named }
+        ensures calls { result.calls ≡ past.now.calls }
+        ensures authors { result.authors ≡ past.now.authors }
+        ensures nobody { result.author ≡ 0 }
+    {
+        Witness {
+            seen: past.log.seen(),
+            author: Hand::nobody(),
+            of: PhantomData,
+        }
+    }
+
+    /// Sees the whole history. What was seen before begins it.
+    #[inline(always)]
+    pub(crate) fn learn(&mut self, past: &Past<T, W, N>)
+        ensures calls { self.new.calls ≡ past.now.calls }
+        ensures authors { self.new.authors ≡ past.now.authors }
+        ensures author { self.new.author ≡ self.old.author }
+        ensures goes_on { IsPrefix self.old.calls past.now.calls }
+        ensures authors_go_on { IsPrefix self.old.authors past.now.authors }
+        ensures begun { past.now.begun.start ≡ start_of N.named }
+    {
+        self.seen.learn(&past.log);
+    }
+
+    /// Sees the whole history, and signs the next calls.
+    #[inline(always)]
+    pub(crate) fn take_hand(&mut self, past: &mut Past<T, W, N>)
+        ensures calls { self.new.calls ≡ past.new.calls }
+        ensures authors { self.new.authors ≡ past.new.authors }
+        ensures author { self.new.author ≡ self.old.author }
+        ensures goes_on { IsPrefix self.old.calls past.new.calls }
+        ensures authors_go_on { IsPrefix self.old.authors past.new.authors }
+        ensures begun { past.new.begun.start ≡ start_of N.named }
+        ensures same_calls { past.new.calls ≡ past.old.calls }
+        ensures same_begun { past.new.begun ≡ past.old.begun }
+        ensures hand { past.new.hand ≡ self.old.author }
+    {
+        self.learn(past);
+        past.hand_to(self.author.again());
+    }
+
+    /// Sees the whole history, whose next calls nobody signs.
+    #[inline(always)]
+    pub(crate) fn leave_hand(&mut self, past: &mut Past<T, W, N>)
+        ensures calls { self.new.calls ≡ past.old.calls }
+        ensures authors { self.new.authors ≡ past.old.authors }
+        ensures author { self.new.author ≡ self.old.author }
+        ensures same_calls { past.new.calls ≡ past.old.calls }
+        ensures same_begun { past.new.begun ≡ past.old.begun }
+        ensures hand { past.new.hand ≡ 0 }
+    {
+        self.learn(past);
+        past.hand_to(Hand::nobody());
+    }
+
+    /// Ensures what holds of all that was seen: its calls are legal, its changes may be made, and
+    /// each call has one author.
+    pub fn lawful(&self)
+        ensures lawful { IsLawful W.will_wake W.SURE_CLONE N.may (start_of N.named) self.now.calls }
+        ensures as_many { length self.now.authors ≡ length self.now.calls }
+    {
+        let _ = &self.seen;
+    }
+
+    /// Signs the calls from now on with this number.
+    #[inline(always)]
+    pub fn sign_as<A: Author>(&mut self)
+        ensures calls { self.new.calls ≡ self.old.calls }
+        ensures authors { self.new.authors ≡ self.old.authors }
+        ensures author { self.new.author ≡ A.number }
+    {
+        self.author = Hand::of::<A>();
+    }
+
+    /// Returns a copy.
+    pub fn again(&self) -> Self
+        ensures { result ≡ self.now }
+    {
+        Witness {
+            seen: self.seen.again(),
+            author: self.author.again(),
+            of: PhantomData,
+        }
+    }
+
+    /// Returns a witness of what the one of two has seen that has seen more. What the other one has
+    /// seen begins it. It signs as the first does.
+    pub fn longer(&self, other: &Self) -> Self
+        ensures one_of_both { (result.calls ≡ self.now.calls) ⊎ (result.calls ≡ other.now.calls) }
+        ensures begins { IsPrefix self.now.calls result.calls }
+        ensures other_begins { IsPrefix other.now.calls result.calls }
+        ensures authors_begin { IsPrefix self.now.authors result.authors }
+        ensures others_begin { IsPrefix other.now.authors result.authors }
+        ensures author { result.author ≡ self.now.author }
+    {
+        Witness {
+            seen: self.seen.longer(&other.seen),
+            author: self.author.again(),
+            of: PhantomData,
+        }
+    }
+}
