@@ -53,6 +53,11 @@ extern void *malloc(size bytes);
 extern void *realloc(void *place, size bytes);
 extern void free(void *place);
 
+/* How many blocks of memory a program holds. */
+static size held;
+
+size blocks_held(void) { return __atomic_load_n(&held, __ATOMIC_SEQ_CST); }
+
 struct got {
     size is_some;
     void *place;
@@ -66,7 +71,9 @@ static struct got got(void *place) {
 }
 
 struct got rattle_alloc(size bytes, size align) {
-    return got(is_refused() ? 0 : malloc(bytes ? bytes : align));
+    void *place = is_refused() ? 0 : malloc(bytes ? bytes : align);
+    __atomic_add_fetch(&held, place != 0, __ATOMIC_SEQ_CST);
+    return got(place);
 }
 
 struct got rattle_realloc(void *old, size kept, size bytes, size align) {
@@ -74,5 +81,8 @@ struct got rattle_realloc(void *old, size kept, size bytes, size align) {
     return got(is_refused() ? 0 : realloc(old, bytes ? bytes : align));
 }
 
-void rattle_dealloc(void *place) { free(place); }
+void rattle_dealloc(void *place) {
+    __atomic_sub_fetch(&held, 1, __ATOMIC_SEQ_CST);
+    free(place);
+}
 #endif

@@ -4,7 +4,7 @@ ghost use Rattle.async_cell_latest_sync.specs.Life.{Agree};
 ghost use Rattle.async_cell_callers.specs.InOrder.{AreInOrder, NeverFalls};
 
 use anyhow::Result;
-use async_cell::latest::{Blank, Follower, Protocol, Owner, Witness};
+use async_cell::latest::{Blank, Follower, Owner, Protocol, Witness};
 use futures::executor::block_on;
 use std::alloc::AllocGlobal;
 use std::marker::Brand;

@@ -9,7 +9,7 @@ ghost use Rattle.async_cell_sync.specs.declared.TaskWaker.{TaskWaker as Waker};
 
 use crate::Host;
 use async_cell_model::Kept;
-use async_cell_sync::{Author, Blank, Protocol, Owner, TaskWaker, Witness, laws};
+use async_cell_sync::{Author, Blank, Owner, Protocol, TaskWaker, Witness, laws};
 use futures::executor::block_on;
 use std::marker::Brand;
 use std::sync::Wait;

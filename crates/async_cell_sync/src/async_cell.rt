@@ -10,7 +10,7 @@ use crate::shared::Shared;
 use crate::take::Take;
 use async_cell_core::{Core, Place, Refusal, TaskWaker};
 use async_cell_model::Kept;
-use async_cell_waiting::{Protocol, Places, Rule, Ruled, Unruled};
+use async_cell_waiting::{Places, Protocol, Rule, Ruled, Unruled};
 use futures::task::Source;
 use std::alloc::Global;
 use std::sync::Wait;

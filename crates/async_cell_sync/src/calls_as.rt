@@ -102,8 +102,8 @@ impl<T: Drop, N: Protocol<T, TaskWaker>> AsyncCell<T, N> {
     }
 
     /// Calls the closure on the content, under the lock, and stores what it returns. Wakes all
-    /// waiters if that puts a value into an empty cell. On a closed cell it fails with `Closed`, is
-    /// tells that it is closed, and does not call the closure.
+    /// waiters if that puts a value into an empty cell. On a closed cell it fails with `Closed`,
+    /// which the witness is told, and does not call the closure.
     pub fn update_as<F: FnOnce(Option<T>) -> Option<T> + Drop, R: Wait>(
         &self,
         seen: &mut Witness<T, TaskWaker, N>,
@@ -125,7 +125,7 @@ impl<T: Drop, N: Protocol<T, TaskWaker>> AsyncCell<T, N> {
     }
 
     /// Calls the closure on the value, if there is one, under the lock, and stores what it returns.
-    /// On a closed cell it fails with `Closed`, is tells that it is closed, and does not call the
+    /// On a closed cell it fails with `Closed`, which the witness is told, and does not call the
     /// closure.
     pub fn update_some_as<F: FnOnce(T) -> T + Drop, R: Wait>(
         &self,
@@ -218,8 +218,8 @@ impl<T: Drop, R: Wait + Drop, N: Protocol<T, TaskWaker>> Owner<T, R, N> {
     }
 
     /// Calls the closure on the content, under the lock, and stores what it returns. Wakes all
-    /// waiters if that puts a value into an empty cell. On a closed cell it fails with `Closed`, is
-    /// tells that it is closed, and does not call the closure.
+    /// waiters if that puts a value into an empty cell. On a closed cell it fails with `Closed`,
+    /// which the witness is told, and does not call the closure.
     pub fn update_as<F: FnOnce(Option<T>) -> Option<T> + Drop>(
         &self,
         seen: &mut Witness<T, TaskWaker, N>,
@@ -240,7 +240,7 @@ impl<T: Drop, R: Wait + Drop, N: Protocol<T, TaskWaker>> Owner<T, R, N> {
     }
 
     /// Calls the closure on the value, if there is one, under the lock, and stores what it returns.
-    /// On a closed cell it fails with `Closed`, is tells that it is closed, and does not call the
+    /// On a closed cell it fails with `Closed`, which the witness is told, and does not call the
     /// closure.
     pub fn update_some_as<F: FnOnce(T) -> T + Drop>(
         &self,

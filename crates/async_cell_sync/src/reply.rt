@@ -1,5 +1,6 @@
 ghost use Rattle.std.specs.Prelude.{◌≡◌, None, Err, IfOk, IfErr, IsSomeAnd};
 ghost use Rattle.std.specs.Arc.{arc_value};
+ghost use Rattle.core.specs.Mem.{manually_drop_value};
 ghost use Rattle.futures.specs.Poll.{IfReady, OnPending};
 ghost use Rattle.futures.specs.Task.{Covers, Keeps};
 ghost use Rattle.async_cell_model.specs.Refusal.{FailsWithMemory, FailsWithMemoryOrClosed};
@@ -13,6 +14,7 @@ use async_cell_waiting::{Protocol, Rule, Ruled, Takeable, Taking, Unruled, poll}
 use futures::future::Future;
 use futures::task::{Context, Poll};
 use std::alloc::Global;
+use std::mem::ManuallyDrop;
 use std::sync::{Arc, Wait};
 
 /// The side of a reply slot that replies, once, by `set`. If it is dropped without that, as at `?`
@@ -22,7 +24,7 @@ use std::sync::{Arc, Wait};
 #[derive_where(Debug)]
 pub struct Replier<T: Drop, R: Wait + Drop, N: Takeable<T, TaskWaker> = Unruled> {
     #[derive_where(skip)]
-    cell: Arc<AsyncCell<T, N>>,
+    cell: Arc<ManuallyDrop<AsyncCell<T, N>>>,
     #[derive_where(skip)]
     rt: R,
 }
@@ -44,7 +46,7 @@ pub struct Replier<T: Drop, R: Wait + Drop, N: Takeable<T, TaskWaker> = Unruled>
 pub struct Reply<T: Drop, R: Wait + Drop, N: Takeable<T, TaskWaker> = Unruled> {
     /// `None` once it was ready.
     #[derive_where(skip)]
-    cell: Option<Arc<AsyncCell<T, N>>>,
+    cell: Option<Arc<ManuallyDrop<AsyncCell<T, N>>>>,
     #[derive_where(skip)]
     rt: R,
     #[derive_where(skip)]
@@ -101,7 +103,10 @@ fn sides<T: Drop, R: Wait + Copy, N: Takeable<T, TaskWaker>>(
         arc_value cell ≡ arc_value sides.0.cell)) }
     ensures refused { FailsWithMemory result }
 {
-    let Ok(cell) = Arc::new(alloc, AsyncCell::of(alloc, Core::new(alloc))) else {
+    let Ok(cell) = Arc::new(
+        alloc,
+        ManuallyDrop::new(AsyncCell::of(alloc, Core::new(alloc))),
+    ) else {
         return Err(Refusal::Memory);
     };
     let reply = Reply {
@@ -146,7 +151,7 @@ impl<T: Drop, R: Wait + Drop, N: Takeable<T, TaskWaker>> Drop for Replier<T, R, 
 impl<T: Drop, R: Wait + Drop, N: Takeable<T, TaskWaker>> Future for Reply<T, R, N> {
     type Output = Result<T, Refusal>;
 
-    ghost needs = { λ reply s. IsSomeAnd reply.cell (λ cell. s ≡ source_of cell.value) };
+    ghost needs = { λ reply s. IsSomeAnd reply.cell (λ cell. s ≡ source_of (manually_drop_value cell.value)) };
 
     ghost gives = { λ reply given. IfOk given N.holds × FailsWithMemoryOrClosed given
         × (reply.cell ≡ None → given ≡ Err Closed) };
@@ -160,7 +165,7 @@ impl<T: Drop, R: Wait + Drop, N: Takeable<T, TaskWaker>> Future for Reply<T, R, 
         ensures stays_for_memory { result ≡ Poll.Ready (Err Refusal.Memory)
             → self.new.cell ≡ self.old.cell }
         ensures registered { OnPending result (Covers cx.new (λ s. IsSomeAnd self.new.cell (λ cell.
-            s ≡ source_of cell.value))) }
+            s ≡ source_of (manually_drop_value cell.value)))) }
         ensures kept { Keeps cx.old cx.new }
         ensures refused { IfReady result FailsWithMemoryOrClosed }
     {

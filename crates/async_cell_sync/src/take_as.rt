@@ -10,7 +10,7 @@ use crate::async_cell::AsyncCell;
 use crate::cell_ref::CellRef;
 use crate::owner::Owner;
 use async_cell_core::{Refusal, TaskWaker, Wakes};
-use async_cell_waiting::{At, CloningAs, Protocol, Polled, Request, TakingAs, With, Witness, poll};
+use async_cell_waiting::{At, CloningAs, Polled, Protocol, Request, TakingAs, With, Witness, poll};
 use futures::task::{Context, Poll};
 use std::marker::Model;
 use std::sync::Wait;

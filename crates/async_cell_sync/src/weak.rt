@@ -19,7 +19,7 @@ use crate::take::Take;
 use crate::weak_owner::WeakOwner;
 use async_cell_core::{Refusal, TaskWaker};
 use async_cell_waiting::{
-    At, Cloning, Protocol, Polled, Request, Takeable, Takes, Taking, Unruled, Upgrade, With, poll,
+    At, Cloning, Polled, Protocol, Request, Takeable, Takes, Taking, Unruled, Upgrade, With, poll,
     weakly,
 };
 use futures::task::{Context, Poll};

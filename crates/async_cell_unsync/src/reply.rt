@@ -1,5 +1,6 @@
 ghost use Rattle.std.specs.Prelude.{◌≡◌, None, Err, IfOk, IfErr, IsSomeAnd};
 ghost use Rattle.std.specs.Rc.{rc_value};
+ghost use Rattle.core.specs.Mem.{manually_drop_value};
 ghost use Rattle.futures.specs.Poll.{IfReady, OnPending};
 ghost use Rattle.futures.specs.Task.{Covers, Keeps};
 ghost use Rattle.async_cell_model.specs.Refusal.{FailsWithMemory, FailsWithMemoryOrClosed};
@@ -12,6 +13,7 @@ use async_cell_waiting::{Free, OneThread, Rule, Ruled, Taking, Unruled, poll};
 use futures::future::Future;
 use futures::task::{Context, Poll};
 use std::alloc::Global;
+use std::mem::ManuallyDrop;
 use std::rc::Rc;
 
 /// The side of a reply slot that replies, once, by `set`. If it is dropped without that, as at `?`
@@ -19,7 +21,7 @@ use std::rc::Rc;
 #[derive_where(Debug)]
 pub struct Replier<T: Drop, N: Free<T, TaskWaker> = Unruled> {
     #[derive_where(skip)]
-    cell: Rc<AsyncCell<T, N>>,
+    cell: Rc<ManuallyDrop<AsyncCell<T, N>>>,
 }
 
 /// The side of a reply slot that waits: a future of the value. It fails with `Closed` if the
@@ -38,7 +40,7 @@ pub struct Replier<T: Drop, N: Free<T, TaskWaker> = Unruled> {
 pub struct Reply<T: Drop, N: Free<T, TaskWaker> = Unruled> {
     /// `None` once it was ready.
     #[derive_where(skip)]
-    cell: Option<Rc<AsyncCell<T, N>>>,
+    cell: Option<Rc<ManuallyDrop<AsyncCell<T, N>>>>,
     #[derive_where(skip)]
     place: Place,
 }
@@ -86,7 +88,10 @@ fn sides<T: Drop, N: Free<T, TaskWaker>>(
         rc_value cell ≡ rc_value sides.0.cell)) }
     ensures refused { FailsWithMemory result }
 {
-    let Ok(cell) = Rc::new(alloc, AsyncCell::of(alloc, Core::new(alloc))) else {
+    let Ok(cell) = Rc::new(
+        alloc,
+        ManuallyDrop::new(AsyncCell::of(alloc, Core::new(alloc))),
+    ) else {
         return Err(Refusal::Memory);
     };
     let reply = Reply {
@@ -130,7 +135,7 @@ impl<T: Drop, N: Free<T, TaskWaker>> Drop for Replier<T, N> {
 impl<T: Drop, N: Free<T, TaskWaker>> Future for Reply<T, N> {
     type Output = Result<T, Refusal>;
 
-    ghost needs = { λ reply s. IsSomeAnd reply.cell (λ cell. s ≡ source_of cell.value) };
+    ghost needs = { λ reply s. IsSomeAnd reply.cell (λ cell. s ≡ source_of (manually_drop_value cell.value)) };
 
     ghost gives = { λ reply given. IfOk given N.holds × FailsWithMemoryOrClosed given
         × (reply.cell ≡ None → given ≡ Err Closed) };
@@ -144,7 +149,7 @@ impl<T: Drop, N: Free<T, TaskWaker>> Future for Reply<T, N> {
         ensures stays_for_memory { result ≡ Poll.Ready (Err Refusal.Memory)
             → self.new.cell ≡ self.old.cell }
         ensures registered { OnPending result (Covers cx.new (λ s. IsSomeAnd self.new.cell (λ cell.
-            s ≡ source_of cell.value))) }
+            s ≡ source_of (manually_drop_value cell.value)))) }
         ensures kept { Keeps cx.old cx.new }
         ensures refused { IfReady result FailsWithMemoryOrClosed }
     {

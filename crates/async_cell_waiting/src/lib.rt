@@ -5,20 +5,20 @@
 
 mod cell_core;
 mod ended;
+mod history;
 pub mod laws;
 mod places;
 mod polls;
 mod query;
 mod room;
 mod store;
-mod history;
 mod with;
 
 pub use cell_core::{CellCore, Cloning, CloningAs, Taking, TakingAs};
 pub use ended::{Held, Writes, end, end_and_wake, end_and_wake_one, open_holding, put_held};
+pub use history::{Author, Blank, Cancel, Free, Protocol, Rule, Ruled, Takeable, Unruled, Witness};
 pub use polls::poll;
 pub use query::Query;
 pub use room::Room;
 pub use store::{Lender, Lent, Lock, Locked, OneThread, Opens, Step, StoredCore, Stores};
-pub use history::{Author, Blank, Cancel, Free, Protocol, Rule, Ruled, Takeable, Unruled, Witness};
 pub use with::{At, Places, Polled, Request, Takes, Upgrade, Values, With, weakly};

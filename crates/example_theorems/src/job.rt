@@ -4,7 +4,7 @@ ghost use Rattle.async_cell_model.specs.Machine.{content};
 ghost use Rattle.async_cell_waiting.specs.History.{IsTake, OnlyMakes, Took};
 
 use async_cell_model::{Kept, Refusal};
-use async_cell_sync::{Author, Blank, Protocol, Owner, TaskWaker, Witness, laws};
+use async_cell_sync::{Author, Blank, Owner, Protocol, TaskWaker, Witness, laws};
 use std::alloc::AllocGlobal;
 use std::marker::Brand;
 use std::random::RandomSource;

@@ -6,7 +6,7 @@ ghost use Rattle.async_cell_waiting.specs.History.{IsTold, StillWaits, start_of}
 ghost use Rattle.async_cell_sync.specs.declared.TaskWaker.{TaskWaker as Waker};
 
 use async_cell_model::{Kept, Refusal, Reply};
-use async_cell_sync::{Blank, Protocol, Owner, TaskWaker, Wakes, Witness, laws};
+use async_cell_sync::{Blank, Owner, Protocol, TaskWaker, Wakes, Witness, laws};
 use futures::executor::block_on;
 use std::alloc::AllocGlobal;
 use std::io;

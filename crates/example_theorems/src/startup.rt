@@ -6,7 +6,7 @@ ghost use Rattle.async_cell_model.specs.declared.reply.Reply.TheVariants.{Value}
 ghost use Rattle.async_cell_waiting.specs.History.{HasEntry, IsOrSet, OnlyMakes};
 
 use async_cell_model::{Kept, Refusal};
-use async_cell_sync::{Blank, Protocol, Owner, TaskWaker, Witness, laws};
+use async_cell_sync::{Blank, Owner, Protocol, TaskWaker, Witness, laws};
 use futures::executor::block_on;
 use std::alloc::AllocGlobal;
 use std::io;

@@ -4,7 +4,7 @@ ghost use Rattle.async_cell_model.specs.Machine.{content};
 ghost use Rattle.async_cell_waiting.specs.History.{GoesOn, OnlyMakes};
 
 use async_cell_model::{Kept, Refusal};
-use async_cell_sync::{Blank, Protocol, Owner, TaskWaker, Witness, laws};
+use async_cell_sync::{Blank, Owner, Protocol, TaskWaker, Witness, laws};
 use futures::executor::block_on;
 use std::alloc::AllocGlobal;
 use std::io;

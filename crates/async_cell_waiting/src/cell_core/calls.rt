@@ -9,8 +9,8 @@ ghost use mathlib.Core.List.{IsPrefix};
 ghost use Rattle.async_cell_model.specs.Refusal.{FailsWithClosed, FailsWithMemory};
 
 use crate::ended::{Held, Writes};
-use crate::room::Room;
 use crate::history::*;
+use crate::room::Room;
 use async_cell_core::{Core, Place, Poll, Refusal, TaskWaker, Wakers, Wakes, end_guard};
 use async_cell_model::{Kept, Reply};
 use futures::task::Waker;

@@ -7,8 +7,8 @@ ghost use Rattle.async_cell_waiting.specs.History.{IsCloneOfOne};
 
 use super::CellCore;
 use crate::ended::{Held, end};
-use crate::store::{Opens, Step, StoredCore, Stores};
 use crate::history::Protocol;
+use crate::store::{Opens, Step, StoredCore, Stores};
 use async_cell_core::{Refusal, Wakes};
 use std::alloc::Global;
 use std::fmt;

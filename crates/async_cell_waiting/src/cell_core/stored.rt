@@ -5,8 +5,8 @@ ghost use Rattle.async_cell_model.specs.Refusal.{FailsWithClosed, FailsWithMemor
 
 use super::CellCore;
 use crate::ended::{Held, end, end_and_wake, end_and_wake_one, put_held, write_held};
-use crate::store::{Opens, Step, StoredCore, Stores, opened};
 use crate::history::{Blank, Protocol, Witness};
+use crate::store::{Opens, Step, StoredCore, Stores, opened};
 use async_cell_core::{Core, Poll, Refusal, Wakes};
 use async_cell_model::Kept;
 

@@ -1,8 +1,8 @@
 //! What polls ask the core of a cell.
 use super::CellCore;
 use crate::ended::Held;
-use crate::query::Query;
 use crate::history::{Protocol, Witness};
+use crate::query::Query;
 use async_cell_core::{Refusal, TaskWaker, Wakes};
 
 /// Takes the value of a cell.

@@ -6,8 +6,8 @@ ghost use Rattle.async_cell_waiting.specs.History.{IsCloneOfOne, IsSigned, IsTol
 
 use crate::cell_core::CellCore;
 use crate::ended::{Held, end, end_and_wake};
-use crate::store::{Opens, Step, StoredCore, Stores};
 use crate::history::{Protocol, Witness};
+use crate::store::{Opens, Step, StoredCore, Stores};
 use async_cell_core::{Poll, Refusal, Wakes};
 use async_cell_model::{Kept, Reply};
 

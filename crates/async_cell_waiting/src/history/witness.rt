@@ -2,7 +2,7 @@ ghost use Rattle.std.specs.Prelude.{◌≡◌, ◌⊎◌, IsSome, length};
 ghost use mathlib.Core.List.{IsPrefix};
 ghost use Rattle.async_cell_waiting.specs.History.{IsLawful, start_of};
 
-use crate::history::{Author, Hand, Protocol, Past, Signed};
+use crate::history::{Author, Hand, Past, Protocol, Signed};
 use async_cell_core::Wakes;
 use ghost_log::Seen;
 use std::marker::{Model, PhantomData};
