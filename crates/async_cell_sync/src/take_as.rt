@@ -43,6 +43,7 @@ impl<T, N: Protocol<T, TaskWaker>> Model for Taker<T, N> {
 
 impl<T, N: Protocol<T, TaskWaker>> Taker<T, N> {
     /// Keeps that it may.
+    #[inline(always)]
     fn of(seen: Witness<T, TaskWaker, N>) -> Self
         requires may { N.may TryTake }
         ensures seen { result ≡ seen }
@@ -51,6 +52,7 @@ impl<T, N: Protocol<T, TaskWaker>> Taker<T, N> {
     }
 
     /// What a poll asks. Ensures that it may.
+    #[inline(always)]
     fn query(&self) -> TakingAs<T, N>
         ensures may { N.may TryTake }
         ensures seen { result.0 ≡ self.now }
