@@ -36,7 +36,7 @@ macro_rules! waits {
     }};
 }
 
-/// An owner and a cell whose values are even: what a write puts in is, so what is taken is. `$ruled`
+/// An owner and a cell of even values: what a write puts in is even, and so what is taken. `$ruled`
 /// makes the owner of a cell that holds 2.
 macro_rules! ruled {
     ($rt:ident, $ruled:expr $(, $right:expr)?) => {{

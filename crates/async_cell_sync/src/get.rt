@@ -28,7 +28,8 @@ impl<C: CellRef<Value: Clone>> Get<C> {
         cx: &mut Context<'_>,
         rt: &R,
     ) -> Poll<Result<C::Value, Refusal>>
-        ensures rule { IfReady result (λ given. IfOk given (IsCloneOfOne C.Value.is_clone C.Name.holds)) }
+        ensures rule { IfReady result (λ given.
+            IfOk given (IsCloneOfOne C.Value.is_clone C.Name.holds)) }
         ensures registered { OnPending result (Covers cx.new (C.waits_for self.now.0)) }
         ensures kept { Keeps cx.old cx.new }
         ensures refused { IfReady result FailsWithMemoryOrClosed }

@@ -76,13 +76,7 @@ impl<T: Drop, R: Wait + Copy> Owner<T, R> {
 
 impl<T: Drop, R: Wait + Copy, P: Rule<T>> Owner<T, R, Ruled<P>> {
     /// Makes a cell without a value, whose values keep the rule `P`, and its first owner. Fails
-    /// with `Memory`.
-    ///
-    /// ```rust
-    /// let even = Owner::<u64, _, Ruled<Even>>::ruled(rt.alloc(), rt)?;
-    /// even.set(42);
-    /// println!(rt; "{:?}", even.try_take())?; // prints Some(42)
-    /// ```
+    /// with `Memory`. With a rule `Even`: `Owner::<u64, _, Ruled<Even>>::ruled(rt.alloc(), rt)?`.
     pub fn ruled(alloc: Global, rt: R) -> Result<Self, Refusal>
         ensures refused { FailsWithMemory result }
     {

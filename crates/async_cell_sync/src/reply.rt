@@ -73,14 +73,7 @@ pub fn reply_slot<T: Drop, R: Wait + Copy>(
 }
 
 /// Makes a reply slot whose value keeps the rule `P`: `set` requires it, and the poll of the reply
-/// ensures it. Otherwise it is a `reply_slot`.
-///
-/// ```rust
-/// let (replier, reply) = reply_slot_of::<Even, u64, _>(rt.alloc(), rt)?;
-/// let worker = thread::spawn(&rt, move || replier.set(42))?;
-/// println!(rt; "an even reply: {}", block_on(&rt, reply)??)?; // prints an even reply: 42
-/// let _ = worker.join(&rt);
-/// ```
+/// ensures it. Otherwise it is a `reply_slot`. The program `example_even` has such a slot.
 pub fn reply_slot_of<P: Rule<T>, T: Drop, R: Wait + Copy>(
     alloc: Global,
     rt: R,

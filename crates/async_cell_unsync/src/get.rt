@@ -28,7 +28,8 @@ impl<C: CellRef> Get<C> {
     pub fn poll_shared(&self, cx: &mut Context<'_>) -> Poll<Result<C::Value, Refusal>>
     where
         C::Value: Clone,
-        ensures rule { IfReady result (λ given. IfOk given (IsCloneOfOne C.Value.is_clone C.Name.holds)) }
+        ensures rule { IfReady result (λ given.
+            IfOk given (IsCloneOfOne C.Value.is_clone C.Name.holds)) }
         ensures registered { OnPending result (Covers cx.new (C.waits_for self.now.0)) }
         ensures kept { Keeps cx.old cx.new }
         ensures refused { IfReady result FailsWithMemoryOrClosed }

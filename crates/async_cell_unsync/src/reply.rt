@@ -61,13 +61,7 @@ pub fn reply_slot<T: Drop>(alloc: Global) -> Result<(Replier<T>, Reply<T>), Refu
 }
 
 /// Makes a reply slot whose value keeps the rule `P`: `set` requires it, and the poll of the reply
-/// ensures it. Otherwise it is a `reply_slot`.
-///
-/// ```rust
-/// let (replier, reply) = reply_slot_of::<Even, u64>(rt.alloc())?;
-/// let _ = replier.set(42);
-/// println!(rt; "an even reply: {}", block_on(&rt, reply)??)?; // prints an even reply: 42
-/// ```
+/// ensures it. Otherwise it is a `reply_slot`. The program `example_even` has one of `sync`.
 pub fn reply_slot_of<P: Rule<T>, T: Drop>(
     alloc: Global,
 ) -> Result<(Replier<T, Ruled<P>>, Reply<T, Ruled<P>>), Refusal>

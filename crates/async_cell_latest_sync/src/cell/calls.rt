@@ -56,8 +56,8 @@ impl<T: Drop, N: Protocol<T>> LatestCore<T, N> {
         LatestCore { state, values }
     }
 
-    /// Returns what comes next for who has seen this: a clone of the value if it was not seen yet, or nothing if the state is closed. Otherwise, and then it has to wait,
-    /// `Closed`.
+    /// Returns what comes next for who has seen this: a clone of the value if it was not seen yet,
+    /// or nothing if the state is closed. Otherwise, and then it has to wait, `Closed`.
     #[inline(always)]
     pub(crate) fn next(
         &self,
