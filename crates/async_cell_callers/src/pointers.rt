@@ -11,7 +11,7 @@ struct Near<'a>(&'a unsync::AsyncCell<u32>);
 impl unsync::CellRef for Near<'_> {
     type Value = u32;
 
-    type Name = unsync::Unruled;
+    type Rules = unsync::Unruled;
 
     fn cell(&self) -> &unsync::AsyncCell<u32> {
         self.0
@@ -25,7 +25,7 @@ struct Far<'a>(&'a sync::AsyncCell<u32>);
 impl sync::CellRef for Far<'_> {
     type Value = u32;
 
-    type Name = sync::Unruled;
+    type Rules = sync::Unruled;
 
     fn cell(&self) -> &sync::AsyncCell<u32> {
         self.0

@@ -47,7 +47,7 @@ fn two_take<N: Protocol<u64, TaskWaker>, R: Wait + Copy>(
     other.lawful();
     *one = one.longer(other);
     one.lawful();
-    laws::a_told_take_is_of_its_author::<u64, TaskWaker, N>();
+    laws::a_seen_take_is_of_its_author::<u64, TaskWaker, N>();
     laws::two_takers_take_two_values::<u64, TaskWaker, N>();
     Some((first, second))
 }
@@ -86,7 +86,7 @@ fn take_set<N: Protocol<u64, TaskWaker>, R: Wait + Copy>(
     Some(taken)
 }
 
-/// Makes each call that tells a witness, on the cell that `N` names.
+/// Makes each call that extends a witness, on the cell that `N` names.
 fn all_named<N: Protocol<u64, TaskWaker>, R: Host>(
     rt: R,
     blank: Blank<u64, TaskWaker>,

@@ -1,4 +1,4 @@
-//! Calls that tell a witness. Any number of threads may make them, each with a witness.
+//! Calls that extend a witness. Any number of threads may make them, each with a witness.
 ghost use Rattle.std.specs.Prelude.{◌≡◌, List, [], ◌∷◌, ◌++◌, IsOk, IfOk, IfErr, OnOk, OnErr, false};
 ghost use Rattle.std.specs.Fn.{FnOnceReturnsAt};
 ghost use Rattle.async_cell_model.specs.Refusal.{FailsWithMemory};
@@ -19,7 +19,7 @@ impl<T: Drop, R: Wait + Drop, N: Protocol<T>> Owner<T, R, N> {
     /// error.
     pub fn set_as(&self, seen: &mut Witness<T, N>, value: T) -> Result<(), T>
         requires may { MayWrite N.may seen.old value }
-        ensures told { OnOk result (IsWritten seen.old value seen.new) }
+        ensures linearized { OnOk result (IsWritten seen.old value seen.new) }
         ensures goes_on { GoesOn seen.old seen.new }
         ensures full { OnErr result (TakesNoMore seen.new) }
         ensures comes_back { IfErr result (λ back. back ≡ value) }
@@ -34,7 +34,7 @@ impl<T: Drop, R: Wait + Drop, N: Protocol<T>> Owner<T, R, N> {
     #[tactic(auto, using(crate::proofs::Showing::written, crate::proofs::Showing::replaced, crate::proofs::Showing::goes_further))]
     pub fn replace_as(&self, seen: &mut Witness<T, N>, value: T) -> Result<T, T>
         requires may { MayWrite N.may seen.old value }
-        ensures told { OnOk result (IsWritten seen.old value seen.new) }
+        ensures linearized { OnOk result (IsWritten seen.old value seen.new) }
         ensures gives_old { IfOk result (λ old. (before : List T)
             × (seen.new.values ≡ before ++ old ∷ value ∷ [])) }
         ensures rule { IfOk result N.holds }
@@ -44,10 +44,10 @@ impl<T: Drop, R: Wait + Drop, N: Protocol<T>> Owner<T, R, N> {
     {
         let mut step = self.cell.core.lock(&self.rt);
         let core = step.lend();
-        core.tell(seen);
+        core.show_to(seen);
         seen.lawful();
         let written = core.replace(value);
-        core.tell(seen);
+        core.show_to(seen);
         end_and_wake(step, written)
     }
 
@@ -62,7 +62,7 @@ impl<T: Drop, R: Wait + Drop, N: Protocol<T>> Owner<T, R, N> {
     ) -> Result<(), T>
         requires callable { F.IsAlwaysCallable change }
         requires may { MayUpdate N.may seen.old (FnOnceReturnsAt F.FnOnce change) }
-        ensures told { OnOk result (IsUpdated seen.old (FnOnceReturnsAt F.FnOnce change)
+        ensures linearized { OnOk result (IsUpdated seen.old (FnOnceReturnsAt F.FnOnce change)
             seen.new) }
         ensures goes_on { GoesOn seen.old seen.new }
         ensures full { OnErr result (TakesNoMore seen.new) }
@@ -71,10 +71,10 @@ impl<T: Drop, R: Wait + Drop, N: Protocol<T>> Owner<T, R, N> {
     {
         let mut step = self.cell.core.lock(&self.rt);
         let core = step.lend();
-        core.tell(seen);
+        core.show_to(seen);
         seen.lawful();
         let updated = core.update(change);
-        core.tell(seen);
+        core.show_to(seen);
         match end_and_wake(step, updated) {
             Ok(_old) => Ok(()),
             Err(unused) => Err(unused),
@@ -87,7 +87,7 @@ impl<T: Clone, R: Wait + Drop, N: Protocol<T>> Follower<T, R, N> {
     /// marks nothing, if the clone fails.
     #[tactic(auto, using(crate::proofs::Showing::shown))]
     pub fn read_and_update_as(&mut self, seen: &mut Witness<T, N>) -> Result<T, Refusal>
-        ensures told { IfOk result (λ copy. IsShown T.is_clone seen.old copy seen.new) }
+        ensures linearized { IfOk result (λ copy. IsShown T.is_clone seen.old copy seen.new) }
         ensures rule { IfOk result (IsCloneOfOne T.is_clone N.holds) }
         ensures unmarked { OnErr result ((self.new ≡ self.old) × (seen.new ≡ seen.old)) }
         ensures of_this { cell_followed self.new ≡ cell_followed self.old }
@@ -96,7 +96,7 @@ impl<T: Clone, R: Wait + Drop, N: Protocol<T>> Follower<T, R, N> {
     {
         let mut now = seen.again();
         let step = self.cell.core.lock(&self.rt);
-        step.shown().tell(&mut now);
+        step.shown().show_to(&mut now);
         let copy = step.shown().get();
         let (version, value) = end(step, copy)?;
         *seen = now;

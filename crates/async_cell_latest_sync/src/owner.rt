@@ -65,7 +65,7 @@ impl<T: Drop, R: Wait + Copy, P: Rule<T>> Owner<T, R, Ruled<P>> {
 impl<T: Drop, R: Wait + Copy, N: Protocol<T>> Owner<T, R, N> {
     /// Makes a state of this value, which `N` names, its first owner, and a witness that has seen
     /// the value. Fails with `Memory`, and drops the value.
-    pub fn named(
+    pub fn witnessed(
         alloc: Global,
         value: T,
         blank: Blank<T>,
@@ -153,13 +153,13 @@ impl<T: Drop, R: Wait + Drop, N: Protocol<T>> Owner<T, R, N> {
     /// Ends this owner, as its drop does. Returns whether the state is closed, as this was the last
     /// one: then it takes no further write, and a follower that has seen all values is told so.
     pub fn end_as(self, seen: &mut Witness<T, N>) -> bool
-        ensures told { GoesOn seen.old seen.new }
+        ensures linearized { GoesOn seen.old seen.new }
         ensures closed { result ≡ seen.new.closed }
     {
         let Owner { cell, rt } = self;
         let mut step = cell.core.lock(&rt);
         let ended = step.lend().end_writer();
-        step.shown().tell(seen);
+        step.shown().show_to(seen);
         let is_closed = step.shown().is_closed();
         end_and_wake(step, ended);
         is_closed

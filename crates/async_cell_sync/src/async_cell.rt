@@ -10,7 +10,7 @@ use crate::shared::Shared;
 use crate::take::Take;
 use async_cell_core::{Core, Place, Refusal, TaskWaker};
 use async_cell_model::Kept;
-use async_cell_waiting::{Places, Protocol, Rule, Ruled, Unruled};
+use async_cell_waiting::{OwnerPermit, Places, Protocol, Rule, Ruled, Unruled};
 use futures::task::Source;
 use std::alloc::Global;
 use std::sync::Wait;
@@ -99,6 +99,7 @@ impl<T: Drop, N: Protocol<T, TaskWaker>> AsyncCell<T, N> {
 
     /// Makes the first counted owner of this cell. Fails with `Memory`, and then returns the cell.
     pub fn into_shared(self) -> Result<Shared<T, N>, (Refusal, Self)>
+        requires nameless { N.named ≡ None }
         ensures owns { IfOk result (λ owner. cell_of owner ≡ self) }
         ensures comes_back { IfErr result (λ back. back ≡ (Refusal.Memory, self)) }
     {
@@ -107,10 +108,22 @@ impl<T: Drop, N: Protocol<T, TaskWaker>> AsyncCell<T, N> {
 
     /// As `into_shared`, but drops the cell if there is no memory, so that `?` serves.
     pub fn into_shared_or_drop(self) -> Result<Shared<T, N>, Refusal>
+        requires nameless { N.named ≡ None }
         ensures owns { IfOk result (λ owner. cell_of owner ≡ self) }
         ensures refused { FailsWithMemory result }
     {
         self.into_shared().map_err(|(why, _)| why)
+    }
+
+    /// Ends the cell with its last owner. Wakes all waiters, and drops the value.
+    #[inline(always)]
+    pub(crate) fn end_with(self, permit: OwnerPermit<T, TaskWaker, N>) {
+        let AsyncCell {
+            core,
+            source: _,
+            alloc: _,
+        } = self;
+        core.end_with(permit);
     }
 
     /// Returns the number of places in the wait list.

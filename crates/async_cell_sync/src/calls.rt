@@ -101,7 +101,8 @@ impl<T: Drop, N: Protocol<T, TaskWaker>> AsyncCell<T, N> {
         self.core.is_set(rt)
     }
 
-    /// Returns whether the cell is closed.
+    /// Returns whether the cell is closed, as `WeakOwner::is_closed` does.
+    #[doc(hidden)]
     pub fn is_closed<R: Wait>(&self, rt: &R) -> bool {
         self.core.is_closed(rt)
     }
@@ -242,11 +243,6 @@ impl<T: Drop, R: Wait + Drop, N: Protocol<T, TaskWaker>> Owner<T, R, N> {
     /// Returns whether the cell holds a value.
     pub fn is_set(&self) -> bool {
         self.shared.cell.is_set(&self.rt)
-    }
-
-    /// Returns whether the cell is closed. It is open as long as an owner lives.
-    pub fn is_closed(&self) -> bool {
-        self.shared.cell.is_closed(&self.rt)
     }
 
     /// Returns the cell, to call it with another right to wait.

@@ -1,9 +1,9 @@
-//! The calls that tell a witness: it then knows the cell's history up to the call, and its reply
+//! The calls that extend a witness: it then knows the cell's history up to the call, and its reply
 //! there. Any number of threads may make them, each with a witness.
-ghost use Rattle.std.specs.Prelude.{◌≡◌, Option, Some, None, IfErr, IfOk, IfSome, IsSomeAnd, OnErr, OnOk};
+ghost use Rattle.std.specs.Prelude.{◌≡◌, Option, Some, None, IfErr, IfOk, IfSome, IsOk, IsSomeAnd, OnErr, OnOk};
 ghost use mathlib.Core.List.{IsPrefix};
 ghost use Rattle.async_cell_model.specs.Refusal.{FailsWithClosed, FailsWithMemory, IsOwnerRefusal};
-ghost use Rattle.async_cell_waiting.specs.History.{IsCloneOfOne, IsSigned, IsTold, IsToldClosed, IsToldUpTo, set_reply, write_reply, end_reply};
+ghost use Rattle.async_cell_waiting.specs.History.{IsCloneOfOne, IsSigned, IsLinearized, IsSeenClosed, IsLinearizedUpTo, set_reply, write_reply, end_reply};
 ghost use Rattle.async_cell_sync.specs.Owned.{cell_owned};
 
 use crate::async_cell::AsyncCell;
@@ -11,7 +11,7 @@ use crate::owner::Owner;
 use crate::shared::Shared;
 use async_cell_core::{Refusal, TaskWaker, Wakes};
 use async_cell_model::{Kept, Reply};
-use async_cell_waiting::{Protocol, Witness};
+use async_cell_waiting::{Anyone, Protocol, Witness};
 use std::sync::{Arc, Wait};
 
 impl<T: Drop, N: Protocol<T, TaskWaker>> AsyncCell<T, N> {
@@ -23,12 +23,12 @@ impl<T: Drop, N: Protocol<T, TaskWaker>> AsyncCell<T, N> {
         rt: &R,
     ) -> Result<(), T>
         requires may { N.may (Kept.Set value) }
-        ensures told { IsTold ⟦<TaskWaker as Wakes>⟧ N.named seen.old.calls
+        ensures linearized { IsLinearized ⟦<TaskWaker as Wakes>⟧ N.named seen.old.calls
             (Kept.Set value) (set_reply result) seen.new.calls }
         ensures signed { IsSigned seen.old seen.new }
         ensures comes_back { IfErr result (λ back. back ≡ value) }
     {
-        seen.set(&self.core, value, rt)
+        seen.set(&self.core, &Anyone, value, rt)
     }
 
     /// Sets the value, wakes all waiters, returns the old one. A closed cell gives the value back.
@@ -39,13 +39,13 @@ impl<T: Drop, N: Protocol<T, TaskWaker>> AsyncCell<T, N> {
         rt: &R,
     ) -> Result<Option<T>, T>
         requires may { N.may (Kept.Replace value) }
-        ensures told { IsTold ⟦<TaskWaker as Wakes>⟧ N.named seen.old.calls
+        ensures linearized { IsLinearized ⟦<TaskWaker as Wakes>⟧ N.named seen.old.calls
             (Kept.Replace value) (write_reply result) seen.new.calls }
         ensures signed { IsSigned seen.old seen.new }
         ensures rule { IfOk result (λ old. IfSome old N.holds) }
         ensures comes_back { IfErr result (λ back. back ≡ value) }
     {
-        seen.replace(&self.core, value, rt)
+        seen.replace(&self.core, &Anyone, value, rt)
     }
 
     /// Sets the value and wakes all waiters, if there is none. Returns an unused `value`.
@@ -56,18 +56,18 @@ impl<T: Drop, N: Protocol<T, TaskWaker>> AsyncCell<T, N> {
         rt: &R,
     ) -> Result<Option<T>, T>
         requires may { N.may (Kept.OrSet value) }
-        ensures told { IsTold ⟦<TaskWaker as Wakes>⟧ N.named seen.old.calls
+        ensures linearized { IsLinearized ⟦<TaskWaker as Wakes>⟧ N.named seen.old.calls
             (Kept.OrSet value) (write_reply result) seen.new.calls }
         ensures signed { IsSigned seen.old seen.new }
         ensures comes_back { IfErr result (λ back. back ≡ value) }
     {
-        seen.or_set(&self.core, value, rt)
+        seen.or_set(&self.core, &Anyone, value, rt)
     }
 
     /// Takes the value, if there is one.
     pub fn try_take_as<R: Wait>(&self, seen: &mut Witness<T, TaskWaker, N>, rt: &R) -> Option<T>
         requires may { N.may Kept.TryTake }
-        ensures told { IsTold ⟦<TaskWaker as Wakes>⟧ N.named seen.old.calls
+        ensures linearized { IsLinearized ⟦<TaskWaker as Wakes>⟧ N.named seen.old.calls
             Kept.TryTake (Reply.Value result) seen.new.calls }
         ensures signed { IsSigned seen.old seen.new }
         ensures rule { IfSome result N.holds }
@@ -83,8 +83,8 @@ impl<T: Drop, N: Protocol<T, TaskWaker>> AsyncCell<T, N> {
     ) -> Result<Option<T>, Refusal>
     where
         T: Clone,
-        ensures told { IsToldUpTo T.is_clone ⟦<TaskWaker as Wakes>⟧ N.named seen.old.calls
-            Kept.TryGet (end_reply result) seen.new.calls }
+        ensures linearized { IsLinearizedUpTo T.is_clone ⟦<TaskWaker as Wakes>⟧ N.named
+            seen.old.calls Kept.TryGet (end_reply result) seen.new.calls }
         ensures signed { IsSigned seen.old seen.new }
         ensures rule { IfOk result (λ found. IfSome found (IsCloneOfOne T.is_clone N.holds)) }
         ensures refused { FailsWithMemory result }
@@ -94,7 +94,7 @@ impl<T: Drop, N: Protocol<T, TaskWaker>> AsyncCell<T, N> {
 
     /// Returns whether the cell holds a value.
     pub fn is_set_as<R: Wait>(&self, seen: &mut Witness<T, TaskWaker, N>, rt: &R) -> bool
-        ensures told { IsTold ⟦<TaskWaker as Wakes>⟧ N.named seen.old.calls
+        ensures linearized { IsLinearized ⟦<TaskWaker as Wakes>⟧ N.named seen.old.calls
             Kept.IsSet (Reply.Is result) seen.new.calls }
         ensures signed { IsSigned seen.old seen.new }
     {
@@ -103,7 +103,7 @@ impl<T: Drop, N: Protocol<T, TaskWaker>> AsyncCell<T, N> {
 
     /// Calls the closure on the content, under the lock, and stores what it returns. Wakes all
     /// waiters if that puts a value into an empty cell. On a closed cell it fails with `Closed`,
-    /// which the witness is told, and does not call the closure.
+    /// as the witness then knows, and does not call the closure.
     pub fn update_as<F: FnOnce(Option<T>) -> Option<T> + Drop, R: Wait>(
         &self,
         seen: &mut Witness<T, TaskWaker, N>,
@@ -114,18 +114,18 @@ impl<T: Drop, N: Protocol<T, TaskWaker>> AsyncCell<T, N> {
         requires may { (saw put : Option T) → IfSome saw N.holds → F.post change saw put
             → N.may (Kept.Update saw put) }
         requires may_fail { N.may (Kept.Update None None) }
-        ensures told { OnOk result ((saw put : Option T)
-            × IsTold ⟦<TaskWaker as Wakes>⟧ N.named seen.old.calls
+        ensures linearized { OnOk result ((saw put : Option T)
+            × IsLinearized ⟦<TaskWaker as Wakes>⟧ N.named seen.old.calls
             (Kept.Update saw put) Reply.Done seen.new.calls × F.post change saw put) }
         ensures signed { OnOk result (IsSigned seen.old seen.new) }
-        ensures told_closed { OnErr result (IsToldClosed N.named seen.old seen.new) }
+        ensures seen_closed { OnErr result (IsSeenClosed N.named seen.old seen.new) }
         ensures refused { FailsWithClosed result }
     {
-        seen.update(&self.core, change, rt)
+        seen.update(&self.core, &Anyone, change, rt)
     }
 
     /// Calls the closure on the value, if there is one, under the lock, and stores what it returns.
-    /// On a closed cell it fails with `Closed`, which the witness is told, and does not call the
+    /// On a closed cell it fails with `Closed`, as the witness then knows, and does not call the
     /// closure.
     pub fn update_some_as<F: FnOnce(T) -> T + Drop, R: Wait>(
         &self,
@@ -137,15 +137,15 @@ impl<T: Drop, N: Protocol<T, TaskWaker>> AsyncCell<T, N> {
         requires may { (old new : T) → N.holds old → F.post change old new
             → N.may (Kept.UpdateSome (Some old) (Some new)) }
         requires may_fail { N.may (Kept.UpdateSome None None) }
-        ensures told { OnOk result ((saw put : Option T)
-            × IsTold ⟦<TaskWaker as Wakes>⟧ N.named seen.old.calls
+        ensures linearized { OnOk result ((saw put : Option T)
+            × IsLinearized ⟦<TaskWaker as Wakes>⟧ N.named seen.old.calls
             (Kept.UpdateSome saw put) Reply.Done seen.new.calls
             × IfSome saw (λ old. IsSomeAnd put (λ new. F.post change old new))) }
         ensures signed { OnOk result (IsSigned seen.old seen.new) }
-        ensures told_closed { OnErr result (IsToldClosed N.named seen.old seen.new) }
+        ensures seen_closed { OnErr result (IsSeenClosed N.named seen.old seen.new) }
         ensures refused { FailsWithClosed result }
     {
-        seen.update_some(&self.core, change, rt)
+        seen.update_some(&self.core, &Anyone, change, rt)
     }
 }
 
@@ -153,41 +153,50 @@ impl<T: Drop, R: Wait + Drop, N: Protocol<T, TaskWaker>> Owner<T, R, N> {
     /// Sets the value, drops the old one and wakes all waiters. A closed cell gives the value back.
     pub fn set_as(&self, seen: &mut Witness<T, TaskWaker, N>, value: T) -> Result<(), T>
         requires may { N.may (Kept.Set value) }
-        ensures told { IsTold ⟦<TaskWaker as Wakes>⟧ N.named seen.old.calls
+        ensures linearized { IsLinearized ⟦<TaskWaker as Wakes>⟧ N.named seen.old.calls
             (Kept.Set value) (set_reply result) seen.new.calls }
         ensures signed { IsSigned seen.old seen.new }
+        ensures open { IsOk result }
         ensures comes_back { IfErr result (λ back. back ≡ value) }
     {
-        self.shared.cell.set_as(seen, value, &self.rt)
+        let Shared { cell, permit } = &self.shared;
+        seen.counted();
+        seen.set(&cell.core, permit, value, &self.rt)
     }
 
     /// Sets the value, wakes all waiters, returns the old one. A closed cell gives the value back.
     pub fn replace_as(&self, seen: &mut Witness<T, TaskWaker, N>, value: T) -> Result<Option<T>, T>
         requires may { N.may (Kept.Replace value) }
-        ensures told { IsTold ⟦<TaskWaker as Wakes>⟧ N.named seen.old.calls
+        ensures linearized { IsLinearized ⟦<TaskWaker as Wakes>⟧ N.named seen.old.calls
             (Kept.Replace value) (write_reply result) seen.new.calls }
         ensures signed { IsSigned seen.old seen.new }
         ensures rule { IfOk result (λ old. IfSome old N.holds) }
+        ensures open { IsOk result }
         ensures comes_back { IfErr result (λ back. back ≡ value) }
     {
-        self.shared.cell.replace_as(seen, value, &self.rt)
+        let Shared { cell, permit } = &self.shared;
+        seen.counted();
+        seen.replace(&cell.core, permit, value, &self.rt)
     }
 
     /// Sets the value and wakes all waiters, if there is none. Returns an unused `value`.
     pub fn or_set_as(&self, seen: &mut Witness<T, TaskWaker, N>, value: T) -> Result<Option<T>, T>
         requires may { N.may (Kept.OrSet value) }
-        ensures told { IsTold ⟦<TaskWaker as Wakes>⟧ N.named seen.old.calls
+        ensures linearized { IsLinearized ⟦<TaskWaker as Wakes>⟧ N.named seen.old.calls
             (Kept.OrSet value) (write_reply result) seen.new.calls }
         ensures signed { IsSigned seen.old seen.new }
+        ensures open { IsOk result }
         ensures comes_back { IfErr result (λ back. back ≡ value) }
     {
-        self.shared.cell.or_set_as(seen, value, &self.rt)
+        let Shared { cell, permit } = &self.shared;
+        seen.counted();
+        seen.or_set(&cell.core, permit, value, &self.rt)
     }
 
     /// Takes the value, if there is one.
     pub fn try_take_as(&self, seen: &mut Witness<T, TaskWaker, N>) -> Option<T>
         requires may { N.may Kept.TryTake }
-        ensures told { IsTold ⟦<TaskWaker as Wakes>⟧ N.named seen.old.calls
+        ensures linearized { IsLinearized ⟦<TaskWaker as Wakes>⟧ N.named seen.old.calls
             Kept.TryTake (Reply.Value result) seen.new.calls }
         ensures signed { IsSigned seen.old seen.new }
         ensures rule { IfSome result N.holds }
@@ -199,8 +208,8 @@ impl<T: Drop, R: Wait + Drop, N: Protocol<T, TaskWaker>> Owner<T, R, N> {
     pub fn try_get_as(&self, seen: &mut Witness<T, TaskWaker, N>) -> Result<Option<T>, Refusal>
     where
         T: Clone,
-        ensures told { IsToldUpTo T.is_clone ⟦<TaskWaker as Wakes>⟧ N.named seen.old.calls
-            Kept.TryGet (end_reply result) seen.new.calls }
+        ensures linearized { IsLinearizedUpTo T.is_clone ⟦<TaskWaker as Wakes>⟧ N.named
+            seen.old.calls Kept.TryGet (end_reply result) seen.new.calls }
         ensures signed { IsSigned seen.old seen.new }
         ensures rule { IfOk result (λ found. IfSome found (IsCloneOfOne T.is_clone N.holds)) }
         ensures refused { FailsWithMemory result }
@@ -210,7 +219,7 @@ impl<T: Drop, R: Wait + Drop, N: Protocol<T, TaskWaker>> Owner<T, R, N> {
 
     /// Returns whether the cell holds a value.
     pub fn is_set_as(&self, seen: &mut Witness<T, TaskWaker, N>) -> bool
-        ensures told { IsTold ⟦<TaskWaker as Wakes>⟧ N.named seen.old.calls
+        ensures linearized { IsLinearized ⟦<TaskWaker as Wakes>⟧ N.named seen.old.calls
             Kept.IsSet (Reply.Is result) seen.new.calls }
         ensures signed { IsSigned seen.old seen.new }
     {
@@ -219,7 +228,7 @@ impl<T: Drop, R: Wait + Drop, N: Protocol<T, TaskWaker>> Owner<T, R, N> {
 
     /// Calls the closure on the content, under the lock, and stores what it returns. Wakes all
     /// waiters if that puts a value into an empty cell. On a closed cell it fails with `Closed`,
-    /// which the witness is told, and does not call the closure.
+    /// as the witness then knows, and does not call the closure.
     pub fn update_as<F: FnOnce(Option<T>) -> Option<T> + Drop>(
         &self,
         seen: &mut Witness<T, TaskWaker, N>,
@@ -229,18 +238,21 @@ impl<T: Drop, R: Wait + Drop, N: Protocol<T, TaskWaker>> Owner<T, R, N> {
         requires may { (saw put : Option T) → IfSome saw N.holds → F.post change saw put
             → N.may (Kept.Update saw put) }
         requires may_fail { N.may (Kept.Update None None) }
-        ensures told { OnOk result ((saw put : Option T)
-            × IsTold ⟦<TaskWaker as Wakes>⟧ N.named seen.old.calls
+        ensures linearized { OnOk result ((saw put : Option T)
+            × IsLinearized ⟦<TaskWaker as Wakes>⟧ N.named seen.old.calls
             (Kept.Update saw put) Reply.Done seen.new.calls × F.post change saw put) }
         ensures signed { OnOk result (IsSigned seen.old seen.new) }
-        ensures told_closed { OnErr result (IsToldClosed N.named seen.old seen.new) }
+        ensures seen_closed { OnErr result (IsSeenClosed N.named seen.old seen.new) }
+        ensures open { IsOk result }
         ensures refused { FailsWithClosed result }
     {
-        self.shared.cell.update_as(seen, change, &self.rt)
+        let Shared { cell, permit } = &self.shared;
+        seen.counted();
+        seen.update(&cell.core, permit, change, &self.rt)
     }
 
     /// Calls the closure on the value, if there is one, under the lock, and stores what it returns.
-    /// On a closed cell it fails with `Closed`, which the witness is told, and does not call the
+    /// On a closed cell it fails with `Closed`, as the witness then knows, and does not call the
     /// closure.
     pub fn update_some_as<F: FnOnce(T) -> T + Drop>(
         &self,
@@ -251,37 +263,38 @@ impl<T: Drop, R: Wait + Drop, N: Protocol<T, TaskWaker>> Owner<T, R, N> {
         requires may { (old new : T) → N.holds old → F.post change old new
             → N.may (Kept.UpdateSome (Some old) (Some new)) }
         requires may_fail { N.may (Kept.UpdateSome None None) }
-        ensures told { OnOk result ((saw put : Option T)
-            × IsTold ⟦<TaskWaker as Wakes>⟧ N.named seen.old.calls
+        ensures linearized { OnOk result ((saw put : Option T)
+            × IsLinearized ⟦<TaskWaker as Wakes>⟧ N.named seen.old.calls
             (Kept.UpdateSome saw put) Reply.Done seen.new.calls
             × IfSome saw (λ old. IsSomeAnd put (λ new. F.post change old new))) }
         ensures signed { OnOk result (IsSigned seen.old seen.new) }
-        ensures told_closed { OnErr result (IsToldClosed N.named seen.old seen.new) }
+        ensures seen_closed { OnErr result (IsSeenClosed N.named seen.old seen.new) }
+        ensures open { IsOk result }
         ensures refused { FailsWithClosed result }
     {
-        self.shared.cell.update_some_as(seen, change, &self.rt)
+        let Shared { cell, permit } = &self.shared;
+        seen.counted();
+        seen.update_some(&cell.core, permit, change, &self.rt)
     }
 }
 
 impl<T: Drop, R: Wait + Copy, N: Protocol<T, TaskWaker>> Owner<T, R, N> {
     /// Adds an owner, in place of a clone. Fails with `Memory` if the pointer cannot be counted, or
-    /// with `OwnersFull`; `Closed` is in the contract, but cannot happen while this owner lives.
+    /// with `OwnersFull`.
     pub fn another_as(&self, seen: &mut Witness<T, TaskWaker, N>) -> Result<Self, Refusal>
-        ensures told { OnOk result (IsTold ⟦<TaskWaker as Wakes>⟧ N.named seen.old.calls
-            Kept.AddOwner Reply.Done seen.new.calls) }
+        ensures linearized { OnOk result (IsLinearized ⟦<TaskWaker as Wakes>⟧ N.named
+            seen.old.calls Kept.AddOwner Reply.Done seen.new.calls) }
         ensures signed { OnOk result (IsSigned seen.old seen.new) }
-        ensures told_refused { IfErr result (λ why. ¬ (why ≡ Refusal.Memory)
-            → IsTold ⟦<TaskWaker as Wakes>⟧ N.named seen.old.calls
+        ensures refusal_linearized { IfErr result (λ why. ¬ (why ≡ Refusal.Memory)
+            → IsLinearized ⟦<TaskWaker as Wakes>⟧ N.named seen.old.calls
             Kept.AddOwner (Reply.Refused why None) seen.new.calls) }
         ensures goes_on { IsPrefix seen.old.calls seen.new.calls }
         ensures of_this { IfOk result (λ owner. cell_owned owner ≡ cell_owned self.now) }
+        ensures open { IfErr result (λ why. ¬ (why ≡ Refusal.Closed)) }
         ensures refused { IfErr result IsOwnerRefusal }
     {
         let cell = Arc::try_clone(&self.shared.cell)?;
-        seen.add_owner(&cell.core, &self.rt)?;
-        Ok(Owner {
-            shared: Shared { cell },
-            rt: self.rt,
-        })
+        let permit = seen.add_owner(&cell.core, &self.shared.permit, &self.rt)?;
+        Ok(Shared { cell, permit }.with(self.rt))
     }
 }

@@ -16,14 +16,14 @@ pub trait CellRef {
     type Value: Drop;
 
     /// What is known of the values (see `Rule`): of a plain cell `Unruled`.
-    type Name: Protocol<Self::Value, TaskWaker>;
+    type Rules: Protocol<Self::Value, TaskWaker>;
 
     /// The source that a pending future over this pointer has registered with. Leave it out in your
     /// own impl: nothing is then promised of the source.
     ghost waits_for: { Self → ℕ → Type 0 } = { λ _ _. ⊥ };
 
     /// Returns the cell that it points to: the same one at each call, as futures keep places in it.
-    fn cell(&self) -> &AsyncCell<Self::Value, Self::Name>
+    fn cell(&self) -> &AsyncCell<Self::Value, Self::Rules>
         ensures { (s : ℕ) → waits_for self.now s → s ≡ source_of result.now };
 
     /// Gives the pointer up: an owner ends, and any other pointer is only dropped.
@@ -33,7 +33,7 @@ pub trait CellRef {
 impl<T: Drop, N: Protocol<T, TaskWaker>> CellRef for &AsyncCell<T, N> {
     type Value = T;
 
-    type Name = N;
+    type Rules = N;
 
     ghost waits_for = { λ p s. s ≡ source_of p.now };
 
@@ -47,7 +47,7 @@ impl<T: Drop, N: Protocol<T, TaskWaker>> CellRef for &AsyncCell<T, N> {
 impl<T: Drop, N: Protocol<T, TaskWaker>> CellRef for Arc<AsyncCell<T, N>> {
     type Value = T;
 
-    type Name = N;
+    type Rules = N;
 
     ghost waits_for = { λ p s. s ≡ source_of p.value };
 
@@ -61,7 +61,7 @@ impl<T: Drop, N: Protocol<T, TaskWaker>> CellRef for Arc<AsyncCell<T, N>> {
 impl<T: Drop, N: Protocol<T, TaskWaker>> CellRef for Shared<T, N> {
     type Value = T;
 
-    type Name = N;
+    type Rules = N;
 
     ghost waits_for = { λ p s. s ≡ source_of p.cell.value };
 
@@ -78,11 +78,11 @@ impl<T: Drop, N: Protocol<T, TaskWaker>> CellRef for Shared<T, N> {
 impl<C: CellRef> CellRef for &C {
     type Value = C::Value;
 
-    type Name = C::Name;
+    type Rules = C::Rules;
 
     ghost waits_for = { λ p s. C.waits_for p.now s };
 
-    fn cell(&self) -> &AsyncCell<C::Value, C::Name> {
+    fn cell(&self) -> &AsyncCell<C::Value, C::Rules> {
         (**self).cell()
     }
 
@@ -92,7 +92,7 @@ impl<C: CellRef> CellRef for &C {
 /// A pointer to a cell whose values may be taken.
 pub trait TakeRef: CellRef {
     /// Each take may be made.
-    ghost takes: { (call : Kept Self.Value Waker) → IsTake call → Self.Name.may call };
+    ghost takes: { (call : Kept Self.Value Waker) → IsTake call → Self.Rules.may call };
 }
 
 impl<T: Drop, N: Takeable<T, TaskWaker>> TakeRef for &AsyncCell<T, N> {

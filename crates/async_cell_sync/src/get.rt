@@ -29,7 +29,7 @@ impl<C: CellRef<Value: Clone>> Get<C> {
         rt: &R,
     ) -> Poll<Result<C::Value, Refusal>>
         ensures rule { IfReady result (λ given.
-            IfOk given (IsCloneOfOne C.Value.is_clone C.Name.holds)) }
+            IfOk given (IsCloneOfOne C.Value.is_clone C.Rules.holds)) }
         ensures registered { OnPending result (Covers cx.new (C.waits_for self.now.0)) }
         ensures kept { Keeps cx.old cx.new }
         ensures refused { IfReady result FailsWithMemoryOrClosed }
@@ -50,9 +50,9 @@ impl<C: CellRef + Drop> Get<C> {
 }
 
 impl<C: CellRef + Drop, R: Wait> Request<R> for Get<C> {
-    type Cell = AsyncCell<C::Value, C::Name>;
+    type Cell = AsyncCell<C::Value, C::Rules>;
 
-    fn cell(&self) -> Option<&AsyncCell<C::Value, C::Name>> {
+    fn cell(&self) -> Option<&AsyncCell<C::Value, C::Rules>> {
         Some(self.0.cell())
     }
 }
@@ -63,7 +63,7 @@ impl<C: CellRef<Value: Clone> + Drop, R: Wait> Polled<R> for Get<C> {
     ghost waits_for = { λ get. C.waits_for get.0 };
 
     ghost may_give = { λ _ given. FailsWithMemoryOrClosed given
-        × IfOk given (IsCloneOfOne C.Value.is_clone C.Name.holds) };
+        × IfOk given (IsCloneOfOne C.Value.is_clone C.Rules.holds) };
 
     #[inline(always)]
     fn poll_at(&self, at: At<'_>, cx: &mut Context<'_>, rt: &R) -> Poll<Self::Output> {

@@ -24,7 +24,7 @@ pub struct Guard<T: Drop, C: CellRef<Value = T>, R: Wait + Drop> {
 
 impl<T: Drop, C: CellRef<Value = T>, R: Wait + Drop> Guard<T, C, R> {
     /// Returns the cell that it guards.
-    pub fn cell(&self) -> &AsyncCell<T, C::Name>
+    pub fn cell(&self) -> &AsyncCell<T, C::Rules>
         ensures { (s : ℕ) → C.waits_for self.now.guarded.pointer s → s ≡ source_of result.now }
     {
         self.guarded.cell()
@@ -43,7 +43,7 @@ impl<T: Drop, C: CellRef<Value = T>, R: Wait + Drop> Guard<T, C, R> {
 
     /// Sets the value, and releases the guard.
     pub fn set(self, value: T)
-        requires may { C.Name.may (Kept.Replace value) }
+        requires may { C.Rules.may (Kept.Replace value) }
     {
         let Guard { guarded, rt } = self;
         guarded.set(value, &rt);
@@ -51,7 +51,7 @@ impl<T: Drop, C: CellRef<Value = T>, R: Wait + Drop> Guard<T, C, R> {
 
     /// Sets the value if the cell holds none, and releases the guard.
     pub fn or_set(self, value: T)
-        requires may { C.Name.may (Kept.OrSet value) }
+        requires may { C.Rules.may (Kept.OrSet value) }
     {
         let Guard { guarded, rt } = self;
         guarded.or_set(value, &rt);

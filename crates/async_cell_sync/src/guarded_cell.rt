@@ -16,12 +16,12 @@ pub struct GuardedCell<T, C: CellRef<Value = T>> {
     #[derive_where(skip)]
     pointer: C,
     #[derive_where(skip)]
-    cancel: Cancel<T, C::Name>,
+    cancel: Cancel<T, C::Rules>,
 }
 
 impl<T: Drop, C: CellRef<Value = T>> GuardedCell<T, C> {
     pub(crate) fn new(pointer: C, cancel: T) -> Self
-        requires may { C.Name.may (Kept.OrSet cancel) }
+        requires may { C.Rules.may (Kept.OrSet cancel) }
         ensures of_this { result.pointer ≡ pointer }
         ensures keeps { result.cancel ≡ cancel }
     {
@@ -39,7 +39,7 @@ impl<T: Drop, C: CellRef<Value = T>> GuardedCell<T, C> {
     }
 
     /// Returns the cell that it guards.
-    pub fn cell(&self) -> &AsyncCell<T, C::Name>
+    pub fn cell(&self) -> &AsyncCell<T, C::Rules>
         ensures { (s : ℕ) → C.waits_for self.now.pointer s → s ≡ source_of result.now }
     {
         self.pointer.cell()
@@ -60,7 +60,7 @@ impl<T: Drop, C: CellRef<Value = T>> GuardedCell<T, C> {
 
     /// Sets the value, and releases the guard.
     pub fn set<R: Wait>(self, value: T, rt: &R)
-        requires may { C.Name.may (Kept.Replace value) }
+        requires may { C.Rules.may (Kept.Replace value) }
     {
         self.cell().set(value, rt);
         self.release(rt);
@@ -68,7 +68,7 @@ impl<T: Drop, C: CellRef<Value = T>> GuardedCell<T, C> {
 
     /// Sets the value if the cell holds none, and releases the guard.
     pub fn or_set<R: Wait>(self, value: T, rt: &R)
-        requires may { C.Name.may (Kept.OrSet value) }
+        requires may { C.Rules.may (Kept.OrSet value) }
     {
         self.cell().or_set(value, rt);
         self.release(rt);

@@ -12,7 +12,7 @@ mod get;
 mod guard;
 mod guarded_cell;
 mod locked_core;
-mod named;
+mod witnessed;
 mod owner;
 mod reply;
 mod shared;
@@ -26,7 +26,7 @@ pub use async_cell_core::{Core, Poll, Refusal, TaskWaker, Wakers, Wakes};
 #[doc(hidden)]
 pub use async_cell_waiting::Request;
 pub use async_cell_waiting::{
-    Author, Blank, Protocol, Rule, Ruled, Takeable, Unruled, With, Witness, laws,
+    Author, Blank, Free, Protocol, Rule, Ruled, Takeable, Unruled, Unwitnessed, With, Witness, laws,
 };
 pub use cell_ref::{CellRef, TakeRef};
 pub use get::Get;

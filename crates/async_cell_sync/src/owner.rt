@@ -1,4 +1,4 @@
-ghost use Rattle.std.specs.Prelude.{◌≡◌, IfOk, IfErr, IfSome};
+ghost use Rattle.std.specs.Prelude.{◌≡◌, None, IfOk, IfErr, IfSome};
 ghost use Rattle.async_cell_model.specs.Refusal.{FailsWithMemory, IsOwnerRefusal};
 ghost use Rattle.async_cell_sync.specs.Names.{NamesAtMost};
 ghost use Rattle.async_cell_sync.specs.Owned.{cell_owned};
@@ -17,7 +17,7 @@ use async_cell_core::{Refusal, TaskWaker};
 use async_cell_model::Kept;
 use async_cell_waiting::{Protocol, Rule, Ruled, Takeable, Unruled, With};
 use std::alloc::Global;
-use std::sync::{Arc, Wait};
+use std::sync::Wait;
 
 /// One counted owner of a cell, with the right to wait for the lock. It ends by its drop, in any
 /// thread, also at `?` or an early `return`. Its calls and futures take no `rt`. The end of the
@@ -40,6 +40,7 @@ impl<T: Drop, N: Protocol<T, TaskWaker>> AsyncCell<T, N> {
     /// Makes the first owner of this cell, with the right to wait. Fails with `Memory`, and then
     /// gives the cell back. For `?` write `Owner::new_with`, or `into_shared_or_drop()?.with(rt)`.
     pub fn into_owner<R: Wait + Drop>(self, rt: R) -> Result<Owner<T, R, N>, (Refusal, Self)>
+        requires nameless { N.named ≡ None }
         ensures owns { IfOk result (λ owner. cell_owned owner ≡ self) }
         ensures comes_back { IfErr result (λ back. back ≡ (Refusal.Memory, self)) }
     {
@@ -80,7 +81,8 @@ impl<T: Drop, R: Wait + Copy, P: Rule<T>> Owner<T, R, Ruled<P>> {
     pub fn ruled(alloc: Global, rt: R) -> Result<Self, Refusal>
         ensures refused { FailsWithMemory result }
     {
-        Ok(AsyncCell::ruled(alloc).into_shared_or_drop()?.with(rt))
+        let cell = AsyncCell::<T, Ruled<P>>::ruled(alloc);
+        Ok(cell.into_shared_or_drop()?.with(rt))
     }
 
     /// Makes a cell that holds a value, whose values keep the rule `P`, and its first owner. Fails
@@ -89,7 +91,7 @@ impl<T: Drop, R: Wait + Copy, P: Rule<T>> Owner<T, R, Ruled<P>> {
         requires rule { P.holds value }
         ensures refused { FailsWithMemory result }
     {
-        let cell = AsyncCell::ruled_with(alloc, value);
+        let cell = AsyncCell::<T, Ruled<P>>::ruled_with(alloc, value);
         Ok(cell.into_shared_or_drop()?.with(rt))
     }
 }
@@ -101,12 +103,7 @@ impl<T: Drop, R: Wait + Copy, N: Protocol<T, TaskWaker>> Owner<T, R, N> {
         ensures of_this { IfOk result (λ owner. cell_owned owner ≡ cell_owned self.now) }
         ensures refused { IfErr result IsOwnerRefusal }
     {
-        let cell = Arc::try_clone(&self.shared.cell)?;
-        cell.core.add_owner(&self.rt)?;
-        Ok(Owner {
-            shared: Shared { cell },
-            rt: self.rt,
-        })
+        Ok(Shared::owning(&self.shared.cell, &self.rt)?.with(self.rt))
     }
 
     /// Returns a weak owner. If its pointer cannot be counted, its calls fail with `Memory`.
@@ -304,21 +301,15 @@ impl<R: Wait + Copy> Owner<(), R> {
 /// Ends the owner. May wait for the lock.
 impl<T: Drop, R: Wait + Drop, N: Protocol<T, TaskWaker>> Drop for Owner<T, R, N> {
     fn drop(self) {
-        let Owner {
-            rt,
-            shared: Shared { cell },
-        } = self;
-        // The only pointer: its drop is the end of the cell.
-        if Arc::strong_count(&cell) != 1 {
-            let _ = cell.core.end_owner(&rt);
-        }
+        let Owner { shared, rt } = self;
+        shared.let_go(&rt);
     }
 }
 
 impl<T: Drop, R: Wait + Drop, N: Protocol<T, TaskWaker>> CellRef for Owner<T, R, N> {
     type Value = T;
 
-    type Name = N;
+    type Rules = N;
 
     ghost waits_for = { λ p s. s ≡ source_of (cell_owned p) };
 

@@ -10,7 +10,7 @@ ghost use Rattle.async_cell_sync.specs.Source.{source_of};
 use crate::async_cell::AsyncCell;
 use async_cell_core::{Core, Place, Refusal, TaskWaker};
 use async_cell_model::Kept;
-use async_cell_waiting::{Protocol, Rule, Ruled, Takeable, Taking, Unruled, poll};
+use async_cell_waiting::{Rule, Ruled, Taking, Unruled, Unwitnessed, poll};
 use futures::future::Future;
 use futures::task::{Context, Poll};
 use std::alloc::Global;
@@ -22,7 +22,7 @@ use std::sync::{Arc, Wait};
 ///
 /// **Dropping it may wait for the lock**, as its calls may.
 #[derive_where(Debug)]
-pub struct Replier<T: Drop, R: Wait + Drop, N: Takeable<T, TaskWaker> = Unruled> {
+pub struct Replier<T: Drop, R: Wait + Drop, N: Unwitnessed<T, TaskWaker> = Unruled> {
     #[derive_where(skip)]
     cell: Arc<ManuallyDrop<AsyncCell<T, N>>>,
     #[derive_where(skip)]
@@ -43,7 +43,7 @@ pub struct Replier<T: Drop, R: Wait + Drop, N: Takeable<T, TaskWaker> = Unruled>
 /// println!(rt; "{:?}", block_on(&rt, reply)?)?; // prints Err(Closed)
 /// ```
 #[derive_where(Debug)]
-pub struct Reply<T: Drop, R: Wait + Drop, N: Takeable<T, TaskWaker> = Unruled> {
+pub struct Reply<T: Drop, R: Wait + Drop, N: Unwitnessed<T, TaskWaker> = Unruled> {
     /// `None` once it was ready.
     #[derive_where(skip)]
     cell: Option<Arc<ManuallyDrop<AsyncCell<T, N>>>>,
@@ -85,13 +85,12 @@ pub fn reply_slot_of<P: Rule<T>, T: Drop, R: Wait + Copy>(
     sides(alloc, rt)
 }
 
-/// Makes both sides of a slot without a name.
+/// Makes both sides of a slot.
 #[inline(always)]
-fn sides<T: Drop, R: Wait + Copy, N: Takeable<T, TaskWaker>>(
+fn sides<T: Drop, R: Wait + Copy, N: Unwitnessed<T, TaskWaker>>(
     alloc: Global,
     rt: R,
 ) -> Result<(Replier<T, R, N>, Reply<T, R, N>), Refusal>
-    requires nameless { N.named ≡ None }
     ensures of_one { IfOk result (λ sides. IsSomeAnd sides.1.cell (λ cell.
         arc_value cell ≡ arc_value sides.0.cell)) }
     ensures refused { FailsWithMemory result }
@@ -110,7 +109,7 @@ fn sides<T: Drop, R: Wait + Copy, N: Takeable<T, TaskWaker>>(
     Ok((Replier { cell, rt }, reply))
 }
 
-impl<T: Drop, R: Wait + Drop, N: Takeable<T, TaskWaker>> Replier<T, R, N> {
+impl<T: Drop, R: Wait + Drop, N: Unwitnessed<T, TaskWaker>> Replier<T, R, N> {
     /// Sets the value, and wakes the task that waits for it. The value stays until the `Reply`
     /// takes it or is dropped. If the `Reply` was dropped before, the value comes back.
     ///
@@ -134,14 +133,14 @@ impl<T: Drop, R: Wait + Drop, N: Takeable<T, TaskWaker>> Replier<T, R, N> {
 }
 
 /// Closes the slot. May wait for the lock.
-impl<T: Drop, R: Wait + Drop, N: Takeable<T, TaskWaker>> Drop for Replier<T, R, N> {
+impl<T: Drop, R: Wait + Drop, N: Unwitnessed<T, TaskWaker>> Drop for Replier<T, R, N> {
     fn drop(self) {
         let Replier { cell, rt } = self;
         let _ = cell.core.end_owner(&rt); // The cell has one owner: both sides together.
     }
 }
 
-impl<T: Drop, R: Wait + Drop, N: Takeable<T, TaskWaker>> Future for Reply<T, R, N> {
+impl<T: Drop, R: Wait + Drop, N: Unwitnessed<T, TaskWaker>> Future for Reply<T, R, N> {
     type Output = Result<T, Refusal>;
 
     ghost needs = { λ reply s. IsSomeAnd reply.cell (λ cell. s ≡ source_of (manually_drop_value cell.value)) };
@@ -176,7 +175,7 @@ impl<T: Drop, R: Wait + Drop, N: Takeable<T, TaskWaker>> Future for Reply<T, R, 
 }
 
 /// Closes the slot, unless it was ready. May wait for the lock.
-impl<T: Drop, R: Wait + Drop, N: Takeable<T, TaskWaker>> Drop for Reply<T, R, N> {
+impl<T: Drop, R: Wait + Drop, N: Unwitnessed<T, TaskWaker>> Drop for Reply<T, R, N> {
     fn drop(self) {
         let Reply { cell, rt, place: _ } = self;
         if let Some(cell) = cell {

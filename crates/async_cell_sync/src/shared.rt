@@ -1,4 +1,4 @@
-ghost use Rattle.std.specs.Prelude.{◌≡◌, IfOk, IfErr, IfSome};
+ghost use Rattle.std.specs.Prelude.{◌≡◌, None, IfOk, IfErr, IfSome};
 ghost use Rattle.std.specs.Arc.{arc_value};
 ghost use Rattle.async_cell_model.specs.Refusal.{FailsWithMemory, IsOwnerRefusal};
 ghost use Rattle.async_cell_sync.specs.Names.{cell_of, NamesAtMost};
@@ -11,7 +11,7 @@ use crate::take::Take;
 use crate::weak::{GetWeak, TakeWeak, Weak};
 use async_cell_core::{Refusal, TaskWaker};
 use async_cell_model::Kept;
-use async_cell_waiting::{Protocol, Unruled};
+use async_cell_waiting::{OwnerPermit, Protocol, Unruled};
 use std::alloc::{AllocFailed, Global};
 use std::sync::{Arc, Wait};
 
@@ -24,6 +24,8 @@ use std::sync::{Arc, Wait};
 pub struct Shared<T, N: Protocol<T, TaskWaker> = Unruled> {
     #[derive_where(skip)]
     pub(crate) cell: Arc<AsyncCell<T, N>>,
+    #[derive_where(skip)]
+    pub(crate) permit: OwnerPermit<T, TaskWaker, N>,
 }
 
 impl<T: Drop> Shared<T> {
@@ -39,11 +41,15 @@ impl<T: Drop, N: Protocol<T, TaskWaker>> Shared<T, N> {
     /// Makes the first owner of this cell. Fails with `Memory`; the cell is then returned in the
     /// error. `AsyncCell::into_shared_or_drop` is the form for `?`.
     pub fn into_shared(cell: AsyncCell<T, N>) -> Result<Self, (Refusal, AsyncCell<T, N>)>
+        requires nameless { N.named ≡ None }
         ensures owns { IfOk result (λ owner. cell_of owner ≡ cell) }
         ensures comes_back { IfErr result (λ back. back ≡ (Refusal.Memory, cell)) }
     {
         match Arc::new(cell.alloc, cell) {
-            Ok(cell) => Ok(Shared { cell }),
+            Ok(cell) => Ok(Shared {
+                cell,
+                permit: OwnerPermit::blind(),
+            }),
             Err(AllocFailed { value: cell }) => Err((Refusal::Memory, cell)),
         }
     }
@@ -151,19 +157,37 @@ impl<T: Drop, N: Protocol<T, TaskWaker>> Shared<T, N> {
         ensures rule { IfOk result (λ content. IfSome content N.holds) }
         ensures comes_back { IfErr result (λ back. back ≡ self) }
     {
-        match self.cell.core.take_inner(rt) {
-            Err(Refusal::StillShared) => Err(self),
-            taken => {
-                let Shared { cell: _ } = self;
-                Ok(taken.unwrap_or(None))
+        let Shared { cell, permit } = self;
+        match cell.core.take_counted(permit, rt) {
+            Ok(content) => Ok(content),
+            Err((Refusal::StillShared, permit)) => Err(Shared { cell, permit }),
+            Err((_, permit)) => {
+                let _ = cell.core.end_counted(permit, rt); // It is closed.
+                Ok(None)
             }
         }
     }
 
     /// Ends the owner.
     pub fn end<R: Wait>(self, rt: &R) {
-        let Shared { cell } = self;
-        let _ = cell.core.end_owner(rt);
+        let Shared { cell, permit } = self;
+        let _ = cell.core.end_counted(permit, rt);
+    }
+
+    /// Ends the owner. The only pointer is the end of the cell, for which no lock is taken.
+    #[inline(always)]
+    pub(crate) fn let_go<R: Wait>(self, rt: &R) {
+        let Shared { cell, permit } = self;
+        if Arc::strong_count(&cell) != 1 {
+            let _ = cell.core.end_counted(permit, rt);
+            return;
+        }
+        match Arc::try_unwrap(cell) {
+            Ok(cell) => cell.end_with(permit),
+            Err(cell) => {
+                let _ = cell.core.end_counted(permit, rt);
+            }
+        }
     }
 
     /// Makes a new owner. Fails with `Memory` (checked first), `Closed` or `OwnersFull`.
@@ -172,8 +196,8 @@ impl<T: Drop, N: Protocol<T, TaskWaker>> Shared<T, N> {
         ensures refused { IfErr result IsOwnerRefusal }
     {
         let cell = Arc::try_clone(cell)?;
-        cell.core.add_owner(rt)?;
-        Ok(Shared { cell })
+        let permit = cell.core.add_counted(rt)?;
+        Ok(Shared { cell, permit })
     }
 }
 

@@ -27,7 +27,7 @@ impl<C: TakeRef> Take<C> {
         cx: &mut Context<'_>,
         rt: &R,
     ) -> Poll<Result<C::Value, Refusal>>
-        ensures rule { IfReady result (λ given. IfOk given C.Name.holds) }
+        ensures rule { IfReady result (λ given. IfOk given C.Rules.holds) }
         ensures registered { OnPending result (Covers cx.new (C.waits_for self.now.0)) }
         ensures kept { Keeps cx.old cx.new }
         ensures refused { IfReady result FailsWithMemoryOrClosed }
@@ -53,9 +53,9 @@ impl<C: CellRef + Drop> Take<C> {
 }
 
 impl<C: CellRef + Drop, R: Wait> Request<R> for Take<C> {
-    type Cell = AsyncCell<C::Value, C::Name>;
+    type Cell = AsyncCell<C::Value, C::Rules>;
 
-    fn cell(&self) -> Option<&AsyncCell<C::Value, C::Name>> {
+    fn cell(&self) -> Option<&AsyncCell<C::Value, C::Rules>> {
         Some(self.0.cell())
     }
 }
@@ -66,7 +66,7 @@ impl<C: TakeRef + Drop, R: Wait> Polled<R> for Take<C> {
     ghost waits_for = { λ take. C.waits_for take.0 };
 
     ghost may_give = { λ _ given. FailsWithMemoryOrClosed given
-        × IfOk given C.Name.holds };
+        × IfOk given C.Rules.holds };
 
     #[inline(always)]
     fn poll_at(&self, at: At<'_>, cx: &mut Context<'_>, rt: &R) -> Poll<Self::Output> {

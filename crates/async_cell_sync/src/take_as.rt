@@ -1,9 +1,9 @@
-//! Futures that tell a witness.
+//! Futures that extend a witness.
 ghost use Rattle.std.specs.Prelude.{◌≡◌, Some, IfOk};
 ghost use Rattle.async_cell_model.specs.Refusal.{FailsWithMemoryOrClosed};
 ghost use Rattle.async_cell_model.specs.declared.entry.Kept.TheVariants.{TryTake, TryGet};
 ghost use Rattle.async_cell_model.specs.declared.reply.Reply.TheVariants.{Value};
-ghost use Rattle.async_cell_waiting.specs.History.{IsCloneOfOne, IsSigned, IsTold, IsToldUpTo};
+ghost use Rattle.async_cell_waiting.specs.History.{IsCloneOfOne, IsSigned, IsLinearized, IsLinearizedUpTo};
 ghost use Rattle.async_cell_sync.specs.Owned.{cell_owned};
 
 use crate::async_cell::AsyncCell;
@@ -15,12 +15,12 @@ use futures::task::{Context, Poll};
 use std::marker::Model;
 use std::sync::Wait;
 
-/// Takes the value of a cell and tells a witness, which it gives back: the poll that gives both
+/// Takes the value of a cell and extends a witness, which it gives back: the poll that gives both
 /// is a `try_take` of the history. Otherwise it is a `Take`.
 #[derive(Drop)]
 pub struct TakeAs<C: CellRef> {
     pointer: C,
-    seen: Taker<C::Value, C::Name>,
+    seen: Taker<C::Value, C::Rules>,
 }
 
 /// A witness of a cell whose value may be taken. Contracts see what it has seen.
@@ -62,21 +62,21 @@ impl<T, N: Protocol<T, TaskWaker>> Taker<T, N> {
 }
 
 impl<C: CellRef + Drop, R: Wait> Request<R> for TakeAs<C> {
-    type Cell = AsyncCell<C::Value, C::Name>;
+    type Cell = AsyncCell<C::Value, C::Rules>;
 
-    fn cell(&self) -> Option<&AsyncCell<C::Value, C::Name>> {
+    fn cell(&self) -> Option<&AsyncCell<C::Value, C::Rules>> {
         Some(self.pointer.cell())
     }
 }
 
 impl<C: CellRef + Drop, R: Wait> Polled<R> for TakeAs<C> {
-    type Output = Result<(C::Value, Witness<C::Value, TaskWaker, C::Name>), Refusal>;
+    type Output = Result<(C::Value, Witness<C::Value, TaskWaker, C::Rules>), Refusal>;
 
     ghost waits_for = { λ asked. C.waits_for asked.pointer };
 
     ghost may_give = { λ asked given. FailsWithMemoryOrClosed given
-        × IfOk given (λ both. C.Name.holds both.0
-        × IsTold ⟦<TaskWaker as Wakes>⟧ C.Name.named asked.seen.calls
+        × IfOk given (λ both. C.Rules.holds both.0
+        × IsLinearized ⟦<TaskWaker as Wakes>⟧ C.Rules.named asked.seen.calls
         TryTake (Value (Some both.0)) both.1.calls × IsSigned asked.seen both.1) };
 
     #[inline(always)]
@@ -87,30 +87,30 @@ impl<C: CellRef + Drop, R: Wait> Polled<R> for TakeAs<C> {
     }
 }
 
-/// Clones the value of a cell and tells a witness, which it gives back: the poll that gives both
+/// Clones the value of a cell and extends a witness, which it gives back: the poll that gives both
 /// is a `try_get` of the history. Otherwise it is a `Get`.
 #[derive(Drop)]
 pub struct GetAs<C: CellRef> {
     pointer: C,
-    seen: Witness<C::Value, TaskWaker, C::Name>,
+    seen: Witness<C::Value, TaskWaker, C::Rules>,
 }
 
 impl<C: CellRef + Drop, R: Wait> Request<R> for GetAs<C> {
-    type Cell = AsyncCell<C::Value, C::Name>;
+    type Cell = AsyncCell<C::Value, C::Rules>;
 
-    fn cell(&self) -> Option<&AsyncCell<C::Value, C::Name>> {
+    fn cell(&self) -> Option<&AsyncCell<C::Value, C::Rules>> {
         Some(self.pointer.cell())
     }
 }
 
 impl<C: CellRef<Value: Clone> + Drop, R: Wait> Polled<R> for GetAs<C> {
-    type Output = Result<(C::Value, Witness<C::Value, TaskWaker, C::Name>), Refusal>;
+    type Output = Result<(C::Value, Witness<C::Value, TaskWaker, C::Rules>), Refusal>;
 
     ghost waits_for = { λ asked. C.waits_for asked.pointer };
 
     ghost may_give = { λ asked given. FailsWithMemoryOrClosed given
-        × IfOk given (λ both. IsCloneOfOne C.Value.is_clone C.Name.holds both.0
-        × IsToldUpTo C.Value.is_clone ⟦<TaskWaker as Wakes>⟧ C.Name.named asked.seen.calls
+        × IfOk given (λ both. IsCloneOfOne C.Value.is_clone C.Rules.holds both.0
+        × IsLinearizedUpTo C.Value.is_clone ⟦<TaskWaker as Wakes>⟧ C.Rules.named asked.seen.calls
         TryGet (Value (Some both.0)) both.1.calls × IsSigned asked.seen both.1) };
 
     #[inline(always)]
@@ -122,8 +122,8 @@ impl<C: CellRef<Value: Clone> + Drop, R: Wait> Polled<R> for GetAs<C> {
 }
 
 impl<T: Drop, R: Wait + Copy, N: Protocol<T, TaskWaker>> Owner<T, R, N> {
-    /// Returns a future that takes the value and tells the witness, which it gives back. It borrows
-    /// this owner, which keeps the cell open.
+    /// Returns a future that takes the value and extends the witness, which it gives back. It
+    /// borrows this owner, which keeps the cell open.
     pub fn take_as(&self, seen: Witness<T, TaskWaker, N>) -> With<TakeAs<&AsyncCell<T, N>>, R>
         requires may { N.may TryTake }
         ensures of_this { result.polled.pointer.now ≡ cell_owned self.now }
@@ -133,7 +133,7 @@ impl<T: Drop, R: Wait + Copy, N: Protocol<T, TaskWaker>> Owner<T, R, N> {
         With::new(TakeAs { pointer, seen }, self.rt)
     }
 
-    /// Returns a future that clones the value and tells the witness, which it gives back. It
+    /// Returns a future that clones the value and extends the witness, which it gives back. It
     /// borrows this owner, which keeps the cell open.
     pub fn get_as(&self, seen: Witness<T, TaskWaker, N>) -> With<GetAs<&AsyncCell<T, N>>, R>
     where

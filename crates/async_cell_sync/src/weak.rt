@@ -84,6 +84,15 @@ impl<T: Drop, N: Protocol<T, TaskWaker>> Weak<T, N> {
         WeakOwner { weak: self, rt }
     }
 
+    /// Returns whether the last owner has ended, so that no owner can be made. Fails with `Memory`
+    /// if the pointer could not be counted.
+    pub fn is_closed<R: Wait>(&self, rt: &R) -> Result<bool, Refusal>
+        ensures lost { IsLost self.now → result ≡ Err Refusal.Memory }
+        ensures refused { FailsWithMemory result }
+    {
+        Ok(self.cell()?.is_closed(rt))
+    }
+
     /// Makes an owner; `None` if closed. Fails with `Memory` (checked first) or `OwnersFull`.
     pub fn upgrade<R: Wait>(&self, rt: &R) -> Result<Option<Shared<T, N>>, Refusal>
         ensures of_this { IfOk result (λ found. IfSome found (OwnsNamed self.now)) }

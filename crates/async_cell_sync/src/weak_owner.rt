@@ -1,4 +1,5 @@
 ghost use Rattle.std.specs.Prelude.{◌≡◌, Err, IfOk, IfSome};
+ghost use Rattle.async_cell_model.specs.Refusal.{FailsWithMemory};
 ghost use Rattle.async_cell_waiting.specs.Upgrade.{FailsToUpgrade};
 ghost use Rattle.async_cell_sync.specs.Names.{IsLost, NameAtMostTheSame, Names, NameTheSame};
 ghost use Rattle.async_cell_sync.specs.Owned.{cell_owned};
@@ -41,6 +42,22 @@ impl<T: Drop, R: Wait + Copy, N: Protocol<T, TaskWaker>> WeakOwner<T, R, N> {
     {
         let owner = self.weak.upgrade(&self.rt)?;
         Ok(owner.map(|owner| owner.with(self.rt)))
+    }
+
+    /// Returns whether the last owner has ended, so that no owner can be made. Fails with `Memory`
+    /// if the pointer could not be counted.
+    ///
+    /// ```rust
+    /// let slot: Owner<u64, _> = Owner::new(rt.alloc(), rt)?;
+    /// let weak = slot.downgrade();
+    /// drop(slot);
+    /// println!(rt; "{}", weak.is_closed()?)?; // prints true
+    /// ```
+    pub fn is_closed(&self) -> Result<bool, Refusal>
+        ensures lost { IsLost self.now.weak → result ≡ Err Refusal.Memory }
+        ensures refused { FailsWithMemory result }
+    {
+        self.weak.is_closed(&self.rt)
     }
 
     /// Returns a future that takes the value and is no owner: `None` once the last owner has ended.

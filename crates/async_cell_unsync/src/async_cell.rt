@@ -10,7 +10,9 @@ use crate::guarded_cell::GuardedCell;
 use crate::shared::Shared;
 use crate::take::Take;
 use async_cell_core::{Core, Place, Refusal, TaskWaker, Wakes};
-use async_cell_waiting::{CellCore, Free, Lender, OneThread, Places, Rule, Ruled, Unruled};
+use async_cell_waiting::{
+    CellCore, Free, Lender, OneThread, OwnerPermit, Places, Rule, Ruled, Unruled,
+};
 use futures::task::Source;
 use std::alloc::Global;
 use std::fmt;
@@ -100,6 +102,7 @@ impl<T: Drop, P: Rule<T>> AsyncCell<T, Ruled<P>> {
 impl<T: Drop, N: Free<T, TaskWaker>> AsyncCell<T, N> {
     /// Makes the first counted owner of this cell. Fails with `Memory`, and then returns the cell.
     pub fn into_shared(self) -> Result<Shared<T, N>, (Refusal, AsyncCell<T, N>)>
+        requires nameless { N.named ≡ None }
         ensures owns { IfOk result (λ owner. cell_of owner ≡ self) }
         ensures comes_back { IfErr result (λ back. back ≡ (Refusal.Memory, self)) }
     {
@@ -108,10 +111,22 @@ impl<T: Drop, N: Free<T, TaskWaker>> AsyncCell<T, N> {
 
     /// As `into_shared`, but drops the cell if there is no memory, so that `?` serves.
     pub fn into_shared_or_drop(self) -> Result<Shared<T, N>, Refusal>
+        requires nameless { N.named ≡ None }
         ensures owns { IfOk result (λ owner. cell_of owner ≡ self) }
         ensures refused { FailsWithMemory result }
     {
         self.into_shared().map_err(|(why, _)| why)
+    }
+
+    /// Ends the cell with its last owner. Wakes all waiters, and drops the value.
+    #[inline(always)]
+    pub(crate) fn end_with(self, permit: OwnerPermit<T, TaskWaker, N>) {
+        let AsyncCell {
+            core,
+            source: _,
+            alloc: _,
+        } = self;
+        core.end_with(permit);
     }
 
     /// Sets the value and drops the old one. Wakes all waiters.
@@ -209,6 +224,7 @@ impl<T: Drop, N: Free<T, TaskWaker>> AsyncCell<T, N> {
     }
 
     /// Returns whether the cell is closed: whether its last owner has ended.
+    #[doc(hidden)]
     pub fn is_closed(&self) -> bool {
         self.core.is_closed(&OneThread)
     }

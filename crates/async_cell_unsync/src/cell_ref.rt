@@ -13,21 +13,21 @@ pub trait CellRef: Drop {
     type Value: Drop;
 
     /// What is known of the values (see `Rule`): of a plain cell `Unruled`.
-    type Name: Free<Self::Value, TaskWaker>;
+    type Rules: Free<Self::Value, TaskWaker>;
 
     /// The source that a pending future over this pointer has registered with. Leave it out in your
     /// own impl: nothing is then promised of the source.
     ghost waits_for: { Self → ℕ → Type 0 } = { λ _ _. ⊥ };
 
     /// Returns the cell that it points to: the same one at each call, as futures keep places in it.
-    fn cell(&self) -> &AsyncCell<Self::Value, Self::Name>
+    fn cell(&self) -> &AsyncCell<Self::Value, Self::Rules>
         ensures { (s : ℕ) → waits_for self.now s → s ≡ source_of result.now };
 }
 
 impl<T: Drop, N: Free<T, TaskWaker>> CellRef for &AsyncCell<T, N> {
     type Value = T;
 
-    type Name = N;
+    type Rules = N;
 
     ghost waits_for = { λ p s. s ≡ source_of p.now };
 
@@ -39,7 +39,7 @@ impl<T: Drop, N: Free<T, TaskWaker>> CellRef for &AsyncCell<T, N> {
 impl<T: Drop, N: Free<T, TaskWaker>> CellRef for Rc<AsyncCell<T, N>> {
     type Value = T;
 
-    type Name = N;
+    type Rules = N;
 
     ghost waits_for = { λ p s. s ≡ source_of p.value };
 
@@ -51,7 +51,7 @@ impl<T: Drop, N: Free<T, TaskWaker>> CellRef for Rc<AsyncCell<T, N>> {
 impl<T: Drop, N: Free<T, TaskWaker>> CellRef for Shared<T, N> {
     type Value = T;
 
-    type Name = N;
+    type Rules = N;
 
     ghost waits_for = { λ p s. s ≡ source_of p.cell.value };
 
@@ -64,11 +64,11 @@ impl<T: Drop, N: Free<T, TaskWaker>> CellRef for Shared<T, N> {
 impl<C: CellRef> CellRef for &C {
     type Value = C::Value;
 
-    type Name = C::Name;
+    type Rules = C::Rules;
 
     ghost waits_for = { λ p s. C.waits_for p.now s };
 
-    fn cell(&self) -> &AsyncCell<C::Value, C::Name> {
+    fn cell(&self) -> &AsyncCell<C::Value, C::Rules> {
         (**self).cell()
     }
 }

@@ -29,7 +29,7 @@ impl<C: CellRef> Get<C> {
     where
         C::Value: Clone,
         ensures rule { IfReady result (λ given.
-            IfOk given (IsCloneOfOne C.Value.is_clone C.Name.holds)) }
+            IfOk given (IsCloneOfOne C.Value.is_clone C.Rules.holds)) }
         ensures registered { OnPending result (Covers cx.new (C.waits_for self.now.0)) }
         ensures kept { Keeps cx.old cx.new }
         ensures refused { IfReady result FailsWithMemoryOrClosed }
@@ -51,7 +51,7 @@ impl<C: CellRef> Get<C> {
 }
 
 impl<C: CellRef> Request<OneThread> for Get<C> {
-    type Cell = AsyncCell<C::Value, C::Name>;
+    type Cell = AsyncCell<C::Value, C::Rules>;
 
     fn cell(&self) -> Option<&Self::Cell> {
         Some(self.0.cell())
@@ -64,7 +64,7 @@ impl<C: CellRef<Value: Clone>> Polled<OneThread> for Get<C> {
     ghost waits_for = { λ polled. C.waits_for polled.0 };
 
     ghost may_give = { λ _ given. FailsWithMemoryOrClosed given
-        × IfOk given (IsCloneOfOne C.Value.is_clone C.Name.holds) };
+        × IfOk given (IsCloneOfOne C.Value.is_clone C.Rules.holds) };
 
     #[inline(always)]
     fn poll_at(&self, at: At<'_>, cx: &mut Context<'_>, rt: &OneThread) -> Poll<Self::Output> {
@@ -83,7 +83,7 @@ impl<C: CellRef<Value: Clone>> Future for Get<C> {
     ghost needs = { λ future. C.waits_for future.0 };
 
     ghost gives = { λ _ given. FailsWithMemoryOrClosed given
-        × IfOk given (IsCloneOfOne C.Value.is_clone C.Name.holds) };
+        × IfOk given (IsCloneOfOne C.Value.is_clone C.Rules.holds) };
 
     fn poll(&mut self, cx: &mut Context<'_>) -> Poll<Self::Output> {
         self.poll_shared(cx)

@@ -13,7 +13,7 @@ pub struct GuardedCell<T, C: CellRef<Value = T>> {
     pointer: C,
     /// `None` once it is released.
     #[derive_where(skip)]
-    cancel: Option<Cancel<T, C::Name>>,
+    cancel: Option<Cancel<T, C::Rules>>,
 }
 
 /// The name of a guard that is made by `with` or by an `Owner`: every guard ends by its drop here.
@@ -21,7 +21,7 @@ pub type Guard<T, C> = GuardedCell<T, C>;
 
 impl<T: Drop, C: CellRef<Value = T>> GuardedCell<T, C> {
     pub(crate) fn new(pointer: C, cancel: T) -> Self
-        requires rule { C.Name.holds cancel }
+        requires rule { C.Rules.holds cancel }
         ensures of_this { result.pointer ≡ pointer }
         ensures keeps { result.cancel ≡ Some cancel }
     {
@@ -32,7 +32,7 @@ impl<T: Drop, C: CellRef<Value = T>> GuardedCell<T, C> {
     }
 
     /// Returns the cell that it guards.
-    pub fn cell(&self) -> &AsyncCell<T, C::Name>
+    pub fn cell(&self) -> &AsyncCell<T, C::Rules>
         ensures { (s : ℕ) → C.waits_for self.now.pointer s → s ≡ source_of result.now }
     {
         self.pointer.cell()
@@ -57,7 +57,7 @@ impl<T: Drop, C: CellRef<Value = T>> GuardedCell<T, C> {
 
     /// Sets the value, and releases the guard.
     pub fn set(self, value: T)
-        requires rule { C.Name.holds value }
+        requires rule { C.Rules.holds value }
     {
         self.cell().set(value);
         self.release();
@@ -65,7 +65,7 @@ impl<T: Drop, C: CellRef<Value = T>> GuardedCell<T, C> {
 
     /// Sets the value if the cell holds none, and releases the guard.
     pub fn or_set(self, value: T)
-        requires rule { C.Name.holds value }
+        requires rule { C.Rules.holds value }
     {
         self.cell().or_set(value);
         self.release();

@@ -20,7 +20,7 @@ pub use async_cell::AsyncCell;
 pub use async_cell_core::{Refusal, TaskWaker};
 #[doc(hidden)]
 pub use async_cell_waiting::Request;
-pub use async_cell_waiting::{Free, Protocol, Rule, Ruled, Unruled};
+pub use async_cell_waiting::{Free, Protocol, Rule, Ruled, Unruled, Unwitnessed};
 pub use cell_ref::CellRef;
 #[doc(hidden)]
 pub use cell_ref::CellRef as TakeRef; // Of a cell of one thread each value may be taken.

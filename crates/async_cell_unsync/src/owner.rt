@@ -1,4 +1,4 @@
-ghost use Rattle.std.specs.Prelude.{◌≡◌, IfOk, IfErr, IfSome, Some};
+ghost use Rattle.std.specs.Prelude.{◌≡◌, None, IfOk, IfErr, IfSome, Some};
 ghost use Rattle.async_cell_model.specs.Refusal.{FailsWithMemory, IsOwnerRefusal};
 ghost use Rattle.async_cell_unsync.specs.Names.{NamesAtMost};
 ghost use Rattle.async_cell_unsync.specs.Owned.{cell_owned};
@@ -35,6 +35,7 @@ impl<T: Drop, N: Free<T, TaskWaker>> AsyncCell<T, N> {
     /// Makes the first owner of this cell. Fails with `Memory`, and then gives the cell back. For
     /// `?` write `Owner::new_with`, or `into_shared_or_drop()?.with()`.
     pub fn into_owner(self) -> Result<Owner<T, N>, (Refusal, AsyncCell<T, N>)>
+        requires nameless { N.named ≡ None }
         ensures owns { IfOk result (λ owner. cell_owned owner ≡ self) }
         ensures comes_back { IfErr result (λ back. back ≡ (Refusal.Memory, self)) }
     {
@@ -75,7 +76,8 @@ impl<T: Drop, P: Rule<T>> Owner<T, Ruled<P>> {
     pub fn ruled(alloc: Global) -> Result<Self, Refusal>
         ensures refused { FailsWithMemory result }
     {
-        Ok(AsyncCell::ruled(alloc).into_shared_or_drop()?.with())
+        let cell = AsyncCell::<T, Ruled<P>>::ruled(alloc);
+        Ok(cell.into_shared_or_drop()?.with())
     }
 
     /// Makes a cell that holds a value, whose values keep the rule `P`, and its first owner. Fails
@@ -84,7 +86,7 @@ impl<T: Drop, P: Rule<T>> Owner<T, Ruled<P>> {
         requires rule { P.holds value }
         ensures refused { FailsWithMemory result }
     {
-        let cell = AsyncCell::ruled_with(alloc, value);
+        let cell = AsyncCell::<T, Ruled<P>>::ruled_with(alloc, value);
         Ok(cell.into_shared_or_drop()?.with())
     }
 }
@@ -253,7 +255,7 @@ impl<T: Drop, N: Free<T, TaskWaker>> Deref for Owner<T, N> {
 impl<T: Drop, N: Free<T, TaskWaker>> CellRef for Owner<T, N> {
     type Value = T;
 
-    type Name = N;
+    type Rules = N;
 
     ghost waits_for = { λ p s. s ≡ source_of (cell_owned p) };
 

@@ -9,7 +9,7 @@ ghost use Rattle.async_cell_unsync.specs.Source.{source_of};
 
 use crate::async_cell::AsyncCell;
 use async_cell_core::{Core, Place, Refusal, TaskWaker};
-use async_cell_waiting::{Free, OneThread, Rule, Ruled, Taking, Unruled, poll};
+use async_cell_waiting::{OneThread, Rule, Ruled, Taking, Unruled, Unwitnessed, poll};
 use futures::future::Future;
 use futures::task::{Context, Poll};
 use std::alloc::Global;
@@ -19,7 +19,7 @@ use std::rc::Rc;
 /// The side of a reply slot that replies, once, by `set`. If it is dropped without that, as at `?`
 /// or an early `return`, the slot is closed, and the `Reply` is ready with `Closed`.
 #[derive_where(Debug)]
-pub struct Replier<T: Drop, N: Free<T, TaskWaker> = Unruled> {
+pub struct Replier<T: Drop, N: Unwitnessed<T, TaskWaker> = Unruled> {
     #[derive_where(skip)]
     cell: Rc<ManuallyDrop<AsyncCell<T, N>>>,
 }
@@ -37,7 +37,7 @@ pub struct Replier<T: Drop, N: Free<T, TaskWaker> = Unruled> {
 /// println!(rt; "{:?}", block_on(&rt, reply)?)?; // prints Err(Closed)
 /// ```
 #[derive_where(Debug)]
-pub struct Reply<T: Drop, N: Free<T, TaskWaker> = Unruled> {
+pub struct Reply<T: Drop, N: Unwitnessed<T, TaskWaker> = Unruled> {
     /// `None` once it was ready.
     #[derive_where(skip)]
     cell: Option<Rc<ManuallyDrop<AsyncCell<T, N>>>>,
@@ -72,12 +72,11 @@ pub fn reply_slot_of<P: Rule<T>, T: Drop>(
     sides(alloc)
 }
 
-/// Makes both sides of a slot without a name.
+/// Makes both sides of a slot.
 #[inline(always)]
-fn sides<T: Drop, N: Free<T, TaskWaker>>(
+fn sides<T: Drop, N: Unwitnessed<T, TaskWaker>>(
     alloc: Global,
 ) -> Result<(Replier<T, N>, Reply<T, N>), Refusal>
-    requires nameless { N.named ≡ None }
     ensures of_one { IfOk result (λ sides. IsSomeAnd sides.1.cell (λ cell.
         rc_value cell ≡ rc_value sides.0.cell)) }
     ensures refused { FailsWithMemory result }
@@ -95,7 +94,7 @@ fn sides<T: Drop, N: Free<T, TaskWaker>>(
     Ok((Replier { cell }, reply))
 }
 
-impl<T: Drop, N: Free<T, TaskWaker>> Replier<T, N> {
+impl<T: Drop, N: Unwitnessed<T, TaskWaker>> Replier<T, N> {
     /// Sets the value, and wakes the task that waits for it. The value stays until the `Reply`
     /// takes it or is dropped. If the `Reply` was dropped before, the value comes back.
     ///
@@ -119,14 +118,14 @@ impl<T: Drop, N: Free<T, TaskWaker>> Replier<T, N> {
 }
 
 /// Closes the slot.
-impl<T: Drop, N: Free<T, TaskWaker>> Drop for Replier<T, N> {
+impl<T: Drop, N: Unwitnessed<T, TaskWaker>> Drop for Replier<T, N> {
     fn drop(self) {
         let Replier { cell } = self;
         let _ = cell.core.end_owner(&OneThread); // The cell has one owner: both sides together.
     }
 }
 
-impl<T: Drop, N: Free<T, TaskWaker>> Future for Reply<T, N> {
+impl<T: Drop, N: Unwitnessed<T, TaskWaker>> Future for Reply<T, N> {
     type Output = Result<T, Refusal>;
 
     ghost needs = { λ reply s. IsSomeAnd reply.cell (λ cell. s ≡ source_of (manually_drop_value cell.value)) };
@@ -161,7 +160,7 @@ impl<T: Drop, N: Free<T, TaskWaker>> Future for Reply<T, N> {
 }
 
 /// Closes the slot, unless it was ready.
-impl<T: Drop, N: Free<T, TaskWaker>> Drop for Reply<T, N> {
+impl<T: Drop, N: Unwitnessed<T, TaskWaker>> Drop for Reply<T, N> {
     fn drop(self) {
         let Reply { cell, place: _ } = self;
         if let Some(cell) = cell {

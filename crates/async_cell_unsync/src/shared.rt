@@ -1,4 +1,4 @@
-ghost use Rattle.std.specs.Prelude.{◌≡◌, IfOk, IfErr, IfSome, Some};
+ghost use Rattle.std.specs.Prelude.{◌≡◌, None, IfOk, IfErr, IfSome, Some};
 ghost use Rattle.std.specs.Rc.{rc_value};
 ghost use Rattle.async_cell_model.specs.Refusal.{FailsWithMemory, IsOwnerRefusal};
 ghost use Rattle.async_cell_unsync.specs.Names.{cell_of, NamesAtMost};
@@ -10,7 +10,7 @@ use crate::owner::Owner;
 use crate::take::Take;
 use crate::weak::{GetWeak, TakeWeak, Weak};
 use async_cell_core::{Refusal, TaskWaker};
-use async_cell_waiting::{Free, OneThread, Unruled};
+use async_cell_waiting::{Free, OneThread, OwnerPermit, Unruled};
 use std::alloc::{AllocFailed, Global};
 use std::rc::Rc;
 
@@ -20,6 +20,8 @@ use std::rc::Rc;
 pub struct Shared<T, N: Free<T, TaskWaker> = Unruled> {
     #[derive_where(skip)]
     pub(crate) cell: Rc<AsyncCell<T, N>>,
+    #[derive_where(skip)]
+    permit: OwnerPermit<T, TaskWaker, N>,
 }
 
 impl<T: Drop> Shared<T> {
@@ -35,11 +37,15 @@ impl<T: Drop, N: Free<T, TaskWaker>> Shared<T, N> {
     /// Makes the first owner of this cell. Fails with `Memory`; the cell is then returned in the
     /// error. `AsyncCell::into_shared_or_drop` is the form for `?`.
     pub fn into_shared(cell: AsyncCell<T, N>) -> Result<Self, (Refusal, AsyncCell<T, N>)>
+        requires nameless { N.named ≡ None }
         ensures owns { IfOk result (λ owner. cell_of owner ≡ cell) }
         ensures comes_back { IfErr result (λ back. back ≡ (Refusal.Memory, cell)) }
     {
         match Rc::new(cell.alloc, cell) {
-            Ok(cell) => Ok(Shared { cell }),
+            Ok(cell) => Ok(Shared {
+                cell,
+                permit: OwnerPermit::blind(),
+            }),
             Err(AllocFailed { value: cell }) => Err((Refusal::Memory, cell)),
         }
     }
@@ -138,11 +144,13 @@ impl<T: Drop, N: Free<T, TaskWaker>> Shared<T, N> {
         ensures rule { IfOk result (λ content. IfSome content N.holds) }
         ensures comes_back { IfErr result (λ back. back ≡ self) }
     {
-        match self.cell.core.take_inner(&OneThread) {
-            Err(Refusal::StillShared) => Err(self),
-            taken => {
-                let Shared { cell: _ } = self;
-                Ok(taken.unwrap_or(None))
+        let Shared { cell, permit } = self;
+        match cell.core.take_counted(permit, &OneThread) {
+            Ok(content) => Ok(content),
+            Err((Refusal::StillShared, permit)) => Err(Shared { cell, permit }),
+            Err((_, permit)) => {
+                let _ = cell.core.end_counted(permit, &OneThread); // It is closed.
+                Ok(None)
             }
         }
     }
@@ -153,8 +161,8 @@ impl<T: Drop, N: Free<T, TaskWaker>> Shared<T, N> {
         ensures refused { IfErr result IsOwnerRefusal }
     {
         let cell = cell.clone()?;
-        cell.core.add_owner(&OneThread)?;
-        Ok(Shared { cell })
+        let permit = cell.core.add_counted(&OneThread)?;
+        Ok(Shared { cell, permit })
     }
 }
 
@@ -171,10 +179,17 @@ impl Shared<()> {
 /// Dropping it ends the owner.
 impl<T: Drop, N: Free<T, TaskWaker>> Drop for Shared<T, N> {
     fn drop(self) {
-        let Shared { cell } = self;
-        // The only pointer: its drop is the end of the cell.
+        let Shared { cell, permit } = self;
         if Rc::strong_count(&cell) != 1 {
-            let _ = cell.core.end_owner(&OneThread);
+            let _ = cell.core.end_counted(permit, &OneThread);
+            return;
+        }
+        // The only pointer is the end of the cell.
+        match Rc::try_unwrap(cell) {
+            Ok(cell) => cell.end_with(permit),
+            Err(cell) => {
+                let _ = cell.core.end_counted(permit, &OneThread);
+            }
         }
     }
 }

@@ -24,7 +24,7 @@ impl<C: CellRef> Take<C> {
     /// with `Memory` if there is no memory to wait, and with `Closed` on a closed cell.
     #[inline]
     pub fn poll_shared(&self, cx: &mut Context<'_>) -> Poll<Result<C::Value, Refusal>>
-        ensures rule { IfReady result (λ given. IfOk given C.Name.holds) }
+        ensures rule { IfReady result (λ given. IfOk given C.Rules.holds) }
         ensures registered { OnPending result (Covers cx.new (C.waits_for self.now.0)) }
         ensures kept { Keeps cx.old cx.new }
         ensures refused { IfReady result FailsWithMemoryOrClosed }
@@ -42,7 +42,7 @@ impl<C: CellRef> Take<C> {
 }
 
 impl<C: CellRef> Request<OneThread> for Take<C> {
-    type Cell = AsyncCell<C::Value, C::Name>;
+    type Cell = AsyncCell<C::Value, C::Rules>;
 
     fn cell(&self) -> Option<&Self::Cell> {
         Some(self.0.cell())
@@ -55,7 +55,7 @@ impl<C: CellRef> Polled<OneThread> for Take<C> {
     ghost waits_for = { λ polled. C.waits_for polled.0 };
 
     ghost may_give = { λ _ given. FailsWithMemoryOrClosed given
-        × IfOk given C.Name.holds };
+        × IfOk given C.Rules.holds };
 
     #[inline(always)]
     fn poll_at(&self, at: At<'_>, cx: &mut Context<'_>, rt: &OneThread) -> Poll<Self::Output> {
@@ -70,7 +70,7 @@ impl<C: CellRef> Future for Take<C> {
     ghost needs = { λ future. C.waits_for future.0 };
 
     ghost gives = { λ _ given. FailsWithMemoryOrClosed given
-        × IfOk given C.Name.holds };
+        × IfOk given C.Rules.holds };
 
     fn poll(&mut self, cx: &mut Context<'_>) -> Poll<Self::Output> {
         self.poll_shared(cx)

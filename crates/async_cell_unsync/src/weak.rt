@@ -70,6 +70,15 @@ impl<T: Drop, N: Free<T, TaskWaker>> Weak<T, N> {
         WeakOwner { weak: self }
     }
 
+    /// Returns whether the last owner has ended, so that no owner can be made. Fails with `Memory`
+    /// if the pointer could not be counted.
+    pub fn is_closed(&self) -> Result<bool, Refusal>
+        ensures lost { IsLost self.now → result ≡ Err Refusal.Memory }
+        ensures refused { FailsWithMemory result }
+    {
+        Ok(self.cell()?.is_closed())
+    }
+
     /// Makes an owner; `None` if closed. Fails with `Memory` (checked first) or `OwnersFull`.
     pub fn upgrade(&self) -> Result<Option<Shared<T, N>>, Refusal>
         ensures of_this { IfOk result (λ found. IfSome found (OwnsNamed self.now)) }

@@ -1,6 +1,7 @@
 ghost use Rattle.std.specs.Prelude.{◌≡◌, Err, IfOk, IfSome};
 ghost use Rattle.async_cell_unsync.specs.Names.{IsLost, NameAtMostTheSame, Names, NameTheSame};
 ghost use Rattle.async_cell_unsync.specs.Owned.{cell_owned};
+ghost use Rattle.async_cell_model.specs.Refusal.{FailsWithMemory};
 ghost use Rattle.async_cell_waiting.specs.Upgrade.{FailsToUpgrade};
 
 use crate::owner::Owner;
@@ -28,6 +29,15 @@ impl<T: Drop, N: Free<T, TaskWaker>> WeakOwner<T, N> {
         ensures refused { FailsToUpgrade result }
     {
         Ok(self.weak.upgrade()?.map(|owner| owner.with()))
+    }
+
+    /// Returns whether the last owner has ended, so that no owner can be made. Fails with `Memory`
+    /// if the pointer could not be counted.
+    pub fn is_closed(&self) -> Result<bool, Refusal>
+        ensures lost { IsLost self.now.weak → result ≡ Err Refusal.Memory }
+        ensures refused { FailsWithMemory result }
+    {
+        self.weak.is_closed()
     }
 
     /// Returns a future that takes the value and is no owner: `None` once the last owner has ended.

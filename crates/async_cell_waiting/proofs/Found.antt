@@ -1,4 +1,4 @@
--- What a future gives that tells a witness: what a take or a get found.
+-- What a future gives that extends a witness: what a take or a get found.
 use Rattle.std.proofs.Common.{◌≡◌, inl, inr, Option, Some, None, Result, Ok, Err, refl, sym, subst, IfOk, IfSome, OnOk}
 use Rattle.async_cell_model.specs.declared.entry.Kept.{Kept}
 use Rattle.async_cell_model.specs.declared.entry.Kept.TheVariants.{TryTake, TryGet, PollGet}
@@ -10,14 +10,14 @@ use Rattle.async_cell_core.specs.Polled.{IsCloneOf, poll_reply}
 use Rattle.async_cell_model.specs.declared.reply.Reply.{Reply}
 use Rattle.async_cell_model.specs.Machine.{UpToClones}
 use Rattle.futures.specs.declared.task.Poll.{Poll}
-use Rattle.async_cell_waiting.specs.History.{Begun, Seen, IsCloneOfOne, IsSigned, IsTold, IsToldUpTo, get_reply, end_reply, done_reply}
+use Rattle.async_cell_waiting.specs.History.{Begun, Seen, IsCloneOfOne, IsSigned, IsLinearized, IsLinearizedUpTo, get_reply, end_reply, done_reply}
 
 module _ {T W : Type 0} (rules : WakerRules W) (named : Option (Begun T W)) (seen : History T W) where
-  copied_as : (is_clone : T → T → Type 0) (h : History T W) (held : Option T) (x : T) → IsTold rules named seen TryGet (Value held) h → IsCloneOf is_clone held (Some x) → IsToldUpTo is_clone rules named seen TryGet (Value (Some x)) h
+  copied_as : (is_clone : T → T → Type 0) (h : History T W) (held : Option T) (x : T) → IsLinearized rules named seen TryGet (Value held) h → IsCloneOf is_clone held (Some x) → IsLinearizedUpTo is_clone rules named seen TryGet (Value (Some x)) h
   copied_as is_clone h None x told cloned = absurd cloned
   copied_as is_clone h (Some a) x told cloned = (Value (Some a), told, inr cloned)
 
-  got_as : (is_clone : T → T → Type 0) (now : History T W) (held : Option T) (copied : Result (Option T) Refusal) → IsTold rules named seen TryGet (get_reply held copied) now → IfOk copied (IsCloneOf is_clone held) → IsToldUpTo is_clone rules named seen TryGet (end_reply copied) now
+  got_as : (is_clone : T → T → Type 0) (now : History T W) (held : Option T) (copied : Result (Option T) Refusal) → IsLinearized rules named seen TryGet (get_reply held copied) now → IfOk copied (IsCloneOf is_clone held) → IsLinearizedUpTo is_clone rules named seen TryGet (end_reply copied) now
   got_as is_clone now held (Err why) told clones = (end_reply (Err why), told, inl refl)
   got_as is_clone now None (Ok None) told clones = (Value None, told, inl refl)
   got_as is_clone now None (Ok (Some x)) told clones = absurd clones
@@ -25,42 +25,42 @@ module _ {T W : Type 0} (rules : WakerRules W) (named : Option (Begun T W)) (see
   got_as is_clone now (Some a) (Ok (Some x)) told clones = (Value (Some a), told, inr clones)
 
   -- a get, found or not
-  pub told_got : (is_clone : T → T → Type 0) (now : History T W) (held : Option T) (copied got : Result (Option T) Refusal) → IsTold rules named seen TryGet (get_reply held copied) now → IfOk copied (IsCloneOf is_clone held) → got ≡ copied → IsToldUpTo is_clone rules named seen TryGet (end_reply got) now
-  told_got is_clone now held copied got told clones same =
-      subst (λ g. IsToldUpTo is_clone rules named seen TryGet (end_reply g) now) (sym same) (got_as is_clone now held copied told clones)
+  pub linearized_got : (is_clone : T → T → Type 0) (now : History T W) (held : Option T) (copied got : Result (Option T) Refusal) → IsLinearized rules named seen TryGet (get_reply held copied) now → IfOk copied (IsCloneOf is_clone held) → got ≡ copied → IsLinearizedUpTo is_clone rules named seen TryGet (end_reply got) now
+  linearized_got is_clone now held copied got told clones same =
+      subst (λ g. IsLinearizedUpTo is_clone rules named seen TryGet (end_reply g) now) (sym same) (got_as is_clone now held copied told clones)
 
   -- a poll of a get
-  pub told_polled : (is_clone : T → T → Type 0) (now : History T W) (w : W) (own : Reply T) (polled got : Result (Poll (Option T)) Refusal) → IsTold rules named seen (PollGet w) own now → UpToClones is_clone (PollGet w) own (poll_reply polled) → got ≡ polled → IsToldUpTo is_clone rules named seen (PollGet w) (poll_reply got) now
-  told_polled is_clone now w own polled got told up same = subst (λ g. IsToldUpTo is_clone rules named seen (PollGet w) (poll_reply g) now) (sym same) (own, told, up)
+  pub linearized_poll : (is_clone : T → T → Type 0) (now : History T W) (w : W) (own : Reply T) (polled got : Result (Poll (Option T)) Refusal) → IsLinearized rules named seen (PollGet w) own now → UpToClones is_clone (PollGet w) own (poll_reply polled) → got ≡ polled → IsLinearizedUpTo is_clone rules named seen (PollGet w) (poll_reply got) now
+  linearized_poll is_clone now w own polled got told up same = subst (λ g. IsLinearizedUpTo is_clone rules named seen (PollGet w) (poll_reply g) now) (sym same) (own, told, up)
 
-  put_as : {A : Type 0} (now : History T W) (kept : Option T → Option T → Kept T W) (saw put : Option T) (held : Result A Refusal) (P : Option T → Option T → Type 0) → IsTold rules named seen (kept saw put) (done_reply held) now → OnOk held (P saw put)
-      → OnOk held ((s : Option T) × (p : Option T) × IsTold rules named seen (kept s p) Done now × P s p)
+  put_as : {A : Type 0} (now : History T W) (kept : Option T → Option T → Kept T W) (saw put : Option T) (held : Result A Refusal) (P : Option T → Option T → Type 0) → IsLinearized rules named seen (kept saw put) (done_reply held) now → OnOk held (P saw put)
+      → OnOk held ((s : Option T) × (p : Option T) × IsLinearized rules named seen (kept s p) Done now × P s p)
   put_as now kept saw put (Ok it) P told called = (saw, put, told, called)
   put_as now kept saw put (Err why) P told called = tt
 
   -- an update, made or refused
-  pub told_put : {A : Type 0} (now : History T W) (kept : Option T → Option T → Kept T W) (saw put : Option T) (held got : Result A Refusal) (P : Option T → Option T → Type 0) → IsTold rules named seen (kept saw put) (done_reply held) now → OnOk held (P saw put) → got ≡ held
-      → OnOk got ((s : Option T) × (p : Option T) × IsTold rules named seen (kept s p) Done now × P s p)
-  told_put now kept saw put held got P told called same =
-      subst (λ r. OnOk r ((s : Option T) × (p : Option T) × IsTold rules named seen (kept s p) Done now × P s p)) (sym same) (put_as now kept saw put held P told called)
+  pub linearized_put : {A : Type 0} (now : History T W) (kept : Option T → Option T → Kept T W) (saw put : Option T) (held got : Result A Refusal) (P : Option T → Option T → Type 0) → IsLinearized rules named seen (kept saw put) (done_reply held) now → OnOk held (P saw put) → got ≡ held
+      → OnOk got ((s : Option T) × (p : Option T) × IsLinearized rules named seen (kept s p) Done now × P s p)
+  linearized_put now kept saw put held got P told called same =
+      subst (λ r. OnOk r ((s : Option T) × (p : Option T) × IsLinearized rules named seen (kept s p) Done now × P s p)) (sym same) (put_as now kept saw put held P told called)
 
 module _ {T W : Type 0} (rules : WakerRules W) (named : Option (Begun T W)) (old : Seen T W) where
   -- a take that found a value, of which P holds
-  pub told_taken : (P : T → Type 0) (now : Seen T W) (taken : Option T) (found : Result T Refusal) (given : Result (T × Seen T W) Refusal) → IfSome taken P → IsTold rules named old.calls TryTake (Value taken) now.calls → IsSigned old now → IfOk found (λ it. taken ≡ Some it)
-      → IfOk given (λ both. (found ≡ Ok both.0) × (both.1 ≡ now)) → IfOk given (λ both. P both.0 × IsTold rules named old.calls TryTake (Value (Some both.0)) both.1.calls × IsSigned old both.1)
-  told_taken P now taken found (Err why) holds told signed is both = tt
-  told_taken P now taken found (Ok (x, h)) holds told signed is (same, whole) =
+  pub linearized_take : (P : T → Type 0) (now : Seen T W) (taken : Option T) (found : Result T Refusal) (given : Result (T × Seen T W) Refusal) → IfSome taken P → IsLinearized rules named old.calls TryTake (Value taken) now.calls → IsSigned old now → IfOk found (λ it. taken ≡ Some it)
+      → IfOk given (λ both. (found ≡ Ok both.0) × (both.1 ≡ now)) → IfOk given (λ both. P both.0 × IsLinearized rules named old.calls TryTake (Value (Some both.0)) both.1.calls × IsSigned old both.1)
+  linearized_take P now taken found (Err why) holds told signed is both = tt
+  linearized_take P now taken found (Ok (x, h)) holds told signed is (same, whole) =
       let some : taken ≡ Some x = subst (λ f. IfOk f (λ it. taken ≡ Some it)) same is in
-      (subst (λ t. IfSome t P) some holds, subst (λ t. IsTold rules named old.calls TryTake (Value t) h.calls) some (subst (λ (l : Seen T W). IsTold rules named old.calls TryTake (Value taken) l.calls) (sym whole) told), subst (λ (l : Seen T W). IsSigned old l) (sym whole) signed)
+      (subst (λ t. IfSome t P) some holds, subst (λ t. IsLinearized rules named old.calls TryTake (Value t) h.calls) some (subst (λ (l : Seen T W). IsLinearized rules named old.calls TryTake (Value taken) l.calls) (sym whole) told), subst (λ (l : Seen T W). IsSigned old l) (sym whole) signed)
 
   -- a get that found one, of whose clone P holds
-  pub told_copied : (is_clone : T → T → Type 0) (P : T → Type 0) (now : Seen T W) (held : Option T) (copied : Result (Option T) Refusal) (found : Result T Refusal) (given : Result (T × Seen T W) Refusal) → IfOk copied (λ some. IfSome some P) → IsTold rules named old.calls TryGet (get_reply held copied) now.calls → IsSigned old now
-      → IfOk copied (IsCloneOf is_clone held) → IfOk found (λ it. copied ≡ Ok (Some it)) → IfOk given (λ both. (found ≡ Ok both.0) × (both.1 ≡ now)) → IfOk given (λ both. P both.0 × IsToldUpTo is_clone rules named old.calls TryGet (Value (Some both.0)) both.1.calls × IsSigned old both.1)
-  told_copied is_clone P now held copied found (Err why) holds told signed clones is both = tt
-  told_copied is_clone P now held copied found (Ok (x, h)) holds told signed clones is (same, whole) =
+  pub linearized_copy : (is_clone : T → T → Type 0) (P : T → Type 0) (now : Seen T W) (held : Option T) (copied : Result (Option T) Refusal) (found : Result T Refusal) (given : Result (T × Seen T W) Refusal) → IfOk copied (λ some. IfSome some P) → IsLinearized rules named old.calls TryGet (get_reply held copied) now.calls → IsSigned old now
+      → IfOk copied (IsCloneOf is_clone held) → IfOk found (λ it. copied ≡ Ok (Some it)) → IfOk given (λ both. (found ≡ Ok both.0) × (both.1 ≡ now)) → IfOk given (λ both. P both.0 × IsLinearizedUpTo is_clone rules named old.calls TryGet (Value (Some both.0)) both.1.calls × IsSigned old both.1)
+  linearized_copy is_clone P now held copied found (Err why) holds told signed clones is both = tt
+  linearized_copy is_clone P now held copied found (Ok (x, h)) holds told signed clones is (same, whole) =
       let some : copied ≡ Ok (Some x) = subst (λ f. IfOk f (λ it. copied ≡ Ok (Some it))) same is in (
         subst (λ c. IfOk c (λ found. IfSome found P)) some holds,
-        copied_as rules named old.calls is_clone h.calls held x (subst (λ c. IsTold rules named old.calls TryGet (get_reply held c) h.calls) some (subst (λ (l : Seen T W). IsTold rules named old.calls TryGet (get_reply held copied) l.calls) (sym whole) told))
+        copied_as rules named old.calls is_clone h.calls held x (subst (λ c. IsLinearized rules named old.calls TryGet (get_reply held c) h.calls) some (subst (λ (l : Seen T W). IsLinearized rules named old.calls TryGet (get_reply held copied) l.calls) (sym whole) told))
             (subst (λ c. IfOk c (IsCloneOf is_clone held)) some clones),
         subst (λ (l : Seen T W). IsSigned old l) (sym whole) signed,
       )

@@ -16,10 +16,10 @@ use Rattle.async_cell_model.specs.History.{History, cell_after, after}
 use Rattle.async_cell_model.specs.Legal.{IsExact, IsLegalAfterBy, MayFollowBy}
 use Rattle.async_cell_model.proofs.JoinedHistory.{cell_after-append}
 use Rattle.async_cell_core.specs.IsStep.{WakerRules}
-use Rattle.async_cell_waiting.specs.History.{Begun, GoesOn, HasEntry, IsAllowed, IsLawful, IsOrSet, IsTold, IsToldUpTo, OnlyMakes, start_of}
+use Rattle.async_cell_waiting.specs.History.{Begun, GoesOn, HasEntry, IsAllowed, IsLawful, IsOrSet, IsLinearized, IsLinearizedUpTo, OnlyMakes, start_of}
 use Rattle.async_cell_waiting.proofs.Leading.{all_such}
 use Rattle.async_cell_waiting.proofs.PutIn.{either, full_at}
-use Rattle.async_cell_waiting.proofs.Telling.{second}
+use Rattle.async_cell_waiting.proofs.Linearizing.{second}
 
 -- an element of a list is its head, or one of its tail
 cases : {A : Type 0} (y : A) (ys : List A) (x : A) → Contains (y ∷ ys) x → (y ≡ x) ⊎ Contains ys x
@@ -40,10 +40,10 @@ own_if : {T : Type 0} (W : Type 0) (is_clone : T → T → Type 0) → IsExact i
 own_if W is_clone exact (Value (Some a)) v cloned = ap (λ x. Value (Some x)) (sym (exact a v cloned))
 own_if W is_clone exact own v cloned = absurd cloned
 
-pub exact_get : {T W : Type 0} (is_clone : T → T → Type 0) → IsExact is_clone → (rules : WakerRules W) (named : Option (Begun T W)) (seen now : History T W) (v : T) → IsToldUpTo is_clone rules named seen TryGet (Value (Some v)) now → IsTold rules named seen TryGet (Value (Some v)) now
+pub exact_get : {T W : Type 0} (is_clone : T → T → Type 0) → IsExact is_clone → (rules : WakerRules W) (named : Option (Begun T W)) (seen now : History T W) (v : T) → IsLinearizedUpTo is_clone rules named seen TryGet (Value (Some v)) now → IsLinearized rules named seen TryGet (Value (Some v)) now
 exact_get {T} {W} is_clone exact rules named seen now v told =
     let same : told.0 ≡ Value (Some v) = elim told.2 [ inl same ↦ sym same | inr cloned ↦ own_if W is_clone exact told.0 v cloned ] in
-    subst (λ r. IsTold rules named seen TryGet r now) same told.1
+    subst (λ r. IsLinearized rules named seen TryGet r now) same told.1
 
 module _ {T : Type 0} (Follows : T → T → Type 0) where
   -- the cell is closed, or holds a value that follows this one
@@ -135,14 +135,14 @@ module _ {T W : Type 0} (will_wake : W → W → Bool) (sure : Bool) (may : Kept
 
 module _ {T W : Type 0} (rules : WakerRules W) (may : Kept T W → Type 0) (named : Option (Begun T W)) where
   -- what was told is in the history
-  pub told_in : (seen now : History T W) (call : Kept T W) (answer : Reply T) → IsTold rules named seen call answer now → HasEntry now call answer
-  told_in seen now call answer told =
+  pub linearized_in : (seen now : History T W) (call : Kept T W) (answer : Reply T) → IsLinearized rules named seen call answer now → HasEntry now call answer
+  linearized_in seen now call answer told =
       let e : Entry T W = record { call = call; reply = answer } in
       record { there = subst (λ (h : History T W). Contains h e) (sym told.ends) (Contains-push told.before e) }
 
   -- what is got never goes back
   pub never_back : (Follows : T → T → Type 0) (itself : (a : T) → Follows a a) (on : (a b c : T) → Follows a b → Follows b c → Follows a c) (seen first later now : History T W) (v w : T) → OnlyMakes may (GoesOn Follows) → IsLawful rules.will_wake rules.SURE_CLONE may (start_of named) now
-      → IsTold rules named seen TryGet (Value (Some v)) first → IsPrefix first later → IsTold rules named later TryGet (Value (Some w)) now → Follows v w
+      → IsLinearized rules named seen TryGet (Value (Some v)) first → IsPrefix first later → IsLinearized rules named later TryGet (Value (Some w)) now → Follows v w
   never_back Follows itself on seen first later now v w only lawful before leads told =
       let start : State T W = start_of named in
       let begins : History T W = before.before in

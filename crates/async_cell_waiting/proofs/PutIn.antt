@@ -12,7 +12,7 @@ use Rattle.async_cell_model.specs.declared.reply.Reply.TheVariants.{Value}
 use Rattle.async_cell_model.specs.Machine.{content, next, next_open, reply, is_memory}
 use Rattle.async_cell_model.specs.History.{History, cell_after}
 use Rattle.async_cell_core.specs.IsStep.{WakerRules}
-use Rattle.async_cell_waiting.specs.History.{Begun, IsAllowed, IsLawful, IsTold, Puts, PutsWhatSetsMay, start_of}
+use Rattle.async_cell_waiting.specs.History.{Begun, IsAllowed, IsLawful, IsLinearized, Puts, PutsWhatSetsMay, start_of}
 
 -- what holds of both holds of either
 pub either : {A : Type 0} (P : A → Type 0) (b : Bool) (x y : A) → P x → P y → P (if b then x else y)
@@ -46,16 +46,16 @@ module _ {T W : Type 0} (may : Kept T W → Type 0) (only : PutsWhatSetsMay may)
   after_holds c (e ∷ h) holds all = after_holds (next c e) h (step_holds MaySet c e holds (allowed_puts may MaySet only e.call (All-head (λ x. IsAllowed may x.call) e h all))) (All-tail (λ x. IsAllowed may x.call) e h all)
 
   module _ (rules : WakerRules W) (named : Option (Begun T W)) (seen now : History T W) (v : T) (first : IfSome (content (start_of named).cell) MaySet) (lawful : IsLawful rules.will_wake rules.SURE_CLONE may (start_of named) now) where
-    found : (call : Kept T W) → ((c : Cell T) → Value (Some v) ≡ reply c call → content c ≡ Some v) → IsTold rules named seen call (Value (Some v)) now → MaySet v
+    found : (call : Kept T W) → ((c : Cell T) → Value (Some v) ≡ reply c call → content c ≡ Some v) → IsLinearized rules named seen call (Value (Some v)) now → MaySet v
     found call full told = elim told.does.replied [
       | inl is ↦ subst (λ o. IfSome o MaySet) (full _ is) (after_holds (start_of named).cell told.before first (All-pop (λ x. IsAllowed may x.call) now told.before (Some (record { call = call; reply = Value (Some v) })) told.ends lawful.allowed).0)
       | inr refused ↦ absurd (cc refused.0)
     ]
 
     -- what a take was told is a value that a `set` may put in
-    pub taken : IsTold rules named seen TryTake (Value (Some v)) now → MaySet v
+    pub taken : IsLinearized rules named seen TryTake (Value (Some v)) now → MaySet v
     taken told = found TryTake (λ c is. full_at W c v (inl is)) told
 
     -- and so is what a get was told
-    pub got : IsTold rules named seen TryGet (Value (Some v)) now → MaySet v
+    pub got : IsLinearized rules named seen TryGet (Value (Some v)) now → MaySet v
     got told = found TryGet (λ c is. full_at W c v (inr is)) told

@@ -15,7 +15,7 @@ use Rattle.async_cell_model.specs.Taken.{IsDistinct, IsSubsequence, has_update, 
 use Rattle.async_cell_model.proofs.Exact.{NoClone, legal_of_exact}
 use Rattle.async_cell_model.proofs.Once.{IsSubsequence-same, IsSubsequence-nil, IsSubsequence-trans, IsSubsequence-append, pairs_of_subsequence, given_in_order}
 use Rattle.async_cell_core.specs.IsStep.{WakerRules}
-use Rattle.async_cell_waiting.specs.History.{Begun, Seen, IsAllowed, IsLawful, IsTake, OnlyMakes, IsTold, IsSigned, Took}
+use Rattle.async_cell_waiting.specs.History.{Begun, Seen, IsAllowed, IsLawful, IsTake, OnlyMakes, IsLinearized, IsSigned, Took}
 use Rattle.async_cell_waiting.proofs.Leading.{all_such}
 use Rattle.ghost_log.proofs.Steps.{shorter_begins}
 
@@ -128,7 +128,7 @@ module _ {T W : Type 0} where
       ]
 
 -- who was told of a take took
-pub took : {T W : Type 0} (rules : WakerRules W) (named : Option (Begun T W)) (seen now : Seen T W) (v : T) → IsTold rules named seen.calls TryTake (Value (Some v)) now.calls → IsSigned seen now → length now.authors ≡ length now.calls → Took seen.author v now
+pub took : {T W : Type 0} (rules : WakerRules W) (named : Option (Begun T W)) (seen now : Seen T W) (v : T) → IsLinearized rules named seen.calls TryTake (Value (Some v)) now.calls → IsSigned seen now → length now.authors ≡ length now.calls → Took seen.author v now
 took {T} {W} rules named seen now v told signed many = record {
   before = told.before;
   authors_before = signed.before;

@@ -13,10 +13,10 @@ use Rattle.async_cell_model.proofs.Exact.{NoClone, legal_of_exact}
 use Rattle.async_cell_model.proofs.JoinedHistory.{cell_after-append}
 use Rattle.async_cell_model.proofs.Whole.{stays_covered, IsLegalAfter-first}
 use Rattle.async_cell_core.specs.IsStep.{WakerRules}
-use Rattle.async_cell_waiting.specs.History.{Begun, IsLawful, IsTold, StillWaits, start_of}
+use Rattle.async_cell_waiting.specs.History.{Begun, IsLawful, IsLinearized, StillWaits, start_of}
 
 -- who still waits is in the wait list before the call, or somebody who would wake it
-waits_there : {T W : Type 0} (rules : WakerRules W) (may : Kept T W → Type 0) (named : Option (Begun T W)) (seen now : History T W) (call : Kept T W) (reply : Reply T) (w : W) (told : IsTold rules named seen call reply now) → IsLawful rules.will_wake rules.SURE_CLONE may (start_of named) now
+waits_there : {T W : Type 0} (rules : WakerRules W) (may : Kept T W → Type 0) (named : Option (Begun T W)) (seen now : History T W) (call : Kept T W) (reply : Reply T) (w : W) (told : IsLinearized rules named seen call reply now) → IsLawful rules.will_wake rules.SURE_CLONE may (start_of named) now
     → StillWaits (start_of named).cell w told.before → IsCovered rules.will_wake (waiting rules.will_wake (start_of named) told.before) w
 waits_there {T} {W} rules may named seen now call reply w told lawful waits =
     let will_wake = rules.will_wake in let sure = rules.SURE_CLONE in let start : State T W = start_of named in
@@ -27,7 +27,7 @@ waits_there {T} {W} rules may named seen now call reply w told lawful waits =
     (stays_covered NoClone will_wake sure start waits.before waits.later waits.poll w (subst (λ (h : History T W). IsLegalUpTo will_wake sure NoClone start h) waits.split before) waits.pending waits.none)
 
 -- what fills or closes the cell wakes it
-pub wakes : {T W : Type 0} (rules : WakerRules W) (may : Kept T W → Type 0) (named : Option (Begun T W)) (seen now : History T W) (call : Kept T W) (reply : Reply T) (w : W) (told : IsTold rules named seen call reply now) → IsLawful rules.will_wake rules.SURE_CLONE may (start_of named) now
+pub wakes : {T W : Type 0} (rules : WakerRules W) (may : Kept T W → Type 0) (named : Option (Begun T W)) (seen now : History T W) (call : Kept T W) (reply : Reply T) (w : W) (told : IsLinearized rules named seen call reply now) → IsLawful rules.will_wake rules.SURE_CLONE may (start_of named) now
     → StillWaits (start_of named).cell w told.before → ends_waiting (cell_after (start_of named).cell told.before) (cell_after (start_of named).cell now) ≡ true → IsCovered rules.will_wake told.woken w
 wakes {T} {W} rules may named seen now call reply w told lawful waits ends =
     subst (λ (ws : List W). IsCovered rules.will_wake ws w) (sym (told.does.woken_are ∙ rw ends refl)) (waits_there rules may named seen now call reply w told lawful waits)
@@ -46,7 +46,7 @@ vacant_if will_wake at w true is sound covered = refl
 vacant_if will_wake at w false is sound covered = absurd (none_covered will_wake w (subst (λ (l : List _). IsCovered will_wake l w) (sound.waits_vacant is) covered))
 
 -- a `set` that was done wakes who waits
-pub set_wakes : {T W : Type 0} (rules : WakerRules W) (may : Kept T W → Type 0) (named : Option (Begun T W)) (seen now : History T W) (v : T) (w : W) (told : IsTold rules named seen (Set v) Done now) → IsLawful rules.will_wake rules.SURE_CLONE may (start_of named) now
+pub set_wakes : {T W : Type 0} (rules : WakerRules W) (may : Kept T W → Type 0) (named : Option (Begun T W)) (seen now : History T W) (v : T) (w : W) (told : IsLinearized rules named seen (Set v) Done now) → IsLawful rules.will_wake rules.SURE_CLONE may (start_of named) now
     → StillWaits (start_of named).cell w told.before → IsCovered rules.will_wake told.woken w
 set_wakes {T} {W} rules may named seen now v w told lawful waits =
     let will_wake = rules.will_wake in let start : State T W = start_of named in

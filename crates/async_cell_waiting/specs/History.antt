@@ -1,5 +1,5 @@
 -- What is told of a cell: which cell it is, its history, and what a call adds to it.
-use Rattle.std.specs.Prelude.{◌≡◌, ℕ, Bool, true, false, List, [], ◌∷◌, ◌++◌, Contains, length, filter_map, option_to_list, ⊤, Option, Some, None, IfSome, IsSomeAnd, Result, Ok, Err}
+use Rattle.std.specs.Prelude.{◌≡◌, ℕ, Bool, true, false, List, [], ◌∷◌, ◌++◌, Contains, length, filter_map, option_to_list, ⊤, Option, Some, None, IfSome, IsSome, IsSomeAnd, Result, Ok, Err}
 use Rattle.std.specs.List.{All}
 use mathlib.Core.List.{IsPrefix}
 use Rattle.async_cell_model.specs.declared.cell.Cell.{Cell}
@@ -20,9 +20,11 @@ use Rattle.async_cell_core.specs.IsStep.{WakerRules}
 use Rattle.futures.specs.declared.task.Poll.{Poll}
 use Rattle.futures.specs.declared.task.Poll.TheVariants as poll
 
--- how a named cell began: the name of its list of calls, and its first state
+-- how a named cell began: the name of its list of calls, that of the count of its owners, if they
+-- are counted, and its first state
 pub record Begun (T W : Type 0) : Type 0 where
   pub name : ℕ
+  pub permits : Option ℕ
   pub start : State T W
 
 -- how a cell began, the calls on it so far, the number of who made each, and of who makes the next
@@ -32,6 +34,8 @@ pub record Past (T W : Type 0) : Type 0 where
   pub calls : History T W
   pub authors : List ℕ
   pub hand : ℕ
+  -- how many permits of owners are out
+  pub out : ℕ
 
 -- the calls that one thread has seen, the number of who made each, and its own
 pub record Seen (T W : Type 0) : Type 0 where
@@ -64,6 +68,18 @@ module _ {T W : Type 0} where
   abbrev pub start_of : Option (Begun T W) → State T W
   start_of None = record { cell = Closed; waiting = []; room = 0 }
   start_of (Some named) = named.start
+
+  -- the name of the count of a cell's owners
+  abbrev pub permits_of : Option (Begun T W) → Option ℕ
+  permits_of None = None
+  permits_of (Some named) = named.permits
+
+  -- whether the call adds an owner or ends one
+  abbrev pub is_of_owners : Kept T W → Bool
+  is_of_owners AddOwner = true
+  is_of_owners EndOwner = true
+  is_of_owners TakeInner = true
+  is_of_owners _ = false
 
   -- a call and the reply to it
   abbrev pub entry_of : Kept T W → Answer T W → Entry T W
@@ -99,10 +115,13 @@ module _ {T W : Type 0} (will_wake : W → W → Bool) (sure_wakers : Bool) wher
     pub legal : IsLegal will_wake sure_wakers start calls
     pub allowed : All (λ e. IsAllowed may e.call) calls
 
-  -- these calls were seen of the cell with this name, whose list has this name
+  -- these calls were seen of the cell with this name, whose list has this name, and whose owners
+  -- are counted
   pub record IsSeen (may : Kept T W → Type 0) (named : Option (Begun T W)) (name : ℕ)
       (calls : History T W) : Type 0 where
-    pub of_this : named ≡ Some (record { name = name; start = start_of named })
+    pub of_this : named
+        ≡ Some (record { name = name; permits = permits_of named; start = start_of named })
+    pub counted : IsSome (permits_of named)
     pub lawful : IsLawful may (start_of named) calls
 
   -- the core made this call, which its past has now at the end
@@ -117,7 +136,7 @@ module _ {T W : Type 0} (will_wake : W → W → Bool) (sure_wakers : Bool) wher
 
 -- The calls that were seen have gone on, and end with this call and its reply. There it is a step
 -- of the machine: on the state after all calls before it.
-pub record IsTold {T W : Type 0} (rules : WakerRules W) (named : Option (Begun T W))
+pub record IsLinearized {T W : Type 0} (rules : WakerRules W) (named : Option (Begun T W))
     (seen : History T W) (call : Kept T W) (reply : Reply T) (now : History T W) : Type 0 where
   pub before : History T W
   pub goes_on : IsPrefix seen before
@@ -134,7 +153,7 @@ pub record IsSigned {T W : Type 0} (seen now : Seen T W) : Type 0 where
   pub stays : now.author ≡ seen.author
 
 -- What was seen has gone on, and the cell is closed after it.
-pub record IsToldClosed {T W : Type 0} (named : Option (Begun T W)) (seen now : Seen T W)
+pub record IsSeenClosed {T W : Type 0} (named : Option (Begun T W)) (seen now : Seen T W)
     : Type 0 where
   pub goes_on : IsPrefix seen.calls now.calls
   pub authors_go_on : IsPrefix seen.authors now.authors
@@ -150,11 +169,11 @@ pub record Took {T W : Type 0} (author : ℕ) (value : T) (seen : Seen T W) : Ty
       (before ++ record { call = TryTake; reply = reply.Value (Some value) } ∷ []) seen.calls
   pub authors : IsPrefix (authors_before ++ author ∷ []) seen.authors
 
--- `IsTold` up to clones: where the machine gives a value, a get may return a clone of it
-abbrev pub IsToldUpTo : {T W : Type 0} → (T → T → Type 0) → WakerRules W → Option (Begun T W)
+-- `IsLinearized` up to clones: where the machine gives a value, a get may return a clone of it
+abbrev pub IsLinearizedUpTo : {T W : Type 0} → (T → T → Type 0) → WakerRules W → Option (Begun T W)
     → History T W → Kept T W → Reply T → History T W → Type 0
-IsToldUpTo {T} is_clone rules named seen call reply now = (own : Reply T)
-    × IsTold rules named seen call own now × UpToClones is_clone call own reply
+IsLinearizedUpTo {T} is_clone rules named seen call reply now = (own : Reply T)
+    × IsLinearized rules named seen call own now × UpToClones is_clone call own reply
 
 -- a clone of a value that satisfies `P`
 abbrev pub IsCloneOfOne : {T : Type 0} → (T → T → Type 0) → (T → Type 0) → T → Type 0
@@ -177,10 +196,15 @@ module _ {T : Type 0} where
   done_reply (Ok _) = reply.Done
   done_reply (Err why) = reply.Refused why None
 
-  -- of `end_owner` and `take_inner`
+  -- of `end_owner`, and of a get up to clones
   abbrev pub end_reply : Result (Option T) Refusal → Reply T
   end_reply (Ok value) = reply.Value value
   end_reply (Err why) = reply.Refused why None
+
+  -- of `take_inner`, where the permit of the owner comes back
+  abbrev pub take_reply : {P : Type 0} → Result (Option T) (Refusal × P) → Reply T
+  take_reply (Ok value) = reply.Value value
+  take_reply (Err back) = reply.Refused back.0 None
 
   -- of a get: the machine's own reply, where the cell held this content
   abbrev pub get_reply : {A : Type 0} → Option T → Result A Refusal → Reply T

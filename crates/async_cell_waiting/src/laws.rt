@@ -8,7 +8,7 @@ ghost use Rattle.async_cell_model.specs.Machine.{content, ends_waiting};
 ghost use Rattle.async_cell_model.specs.Legal.{IsExact};
 ghost use Rattle.async_cell_model.specs.History.{History, IsCovered, cell_after};
 ghost use Rattle.async_cell_model.specs.Taken.{IsDistinct, IsSubsequence, has_update, put_in};
-ghost use Rattle.async_cell_waiting.specs.History.{GoesOn, HasEntry, IsLawful, IsNoSet, IsOrSet, IsSigned, IsTake, IsTold, IsToldUpTo, OnlyMakes, PutsWhatSetsMay, Seen, StillWaits, Took, come_out, dropped, gone_in, start_of};
+ghost use Rattle.async_cell_waiting.specs.History.{GoesOn, HasEntry, IsLawful, IsNoSet, IsOrSet, IsSigned, IsTake, IsLinearized, IsLinearizedUpTo, OnlyMakes, PutsWhatSetsMay, Seen, StillWaits, Took, come_out, dropped, gone_in, start_of};
 
 use crate::history::Protocol;
 use async_cell_core::Wakes;
@@ -21,13 +21,13 @@ pub fn a_value_is_one_that_may_be_set<T, W: Wakes, N: Protocol<T, W>>()
         → IfSome (content (start_of N.named).cell) (λ v. N.may (Kept.Set v))
         → (seen now : History T W) (v : T)
         → IsLawful W.will_wake W.SURE_CLONE N.may (start_of N.named) now
-        → IsTold W.Wakes N.named seen Kept.TryTake (Reply.Value (Some v)) now
+        → IsLinearized W.Wakes N.named seen Kept.TryTake (Reply.Value (Some v)) now
         → N.may (Kept.Set v) }
     ensures got { PutsWhatSetsMay N.may
         → IfSome (content (start_of N.named).cell) (λ v. N.may (Kept.Set v))
         → (seen now : History T W) (v : T)
         → IsLawful W.will_wake W.SURE_CLONE N.may (start_of N.named) now
-        → IsTold W.Wakes N.named seen Kept.TryGet (Reply.Value (Some v)) now
+        → IsLinearized W.Wakes N.named seen Kept.TryGet (Reply.Value (Some v)) now
         → N.may (Kept.Set v) }
 {}
 
@@ -35,7 +35,7 @@ pub fn a_value_is_one_that_may_be_set<T, W: Wakes, N: Protocol<T, W>>()
 /// wake it.
 pub fn a_fill_or_close_wakes_who_waits<T, W: Wakes, N: Protocol<T, W>>()
     ensures { (seen now : History T W) (call : Called T W) (reply : Replied T) (w : W)
-        (told : IsTold W.Wakes N.named seen call reply now)
+        (told : IsLinearized W.Wakes N.named seen call reply now)
         → IsLawful W.will_wake W.SURE_CLONE N.may (start_of N.named) now
         → StillWaits (start_of N.named).cell w told.before
         → ends_waiting (cell_after (start_of N.named).cell told.before)
@@ -46,24 +46,24 @@ pub fn a_fill_or_close_wakes_who_waits<T, W: Wakes, N: Protocol<T, W>>()
 /// A `set` that was done wakes each waker that still waits there, or one that would wake it.
 pub fn a_set_wakes_who_waits<T, W: Wakes, N: Protocol<T, W>>()
     ensures { (seen now : History T W) (v : T) (w : W)
-        (told : IsTold W.Wakes N.named seen (Kept.Set v) Reply.Done now)
+        (told : IsLinearized W.Wakes N.named seen (Kept.Set v) Reply.Done now)
         → IsLawful W.will_wake W.SURE_CLONE N.may (start_of N.named) now
         → StillWaits (start_of N.named).cell w told.before → IsCovered W.will_wake told.woken w }
 {}
 
 /// What was told is in the history, and stays there.
-pub fn what_was_told_stays<T, W: Wakes, N: Protocol<T, W>>()
-    ensures told { (seen now : History T W) (call : Called T W) (reply : Replied T)
-        → IsTold W.Wakes N.named seen call reply now → HasEntry now call reply }
+pub fn what_was_seen_stays<T, W: Wakes, N: Protocol<T, W>>()
+    ensures linearized { (seen now : History T W) (call : Called T W) (reply : Replied T)
+        → IsLinearized W.Wakes N.named seen call reply now → HasEntry now call reply }
     ensures stays { (seen now : History T W) (call : Called T W) (reply : Replied T)
         → IsPrefix seen now → HasEntry seen call reply → HasEntry now call reply }
 {}
 
 /// Where clones are exact, what was got is what the cell held.
-pub fn an_exact_get_is_told<T: Clone, W: Wakes, N: Protocol<T, W>>()
+pub fn an_exact_get_is_linearized<T: Clone, W: Wakes, N: Protocol<T, W>>()
     ensures { IsExact T.is_clone → (seen now : History T W) (v : T)
-        → IsToldUpTo T.is_clone W.Wakes N.named seen Kept.TryGet (Reply.Value (Some v)) now
-        → IsTold W.Wakes N.named seen Kept.TryGet (Reply.Value (Some v)) now }
+        → IsLinearizedUpTo T.is_clone W.Wakes N.named seen Kept.TryGet (Reply.Value (Some v)) now
+        → IsLinearized W.Wakes N.named seen Kept.TryGet (Reply.Value (Some v)) now }
 {}
 
 /// If an `or_set` is the only change that may be made, each `try_get` of a value finds the same.
@@ -85,16 +85,16 @@ pub fn what_is_got_never_goes_back<T, W: Wakes, N: Protocol<T, W>>()
         → ((a b c : T) → follows a b ≡ true → follows b c ≡ true → follows a c ≡ true)
         → OnlyMakes N.may (GoesOn (λ a b. follows a b ≡ true))
         → IsLawful W.will_wake W.SURE_CLONE N.may (start_of N.named) now
-        → IsTold W.Wakes N.named seen Kept.TryGet (Reply.Value (Some v)) first
+        → IsLinearized W.Wakes N.named seen Kept.TryGet (Reply.Value (Some v)) first
         → IsPrefix first later
-        → IsTold W.Wakes N.named later Kept.TryGet (Reply.Value (Some w)) now
+        → IsLinearized W.Wakes N.named later Kept.TryGet (Reply.Value (Some w)) now
         → follows v w ≡ true }
 {}
 
 /// A take that an author was told of is one of its own, for ever: also in all that was seen later.
-pub fn a_told_take_is_of_its_author<T, W: Wakes, N: Protocol<T, W>>()
-    ensures told { (seen now : Seen T W) (v : T)
-        → IsTold W.Wakes N.named seen.calls Kept.TryTake (Reply.Value (Some v)) now.calls
+pub fn a_seen_take_is_of_its_author<T, W: Wakes, N: Protocol<T, W>>()
+    ensures linearized { (seen now : Seen T W) (v : T)
+        → IsLinearized W.Wakes N.named seen.calls Kept.TryTake (Reply.Value (Some v)) now.calls
         → IsSigned seen now → length now.authors ≡ length now.calls → Took seen.author v now }
     ensures later { (seen all : Seen T W) (n : ℕ) (v : T) → Took n v seen
         → IsPrefix seen.calls all.calls → IsPrefix seen.authors all.authors → Took n v all }

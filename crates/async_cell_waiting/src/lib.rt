@@ -16,7 +16,10 @@ mod with;
 
 pub use cell_core::{CellCore, Cloning, CloningAs, Taking, TakingAs};
 pub use ended::{Held, Writes, end, end_and_wake, end_and_wake_one, open_holding, put_held};
-pub use history::{Author, Blank, Cancel, Free, Protocol, Rule, Ruled, Takeable, Unruled, Witness};
+pub use history::{
+    Anyone, Author, Blank, Caller, Cancel, Free, OwnerPermit, Protocol, Rule, Ruled, Takeable,
+    Unruled, Unwitnessed, Witness,
+};
 pub use polls::poll;
 pub use query::Query;
 pub use room::Room;

@@ -26,7 +26,7 @@ pub fn poll<'a, C: Room, M: Stores<Core = C>, Q: Query<C>, R: Opens<'a, M>>(
     rt: &R,
 ) -> Poll<Result<Q::Answer, Refusal>>
     requires asks { Q.asks query }
-    ensures told { IfReady result (λ answer. IfOk answer (λ told. Q.gives query told)) }
+    ensures gives { IfReady result (λ answer. IfOk answer (λ given. Q.gives query given)) }
     ensures armed { OnPending result (IsArmed cx.new) }
     ensures heard { OnPending result (Hears cx.new source.now.id) }
     ensures kept { Keeps cx.old cx.new }
@@ -112,7 +112,7 @@ fn renew<'a, C: Room, M: Stores<Core = C>, Q: Query<C>, R: Opens<'a, M>>(
     rt: &R,
 ) -> Poll<Result<Q::Answer, Refusal>>
     requires asks { Q.asks query }
-    ensures told { IfReady result (λ answer. IfOk answer (λ told. Q.gives query told)) }
+    ensures gives { IfReady result (λ answer. IfOk answer (λ given. Q.gives query given)) }
     ensures armed { OnPending result (IsArmed cx.new) }
     ensures heard { OnPending result (Hears cx.new source.now.id) }
     ensures kept { Keeps cx.old cx.new }

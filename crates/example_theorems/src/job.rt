@@ -68,7 +68,7 @@ where
     );
     let seen = one.longer(&two);
     seen.lawful();
-    laws::a_told_take_is_of_its_author::<u64, TaskWaker, N>();
+    laws::a_seen_take_is_of_its_author::<u64, TaskWaker, N>();
     laws::of_takers_alone_one_gets::<u64, TaskWaker, N>();
     Ok((first, second))
 }
@@ -83,6 +83,6 @@ where
 {
     let taken = owner.try_take_as(seen)?;
     seen.lawful();
-    laws::a_told_take_is_of_its_author::<u64, TaskWaker, N>();
+    laws::a_seen_take_is_of_its_author::<u64, TaskWaker, N>();
     Some(taken)
 }

@@ -2,7 +2,7 @@
 ghost use Rattle.std.specs.Prelude.{◌≡◌, ⊤, Some, IfSome, OnOk};
 ghost use Rattle.async_cell_model.specs.Machine.{content};
 ghost use Rattle.async_cell_model.specs.History.{IsCovered};
-ghost use Rattle.async_cell_waiting.specs.History.{IsTold, StillWaits, start_of};
+ghost use Rattle.async_cell_waiting.specs.History.{IsLinearized, StillWaits, start_of};
 ghost use Rattle.async_cell_sync.specs.declared.TaskWaker.{TaskWaker as Waker};
 
 use async_cell_model::{Kept, Refusal, Reply};
@@ -53,7 +53,7 @@ where
     N: Protocol<(), TaskWaker>,
     R: Wait + Drop,
     requires may { N.may (Kept.Set tt) }
-    ensures wakes { OnOk result ((told : IsTold ⟦<TaskWaker as Wakes>⟧ N.named
+    ensures wakes { OnOk result ((told : IsLinearized ⟦<TaskWaker as Wakes>⟧ N.named
         seen.old.calls (Kept.Set tt) Reply.Done seen.new.calls)
         × ((w : Waker) → StillWaits (start_of N.named).cell w told.before
         → IsCovered ⟦<TaskWaker as Wakes>⟧.will_wake told.woken w)) }

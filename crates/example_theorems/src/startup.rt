@@ -55,7 +55,7 @@ where
     );
     let seen = one.longer(&two);
     seen.lawful();
-    laws::what_was_told_stays::<u64, TaskWaker, N>();
+    laws::what_was_seen_stays::<u64, TaskWaker, N>();
     laws::what_is_set_once_all_get::<u64, TaskWaker, N>();
     Ok((first, second))
 }
@@ -76,7 +76,7 @@ where
     let _ = owner.try_set(value);
     let (value, now) = block_on(&rt, owner.get_as(seen.again()))??;
     *seen = now;
-    laws::an_exact_get_is_told::<u64, TaskWaker, N>();
-    laws::what_was_told_stays::<u64, TaskWaker, N>();
+    laws::an_exact_get_is_linearized::<u64, TaskWaker, N>();
+    laws::what_was_seen_stays::<u64, TaskWaker, N>();
     Ok(value)
 }

@@ -85,7 +85,7 @@ where
     let (first, once) = block_on(&rt, owner.get_as(seen))??;
     let (second, twice) = block_on(&rt, owner.get_as(once))??;
     twice.lawful();
-    laws::an_exact_get_is_told::<u64, TaskWaker, N>();
+    laws::an_exact_get_is_linearized::<u64, TaskWaker, N>();
     laws::what_is_got_never_goes_back::<u64, TaskWaker, N>();
     Ok((first, second))
 }

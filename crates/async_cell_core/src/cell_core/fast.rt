@@ -1,6 +1,6 @@
 //! The fast paths of a write and of an end: where no more than
 //! one waker waits, it is returned by itself, and no list is made.
-ghost use Rattle.std.specs.Prelude.{◌≡◌, [], None, true, false, Ok, Some, IfSome, IfNone, IfOk, IfErr, OnOk, OnErr};
+ghost use Rattle.std.specs.Prelude.{◌≡◌, ◌-◌, [], None, true, false, Ok, Some, IfSome, IfNone, IfOk, IfErr, OnOk, OnErr};
 ghost use Rattle.async_cell_model.specs.Machine.{content, is_vacant, owners_of};
 ghost use Rattle.async_cell_wakers.specs.WaitList.{first_then};
 ghost use Rattle.async_cell_core.specs.IsStep.{IsStep, replace_answer, end_answer};
@@ -50,6 +50,7 @@ impl<T: Drop, W: Wakes> Core<T, W> {
             × (closed.0 ≡ content self.old.cell)) }
         ensures hands_out_all { IfSome result (λ closed.
             self.old.waiting ≡ first_then closed.1 []) }
+        ensures counted { IfSome result (λ _. owners_of self.new.cell ≡ 0) }
         ensures unchanged { IfNone result (self.new ≡ self.old) }
     {
         if self.owners != 1 {
@@ -68,6 +69,7 @@ impl<T: Drop, W: Wakes> Core<T, W> {
         ensures model { result ≡ true → IsStep W.Wakes self.old
             Kept.EndOwner (end_answer (Ok (None, []))) self.new }
 
+        ensures counted { result ≡ true → owners_of self.new.cell ≡ owners_of self.old.cell - 1 }
         ensures unchanged { result ≡ false → self.new ≡ self.old }
     {
         if self.owners < 2 {

@@ -57,6 +57,7 @@ impl<T: Drop, W: Wakes> Core<T, W> {
 
         ensures if_sole { IsOk result ↔ (owners_of self.old.cell ≡ 1) }
         ensures closes { OnOk result (is_closed self.new.cell ≡ true) }
+        ensures counted { OnOk result (owners_of self.new.cell ≡ 0) }
         ensures gives { IfOk result (λ answer. answer.0 ≡ content self.old.cell) }
         ensures hands_out_all { IfOk result (λ answer. answer.1 ≡ self.old.waiting) }
         ensures unchanged { OnErr result (self.new ≡ self.old) }

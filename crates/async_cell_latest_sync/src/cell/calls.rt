@@ -93,7 +93,7 @@ impl<T: Drop, N: Protocol<T>> LatestCore<T, N> {
 
     /// Lets a witness see the whole life, which is that of the state.
     #[inline(always)]
-    pub(crate) fn tell(&self, witness: &mut Witness<T, N>)
+    pub(crate) fn show_to(&self, witness: &mut Witness<T, N>)
         ensures whole { witness.new ≡ self.now.life }
         ensures goes_on { GoesOn witness.old self.now.life }
         ensures of_state { IsOf N.named N.holds self.now.state self.now.life }

@@ -4,7 +4,7 @@ ghost use Rattle.std.specs.Prelude.{◌≡◌, ◌⊎◌, [], false, Option, Som
 ghost use Rattle.std.specs.Fn.{FnOnceReturnsAt};
 ghost use Rattle.async_cell_model.specs.Machine.{content, is_closed, is_vacant, IsSound, UpToClones};
 ghost use Rattle.async_cell_core.specs.Polled.{IsCloneOf, poll_reply};
-ghost use Rattle.async_cell_waiting.specs.History.{Fits, IsCloneOfOne, Leads, Made, start_of, set_reply, write_reply, done_reply, end_reply, get_reply, own_poll};
+ghost use Rattle.async_cell_waiting.specs.History.{Fits, IsCloneOfOne, Leads, Made, permits_of, start_of, set_reply, write_reply, done_reply, end_reply, take_reply, get_reply, own_poll};
 ghost use mathlib.Core.List.{IsPrefix};
 ghost use Rattle.async_cell_model.specs.Refusal.{FailsWithClosed, FailsWithMemory};
 
@@ -28,13 +28,16 @@ pub struct CellCore<T, W: Wakes, N: Protocol<T, W> = Unruled> {
 
 /// Contracts see the state of the core, and its past, which leads to it. Its value keeps the rule.
 impl<T, W: Wakes, N: Protocol<T, W>> Model for CellCore<T, W, N> {
+    ghost use Rattle.std.specs.Prelude.{◌≡◌};
+    ghost use Rattle.async_cell_model.specs.Machine.{owners_of};
     ghost use Rattle.async_cell_waiting.specs.History.{Desk, Leads};
 
     ghost Value = { Desk T W };
 
     ghost view = { λ c. record { inner = c.inner; past = c.past } };
 
-    ghost invariant = { λ c. Leads W.will_wake W.SURE_CLONE N.holds c.past c.inner };
+    ghost invariant = { λ c. Leads W.will_wake W.SURE_CLONE N.holds c.past c.inner
+        × (c.past.out ≡ owners_of c.inner.cell) };
 }
 
 impl<T: Drop, W: Wakes, N: Protocol<T, W>> CellCore<T, W, N> {
@@ -51,6 +54,7 @@ impl<T: Drop, W: Wakes, N: Protocol<T, W>> CellCore<T, W, N> {
     #[inline(always)]
     pub(crate) fn begin(core: Core<T, W>, opened: Opened<T, W>) -> Self
         requires named { Fits N.named opened }
+        requires counted { opened.permits ≡ permits_of N.named }
         requires begins { opened.start ≡ core }
         requires rule { IfSome (content core.cell) N.holds }
         ensures begun { result.past.begun ≡ opened }
@@ -73,6 +77,16 @@ impl<T: Drop, W: Wakes, N: Protocol<T, W>> CellCore<T, W, N> {
         inner
     }
 
+    /// Ends the cell, which nobody else can call, with an owner. Returns the core.
+    pub fn end_with(self, permit: OwnerPermit<T, W, N>) -> Core<T, W>
+        ensures sound { IsSound W.will_wake result }
+    {
+        let CellCore { inner, mut past } = self;
+        past.take(permit);
+        inner.soundness();
+        inner
+    }
+
     /// Does nothing. Its contract states what holds of every core: its state is sound.
     #[inline(always)]
     pub fn soundness(&self)
@@ -81,9 +95,21 @@ impl<T: Drop, W: Wakes, N: Protocol<T, W>> CellCore<T, W, N> {
         self.inner.soundness();
     }
 
+    /// Does nothing. Its contract states that a cell is open while an owner that is counted has its
+    /// permit.
+    #[inline(always)]
+    #[tactic(auto, using(crate::proofs::Owning::open_if_owned))]
+    pub(crate) fn owned(&mut self, permit: &OwnerPermit<T, W, N>)
+        ensures stays { self.new ≡ self.old }
+        ensures open { IsSome (permits_of N.named) → is_closed self.old.inner.cell ≡ false }
+    {
+        self.past.shows(permit);
+    }
+
     /// Makes a witness of the past.
     pub(crate) fn witness(&self) -> Witness<T, W, N>
-        requires { IsSome N.named }
+        requires named { IsSome N.named }
+        requires counted { IsSome (permits_of N.named) }
         ensures calls { result.calls ≡ self.now.past.calls }
         ensures authors { result.authors ≡ self.now.past.authors }
         ensures nobody { result.author ≡ 0 }
@@ -107,7 +133,7 @@ impl<T: Drop, W: Wakes, N: Protocol<T, W>> CellCore<T, W, N> {
 
     /// Lets a witness see the past, in which nobody signs the next call.
     #[inline(always)]
-    pub(crate) fn tell(&mut self, witness: &mut Witness<T, W, N>)
+    pub(crate) fn show_to(&mut self, witness: &mut Witness<T, W, N>)
         ensures whole { witness.new.calls ≡ self.old.past.calls }
         ensures authors { witness.new.authors ≡ self.old.past.authors }
         ensures author { witness.new.author ≡ witness.old.author }
@@ -233,6 +259,7 @@ impl<T: Drop, W: Wakes, N: Protocol<T, W>> CellCore<T, W, N> {
         requires may { N.may (Kept.Replace value) }
         ensures rule { IfOk result.answer (λ old. IfSome old N.holds) }
         ensures comes_back { IfErr result.answer (λ back. back ≡ value) }
+        ensures if_open { is_closed self.old.inner.cell ≡ false → IsOk result.answer }
         ensures made { Made W.will_wake W.SURE_CLONE self.old
             (Kept.Replace value) (write_reply result.answer) self.new }
     {
@@ -250,6 +277,7 @@ impl<T: Drop, W: Wakes, N: Protocol<T, W>> CellCore<T, W, N> {
     pub(crate) fn set(&mut self, value: T) -> Held<Result<Option<T>, T>, Option<Wakers<W>>>
         requires may { N.may (Kept.Set value) }
         ensures comes_back { IfErr result.answer (λ back. back ≡ value) }
+        ensures if_open { is_closed self.old.inner.cell ≡ false → IsOk result.answer }
         ensures made { Made W.will_wake W.SURE_CLONE self.old
             (Kept.Set value) (set_reply result.answer) self.new }
     {
@@ -264,6 +292,7 @@ impl<T: Drop, W: Wakes, N: Protocol<T, W>> CellCore<T, W, N> {
         requires may { N.may (Kept.OrSet value) }
         ensures unused { IfOk result.answer (λ unused. IfSome unused (λ back. back ≡ value)) }
         ensures comes_back { IfErr result.answer (λ back. back ≡ value) }
+        ensures if_open { is_closed self.old.inner.cell ≡ false → IsOk result.answer }
         ensures made { Made W.will_wake W.SURE_CLONE self.old
             (Kept.OrSet value) (write_reply result.answer) self.new }
     {
@@ -449,7 +478,7 @@ impl<T: Drop, W: Wakes, N: Protocol<T, W>> CellCore<T, W, N> {
     }
 
     #[inline(always)]
-    pub(crate) fn add_owner(&mut self) -> Held<Result<(), Refusal>>
+    pub(crate) fn add_owner(&mut self) -> Held<Result<OwnerPermit<T, W, N>, Refusal>>
         ensures refused { IfErr result.answer (λ why.
             (why ≡ Refusal.Closed) ⊎ (why ≡ Refusal.OwnersFull)) }
         ensures made { Made W.will_wake W.SURE_CLONE self.old
@@ -458,30 +487,49 @@ impl<T: Drop, W: Wakes, N: Protocol<T, W>> CellCore<T, W, N> {
         let asked = Asked::of(&self.inner, &());
         let added = self.inner.add_owner();
         asked.enter(&mut self.past, &AddsOwner, &added, &self.inner);
-        Held::of(added)
+        match added {
+            Ok(()) => Held::of(Ok(self.past.give())),
+            Err(why) => Held::of(Err(why)),
+        }
     }
 
+    /// Ends one of several owners. Otherwise its permit comes back.
     #[inline(always)]
-    pub(crate) fn end_other(&mut self) -> bool {
+    pub(crate) fn end_other(
+        &mut self,
+        permit: OwnerPermit<T, W, N>,
+    ) -> Result<(), OwnerPermit<T, W, N>> {
         let asked = Asked::of(&self.inner, &());
         let is_other = self.inner.end_other();
-        if is_other {
-            asked.enter(&mut self.past, &EndsOther, &is_other, &self.inner);
+        if !is_other {
+            return Err(permit);
         }
-        is_other
+        asked.enter(&mut self.past, &EndsOther, &is_other, &self.inner);
+        self.past.take(permit);
+        Ok(())
     }
 
+    /// Ends the last owner, if no more than one waker waits. Otherwise its permit comes back.
     #[inline(always)]
-    pub(crate) fn close_first(&mut self) -> Option<Held<Option<T>, Option<W>>> {
+    pub(crate) fn close_first(
+        &mut self,
+        permit: OwnerPermit<T, W, N>,
+    ) -> Result<Held<Option<T>, Option<W>>, OwnerPermit<T, W, N>> {
         let asked = Asked::of(&self.inner, &());
-        let closed = self.inner.close_first()?;
+        let Some(closed) = self.inner.close_first() else {
+            return Err(permit);
+        };
         asked.enter(&mut self.past, &ClosesFirst, &closed, &self.inner);
+        self.past.take(permit);
         let (value, first) = closed;
-        Some(Held::waking(value, first))
+        Ok(Held::waking(value, first))
     }
 
     #[inline(always)]
-    pub(crate) fn end_owner(&mut self) -> Held<Result<Option<T>, Refusal>, Option<Wakers<W>>>
+    pub(crate) fn end_owner(
+        &mut self,
+        permit: OwnerPermit<T, W, N>,
+    ) -> Held<Result<Option<T>, Refusal>, Option<Wakers<W>>>
         ensures refused { FailsWithClosed result.answer }
         ensures made { Made W.will_wake W.SURE_CLONE self.old
             Kept.EndOwner (end_reply result.answer) self.new }
@@ -489,22 +537,33 @@ impl<T: Drop, W: Wakes, N: Protocol<T, W>> CellCore<T, W, N> {
         let asked = Asked::of(&self.inner, &());
         let ended = self.inner.end_owner();
         asked.enter(&mut self.past, &EndsOwner, &ended, &self.inner);
+        self.past.take(permit);
         Held::of_result(ended)
     }
 
+    /// Closes the cell, if there is one owner. Otherwise its permit comes back.
     #[inline(always)]
-    pub(crate) fn take_inner(&mut self) -> Held<Result<Option<T>, Refusal>, Option<Wakers<W>>>
+    pub(crate) fn take_inner(
+        &mut self,
+        permit: OwnerPermit<T, W, N>,
+    ) -> Held<Result<Option<T>, (Refusal, OwnerPermit<T, W, N>)>, Option<Wakers<W>>>
         requires may { N.may Kept.TakeInner }
         ensures rule { IfOk result.answer (λ content. IfSome content N.holds) }
-        ensures refused { IfErr result.answer (λ why.
-            (why ≡ Refusal.Closed) ⊎ (why ≡ Refusal.StillShared)) }
+        ensures refused { IfErr result.answer (λ back.
+            (back.0 ≡ Refusal.Closed) ⊎ (back.0 ≡ Refusal.StillShared)) }
         ensures made { Made W.will_wake W.SURE_CLONE self.old
-            Kept.TakeInner (end_reply result.answer) self.new }
+            Kept.TakeInner (take_reply result.answer) self.new }
     {
         let asked = Asked::of(&self.inner, &());
         let taken = self.inner.take_inner();
         asked.enter(&mut self.past, &TakesInner, &taken, &self.inner);
-        Held::of_result(taken)
+        match taken {
+            Ok((content, woken)) => {
+                self.past.take(permit);
+                Held::waking(Ok(content), Some(woken))
+            }
+            Err(why) => Held::waking(Err((why, permit)), None),
+        }
     }
 }
 

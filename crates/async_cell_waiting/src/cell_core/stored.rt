@@ -1,11 +1,11 @@
 //! The calls of a cell, over any store: each makes its change in one step.
-ghost use Rattle.std.specs.Prelude.{◌≡◌, ◌⊎◌, [], Option, Some, None, IfErr, IfOk, IfSome, OnOk};
+ghost use Rattle.std.specs.Prelude.{◌≡◌, ◌⊎◌, [], Option, Some, None, IfErr, IfOk, IfSome, IsSome, OnOk};
 ghost use Rattle.async_cell_model.specs.Machine.{content, IsSound};
 ghost use Rattle.async_cell_model.specs.Refusal.{FailsWithClosed, FailsWithMemory};
 
 use super::CellCore;
 use crate::ended::{Held, end, end_and_wake, end_and_wake_one, put_held, write_held};
-use crate::history::{Blank, Protocol, Witness};
+use crate::history::{Blank, OwnerPermit, Protocol, Witness};
 use crate::store::{Opens, Step, StoredCore, Stores, opened};
 use async_cell_core::{Core, Poll, Refusal, Wakes};
 use async_cell_model::Kept;
@@ -238,16 +238,21 @@ impl<M: Stores<Core = CellCore<T, W, N>>, T: Drop, W: Wakes, N: Protocol<T, W>> 
         }
     }
 
-    /// Closes the cell, wakes all waiters and returns the value, if there is one owner. Fails with
-    /// `Closed` on a closed cell, and with `StillShared` if there are other owners.
-    pub fn take_inner<'a, R: Opens<'a, M>>(&'a self, rt: &R) -> Result<Option<T>, Refusal>
+    /// `take_inner`, which takes the permit of the owner. It comes back in the error.
+    pub fn take_counted<'a, R: Opens<'a, M>>(
+        &'a self,
+        permit: OwnerPermit<T, W, N>,
+        rt: &R,
+    ) -> Result<Option<T>, (Refusal, OwnerPermit<T, W, N>)>
         requires may { N.may Kept.TakeInner }
         ensures rule { IfOk result (λ content. IfSome content N.holds) }
-        ensures refused { IfErr result (λ why.
-            (why ≡ Refusal.Closed) ⊎ (why ≡ Refusal.StillShared)) }
+        ensures refused { IfErr result (λ back.
+            (back.0 ≡ Refusal.Closed) ⊎ (back.0 ≡ Refusal.StillShared)) }
     {
-        let mut step = rt.open(self).ok_or(Refusal::Closed)?;
-        let closed = step.lend().take_inner();
+        let Some(mut step) = rt.open(self) else {
+            return Err((Refusal::Closed, permit));
+        };
+        let closed = step.lend().take_inner(permit);
         end_and_wake(step, closed)
     }
 
@@ -260,18 +265,19 @@ impl<M: Stores<Core = CellCore<T, W, N>>, T: Drop, W: Wakes, N: Protocol<T, W>> 
         StoredCore::of(CellCore::of(core))
     }
 
-    /// Stores the core of a blank, and makes the first witness of its history.
+    /// Stores the core of a blank, and makes the first witness of its history, and the permit of
+    /// its owner.
     #[doc(hidden)]
-    pub fn of_blank(blank: Blank<T, W>) -> (Self, Witness<T, W, N>)
+    pub fn of_blank(blank: Blank<T, W>) -> (Self, Witness<T, W, N>, OwnerPermit<T, W, N>)
         requires named { N.named ≡ Some blank }
         requires rule { IfSome (content blank.start.cell) N.holds }
         ensures new { result.1.calls ≡ [] }
         ensures nobody { result.1.author ≡ 0 }
     {
-        let (core, opened) = blank.into_parts();
+        let (core, opened, permit) = blank.into_parts();
         let core = CellCore::begin(core, opened);
         let witness = core.witness();
-        (StoredCore::of(core), witness)
+        (StoredCore::of(core), witness, OwnerPermit::of(permit))
     }
 
     /// Returns the core. Waits for no step.
@@ -285,6 +291,53 @@ impl<M: Stores<Core = CellCore<T, W, N>>, T: Drop, W: Wakes, N: Protocol<T, W>> 
 
     /// Adds an owner. Fails with `Closed`, and with `OwnersFull` beyond 4,294,967,295 owners.
     pub fn add_owner<'a, R: Opens<'a, M>>(&'a self, rt: &R) -> Result<(), Refusal>
+        requires nameless { N.named ≡ None }
+        ensures refused { IfErr result (λ why.
+            (why ≡ Refusal.Closed) ⊎ (why ≡ Refusal.OwnersFull)) }
+    {
+        self.add_counted(rt)?.let_go();
+        Ok(())
+    }
+
+    /// Ends one owner. The last one closes the cell, drops its value and wakes all waiters. Fails
+    /// with `Closed` on a closed cell.
+    pub fn end_owner<'a, R: Opens<'a, M>>(&'a self, rt: &R) -> Result<(), Refusal>
+        requires nameless { N.named ≡ None }
+        ensures refused { FailsWithClosed result }
+    {
+        self.end_counted(OwnerPermit::blind(), rt)
+    }
+
+    /// Closes the cell, wakes all waiters and returns the value, if there is one owner. Fails with
+    /// `Closed` on a closed cell, and with `StillShared` if there are other owners.
+    pub fn take_inner<'a, R: Opens<'a, M>>(&'a self, rt: &R) -> Result<Option<T>, Refusal>
+        requires nameless { N.named ≡ None }
+        requires may { N.may Kept.TakeInner }
+        ensures rule { IfOk result (λ content. IfSome content N.holds) }
+        ensures refused { IfErr result (λ why.
+            (why ≡ Refusal.Closed) ⊎ (why ≡ Refusal.StillShared)) }
+    {
+        match self.take_counted(OwnerPermit::blind(), rt) {
+            Ok(content) => Ok(content),
+            Err((why, permit)) => {
+                permit.let_go();
+                Err(why)
+            }
+        }
+    }
+
+    /// Ends the cell, which nobody else can call, with an owner: wakes all waiters and drops the
+    /// value. Takes no lock.
+    #[inline(always)]
+    pub fn end_with(self, permit: OwnerPermit<T, W, N>) {
+        self.into_stored().end_with(permit).end();
+    }
+
+    /// `add_owner`, which gives the permit of the new owner.
+    pub fn add_counted<'a, R: Opens<'a, M>>(
+        &'a self,
+        rt: &R,
+    ) -> Result<OwnerPermit<T, W, N>, Refusal>
         ensures refused { IfErr result (λ why.
             (why ≡ Refusal.Closed) ⊎ (why ≡ Refusal.OwnersFull)) }
     {
@@ -293,22 +346,31 @@ impl<M: Stores<Core = CellCore<T, W, N>>, T: Drop, W: Wakes, N: Protocol<T, W>> 
         end(step, added)
     }
 
-    /// Ends one owner. The last one closes the cell, drops its value and wakes all waiters. Fails
-    /// with `Closed` on a closed cell.
-    pub fn end_owner<'a, R: Opens<'a, M>>(&'a self, rt: &R) -> Result<(), Refusal>
+    /// `end_owner`, which takes the permit of the owner.
+    pub fn end_counted<'a, R: Opens<'a, M>>(
+        &'a self,
+        permit: OwnerPermit<T, W, N>,
+        rt: &R,
+    ) -> Result<(), Refusal>
         ensures refused { FailsWithClosed result }
     {
-        let mut step = opened!(rt, self, else return Err(Refusal::Closed));
-        if step.lend().end_other() {
-            end(step, Held::of(()));
-            return Ok(());
-        }
-        match step.lend().close_first() {
-            Some(closed) => {
+        let mut step = opened!(rt, self, else {
+            permit.lose::<M, R>(rt);
+            return Err(Refusal::Closed);
+        });
+        let permit = match step.lend().end_other(permit) {
+            Ok(()) => {
+                end(step, Held::of(()));
+                return Ok(());
+            }
+            Err(permit) => permit,
+        };
+        match step.lend().close_first(permit) {
+            Ok(closed) => {
                 drop(end_and_wake_one(step, closed));
                 Ok(())
             }
-            None => end_last(step),
+            Err(permit) => end_last(step, permit),
         }
     }
 }
@@ -317,10 +379,11 @@ impl<M: Stores<Core = CellCore<T, W, N>>, T: Drop, W: Wakes, N: Protocol<T, W>> 
 #[inline(never)]
 fn end_last<G: Step<Core = CellCore<T, W, N>>, T: Drop, W: Wakes, N: Protocol<T, W>>(
     mut step: G,
+    permit: OwnerPermit<T, W, N>,
 ) -> Result<(), Refusal>
     ensures refused { FailsWithClosed result }
 {
-    let ended = step.lend().end_owner();
+    let ended = step.lend().end_owner(permit);
     drop(end_and_wake(step, ended)?);
     Ok(())
 }

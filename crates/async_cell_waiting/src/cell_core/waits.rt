@@ -64,13 +64,13 @@ impl<T: Drop, N: Protocol<T, TaskWaker>> Query<CellCore<T, TaskWaker, N>> for Ta
     ghost use Rattle.std.specs.Prelude.{Some};
     ghost use Rattle.async_cell_model.specs.declared.entry.Kept.TheVariants.{TryTake};
     ghost use Rattle.async_cell_model.specs.declared.reply.Reply.TheVariants.{Value};
-    ghost use Rattle.async_cell_waiting.specs.History.{IsSigned, IsTold};
+    ghost use Rattle.async_cell_waiting.specs.History.{IsSigned, IsLinearized};
 
     type Answer = (T, Witness<T, TaskWaker, N>);
 
     ghost asks = { λ _. N.may TryTake };
 
-    ghost gives = { λ asked given. N.holds given.0 × IsTold ⟦<TaskWaker as Wakes>⟧ N.named
+    ghost gives = { λ asked given. N.holds given.0 × IsLinearized ⟦<TaskWaker as Wakes>⟧ N.named
         asked.0.calls TryTake (Value (Some given.0)) given.1.calls × IsSigned asked.0 given.1 };
 
     #[inline(always)]
@@ -86,7 +86,7 @@ impl<T: Drop, N: Protocol<T, TaskWaker>> Query<CellCore<T, TaskWaker, N>> for Ta
         let TakingAs(mut seen) = self;
         core.hand_to(&mut seen);
         let taken = core.try_take();
-        core.tell(&mut seen);
+        core.show_to(&mut seen);
         taken.or_closed().beside(seen)
     }
 }
@@ -96,12 +96,12 @@ impl<T: Clone, N: Protocol<T, TaskWaker>> Query<CellCore<T, TaskWaker, N>> for C
     ghost use Rattle.std.specs.Prelude.{Some};
     ghost use Rattle.async_cell_model.specs.declared.entry.Kept.TheVariants.{TryGet};
     ghost use Rattle.async_cell_model.specs.declared.reply.Reply.TheVariants.{Value};
-    ghost use Rattle.async_cell_waiting.specs.History.{IsCloneOfOne, IsSigned, IsToldUpTo};
+    ghost use Rattle.async_cell_waiting.specs.History.{IsCloneOfOne, IsSigned, IsLinearizedUpTo};
 
     type Answer = (T, Witness<T, TaskWaker, N>);
 
     ghost gives = { λ asked given. IsCloneOfOne T.is_clone N.holds given.0
-        × IsToldUpTo T.is_clone ⟦<TaskWaker as Wakes>⟧ N.named
+        × IsLinearizedUpTo T.is_clone ⟦<TaskWaker as Wakes>⟧ N.named
         asked.0.calls TryGet (Value (Some given.0)) given.1.calls × IsSigned asked.0 given.1 };
 
     #[inline(always)]
@@ -117,7 +117,7 @@ impl<T: Clone, N: Protocol<T, TaskWaker>> Query<CellCore<T, TaskWaker, N>> for C
         let CloningAs(mut seen) = self;
         core.hand_to(&mut seen);
         let copied = core.get();
-        core.tell(&mut seen);
+        core.show_to(&mut seen);
         copied.or_closed().beside(seen)
     }
 }

@@ -1,29 +1,31 @@
-ghost use Rattle.std.specs.Prelude.{◌≡◌, [], Option};
+ghost use Rattle.std.specs.Prelude.{◌≡◌, [], Option, IsSome};
 ghost use Rattle.async_cell_model.specs.declared.cell.Cell.TheVariants.{Open};
 
 use crate::history::Opened;
 use async_cell_core::{Core, Wakes};
+use ghost_count::Permit;
 use std::alloc::Global;
 use std::marker::Model;
 
 /// A cell that is not made yet, with its content. It begins a history, which a type may name: by
 /// a function over that type, which is called at `std::marker::Brand` (see `Protocol`).
-#[derive(Drop)]
-pub struct Blank<T, W: Wakes> {
+pub struct Blank<T: Drop, W: Wakes> {
     core: Core<T, W>,
     opened: Opened<T, W>,
+    permit: Permit,
 }
 
 /// Contracts see how it begins.
-impl<T, W: Wakes> Model for Blank<T, W> {
-    ghost use Rattle.std.specs.Prelude.{◌≡◌};
+impl<T: Drop, W: Wakes> Model for Blank<T, W> {
+    ghost use Rattle.std.specs.Prelude.{◌≡◌, IsSome};
     ghost use Rattle.async_cell_waiting.specs.History.{Begun};
 
     ghost Value = { Begun T W };
 
     ghost view = { λ b. b.opened };
 
-    ghost invariant = { λ b. b.opened.start ≡ b.core };
+    ghost invariant = { λ b. (b.opened.start ≡ b.core) × (b.permit.name ≡ b.opened.permits)
+        × IsSome b.opened.permits };
 }
 
 impl<T: Drop, W: Wakes> Blank<T, W> {
@@ -32,16 +34,37 @@ impl<T: Drop, W: Wakes> Blank<T, W> {
         ensures { result.start ≡ record { cell = Open content 1; waiting = []; room = 0 } }
     {
         let core = Core::owned_by(alloc, content, 1);
-        let opened = Opened::of(&core);
-        Blank { core, opened }
+        let (opened, permit) = Opened::counted(&core);
+        Blank {
+            core,
+            opened,
+            permit,
+        }
     }
 
-    /// Returns the core, and the history that it begins.
-    pub(crate) fn into_parts(self) -> (Core<T, W>, Opened<T, W>)
+    /// Returns the core, the history that it begins, and the permit of its owner.
+    pub(crate) fn into_parts(self) -> (Core<T, W>, Opened<T, W>, Permit)
         ensures core { result.0 ≡ self.start }
         ensures opened { result.1 ≡ self }
+        ensures counted { IsSome self.permits }
+        ensures permit { result.2.name ≡ self.permits }
     {
-        let Blank { core, opened } = self;
-        (core, opened)
+        let Blank {
+            core,
+            opened,
+            permit,
+        } = self;
+        (core, opened, permit)
+    }
+}
+
+impl<T: Drop, W: Wakes> Drop for Blank<T, W> {
+    fn drop(self) {
+        let Blank {
+            core: _,
+            opened: _,
+            permit,
+        } = self;
+        permit.lose();
     }
 }

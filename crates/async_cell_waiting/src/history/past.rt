@@ -1,9 +1,11 @@
-ghost use Rattle.std.specs.Prelude.{◌≡◌, [], ◌∷◌, ◌++◌, IfOk, IfSome, OnErr, MatchOption};
+ghost use Rattle.std.specs.Prelude.{◌≡◌, [], ◌∷◌, ◌++◌, None, false, IsSome, IfOk, IfSome, OnErr, MatchOption};
 ghost use Rattle.async_cell_core.specs.IsStep.{IsStep};
-ghost use Rattle.async_cell_waiting.specs.History.{Fits, IsAllowed, Leads, entry_of};
+ghost use Rattle.async_cell_model.specs.Machine.{owners_of};
+ghost use Rattle.async_cell_waiting.specs.History.{Fits, IsAllowed, Leads, entry_of, is_of_owners, permits_of};
 
 use crate::history::{Hand, Protocol, Signed, Start};
 use async_cell_core::{Core, Wakes};
+use ghost_count::{Count, Permit};
 use ghost_log::{Log, Makes};
 use std::marker::{Model, PhantomData};
 use std::snapshot::Snapshot;
@@ -25,30 +27,52 @@ pub(crate) trait Enters<C, A, T, W> {
 pub struct Opened<T, W: Wakes> {
     log: Log<Signed<T, W>>,
     start: Start<T, W>,
+    count: Count,
 }
 
 /// Contracts see how it begins.
 impl<T, W: Wakes> Model for Opened<T, W> {
     ghost use Rattle.std.specs.Prelude.{◌≡◌, []};
+    ghost use Rattle.async_cell_model.specs.Machine.{owners_of};
     ghost use Rattle.async_cell_waiting.specs.History.{Begun};
 
     ghost Value = { Begun T W };
 
-    ghost view = { λ o. record { name = o.log.name; start = o.start } };
+    ghost view = { λ o. record { name = o.log.name; permits = o.count.name; start = o.start } };
 
-    ghost invariant = { λ o. o.log.list ≡ [] };
+    ghost invariant = { λ o. (o.log.list ≡ []) × (o.count.out ≡ owners_of o.start.cell) };
 }
 
-impl<T, W: Wakes> Opened<T, W> {
-    /// Begins a history with this core.
+impl<T: Drop, W: Wakes> Opened<T, W> {
+    /// Begins a history with this core, whose owners are not counted.
     #[inline(always)]
     pub fn of(core: &Core<T, W>) -> Self
-        ensures { result.start ≡ core.now }
+        ensures start { result.start ≡ core.now }
+        ensures blind { result.permits ≡ None }
     {
         Opened {
             log: Log::open(),
             start: Start::of(core),
+            count: Count::blind(core.owners()),
         }
+    }
+
+    /// Begins a history with this core, and gives the permit of its one owner.
+    #[inline(always)]
+    pub fn counted(core: &Core<T, W>) -> (Self, Permit)
+        requires sole { owners_of core.now.cell ≡ 1 }
+        ensures start { result.0.start ≡ core.now }
+        ensures counted { IsSome result.0.permits }
+        ensures permit { result.1.name ≡ result.0.permits }
+    {
+        let mut count = Count::open();
+        let permit = count.give();
+        let opened = Opened {
+            log: Log::open(),
+            start: Start::of(core),
+            count,
+        };
+        (opened, permit)
     }
 }
 
@@ -60,39 +84,46 @@ pub struct Past<T, W: Wakes, N: Protocol<T, W>> {
     of: PhantomData<N>,
     start: Start<T, W>,
     hand: Hand,
+    pub(super) count: Count,
 }
 
 /// Contracts see how the cell began, its calls so far, who made each, and who signs the next one.
 impl<T, W: Wakes, N: Protocol<T, W>> Model for Past<T, W, N> {
-    ghost use Rattle.std.specs.Prelude.{map};
-    ghost use Rattle.async_cell_waiting.specs.History.{Fits, IsLawful, Past as PastCalls};
+    ghost use Rattle.std.specs.Prelude.{◌≡◌, map};
+    ghost use Rattle.async_cell_waiting.specs.History.{Fits, IsLawful, Past as PastCalls, permits_of};
 
     ghost Value = { PastCalls T W };
 
     ghost view = { λ p. record {
-      begun = record { name = p.log.name; start = p.start };
+      begun = record { name = p.log.name; permits = p.count.name; start = p.start };
       calls = map (λ s. s.entry) p.log.list;
       authors = map (λ s. s.who) p.log.list;
       hand = p.hand;
+      out = p.count.out;
     } };
 
-    ghost invariant = { λ p. Fits N.named (record { name = p.log.name; start = p.start })
-        × IsLawful W.will_wake W.SURE_CLONE N.may p.start (map (λ s. s.entry) p.log.list) };
+    ghost invariant = { λ p.
+        Fits N.named (record { name = p.log.name; permits = p.count.name; start = p.start })
+        × IsLawful W.will_wake W.SURE_CLONE N.may p.start (map (λ s. s.entry) p.log.list)
+        × (p.count.name ≡ permits_of N.named) };
 }
 
 impl<T, W: Wakes, N: Protocol<T, W>> Past<T, W, N> {
     /// Begins with this core, and no calls.
     pub(crate) fn of(opened: Opened<T, W>) -> Self
-        requires { Fits N.named opened }
+        requires named { Fits N.named opened }
+        requires counted { opened.permits ≡ permits_of N.named }
         ensures begun { result.begun ≡ opened }
         ensures empty { result.calls ≡ [] }
+        ensures counted { result.out ≡ owners_of opened.start.cell }
     {
-        let Opened { log, start } = opened;
+        let Opened { log, start, count } = opened;
         Past {
             log,
             of: PhantomData,
             start,
             hand: Hand::nobody(),
+            count,
         }
     }
 
@@ -103,6 +134,7 @@ impl<T, W: Wakes, N: Protocol<T, W>> Past<T, W, N> {
         ensures calls { self.new.calls ≡ self.old.calls }
         ensures authors { self.new.authors ≡ self.old.authors }
         ensures hand { self.new.hand ≡ hand }
+        ensures out { self.new.out ≡ self.old.out }
     {
         self.hand = hand;
     }
@@ -131,6 +163,7 @@ impl<C, T, W: Wakes> Asked<C, T, W> {
     /// Adds the call at the end of the past, as `M` enters it: it returned this, and left this
     /// core.
     #[inline(always)]
+    #[tactic(auto, using(crate::proofs::Owning::owners_stay))]
     pub(crate) fn enter<N: Protocol<T, W>, M: Enters<C, A, T, W>, A>(
         &self,
         past: &mut Past<T, W, N>,
@@ -150,6 +183,10 @@ impl<C, T, W: Wakes> Asked<C, T, W> {
             (M.call self.now.from.value self.now.passed.value to.now)
             (M.answer self.now.from.value returned.now) ∷ [] }
         ensures signed { past.new.authors ≡ past.old.authors ++ past.old.hand ∷ [] }
+        ensures out { past.new.out ≡ past.old.out }
+        ensures owners { is_of_owners
+            (M.call self.now.from.value self.now.passed.value to.now) ≡ false
+            → owners_of to.now.cell ≡ owners_of self.now.from.value.cell }
     {
         past.log.push::<_, By<M>>(&Made {
             asked: self,
@@ -181,6 +218,10 @@ impl<C, T, W: Wakes> Asked<C, T, W> {
         ensures leads { Leads W.will_wake W.SURE_CLONE N.holds past.new to.now }
         ensures stands { IfOk stored.now (λ before. IfSome before (λ _. past.new ≡ past.old)) }
         ensures unchanged { OnErr stored.now (past.new ≡ past.old) }
+        ensures out { past.new.out ≡ past.old.out }
+        ensures owners { is_of_owners
+            (M.call self.now.from.value self.now.passed.value to.now) ≡ false
+            → owners_of to.now.cell ≡ owners_of self.now.from.value.cell }
     {
         if let Ok(None) = stored {
             self.enter(past, waits, &(), to);

@@ -1,4 +1,4 @@
-ghost use Rattle.std.specs.Prelude.{◌≡◌, ⊤, Option, None};
+ghost use Rattle.std.specs.Prelude.{◌≡◌, ⊤, Option, None, refl};
 ghost use Rattle.async_cell_model.specs.declared.entry.Kept.{Kept};
 ghost use Rattle.async_cell_waiting.specs.History.{Begun, IsTake, Puts, puts_any};
 
@@ -30,6 +30,12 @@ pub trait Takeable<T, W>: Protocol<T, W> {
 pub trait Free<T, W>: Protocol<T, W> {
     /// Each such change may be made.
     ghost free: { (call : Kept T W) → Puts Self.holds call → Self.may call };
+}
+
+/// A cell whose history nobody sees: it has no name, and its owners are not counted.
+pub trait Unwitnessed<T, W>: Free<T, W> {
+    /// It has no name.
+    ghost nameless: { Self.named ≡ None };
 }
 
 /// A rule on values: whoever writes one to the cell shows that it holds, so whoever takes or gets
@@ -72,6 +78,10 @@ impl<T, W> Free<T, W> for Unruled {
     ghost free = { λ _ _. tt };
 }
 
+impl<T, W> Unwitnessed<T, W> for Unruled {
+    ghost nameless = { refl };
+}
+
 impl<T, W, P: Rule<T>> Protocol<T, W> for Ruled<P> {
     ghost named = { None };
 
@@ -90,6 +100,10 @@ impl<T, W, P: Rule<T>> Takeable<T, W> for Ruled<P> {
 
 impl<T, W, P: Rule<T>> Free<T, W> for Ruled<P> {
     ghost free = { λ _ puts. puts };
+}
+
+impl<T, W, P: Rule<T>> Unwitnessed<T, W> for Ruled<P> {
+    ghost nameless = { refl };
 }
 
 /// What a call at `Brand` picks in place of these may name values of the program.

@@ -1,6 +1,6 @@
 ghost use Rattle.std.specs.Prelude.{◌≡◌, ◌⊎◌, IsSome, length};
 ghost use mathlib.Core.List.{IsPrefix};
-ghost use Rattle.async_cell_waiting.specs.History.{IsLawful, start_of};
+ghost use Rattle.async_cell_waiting.specs.History.{IsLawful, permits_of, start_of};
 
 use crate::history::{Author, Hand, Past, Protocol, Signed};
 use async_cell_core::Wakes;
@@ -36,7 +36,8 @@ impl<T, W: Wakes, N: Protocol<T, W>> Model for Witness<T, W, N> {
 impl<T, W: Wakes, N: Protocol<T, W>> Witness<T, W, N> {
     /// Makes a witness that has seen the whole history. It signs as nobody.
     pub(crate) fn of(past: &Past<T, W, N>) -> Self
-        requires { IsSome N.named }
+        requires named { IsSome N.named }
+        requires counted { IsSome (permits_of N.named) }
         ensures calls { result.calls ≡ past.now.calls }
         ensures authors { result.authors ≡ past.now.authors }
         ensures nobody { result.author ≡ 0 }
@@ -72,6 +73,7 @@ impl<T, W: Wakes, N: Protocol<T, W>> Witness<T, W, N> {
         ensures begun { past.new.begun.start ≡ start_of N.named }
         ensures same_calls { past.new.calls ≡ past.old.calls }
         ensures same_begun { past.new.begun ≡ past.old.begun }
+        ensures same_out { past.new.out ≡ past.old.out }
         ensures hand { past.new.hand ≡ self.old.author }
     {
         self.learn(past);
@@ -86,10 +88,20 @@ impl<T, W: Wakes, N: Protocol<T, W>> Witness<T, W, N> {
         ensures author { self.new.author ≡ self.old.author }
         ensures same_calls { past.new.calls ≡ past.old.calls }
         ensures same_begun { past.new.begun ≡ past.old.begun }
+        ensures same_out { past.new.out ≡ past.old.out }
         ensures hand { past.new.hand ≡ 0 }
     {
         self.learn(past);
         past.hand_to(Hand::nobody());
+    }
+
+    /// Ensures that the owners of the cell are counted.
+    #[inline(always)]
+    #[doc(hidden)]
+    pub fn counted(&self)
+        ensures { IsSome (permits_of N.named) }
+    {
+        let _ = &self.seen;
     }
 
     /// Ensures what holds of all that was seen: its calls are legal, its changes may be made, and

@@ -22,6 +22,6 @@ returns g c =
     let two = c.join-one.result.1 in
     record {
       once = not_both all (λ v w took other. omega (arith, c.of_takers_alone_one_gets.ensures all 1 2 v w c.requires.only c.lawful.ensures.lawful took other)) one.0 two.0
-          (whole one.1 all 1 (λ v took. c.a_told_take_is_of_its_author.ensures.later one.1 all 1 v took c.longer-seen.ensures.begins c.longer-seen.ensures.authors_begin) one.0 c.join-one.ensures.first)
-          (whole two.1 all 2 (λ v took. c.a_told_take_is_of_its_author.ensures.later two.1 all 2 v took c.longer-seen.ensures.other_begins c.longer-seen.ensures.others_begin) two.0 c.join-one.ensures.second);
+          (whole one.1 all 1 (λ v took. c.a_seen_take_is_of_its_author.ensures.later one.1 all 1 v took c.longer-seen.ensures.begins c.longer-seen.ensures.authors_begin) one.0 c.join-one.ensures.first)
+          (whole two.1 all 2 (λ v took. c.a_seen_take_is_of_its_author.ensures.later two.1 all 2 v took c.longer-seen.ensures.other_begins c.longer-seen.ensures.others_begin) two.0 c.join-one.ensures.second);
     }

@@ -9,5 +9,5 @@ returns g c =
     let now = c.in_ok-value.now.calls in
     let before = c.get_as.result.polled.seen.calls in
     record {
-      got = c.what_was_told_stays.ensures.told before now TryGet (Value (Some value)) (c.an_exact_get_is_told.ensures (λ a b is. is) before now value (search rules));
+      got = c.what_was_seen_stays.ensures.linearized before now TryGet (Value (Some value)) (c.an_exact_get_is_linearized.ensures (λ a b is. is) before now value (search rules));
     }

@@ -23,7 +23,7 @@ returns g c =
     let h = c.longer-seen.result.calls in
     let one = c.join-one.result.0 in
     let two = c.join-one.result.1 in
-    let stays = c.what_was_told_stays.ensures.stays in
+    let stays = c.what_was_seen_stays.ensures.stays in
     record {
       alike = alike h (λ v w got other. c.what_is_set_once_all_get.ensures h v w c.requires.only c.lawful.ensures.lawful got other) one.0 two.0
           (whole one.1.calls h (λ v got. stays one.1.calls h TryGet (Value (Some v)) c.longer-seen.ensures.begins got) one.0 c.join-one.ensures.first)

@@ -22,6 +22,6 @@ returns g c =
     let now = c.in_ok-second.twice.calls in
     record {
       rises = below v w (c.what_is_got_never_goes_back.ensures nat_le before mid later now v w itself on c.requires.may c.lawful.ensures.lawful
-          (c.an_exact_get_is_told.ensures (λ a b is. is) before mid v (search rules)) (search rules)
-          (c.an_exact_get_is_told.ensures (λ a b is. is) later now w (search rules)));
+          (c.an_exact_get_is_linearized.ensures (λ a b is. is) before mid v (search rules)) (search rules)
+          (c.an_exact_get_is_linearized.ensures (λ a b is. is) later now w (search rules)));
     }

@@ -6,18 +6,19 @@ ghost use Rattle.async_cell_model.specs.Refusal.{FailsWithMemory};
 use crate::async_cell::AsyncCell;
 use crate::locked_core::LockedCore;
 use crate::owner::Owner;
+use crate::shared::Shared;
 use async_cell_core::{Refusal, TaskWaker};
 use async_cell_waiting::{Blank, Protocol, Witness};
 use futures::task::Source;
-use std::alloc::Global;
-use std::sync::Wait;
+use std::alloc::{AllocFailed, Global};
+use std::sync::{Arc, Wait};
 
 impl<T: Drop, R: Wait + Copy, N: Protocol<T, TaskWaker>> Owner<T, R, N> {
     /// Makes the cell of this blank, which `N` names, its first owner, and the first witness of its
     /// history. Fails with `Memory`. Call it in a function over `N`, which is called at
     /// `std::marker::Brand`: the caller's `Invariants.antt` picks the name, the changes that may be
     /// made, and the rule.
-    pub fn named(
+    pub fn witnessed(
         alloc: Global,
         blank: Blank<T, TaskWaker>,
         rt: R,
@@ -28,17 +29,18 @@ impl<T: Drop, R: Wait + Copy, N: Protocol<T, TaskWaker>> Owner<T, R, N> {
         ensures nobody { IfOk result (λ made. made.1.author ≡ 0) }
         ensures refused { FailsWithMemory result }
     {
-        let (core, seen) = LockedCore::<T, TaskWaker, N>::of_blank(blank);
-        let source = Source::new();
-        match (AsyncCell {
+        let (core, seen, permit) = LockedCore::<T, TaskWaker, N>::of_blank(blank);
+        let cell = AsyncCell {
             core,
-            source,
+            source: Source::new(),
             alloc,
-        })
-        .into_owner(rt)
-        {
-            Ok(owner) => Ok((owner, seen)),
-            Err((why, _)) => Err(why),
+        };
+        match Arc::new(alloc, cell) {
+            Ok(cell) => Ok((Shared { cell, permit }.with(rt), seen)),
+            Err(AllocFailed { value: cell }) => {
+                cell.end_with(permit);
+                Err(Refusal::Memory)
+            }
         }
     }
 }

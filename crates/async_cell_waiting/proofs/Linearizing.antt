@@ -12,7 +12,7 @@ use Rattle.async_cell_model.proofs.JoinedHistory.{after-append}
 use Rattle.async_cell_model.proofs.Machine.{machine_of}
 use Rattle.async_cell_model.proofs.Whole.{after-nil, IsSound-after}
 use Rattle.async_cell_core.specs.IsStep.{WakerRules}
-use Rattle.async_cell_waiting.specs.History.{Begun, Desk, Made, IsTold, start_of}
+use Rattle.async_cell_waiting.specs.History.{Begun, Desk, Made, IsLinearized, start_of}
 use Rattle.async_cell_waiting.proofs.Leading.{RunsTo, runs_more}
 
 module _ {T W : Type 0} (will_wake : W → W → Bool) (sure : Bool) where
@@ -42,9 +42,9 @@ module _ {T W : Type 0} (will_wake : W → W → Bool) (sure : Bool) where
       (machine_of will_wake sure at (after will_wake at (e ∷ [])) e.call e.reply _ runs)
 
 -- what a thread knows that had seen the past before a call, and has seen the past after it
-pub told_of : {T W : Type 0} (rules : WakerRules W) (named : Option (Begun T W)) (old new : Desk T W) (seen now : History T W) (call : Kept T W) (reply : Reply T) → RunsTo rules.will_wake rules.SURE_CLONE old.past old.inner → Made rules.will_wake rules.SURE_CLONE old call reply new
-    → old.past.begun.start ≡ start_of named → IsPrefix seen old.past.calls → now ≡ new.past.calls → IsTold rules named seen call reply now
-told_of {T} {W} rules named old new seen now call reply led made begins on is =
+pub linearized_of : {T W : Type 0} (rules : WakerRules W) (named : Option (Begun T W)) (old new : Desk T W) (seen now : History T W) (call : Kept T W) (reply : Reply T) → RunsTo rules.will_wake rules.SURE_CLONE old.past old.inner → Made rules.will_wake rules.SURE_CLONE old call reply new
+    → old.past.begun.start ≡ start_of named → IsPrefix seen old.past.calls → now ≡ new.past.calls → IsLinearized rules named seen call reply now
+linearized_of {T} {W} rules named old new seen now call reply led made begins on is =
     let will_wake = rules.will_wake in let sure = rules.SURE_CLONE in let start = start_of named in
     let e : Entry T W = record { call = call; reply = reply } in
     let longer = runs_more will_wake sure old.past new.past old.inner new.inner e made.woken led made.does made.begun made.entered in
@@ -61,7 +61,7 @@ told_of {T} {W} rules named old new seen now call reply led made begins on is =
     }
 
 -- the same, where the reply is made of what the caller got, which was held until the step had ended
-pub told_held : {T W A : Type 0} (rules : WakerRules W) (named : Option (Begun T W)) (old new : Desk T W) (seen now : History T W) (call : Kept T W) (reply : A → Reply T) (held got : A) → RunsTo rules.will_wake rules.SURE_CLONE old.past old.inner → Made rules.will_wake rules.SURE_CLONE old call (reply held) new
-    → old.past.begun.start ≡ start_of named → IsPrefix seen old.past.calls → now ≡ new.past.calls → got ≡ held → IsTold rules named seen call (reply got) now
-told_held rules named old new seen now call reply held got led made begins on is same =
-    subst (λ a. IsTold rules named seen call (reply a) now) (sym same) (told_of rules named old new seen now call (reply held) led made begins on is)
+pub linearized_held : {T W A : Type 0} (rules : WakerRules W) (named : Option (Begun T W)) (old new : Desk T W) (seen now : History T W) (call : Kept T W) (reply : A → Reply T) (held got : A) → RunsTo rules.will_wake rules.SURE_CLONE old.past old.inner → Made rules.will_wake rules.SURE_CLONE old call (reply held) new
+    → old.past.begun.start ≡ start_of named → IsPrefix seen old.past.calls → now ≡ new.past.calls → got ≡ held → IsLinearized rules named seen call (reply got) now
+linearized_held rules named old new seen now call reply held got led made begins on is same =
+    subst (λ a. IsLinearized rules named seen call (reply a) now) (sym same) (linearized_of rules named old new seen now call (reply held) led made begins on is)

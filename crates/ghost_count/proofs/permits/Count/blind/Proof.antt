@@ -1,0 +1,51 @@
+-- A count without a name owns nothing.
+use Rattle.std.proofs.Common.{◌≡◌, ℕ, ◌+◌, ◌-◌, ◌<◌, ◌≤◌, List, [], ◌∷◌, refl}
+use mir.Syntax.{named}
+use mir.Syntax.{w32}
+use mir.Val.{Val, vunit, vptr, vint}
+use base.Fraction.{full_share}
+use base.Logic.{SProp, emp}
+use base.Fml.{Fml, ftrue, fsep, flft, fhide, fshr_bor}
+use types.Tokens.{shr_bor-open, obor_close}
+use types.Kit.{‵, raw, ◌⊛◌, some, given, later, ◌$◌, ◌∵◌, !, qed, by, move, keep, drop, split, join, fsplit, fsplit3, fjoin, fjoin3, pick, learn, use0, use1, use2, rewrite, await, feq_i}
+use types.Run.{unit_lit, of_opd, no_more, and_then, returns, enter}
+use types.ByLocal.{alloc_all, pass_all, free_all, look_at, get, sets}
+use types.Part.{agg}
+use contract.Monad.{fact_i}
+use contract.Running.{tables}
+use Rattle.core.proofs.ledger.Walks.{tells, tells_last}
+use denote.Exit.{yes}
+use denote.RattleType.{RattleType, owns}
+use denote.Signature.{types_at, plain}
+use denote.Builtin.{RefOf, unit, u32}
+use denote.Plain.{uint_vals, uint_Tells}
+use denote.Ref.{mut_vals, mut_Tells, shr_vals, shr_Tells}
+use denote.Memory.{hidden_shr}
+use denote.Opens.{unhide}
+use denote.Steps.{nothing, opens, closes}
+use denote.Struct.Lending.{lent_out}
+use denote.Triple.Walked.{Stays, stay_dropped, stay_ref, walk_of, Goes-dropped, Goes-ref}
+use Rattle.core.specs.contracts.marker.PhantomData as marker
+use Rattle.atomic_table.proofs.Walks.{proved}
+use Rattle.logbook.proofs.Fields.{token, Token, token_told, token_made, ends}
+use Rattle.std.specs.Prelude.{Option, Some, None, IsSome}
+use Rattle.ghost_count.specs.Owned.{count_owns, permit_owns}
+use Rattle.ghost_count.specs.contracts.permits.Count as Count
+use Rattle.ghost_count.specs.contracts.permits.Permit as Permit
+use Rattle.ghost_count.proofs.Steps as steps
+use Rattle.ghost_count.specs.contracts.permits.Count.blind.{ended, clauses}
+use Rattle.ghost_count.specs.contracts.permits.Count.blind.Key.{name as #self}
+use Rattle.ghost_count.proofs.permits.Count.blind.Statement.{statement}
+use Rattle.ghost_count.proofs.permits.Count.blind.Code as code
+
+pub blind_spec : {M : Type 1} → statement M
+blind_spec 𝓤 𝓛 𝓜 𝓡 wired =
+    let H = 𝓛.H in let 𝓣 = tables 𝓤 H 𝓜 𝓡 𝓡.env in let fn = code.function in let c = clauses 𝓛 𝓜.mem 𝓡.returns in
+    let hs : Stays ended.signature.params ended.kept = (stay_dropped (plain (λ _. u32)) yes, tt) in
+    proved 𝓛 ended hs c 𝓜 𝓡 (Goes-dropped 𝓛 0 (plain (λ _. u32)) yes (λ κs x f. refl), tt) #self fn (code.unfolded 𝓤 H 𝓜 𝓡 wired)
+    (λ κs. (uint_vals w32, tt)) (λ κs. (uint_Tells w32, tt)) (λ κs qs bounds a gh are.
+    let n : ℕ = a.0 in let y : (walk_of 𝓛 ended hs c).Ghost = ((κs, qs, bounds, a, (vint w32 n ∷ [], tt)), gh) in let Post : Val → SProp 𝓤 = (walk_of 𝓛 ended hs c).post y in
+    qed 𝓛 ((‵ ftrue ⊛ ‵ (owns (types_at ended.signature.params κs) a y.0.4)) ∷ raw ((c κs a).requires gh) ∷ []) ∵ keep ! (0 ∷ []) $ split ! $
+    keep ! (0 ∷ []) $ enter ! 𝓣.C 𝓣.Λ fn (vint w32 n ∷ []) Post $ alloc_all ! (λ l. pass_all ! refl ((tt, record { fits = are.0.1 }), tt) $
+    nothing ! $ use0 𝓛 (‵ ((Token unit).own_val (record {}, tt) (token ∷ []))) (token_made unit 𝓛) $ fjoin ! $ sets ! (agg ! (no_more !)) refl (tt, tt) $ sets ! (agg ! (and_then ! (get ! refl) (no_more !))) refl (tt, (tt, tt)) $ nothing ! $ nothing ! $ fjoin ! $
+    returns ! (look_at ! 0 refl) $ free_all ! refl $ keep ! (2 ∷ 0 ∷ 1 ∷ []) $ by ! (ends 𝓛 ended hs c y token (record { marker = record {}; name = None; out = n }) (tt, tt) (tt, tt) (qed 𝓛 [] ∵ tells ! refl $ tells_last ! refl))))

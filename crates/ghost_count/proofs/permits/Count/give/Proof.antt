@@ -1,0 +1,52 @@
+-- `give` makes a permit.
+use Rattle.std.proofs.Common.{◌≡◌, ℕ, ◌+◌, ◌-◌, ◌<◌, ◌≤◌, List, [], ◌∷◌, refl}
+use mir.Syntax.{named}
+use mir.Val.{Val, vunit, vptr}
+use base.Fraction.{full_share}
+use base.Logic.{SProp, emp}
+use base.Fml.{Fml, ftrue, fsep, flft, fhide, fshr_bor}
+use types.Tokens.{shr_bor-open, obor_close}
+use types.Kit.{‵, raw, ◌⊛◌, some, given, later, ◌$◌, ◌∵◌, !, qed, by, move, keep, drop, split, join, fsplit, fsplit3, fjoin, fjoin3, pick, learn, use0, use1, use2, rewrite, await, feq_i}
+use types.Run.{unit_lit, of_opd, no_more, and_then, returns, enter}
+use types.ByLocal.{alloc_all, pass_all, free_all, look_at, get, sets}
+use types.Part.{agg}
+use contract.Monad.{fact_i}
+use contract.Running.{tables}
+use Rattle.core.proofs.ledger.Walks.{tells, tells_last}
+use denote.Exit.{yes}
+use denote.RattleType.{RattleType, owns}
+use denote.Signature.{types_at, plain}
+use denote.Builtin.{RefOf, unit}
+use denote.Ref.{mut_vals, mut_Tells, shr_vals, shr_Tells}
+use denote.Memory.{hidden_shr}
+use denote.Opens.{unhide}
+use denote.Steps.{nothing, opens, closes}
+use denote.Struct.Lending.{lent_out}
+use denote.Triple.Walked.{Stays, stay_dropped, stay_ref, walk_of, Goes-dropped, Goes-ref}
+use Rattle.core.specs.contracts.marker.PhantomData as marker
+use Rattle.atomic_table.proofs.Walks.{proved}
+use Rattle.logbook.proofs.Fields.{token, Token, token_told, token_made, ends}
+use Rattle.std.specs.Prelude.{Option, Some, None, IsSome}
+use Rattle.ghost_count.specs.Owned.{count_owns, permit_owns}
+use Rattle.ghost_count.specs.contracts.permits.Count as Count
+use Rattle.ghost_count.specs.contracts.permits.Permit as Permit
+use Rattle.ghost_count.proofs.Steps as steps
+use Rattle.ghost_count.specs.contracts.permits.Count.give.{ended, clauses}
+use Rattle.ghost_count.specs.contracts.permits.Count.give.Key.{name as #self}
+use Rattle.ghost_count.proofs.permits.Count.give.Statement.{statement}
+use Rattle.ghost_count.proofs.permits.Count.give.Code as code
+
+pub give_spec : {M : Type 1} → statement M
+give_spec 𝓤 𝓛 𝓜 𝓡 wired =
+    let H = 𝓛.H in let 𝓣 = tables 𝓤 H 𝓜 𝓡 𝓡.env in let fn = code.function in let c = clauses 𝓛 𝓜.mem 𝓡.returns in let Ct : RattleType = Count.the_row in
+    let hs : Stays ended.signature.params ended.kept = (stay_ref (0 ∷ []) tt (plain (λ _. Ct)), tt) in
+    proved 𝓛 ended hs c 𝓜 𝓡 (Goes-ref 𝓛 1 0 tt (plain (λ _. Ct)), tt) #self fn (code.unfolded 𝓤 H 𝓜 𝓡 wired)
+    (λ κs. (mut_vals, tt)) (λ κs. (mut_Tells (named 0) κs.0 Ct, tt)) (λ κs qs bounds a gh are.
+    let b : ℕ = a.0.ref_ptr.0 in let o : ℕ = a.0.ref_ptr.1 in let h : Ct.Denot = a.0.now in let h' : Ct.Denot = record { marker = h.marker; name = h.name; out = h.out + 1 } in
+    let y : (walk_of 𝓛 ended hs c).Ghost = ((κs, qs, bounds, a, (vptr b o ∷ [], tt)), gh) in let Post : Val → SProp 𝓤 = (walk_of 𝓛 ended hs c).post y in
+    qed 𝓛 (((‵ (flft κs.0 qs.0) ⊛ ‵ ftrue) ⊛ ‵ (owns (types_at ended.signature.params κs) a y.0.4)) ∷ raw ((c κs a).requires gh) ∷ []) ∵ keep ! (0 ∷ []) $ split ! $ split ! $ move ! (2 ∷ []) $ fsplit ! $ fsplit3 ! $ keep ! (1 ∷ 2 ∷ 4 ∷ []) $
+    enter ! 𝓣.C 𝓣.Λ fn (vptr b o ∷ []) Post $ alloc_all ! (λ l. pass_all ! refl ((tt, tt), tt) $ opens ! tt Ct b o (λ ts. move ! (1 ∷ []) $ fsplit ! $ move ! (1 ∷ []) $
+    use1 𝓛 (later (some (λ (δ : ℕ). ‵ (count_owns h.name (h.out + 1)) ⊛ ‵ (permit_owns h.name δ full_share)))) (steps.gives 𝓛 h.name h.out) $ await ! tt $ pick ! (λ δ. split ! $ move ! (2 ∷ 0 ∷ []) $ fjoin ! $ move ! (2 ∷ 0 ∷ 3 ∷ 4 ∷ 5 ∷ []) $
+    closes ! tt Ct h' ts b o $ feq_i ! (List Val) (vptr b o ∷ []) (vptr b o ∷ []) refl $ fjoin3 ! $ nothing ! $ move ! (1 ∷ 0 ∷ []) $ fjoin ! $ nothing ! $ move ! (2 ∷ 0 ∷ []) $ join ! $ move ! (2 ∷ []) $
+    use0 𝓛 (‵ ((Token unit).own_val (record {}, tt) (token ∷ []))) (token_made unit 𝓛) $ fjoin ! $ sets ! (agg ! (no_more !)) refl (tt, tt) $ sets ! (agg ! (and_then ! (get ! refl) (no_more !))) refl (tt, (tt, tt)) $
+    returns ! (look_at ! 0 refl) $ free_all ! refl $ keep ! (1 ∷ 2 ∷ 0 ∷ []) $ by ! (ends 𝓛 ended hs c y token (record { marker = record {}; name = h.name; key = δ }) (h', tt) (tt, tt) (qed 𝓛 [] ∵ tells ! refl $ tells ! refl $ tells_last ! refl))))))

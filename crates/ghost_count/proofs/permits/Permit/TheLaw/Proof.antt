@@ -1,0 +1,18 @@
+-- A `&` to a `Permit` holds a share of it. Assumes `Logic`.
+use denote.Builtin.{unit}
+use denote.SharingLaws.{one_shr_laws}
+use denote.Param.Shared.{copy_shared}
+use denote.Struct.Laws.{field_copy}
+use denote.Struct.Lending.{of_Lends}
+use Rattle.core.specs.contracts.marker.PhantomData as marker
+use Rattle.ghost_count.specs.Owned.{permit_owns}
+use Rattle.ghost_count.specs.contracts.permits.Permit as C
+use Rattle.ghost_count.proofs.Steps.{permit_lends}
+use Rattle.ghost_count.proofs.permits.Permit.TheLaw.Statement.{statement}
+
+pub shares : statement
+shares =
+    of_Lends C.struct (C.the_codes (marker.the_row unit).coded) C.the_heap C.the_lent
+    (λ d p. one_shr_laws (permit_owns d.name d.key))
+    (copy_shared (marker.the_field unit) (field_copy (marker.the_type unit) tt), tt)
+    (λ M 𝓤 𝓛 d p. permit_lends 𝓛 d.name d.key C.the_row.lives)

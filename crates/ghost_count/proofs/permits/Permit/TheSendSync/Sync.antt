@@ -1,0 +1,9 @@
+use denote.Param.Send.{IsSync, sendable}
+use denote.Struct.Struct.{Struct}
+use denote.Struct.Owning.{shape}
+use Rattle.ghost_count.specs.contracts.permits.Permit.{the_row, the_type}
+use Rattle.ghost_count.proofs.Steps.{permit_keyless}
+
+pub sync : IsSync the_row
+sync = let fields : IsSync (Struct (shape the_type)) = search sendable depth 20 in
+    record { shared = λ d b o ν. (fields.shared (tt, tt) b o ν, λ q. permit_keyless d.name d.key q) }

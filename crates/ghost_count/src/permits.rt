@@ -1,0 +1,113 @@
+//! The permits of a count.
+ghost use Rattle.std.specs.Prelude.{◌≡◌, ℕ, ◌+◌, ◌-◌, ◌<◌, Option, None, IsSome};
+ghost use base.Fraction.{full_share};
+ghost use denote.Sharing.{one};
+ghost use Rattle.ghost_count.specs.Owned.{count_owns, permit_owns};
+
+use std::marker::{Model, PhantomData};
+
+/// How many permits of its name are out, and the right to give one and to take one back. Without a
+/// name it is the number alone, of which no permit shows anything. Keep it where one thread at a
+/// time has it.
+pub struct Count {
+    marker: PhantomData<()>,
+    pub ghost name: { Option ℕ },
+    pub ghost out: { ℕ },
+}
+
+impl Model for Count {
+    ghost also_owns = { λ c. count_owns c.name c.out };
+}
+
+/// One permit of the count of its name. It is not `Drop`, and cannot be copied. It may be sent to
+/// another thread, and shared.
+pub struct Permit {
+    marker: PhantomData<()>,
+    pub ghost name: { Option ℕ },
+    ghost key: { ℕ },
+}
+
+impl Model for Permit {
+    ghost also_owns = { λ s. permit_owns s.name s.key full_share };
+
+    ghost also_shares = { λ s _. one (permit_owns s.name s.key) };
+}
+
+impl Count {
+    /// Begins a count under a new name: no permit is out.
+    pub fn open() -> Count
+        ensures named { IsSome result.name }
+        ensures none { result.out ≡ 0 }
+    {
+        Count {
+            marker: PhantomData,
+        }
+    }
+
+    /// A count without a name, of so many permits, which show nothing.
+    pub fn blind(out: u32) -> Count
+        ensures nameless { result.name ≡ None }
+        ensures all { result.out ≡ out }
+    {
+        let _ = out;
+        Count {
+            marker: PhantomData,
+        }
+    }
+
+    /// Gives a new permit.
+    pub fn give(&mut self) -> Permit
+        ensures of_this { self.new.name ≡ self.old.name }
+        ensures permit { result.name ≡ self.old.name }
+        ensures more { self.new.out ≡ self.old.out + 1 }
+    {
+        Permit {
+            marker: PhantomData,
+        }
+    }
+
+    /// Takes a permit back, which was out.
+    pub fn take(&mut self, permit: Permit)
+        requires of_this { permit.name ≡ self.old.name }
+        ensures of_this { self.new.name ≡ self.old.name }
+        ensures fewer { self.new.out ≡ self.old.out - 1 }
+        ensures was_out { IsSome self.old.name → self.old.out ≡ (self.old.out - 1) + 1 }
+    {
+        let Permit { marker: _ } = permit;
+    }
+
+    /// Does nothing. Its contract states that a permit of this name is out, since it is here.
+    pub fn shows(&mut self, permit: &Permit)
+        requires of_this { permit.now.name ≡ self.old.name }
+        ensures stays { self.new ≡ self.old }
+        ensures out { IsSome self.old.name → 0 < self.old.out }
+    {}
+}
+
+impl Permit {
+    /// Loses the permit: it stays counted for ever.
+    pub fn lose(self) {
+        let Permit { marker: _ } = self;
+    }
+
+    /// A permit without a name, which shows nothing.
+    pub fn blind() -> Permit
+        ensures nameless { result.name ≡ None }
+    {
+        Permit {
+            marker: PhantomData,
+        }
+    }
+}
+
+impl Drop for Count {
+    fn drop(self) {
+        let Self { marker: _ } = self;
+    }
+}
+
+unsafe impl Send for Count {}
+
+unsafe impl Send for Permit {}
+
+unsafe impl Sync for Permit {}
