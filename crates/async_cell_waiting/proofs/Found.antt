@@ -1,5 +1,7 @@
 -- What a future gives that extends a witness: what a take or a get found.
-use Rattle.std.proofs.Common.{◌≡◌, inl, inr, Option, Some, None, Result, Ok, Err, refl, sym, subst, IfOk, IfSome, OnOk}
+use Rattle.std.proofs.Common.{◌≡◌, true, false, inl, inr, Option, Some, None, Result, Ok, Err, refl, sym, subst, IfOk, IfSome, OnOk}
+use Rattle.async_cell_model.specs.declared.cell.Cell.{Cell}
+use Rattle.async_cell_model.specs.declared.cell.Cell.TheVariants.{Closed, Open}
 use Rattle.async_cell_model.specs.declared.entry.Kept.{Kept}
 use Rattle.async_cell_model.specs.declared.entry.Kept.TheVariants.{TryTake, TryGet, PollGet}
 use Rattle.async_cell_model.specs.declared.refusal.Refusal.{Refusal}
@@ -8,7 +10,7 @@ use Rattle.async_cell_model.specs.History.{History}
 use Rattle.async_cell_core.specs.IsStep.{WakerRules}
 use Rattle.async_cell_core.specs.Polled.{IsCloneOf, poll_reply}
 use Rattle.async_cell_model.specs.declared.reply.Reply.{Reply}
-use Rattle.async_cell_model.specs.Machine.{UpToClones}
+use Rattle.async_cell_model.specs.Machine.{UpToClones, content, is_closed, is_vacant}
 use Rattle.futures.specs.declared.task.Poll.{Poll}
 use Rattle.async_cell_waiting.specs.History.{Begun, Seen, IsCloneOfOne, IsSigned, IsLinearized, IsLinearizedUpTo, get_reply, end_reply, done_reply}
 
@@ -80,3 +82,14 @@ module _ {T : Type 0} (is_clone : T → T → Type 0) (P : T → Type 0) where
 pub on_ok : {A E P : Type 0} (r : Result A E) → P → OnOk r P
 on_ok (Ok it) p = p
 on_ok (Err why) p = tt
+
+-- a cell that has no value, and on which a poll need not wait, is closed
+pub closed_if_none : {T : Type 0} (c : Cell T) → content c ≡ None → is_vacant c ≡ false → is_closed c ≡ true
+closed_if_none Closed none ready = refl
+closed_if_none (Open None n) none ready = absurd (cc ready)
+closed_if_none (Open (Some x) n) none ready = absurd (cc none)
+
+pub closed_if_no_clone : {T : Type 0} (is_clone : T → T → Type 0) (c : Cell T) → IsCloneOf is_clone (content c) None → is_vacant c ≡ false → is_closed c ≡ true
+closed_if_no_clone is_clone Closed none ready = refl
+closed_if_no_clone is_clone (Open None n) none ready = absurd (cc ready)
+closed_if_no_clone is_clone (Open (Some x) n) none ready = absurd none

@@ -14,32 +14,7 @@ open_if_owned (Open value n) h = refl
 
 module _ {T W : Type 0} where
   in_open : (value : Option T) (n : ℕ) (call : Kept T W) → is_of_owners call ≡ false → owners_of (next_open value n call) ≡ n
-  in_open None n (Set x) h = refl
-  in_open None n (OrSet x) h = refl
-  in_open None n (Replace x) h = refl
-  in_open None n (Update saw put) h = refl
-  in_open None n (UpdateSome saw put) h = refl
-  in_open None n TryTake h = refl
-  in_open None n TryGet h = refl
-  in_open None n IsSet h = refl
-  in_open None n (PollTake w) h = refl
-  in_open None n (PollGet w) h = refl
-  in_open None n AddOwner h = absurd (cc h)
-  in_open None n EndOwner h = absurd (cc h)
-  in_open None n TakeInner h = absurd (cc h)
-  in_open (Some v) n (Set x) h = refl
-  in_open (Some v) n (OrSet x) h = refl
-  in_open (Some v) n (Replace x) h = refl
-  in_open (Some v) n (Update saw put) h = refl
-  in_open (Some v) n (UpdateSome saw put) h = refl
-  in_open (Some v) n TryTake h = refl
-  in_open (Some v) n TryGet h = refl
-  in_open (Some v) n IsSet h = refl
-  in_open (Some v) n (PollTake w) h = refl
-  in_open (Some v) n (PollGet w) h = refl
-  in_open (Some v) n AddOwner h = absurd (cc h)
-  in_open (Some v) n EndOwner h = absurd (cc h)
-  in_open (Some v) n TakeInner h = absurd (cc h)
+  in_open value n call h = grind arith
 
   unless : (b : Bool) (value : Option T) (n : ℕ) (call : Kept T W) → is_of_owners call ≡ false → owners_of (if b then Open value n else next_open value n call) ≡ n
   unless true value n call h = refl

@@ -5,4 +5,4 @@ mod stored;
 mod waits;
 
 pub use calls::CellCore;
-pub use waits::{Cloning, CloningAs, Taking, TakingAs};
+pub use waits::{By, Cloning, CloningAs, Taking, TakingAs};

@@ -1,6 +1,6 @@
 //! The end of a step, and what comes out of a core meanwhile. The core is released, then wakers are
 //! woken, and then the caller gets what it may drop. What is held is let go by an end alone.
-ghost use Rattle.std.specs.Prelude.{◌≡◌, ⊤, Ok, Err, Some, IfOk, IfErr, IsSome, IsTrue};
+ghost use Rattle.std.specs.Prelude.{◌≡◌, ⊤, Ok, Err, None, Some, IfOk, IfErr, IsSome, IsTrue, OnErr};
 ghost use Rattle.async_cell_model.specs.Refusal.{FailsWithClosed, FailsWithMemory, FailsWithMemoryOrClosed};
 ghost use Rattle.async_cell_waiting.specs.Held.{answer_of};
 
@@ -139,6 +139,7 @@ impl<X> Held<Option<X>> {
     #[inline(always)]
     pub(crate) fn or_closed(self) -> Held<Result<X, Refusal>>
         ensures found { IfOk result.answer (λ found. self.answer ≡ Some found) }
+        ensures none { OnErr result.answer (self.answer ≡ None) }
         ensures refused { FailsWithClosed result.answer }
     {
         let Held { answer, woken: _ } = self;
@@ -152,6 +153,7 @@ impl<X> Held<Result<Option<X>, Refusal>> {
     pub(crate) fn or_closed(self) -> Held<Result<X, Refusal>>
         requires { FailsWithMemory self.answer }
         ensures found { IfOk result.answer (λ found. self.answer ≡ Ok (Some found)) }
+        ensures none { IfErr result.answer (λ why. why ≡ Refusal.Closed → self.answer ≡ Ok None) }
         ensures refused { FailsWithMemoryOrClosed result.answer }
     {
         let Held { answer, woken: _ } = self;

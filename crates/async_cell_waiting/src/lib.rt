@@ -14,7 +14,7 @@ mod room;
 mod store;
 mod with;
 
-pub use cell_core::{CellCore, Cloning, CloningAs, Taking, TakingAs};
+pub use cell_core::{By, CellCore, Cloning, CloningAs, Taking, TakingAs};
 pub use ended::{Held, Writes, end, end_and_wake, end_and_wake_one, open_holding, put_held};
 pub use history::{
     Anyone, Author, Blank, Caller, Cancel, Free, OwnerPermit, Protocol, Rule, Ruled, Takeable,

@@ -1,6 +1,6 @@
 //! Polls, over any store: each finds what need not be waited for, or registers the task and adds
 //! its waker to the wait list, in the place of its future if it keeps one.
-ghost use Rattle.std.specs.Prelude.{◌≡◌, Err, IfOk};
+ghost use Rattle.std.specs.Prelude.{◌≡◌, Err, IfErr, IfOk};
 ghost use Rattle.futures.specs.Poll.{IfReady, OnPending};
 ghost use Rattle.futures.specs.Task.{Hears, IsArmed, Keeps};
 ghost use Rattle.async_cell_model.specs.Refusal.{FailsWithMemory, FailsWithMemoryOrClosed};
@@ -27,6 +27,8 @@ pub fn poll<'a, C: Room, M: Stores<Core = C>, Q: Query<C>, R: Opens<'a, M>>(
 ) -> Poll<Result<Q::Answer, Refusal>>
     requires asks { Q.asks query }
     ensures gives { IfReady result (λ answer. IfOk answer (λ given. Q.gives query given)) }
+    ensures closed { IfReady result (λ answer. IfErr answer (λ why. why ≡ Refusal.Closed
+        → (core : C) × Q.closed core)) }
     ensures armed { OnPending result (IsArmed cx.new) }
     ensures heard { OnPending result (Hears cx.new source.now.id) }
     ensures kept { Keeps cx.old cx.new }
@@ -113,6 +115,8 @@ fn renew<'a, C: Room, M: Stores<Core = C>, Q: Query<C>, R: Opens<'a, M>>(
 ) -> Poll<Result<Q::Answer, Refusal>>
     requires asks { Q.asks query }
     ensures gives { IfReady result (λ answer. IfOk answer (λ given. Q.gives query given)) }
+    ensures closed { IfReady result (λ answer. IfErr answer (λ why. why ≡ Refusal.Closed
+        → (core : C) × Q.closed core)) }
     ensures armed { OnPending result (IsArmed cx.new) }
     ensures heard { OnPending result (Hears cx.new source.now.id) }
     ensures kept { Keeps cx.old cx.new }

@@ -156,7 +156,7 @@ impl<T: Drop, W: Wakes, N: Protocol<T, W>> CellCore<T, W, N> {
 
     #[inline(always)]
     pub(crate) fn is_vacant(&self) -> bool
-        ensures { IsTrue result → IsTrue (is_vacant self.now.inner.cell) }
+        ensures { result ≡ is_vacant self.now.inner.cell }
     {
         self.inner.is_vacant()
     }
@@ -181,6 +181,7 @@ impl<T: Drop, W: Wakes, N: Protocol<T, W>> CellCore<T, W, N> {
     pub(crate) fn try_get(&self) -> Held<Result<Option<T>, Refusal>>
     where
         T: Clone,
+        ensures clones { IfOk result.answer (IsCloneOf T.is_clone (content self.now.inner.cell)) }
         ensures rule { IfOk result.answer (λ found.
             IfSome found (IsCloneOfOne T.is_clone N.holds)) }
         ensures if_infallible { ((value : T) → T.is_infallible value) → IsOk result.answer }
@@ -368,6 +369,7 @@ impl<T: Drop, W: Wakes, N: Protocol<T, W>> CellCore<T, W, N> {
     #[inline(always)]
     pub(crate) fn try_take(&mut self) -> Held<Option<T>>
         requires may { N.may Kept.TryTake }
+        ensures gives { result.answer ≡ content self.old.inner.cell }
         ensures rule { IfSome result.answer N.holds }
         ensures made { Made W.will_wake W.SURE_CLONE self.old
             Kept.TryTake (Reply.Value result.answer) self.new }

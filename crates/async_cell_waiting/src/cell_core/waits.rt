@@ -1,7 +1,9 @@
 //! What polls ask the core of a cell.
+ghost use Rattle.std.specs.Prelude.{◌≡◌};
+
 use super::CellCore;
 use crate::ended::Held;
-use crate::history::{Protocol, Witness};
+use crate::history::{Caller, Protocol, Witness};
 use crate::query::Query;
 use async_cell_core::{Refusal, TaskWaker, Wakes};
 
@@ -14,6 +16,8 @@ pub struct Taking;
 pub struct Cloning;
 
 impl<T: Drop, N: Protocol<T, TaskWaker>> Query<CellCore<T, TaskWaker, N>> for Taking {
+    ghost use Rattle.std.specs.Prelude.{◌≡◌, true, false};
+    ghost use Rattle.async_cell_model.specs.Machine.{is_closed, is_vacant};
     ghost use Rattle.async_cell_model.specs.declared.entry.Kept.TheVariants.{TryTake};
 
     type Answer = T;
@@ -22,23 +26,34 @@ impl<T: Drop, N: Protocol<T, TaskWaker>> Query<CellCore<T, TaskWaker, N>> for Ta
 
     ghost gives = { λ _ value. N.holds value };
 
+    ghost ready = { λ core. is_vacant core.inner.cell ≡ false };
+
+    ghost closed = { λ core. is_closed core.inner.cell ≡ true };
+
     #[inline(always)]
     fn must_wait(&self, core: &CellCore<T, TaskWaker, N>) -> bool {
         core.is_vacant()
     }
 
     #[inline(always)]
+    #[tactic(auto, using(crate::proofs::Found::closed_if_none))]
     fn answer(self, core: &mut CellCore<T, TaskWaker, N>) -> Held<Result<T, Refusal>> {
         core.try_take().or_closed()
     }
 }
 
 impl<T: Clone, N: Protocol<T, TaskWaker>> Query<CellCore<T, TaskWaker, N>> for Cloning {
+    ghost use Rattle.std.specs.Prelude.{◌≡◌, true, false};
+    ghost use Rattle.async_cell_model.specs.Machine.{is_closed, is_vacant};
     ghost use Rattle.async_cell_waiting.specs.History.{IsCloneOfOne};
 
     type Answer = T;
 
     ghost gives = { λ _ value. IsCloneOfOne T.is_clone N.holds value };
+
+    ghost ready = { λ core. is_vacant core.inner.cell ≡ false };
+
+    ghost closed = { λ core. is_closed core.inner.cell ≡ true };
 
     #[inline(always)]
     fn must_wait(&self, core: &CellCore<T, TaskWaker, N>) -> bool {
@@ -46,22 +61,74 @@ impl<T: Clone, N: Protocol<T, TaskWaker>> Query<CellCore<T, TaskWaker, N>> for C
     }
 
     #[inline(always)]
+    #[tactic(auto, using(crate::proofs::Found::closed_if_no_clone))]
     fn answer(self, core: &mut CellCore<T, TaskWaker, N>) -> Held<Result<T, Refusal>> {
         core.try_get().or_closed()
     }
 }
 
-/// `Taking`, which tells this witness.
+/// A query by a caller: an owner is never told `Closed`.
+#[derive(Drop)]
+pub struct By<'a, K, Q> {
+    caller: &'a K,
+    query: Q,
+}
+
+impl<'a, K, Q> By<'a, K, Q> {
+    /// The query, by this caller.
+    #[inline(always)]
+    pub fn new(caller: &'a K, query: Q) -> Self
+        ensures { result.query ≡ query }
+    {
+        By { caller, query }
+    }
+}
+
+impl<T, N, K, Q> Query<CellCore<T, TaskWaker, N>> for By<'_, K, Q>
+where
+    T: Drop,
+    N: Protocol<T, TaskWaker>,
+    K: Caller<T, TaskWaker, N>,
+    Q: Query<CellCore<T, TaskWaker, N>>,
+{
+    ghost use Rattle.std.specs.Prelude.{◌≡◌, false};
+    ghost use Rattle.async_cell_model.specs.Machine.{is_closed};
+
+    type Answer = Q::Answer;
+
+    ghost asks = { λ asked. Q.asks asked.query };
+
+    ghost gives = { λ asked answer. Q.gives asked.query answer };
+
+    ghost ready = { Q.ready };
+
+    ghost closed = { λ core. Q.closed core × (K.owns → is_closed core.inner.cell ≡ false) };
+
+    #[inline(always)]
+    fn must_wait(&self, core: &CellCore<T, TaskWaker, N>) -> bool {
+        self.query.must_wait(core)
+    }
+
+    #[inline(always)]
+    fn answer(self, core: &mut CellCore<T, TaskWaker, N>) -> Held<Result<Q::Answer, Refusal>> {
+        let By { caller, query } = self;
+        caller.shows(core);
+        query.answer(core)
+    }
+}
+
+/// `Taking`, which this witness sees.
 #[derive(Drop)]
 pub struct TakingAs<T, N: Protocol<T, TaskWaker>>(pub Witness<T, TaskWaker, N>);
 
-/// `Cloning`, which tells this witness.
+/// `Cloning`, which this witness sees.
 #[derive(Drop)]
 pub struct CloningAs<T, N: Protocol<T, TaskWaker>>(pub Witness<T, TaskWaker, N>);
 
 /// Gives the witness back, which has seen that the value was taken.
 impl<T: Drop, N: Protocol<T, TaskWaker>> Query<CellCore<T, TaskWaker, N>> for TakingAs<T, N> {
-    ghost use Rattle.std.specs.Prelude.{Some};
+    ghost use Rattle.std.specs.Prelude.{◌≡◌, true, false, Some};
+    ghost use Rattle.async_cell_model.specs.Machine.{is_closed, is_vacant};
     ghost use Rattle.async_cell_model.specs.declared.entry.Kept.TheVariants.{TryTake};
     ghost use Rattle.async_cell_model.specs.declared.reply.Reply.TheVariants.{Value};
     ghost use Rattle.async_cell_waiting.specs.History.{IsSigned, IsLinearized};
@@ -73,12 +140,17 @@ impl<T: Drop, N: Protocol<T, TaskWaker>> Query<CellCore<T, TaskWaker, N>> for Ta
     ghost gives = { λ asked given. N.holds given.0 × IsLinearized ⟦<TaskWaker as Wakes>⟧ N.named
         asked.0.calls TryTake (Value (Some given.0)) given.1.calls × IsSigned asked.0 given.1 };
 
+    ghost ready = { λ core. is_vacant core.inner.cell ≡ false };
+
+    ghost closed = { λ core. is_closed core.inner.cell ≡ true };
+
     #[inline(always)]
     fn must_wait(&self, core: &CellCore<T, TaskWaker, N>) -> bool {
         core.is_vacant()
     }
 
     #[inline(always)]
+    #[tactic(auto, using(crate::proofs::Found::closed_if_none))]
     fn answer(
         self,
         core: &mut CellCore<T, TaskWaker, N>,
@@ -93,7 +165,8 @@ impl<T: Drop, N: Protocol<T, TaskWaker>> Query<CellCore<T, TaskWaker, N>> for Ta
 
 /// Gives the witness back, which has seen that the value was cloned.
 impl<T: Clone, N: Protocol<T, TaskWaker>> Query<CellCore<T, TaskWaker, N>> for CloningAs<T, N> {
-    ghost use Rattle.std.specs.Prelude.{Some};
+    ghost use Rattle.std.specs.Prelude.{◌≡◌, true, false, Some};
+    ghost use Rattle.async_cell_model.specs.Machine.{is_closed, is_vacant};
     ghost use Rattle.async_cell_model.specs.declared.entry.Kept.TheVariants.{TryGet};
     ghost use Rattle.async_cell_model.specs.declared.reply.Reply.TheVariants.{Value};
     ghost use Rattle.async_cell_waiting.specs.History.{IsCloneOfOne, IsSigned, IsLinearizedUpTo};
@@ -104,12 +177,17 @@ impl<T: Clone, N: Protocol<T, TaskWaker>> Query<CellCore<T, TaskWaker, N>> for C
         × IsLinearizedUpTo T.is_clone ⟦<TaskWaker as Wakes>⟧ N.named
         asked.0.calls TryGet (Value (Some given.0)) given.1.calls × IsSigned asked.0 given.1 };
 
+    ghost ready = { λ core. is_vacant core.inner.cell ≡ false };
+
+    ghost closed = { λ core. is_closed core.inner.cell ≡ true };
+
     #[inline(always)]
     fn must_wait(&self, core: &CellCore<T, TaskWaker, N>) -> bool {
         core.is_vacant()
     }
 
     #[inline(always)]
+    #[tactic(auto, using(crate::proofs::Found::closed_if_no_clone))]
     fn answer(
         self,
         core: &mut CellCore<T, TaskWaker, N>,
