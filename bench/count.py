@@ -8,8 +8,8 @@ that is not there, or older than a source, is built by `rt run`), and counts the
 operation by callgrind. It prints each figure that has risen or fallen by more than 2 per cent. The
 status is 0 if none has risen by more than 5 per cent, and the figures are those of the table.
 
---write writes the table anew, and what bench/page.py makes of it. JOBS says how many runs go side by
-side.
+--write writes the table anew, and what bench/tables.py makes of it. JOBS says how many runs go side
+by side.
 """
 import glob
 import os
@@ -20,10 +20,9 @@ import subprocess
 import sys
 from concurrent.futures import ThreadPoolExecutor
 
-import counts
-import page
+import tables
 
-TOP = os.path.dirname(counts.FOLDER)
+TOP = os.path.dirname(tables.FOLDER)
 # The rows: the program of each, and the operations that it has.
 ALL = ("reply", "watch", "fan", "again", "stream")
 ROWS = {
@@ -112,17 +111,17 @@ def main(words):
     if not shutil.which("valgrind"):
         sys.exit("count: there is no valgrind, which counts the instructions")
     now = counted(int(os.environ.get("JOBS") or len(os.sched_getaffinity(0))))
-    said, before = counts.read(counts.COUNTS) if os.path.isfile(counts.COUNTS) else ("", {})
+    said, before = tables.read(tables.COUNTS) if os.path.isfile(tables.COUNTS) else ("", {})
     if said != conditions():
         print(f"the table is of {said or 'nothing'}, and this is {conditions()}")
-    told, faults = counts.compared(before, now)
+    told, faults = tables.compared(before, now)
     print("\n".join(told))
     if words:
-        counts.write(counts.COUNTS, counts.printed(conditions(), [it[0] for it in COLUMNS], now))
-        for path, text in page.made().items():
-            counts.write(path, text)
+        tables.write(tables.COUNTS, tables.printed(conditions(), [it[0] for it in COLUMNS], now))
+        for path, text in tables.made().items():
+            tables.write(path, text)
     figures = sum(map(len, now.values()))
-    print(f"count: {figures} counted, {faults} rose by more than {counts.FAILS} % or are not there")
+    print(f"count: {figures} counted, {faults} rose by more than {tables.FAILS} % or are not there")
     return 1 if faults and not words else 0
 
 

@@ -3,8 +3,7 @@
 page is made of the table. The last line is 'N passed, M failed'."""
 import sys
 
-import counts
-import page
+import tables
 
 TABLE = {"sync": {"reply slot": 400, "watcher": 13}, "unsync": {"reply slot": 250, "watcher": 80}}
 # Which figure changes to what, what is told of it, and whether that is a fault.
@@ -29,19 +28,19 @@ def is_told(row, column, figure, line, is_fault):
     now[row][column] = figure
     if figure is None:
         del now[row][column]
-    told, faults = counts.compared(TABLE, now)
+    told, faults = tables.compared(TABLE, now)
     return told == ([f"{row}, {column}: {line}"] if line else []) and bool(faults) == is_fault
 
 
 def main():
     shown = {f"{row}, {column}: {figure}": is_told(row, column, figure, *rest)
              for row, column, figure, *rest in TOLD}
-    said, table = counts.read(counts.COUNTS)
-    columns = counts.text_of(counts.COUNTS).split("\n")[1].split("\t")[1:]
+    said, table = tables.read(tables.COUNTS)
+    columns = tables.text_of(tables.COUNTS).split("\n")[1].split("\t")[1:]
     shown["a table is read as it was written"] = (
-        counts.printed(said, columns, table) == counts.text_of(counts.COUNTS))
+        tables.printed(said, columns, table) == tables.text_of(tables.COUNTS))
     shown["the page and the picture are those of the tables"] = all(
-        it == counts.text_of(path) for path, it in page.made().items())
+        it == tables.text_of(path) for path, it in tables.made().items())
     for name, holds in shown.items():
         if not holds:
             print(f"count_check: it does not hold: {name}")

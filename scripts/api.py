@@ -2,14 +2,14 @@
 """Makes the API reference: a page of HTML for each library, and one that lists them.
 
     python3 scripts/api.py FOLDER     writes the pages there
-    python3 scripts/api.py --check    writes nothing that stays
+    python3 scripts/api.py --check    writes nothing
 
 A page has the public items of a crate, also those that it exports from crates below it: each with
 its declaration, its docstring, and its contract, folded away under the labels. What is
 `doc(hidden)`, or has a docstring that begins with "Internal", is left out. A public item without a
-docstring is a fault, also a variant or a field, and so is an export of what is not found, an item
-of a form that is not known here, and a link of the pages that leads nowhere. Prints a line for
-each; the last line is 'api: N public items, M faults', and the status is 0 if M is.
+docstring is a fault, also a variant or a field, and so is an export of what is not found, and an
+item of a form that is not known here. Prints a line for each; the last line is 'api: N public
+items, M faults', and the status is 0 if M is.
 """
 import functools
 import glob
@@ -17,14 +17,13 @@ import html
 import os
 import re
 import sys
-import tempfile
 import textwrap
 
 from lay_out import TOP, read, write
 from try_kit import KIT
 
 # The comments of crates.txt, and the libraries that it lists.
-LISTED = re.compile(r"^# (.*)|^(async_cell(?!\w*_(?:callers|uses):)\w*):", re.M)
+LISTED = re.compile(r"^# (.*)|^(async_cell(?!\w*_callers:)\w*):", re.M)
 # An item as `rt fmt` lays it out: docstring and attributes, head, and body.
 ITEM = (
     r"((?:^PAD(?:///|#\[)[^\n]*\n)*)^PAD((pub )?(?:const (?=fn|unsafe)|unsafe (?=fn|trait|impl))*"
@@ -43,14 +42,20 @@ PRIVATE = re.compile(r"(?:^ *(?:///|#\[).*\n)*^    (?!pub |///|#\[)\S.*\n", re.M
 # A variant or a field without a docstring, also a field of a variant.
 BARE = re.compile(r"^(?! *(?:///|#\[)).*\n    (?:    )?(?:pub )?\w", re.M)
 USE = re.compile(r"pub use ([\w:]+?)(?:::\{(.*)\})?(?: as (\w+))?$", re.S)
-WORD = re.compile(r"//.*|\b[A-Za-z]\w+(?:::\w+)?\b")
 FRAME = """<!doctype html>
 <html lang="en"><meta charset="utf-8"><meta name="viewport" content="width=device-width">
-<title>{0}</title><link rel="stylesheet" href="api.css">
-<nav><p><a href="index.html"><strong>The libraries</strong></a></p>{1}</nav>
+<title>{0}</title><style>
+:root {{ color-scheme: light dark }}
+body {{ margin: 0; display: flex; font: 16px/1.5 system-ui, sans-serif }}
+pre, code, h4 {{ font: 14px/1.5 ui-monospace, monospace; background: #8882; overflow: auto }}
+nav {{ position: sticky; top: 0; height: 100vh; width: 250px; flex: none; overflow: auto }}
+nav, main {{ padding: 1em }}
+nav a {{ display: block }}
+main {{ max-width: 58em; min-width: 0 }}
+section section {{ padding-left: 1em; border-left: 3px solid #8884 }}
+</style><nav><p><a href="index.html"><strong>The libraries</strong></a></p>{1}</nav>
 <main><h1>{0}</h1>{2}</main></html>
 """
-KEYWORDS = "pub fn struct enum trait type impl for where mut requires ensures ghost".split()
 
 
 class Item:
@@ -156,83 +161,63 @@ def functions(home, item):
     return [(it, f) for it, f in shown if f.kind != "ghost" and not f.is_hidden]
 
 
-class Page:
-    """The page of a crate, with the links to what stands on it."""
+def code(text):
+    return f"<pre>{html.escape(text)}</pre>"
 
-    def __init__(self, of):
-        self.crate, self.links = of, {}
-        self.exports = sorted(of.exports(), key=lambda it: (it[1] != of, "::" in it[0]))
-        for name, home, item in self.exports:
-            self.links[name] = f"#{name}"
-            for _, it in functions(home, item) if item else []:
-                self.links[f"{name}::{it.name}"] = f"#{name}.{it.name}"
 
-    def code(self, text, of=""):
-        """Returns code with links to what it names, also to the functions of the type it is of."""
+def prose(docs):
+    """Returns a docstring as HTML: paragraphs, lists, code, and bold words."""
+    parts = []
+    for block, text in re.findall(r"(?s)```\w*\n(.*?)\n```|((?:(?!\n\n|```).)+)", docs):
+        parts += [code(block)] * bool(block)
+        said = re.sub(r"(?s)`(.+?)`", r"<code>\1</code>", html.escape(text))
+        said = re.sub(r"(?s)\*\*(.+?)\*\*", r"<strong>\1</strong>", said)
+        said = re.sub(r"(?m)^- ", "<li>", said)
+        said = f"<ul>{said}</ul>" if "<li>" in said else f"<p>{said}</p>"
+        parts += [said] * bool(text.strip())
+    return "".join(parts)
 
-        def marked(found):
-            word, link = found[0], self.links.get(f"{of}::{found[0]}") or self.links.get(found[0])
-            if word.startswith("//"):
-                return f"<i>{word}</i>"
-            if re.match(r"async_cell\w*::", word):
-                link = word.replace("::", ".html#")
-            if link and word != of:
-                return f'<a href="{link}">{word}</a>'
-            return f"<b>{word}</b>" if word in KEYWORDS else word
 
-        return WORD.sub(marked, html.escape(text))
+def folded(label, text):
+    return f"<details><summary>{label}</summary>{text}</details>" * bool(text)
 
-    def prose(self, docs, of=""):
-        """Returns a docstring as HTML: paragraphs, lists, code, and bold words."""
-        parts = []
-        for code, block in re.findall(r"(?s)```\w*\n(.*?)\n```|((?:(?!\n\n|```).)+)", docs):
-            parts += [f"<pre>{self.code(code, of)}</pre>"] * bool(code)
-            bits = re.split("`(.+?)`", block, flags=re.S)
-            bits[1::2] = [f"<code>{self.code(it, of)}</code>" for it in bits[1::2]]
-            bits[::2] = [html.escape(it) for it in bits[::2]]
-            said = re.sub(r"(?s)\*\*(.+?)\*\*", r"<strong>\1</strong>", "".join(bits))
-            said = re.sub(r"(?m)^- ", "<li>", said)
-            said = f"<ul>{said}</ul>" if "<li>" in said else f"<p>{said}</p>"
-            parts += [said] * bool(block.strip())
-        return "".join(parts)
 
-    def one(self, item, of):
-        """Returns the docstring of an item, and its contract, folded away under the labels."""
-        labels = re.findall(r"(?m)^(?:    )?(?:requires|ensures|ghost) (\w+)", item.contract)
-        label = ": ".join(["Contract", ", ".join(dict.fromkeys(labels))]).rstrip(": ")
-        fold = f"<pre>{self.code(item.contract, of)}</pre>"
-        fold = f"<details><summary>{label}</summary>{fold}</details>" * bool(item.contract)
-        return self.prose(item.docs, of) + fold
+def one(item):
+    """Returns the docstring of an item, and its contract, folded away under the labels."""
+    labels = re.findall(r"(?m)^(?:    )?(?:requires|ensures|ghost) (\w+)", item.contract)
+    label = ": ".join(["Contract", ", ".join(dict.fromkeys(labels))]).rstrip(": ")
+    return prose(item.docs) + folded(label, code(item.contract) * bool(item.contract))
 
-    def section(self, name, home, item):
-        """Returns the section of an export; its functions are folded away if it is from below."""
-        if not item:
-            link, names = linked(home)
-            return f'<section id="{name}"><h2>{name}</h2><p>All of {link}:</p>{names}</section>'
-        inner, last = "", item
-        for of, it in functions(home, item):
-            inner += f"<h4>{self.code(of.head, name)}</h4>" * (of not in (last, item))
-            inner += f'<section id="{name}.{it.name}"><pre>{self.code(it.head, name)}</pre>'
-            inner += f"{self.one(it, name)}</section>"
-            last = of
-        for it in home.impls(item):
-            inner += f"<h4>{self.code(it.head, name)}</h4>{self.one(it, name)}" * it.is_of_trait
-        below = f" <small>of {home.name}</small>" * (home != self.crate)
-        if inner and below:
-            names = ", ".join(it.name for _, it in functions(home, item)) or "traits"
-            inner = f"<details><summary>{names}</summary>{inner}</details>"
-        declared = f"<pre>{self.code(item.declaration, name)}</pre>{self.one(item, name)}"
-        return f'<section id="{name}"><h2>{name}{below}</h2>{declared}{inner}</section>'
 
-    def text(self):
-        listed = ""
-        for name, home, item in self.exports:
-            own = functions(home, item) if item and home == self.crate else []
-            links = "".join(f'<a href="#{name}.{it.name}">{it.name}</a>' for _, it in own)
-            shown = name.replace("_", "_<wbr>")
-            listed += f'<a href="{self.links[name]}">{shown}</a><div>{links}</div>'
-        body = "".join(self.section(*it) for it in self.exports)
-        return FRAME.format(self.crate.name, listed, self.prose(self.crate.docs) + body)
+def section(of, name, home, item):
+    """Returns the section of an export; its functions are folded away if it is from below."""
+    if not item:
+        link, names = linked(home)
+        return f'<section id="{name}"><h2>{name}</h2><p>All of {link}:</p>{names}</section>'
+    inner, last = "", item
+    for impl, it in functions(home, item):
+        inner += f"<h4>{html.escape(impl.head)}</h4>" * (impl not in (last, item))
+        inner += f'<section id="{name}.{it.name}">{code(it.head)}{one(it)}</section>'
+        last = impl
+    for it in home.impls(item):
+        inner += f"<h4>{html.escape(it.head)}</h4>{one(it)}" * it.is_of_trait
+    below = f" <small>of {home.name}</small>" * (home != of)
+    if below:
+        inner = folded(", ".join(it.name for _, it in functions(home, item)) or "traits", inner)
+    return (f'<section id="{name}"><h2>{name}{below}</h2>{code(item.declaration)}{one(item)}'
+            f"{inner}</section>")
+
+
+def page(of):
+    """Returns the page of a crate."""
+    exports = sorted(of.exports(), key=lambda it: (it[1] != of, "::" in it[0]))
+    listed = ""
+    for name, home, item in exports:
+        own = functions(home, item) if item and home == of else []
+        links = "".join(f'<a href="#{name}.{it.name}">- {it.name}</a>' for _, it in own)
+        listed += f'<a href="#{name}">{name}</a>{links}'
+    body = "".join(section(of, *it) for it in exports)
+    return FRAME.format(of.name, listed, prose(of.docs) + body)
 
 
 def linked(of):
@@ -248,26 +233,12 @@ def make(folder):
     for comment, name in LISTED.findall(read(f"{TOP}/crates.txt")):
         title = comment.split(". ")[-1].rstrip(".") or title
         if name:
-            page = Page(crate(name))
-            write(f"{folder}/{name}.html", page.text())
-            link, names = linked(page.crate)
+            write(f"{folder}/{name}.html", page(crate(name)))
+            link, names = linked(crate(name))
             body += f"<h2>{title}</h2>" * bool(title)
-            docs = page.prose(page.crate.docs).replace('href="#', f'href="{name}.html#')
-            body += f"<h3>{link}</h3>{docs}{names}"
+            body += f"<h3>{link}</h3>{prose(crate(name).docs)}{names}"
             title, listed = "", listed + link
     write(f"{folder}/index.html", FRAME.format("The libraries", listed, body))
-    write(f"{folder}/api.css", read(f"{TOP}/scripts/api.css"))
-
-
-def dead_links(folder):
-    """Yields the links of the pages in this folder that lead nowhere."""
-    texts = {it: read(f"{folder}/{it}") for it in sorted(os.listdir(folder)) if it.endswith(".html")}
-    ids = {f"{page}#{it}" for page, text in texts.items() for it in re.findall(r'id="(.*?)"', text)}
-    for page, text in texts.items():
-        for to, anchor in sorted({*re.findall(r'href="([^"#]*)(#[^"]*)?"', text)}):
-            file = to or page
-            if not os.path.isfile(f"{folder}/{file}") or anchor and file + anchor not in ids:
-                yield f"{page} has a link to {to}{anchor}, which leads nowhere"
 
 
 def public_items(found):
@@ -293,16 +264,13 @@ def main(folder):
         for file, it in of.unknown:
             line = it.string.count("\n", 0, it.start()) + 1
             faults += [f"{file}:{line}: no item of a form that is known: {it[0].strip()}"]
-        lost = [name for name, home, _ in of.exports() if not home]
+        lost = [name for name, home, item in of.exports()
+                if not home or not item and home not in libraries()]
         faults += [f"{of.folder}/src/lib.rt: {name} is not found" for name in lost]
     for it in faults:
         print(os.path.relpath(it, TOP))
-    if not faults:
-        with tempfile.TemporaryDirectory() as room:
-            to = room if folder == "--check" else folder
-            make(to)
-            faults = [*dead_links(to)]
-            print("".join(f"{it}\n" for it in faults), end="")
+    if not faults and folder != "--check":
+        make(folder)
     print(f"api: {count} public items, {len(faults)} faults")
     return 1 if faults or not count else 0
 

@@ -38,7 +38,7 @@ tick() {
 size() {
     git grep -cI '' | awk -F : '{ n += $NF } END { print n " lines in " NR " files" }'
     git grep -cE '^ *(pub(\([a-z]+\))? )?(const )?(unsafe )?fn [a-z]' -- 'crates/*/src/*' \
-        ':!*_callers/*' ':!*_uses/*' | awk -F '[:/]' '
+        ':!*_callers/*' | awk -F '[:/]' '
         { n[$2] += $NF } n[$2] > n[most] { most = $2 } END { print n[most] " functions in " most }'
 }
 
@@ -118,7 +118,6 @@ count 'proofs, programs, and the bugs of must-fail/ (rt ci)' rt ci
 show 'what tries deliberate bugs (scripts/bugs_check.py)' "$counts" python3 scripts/bugs_check.py
 count 'the bugs of bugs.txt (scripts/bugs.py)' python3 scripts/bugs.py ${1:+--record --all}
 show 'the built program (scripts/program.py)' "$counts" python3 scripts/program.py
-show 'no memory (scripts/memory.sh)' "$counts" bash scripts/memory.sh
 show 'misuse that must not compile (misuse/check.sh)' "$counts" bash misuse/check.sh
 show 'a project of its own (scripts/vendor_check.sh)' "$vendored" bash scripts/vendor_check.sh
 show 'the snippets of the pages (scripts/snippets.py)' "$counts" python3 scripts/snippets.py

@@ -41,9 +41,9 @@ NAME = re.compile(r"(?<![\w./-])[A-Za-z_]\w{2,}(?![\w/-]|\.\w)")
 WITH_FIGURES = ("bench/README.md", "docs/DECISIONS.md", "CHANGELOG.md")
 # What stands around the libraries, the sources of these, and how much there may be of the first for
 # each line of the second. It only falls.
-MOST = 1.0
+MOST = 0.75
 AROUND = re.compile(r"(?:tests|scripts|bench|misuse|crates/bench_\w+)/")
-SOURCES = re.compile(r"crates/(?:async_cell(?!\w*_(?:callers|uses|lines)/)\w*|cellrun|ghost_log)/src/")
+SOURCES = re.compile(r"crates/(?:async_cell(?!\w*_callers/)\w*|cellrun|ghost_log)/src/")
 # What a page says of a project of its reader's.
 THEIRS = ("crates/my_program", "crates/railyarrow")
 

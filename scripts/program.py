@@ -4,11 +4,13 @@ crates/cellrun/out, and has it proved and built first if a source is newer.
 
 Plays the scripts of program.txt and the calls of its usage, gives it arguments, and has it read and
 write streams that are closed, full, interrupted, fail, or come by parts: what the proof of `script`
-does not say. What is wanted is worked out by hand from CALLING.md. Prints each case that failed,
-and last 'N passed, M failed'; the status is 0 if none failed.
+does not say. It also runs it with each request for memory refused in turn. What is wanted is worked
+out by hand from CALLING.md. Prints each case that failed, and last 'N passed, M failed'; the status
+is 0 if none failed.
 """
 import fcntl
 import glob
+import itertools
 import os
 import pty
 import re
@@ -17,7 +19,10 @@ import socket
 import struct
 import subprocess
 import sys
+import tempfile
 import time
+
+import try_kit
 
 FOLDER = os.path.dirname(os.path.abspath(__file__))
 CRATES = f"{FOLDER}/../crates"
@@ -237,6 +242,34 @@ def memory():
     same("at most a megabyte more", peaks[1] - peaks[0] <= 1_024, True)
 
 
+def no_memory():
+    """Each request for memory is refused in turn. A poll that would add a waker may be refused; or
+    the run ends with status 1, the first answers written whole. It may have written nothing only if
+    its request comes before one with answers before it: later ones may not lose these."""
+    calls = b"take 1\ntake 1\nget 2\ntake 1\nset 7\nget 3\ntry_take\ntry_take\n"
+    four, rest = 4 * b"pending\n", b"ready 7\nsome 7\nnone\n"
+    every = (0, four + b"done woke 1 2\n" + rest)
+    refused = (0, four[:16] + b"refused memory\n" + four[24:] + b"done woke 1\n" + rest)
+    seen, is_refused = [], True
+    with tempfile.TemporaryDirectory() as room:
+        refuse = try_kit.compiled(f"{FOLDER}/refuse.c", f"{room}/refuse.so", "-DPRELOADED")
+        for number in itertools.count(1):
+            with tempfile.TemporaryFile() as told:
+                env = {"LD_PRELOAD": refuse, "REFUSE": f"{number}", "TELL": f"{told.fileno()}"}
+                ran = subprocess.run([PROGRAM], input=calls, stdout=subprocess.PIPE,
+                                     stderr=subprocess.STDOUT, env=env, pass_fds=[told.fileno()])
+                is_refused = os.fstat(told.fileno()).st_size > 0
+            seen.append((ran.returncode, ran.stdout))
+            if not is_refused:
+                break
+    allowed = {every, refused, (1, four), (1, b"")}
+    for number, ended in enumerate(seen, 1):
+        same(f"request {number} is refused: {ended}", ended in allowed, True)
+        allowed -= {(1, b"")} if ended in (refused, (1, four)) else set()
+    same("no request is refused", seen[-1], every)
+    same("a poll and an answer found none", {refused, (1, four)} <= {*seen}, True)
+
+
 def usage():
     """Arguments are refused, and each call prints on each cell what the usage says of it."""
     with open(f"{CRATES}/cellrun/src/main.rt", encoding="ascii") as file:
@@ -267,7 +300,7 @@ def main():
         build()
     for check in (
         scripts, usage, failing_streams, readers_that_leave, interrupted_streams, writes_that_fail,
-        reads_by_parts, memory,
+        reads_by_parts, memory, no_memory,
     ):
         signal.alarm(SECONDS)
         try:

@@ -1,1 +1,3 @@
+mod Audited
 pub mod InOrder
+mod TwoPolls

@@ -1,8 +1,9 @@
-//! Callers of the cells and of the latest state that threads share, at types of a program. Each
-//! call here requires something, or is proved of every closure, clone, pointer or future: that a
-//! program can meet what it is proved from is proved here. `async_cell_uses` does the same for
-//! `Core`, `Latest`, the driver, the recorded cell and the laws. What a library calls, without
-//! requiring as much of its own callers, needs no call here; what calls do is for cases and tests.
+//! Callers of all libraries, at types of a program. Each call here requires something, or is proved
+//! of every closure, clone, edit, waker, pointer, marker or future: that a program can meet what it
+//! is proved from is proved here. Modules from `audit` on are what another project would prove of
+//! `Core`, `Latest`, a driver and a recorded cell: their contracts follow from those that they call.
+//! What a library calls, without requiring as much of its own callers, needs no call here; what
+//! calls do is for cases and tests.
 #![tactic(auto)]
 
 ghost use Rattle.std.specs.Prelude.{◌≡◌, ◌%◌};
@@ -14,6 +15,18 @@ mod pointers;
 mod sync;
 mod takers;
 mod unsync;
+
+pub mod audit;
+pub mod calls;
+pub mod executor;
+pub mod follower;
+pub mod laws;
+pub mod logs;
+pub mod notice;
+pub mod put;
+pub mod reply_slot;
+pub mod shutdown;
+pub mod taken;
 
 use anyhow::Result;
 use async_cell_sync::Rule;

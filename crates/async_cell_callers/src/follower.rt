@@ -3,7 +3,7 @@
 ghost use Rattle.std.specs.Prelude.{◌≡◌, ◌≢◌, ◌≤◌, ◌<◌, ℕ, None, Some, Ok, true, IfSome, IsSome};
 ghost use Rattle.std.specs.Fn.{FnOnceReturnsAtMut};
 ghost use Rattle.async_cell_latest.specs.State.{State, Stays, is_closed, is_writable};
-ghost use Rattle.async_cell_uses.specs.Calls.{AreCalls};
+ghost use Rattle.async_cell_callers.specs.Calls.{AreCalls};
 
 use async_cell_latest::laws::{
     the_last_state_stays, the_versions_of_a_follower_rise, two_histories_are_one,
@@ -53,7 +53,7 @@ where
         → AreCalls s t }
     requires seen_before { seen ≤ latest.old.version }
     requires last_writer { latest.old.writers ≡ 1 }
-    ensures told { is_writable latest.old ≡ true → IsSome result }
+    ensures linearized { is_writable latest.old ≡ true → IsSome result }
     ensures last { IfSome result (λ told. told.0 ≡ value) }
     ensures end { IfSome result (λ told. told.1 ≡ Poll.Ready None) }
 {

@@ -1,6 +1,6 @@
 use Rattle.std.proofs.Common.{refl, ◌∙◌}
 use Rattle.async_cell_wakers.specs.Named.{same_name}
-use Rattle.async_cell_uses.proofs.follower.after_the_end.Goals as goal
+use Rattle.async_cell_callers.proofs.follower.after_the_end.Goals as goal
 
 -- the state after a history of others is the closed one
 pub returns : goal.returns

@@ -1,7 +1,7 @@
 use Rattle.std.proofs.Common.{true, refl}
 use Rattle.async_cell_wakers.specs.Named.{same_name}
-use Rattle.async_cell_uses.proofs.TwoPolls.{two_rise}
-use Rattle.async_cell_uses.proofs.follower.two_polls.Goals as goal
+use Rattle.async_cell_callers.proofs.TwoPolls.{two_rise}
+use Rattle.async_cell_callers.proofs.follower.two_polls.Goals as goal
 
 pub returns : goal.returns
 returns g c =

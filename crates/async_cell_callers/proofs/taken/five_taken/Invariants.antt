@@ -1,5 +1,5 @@
-use Rattle.async_cell_uses.specs.Taken.{hands_out}
-use Rattle.async_cell_uses.proofs.taken.five_taken.Given as goal
+use Rattle.async_cell_callers.specs.Taken.{hands_out}
+use Rattle.async_cell_callers.proofs.taken.five_taken.Given as goal
 
 -- the marker names the two blank ledgers
 abbrev pub ghosts-take_five-M-Marker : goal.ghosts-take_five-M-Marker

@@ -1,6 +1,6 @@
 use Rattle.std.proofs.Common.{◌≡◌, ◌≤◌, ◌+◌, ◌-◌, ℕ, [], false, vec_len, vec_capacity}
 use Rattle.async_cell_driver.specs.Log.{is_ready}
-use Rattle.async_cell_uses.proofs.executor.Executor.turn.Given as goal
+use Rattle.async_cell_callers.proofs.executor.Executor.turn.Given as goal
 
 -- there is room for what the tasks that are left may have got, and no task is ready
 abbrev pub invariant-loop-i : goal.invariant-loop-i

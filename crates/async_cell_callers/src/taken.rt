@@ -1,7 +1,7 @@
 //! What a caller may conclude from a value that it was told: nobody else took it.
 ghost use Rattle.std.specs.Prelude.{◌≡◌, ℕ, Some, IfOk};
 ghost use Rattle.async_cell_recorded.specs.Counting.{from_bool, picked};
-ghost use Rattle.async_cell_uses.specs.Taken.{hands_out};
+ghost use Rattle.async_cell_callers.specs.Taken.{hands_out};
 
 use async_cell_model::Kept;
 use async_cell_recorded::{Blanks, Entry, History, Named, Pick, Recorded, Refusal, Reply, Wakers};

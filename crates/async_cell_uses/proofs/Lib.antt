@@ -1,2 +1,0 @@
-mod Audited
-mod TwoPolls
