@@ -1,94 +1,29 @@
 -- Where a call on the cell leads.
-use Rattle.std.proofs.Common.{◌≡◌, inl, inr, ℕ, Bool, true, false, not, ◌&&◌, ◌||◌, List, [], ◌∷◌, ◌++◌, Option, Some, None, map, length, refl, ap, sym, ◌∙◌, subst, append-nil}
-use Rattle.std.specs.Prelude.{is_some, if◌then◌else◌, option_to_list}
-use Rattle.std.specs.List.{filter_map}
-use Rattle.std.specs.Option.{option_map}
-use Rattle.async_cell_wakers.specs.declared.named.Named.{Named}
-use Rattle.async_cell_model.specs.declared.cell.Cell.{Cell}
-use Rattle.async_cell_model.specs.declared.cell.Cell.TheVariants.{Closed, Open}
-use Rattle.async_cell_model.specs.declared.entry.Entry.{Entry}
-use Rattle.async_cell_model.specs.declared.entry.Kept.{Kept}
+use Rattle.async_cell_driver.proofs.Words.{◌≡◌, ℕ, Bool, true, false, not, ◌&&◌, ◌||◌, List, [], ◌∷◌, ◌++◌, Option, Some, map, length, ap, sym, ◌∙◌, subst, append-nil, arith, is_some, if◌then◌else◌, option_to_list, option_map, Named, Cell, Entry, Kept, Reply, ends_waiting, is_vacant, is_full, is_closed, content, owners_of, next, model_reply, wait_list, State, IsSound, is_pending, Does, woken_by, model_of, Runs-sound, up_to_clones, Mark, Task, Event, Told, is_done_mark, waits_mark, is_due_mark, is_ready_mark, DriverState, mark_at, result_at, NamesMatch, is_named, wake_each, AllNamed, AllWaiting, Line, kinds, is_ready, is_poll_of, started, history, handed_out, line_of, call_of, reply_of, entry_of, names_by, kept_update, Drives, FitsTold, same_name}
 use Rattle.async_cell_model.specs.declared.entry.Kept.TheVariants as kept
-use Rattle.async_cell_model.specs.declared.reply.Reply.{Reply}
 use Rattle.async_cell_model.specs.declared.reply.Reply.TheVariants as reply
-use Rattle.async_cell_model.specs.Machine.{ends_waiting, is_vacant, is_full, is_closed, content, owners_of, next, reply as model_reply, wait_list, State, IsSound, is_pending, pending_waker, Does}
-use Rattle.async_cell_model.specs.History.{waiting}
-use Rattle.async_cell_model.specs.Legal.{woken_by}
-use Rattle.async_cell_model.proofs.Machine.{model_of}
-use Rattle.async_cell_model.proofs.OneEntry.{Runs-sound}
-use Rattle.async_cell_model.proofs.UpTo.{up_to_clones}
-use Rattle.async_cell_driver.specs.declared.task.Mark.{Mark}
 use Rattle.async_cell_driver.specs.declared.task.Mark.TheVariants as mark
-use Rattle.async_cell_driver.specs.declared.task.Task.{Task}
-use Rattle.async_cell_driver.specs.declared.event.Event.{Event}
-use Rattle.async_cell_driver.specs.declared.event.Told.{Told}
-use Rattle.async_cell_driver.specs.Mark.{is_done_mark, waits_mark, is_due_mark, is_ready_mark}
-use Rattle.async_cell_driver.specs.DriverState.{DriverState, mark_at, result_at, NamesMatch, is_named, wake_each, AllNamed, AllWaiting}
-use Rattle.async_cell_driver.specs.Log.{Line, kinds, is_ready, is_poll_of, started}
-use Rattle.async_cell_driver.specs.History.{history, handed_out, line_of, call_of, reply_of, entry_of, names_by, kept_update}
-use Rattle.async_cell_driver.specs.Drives.{Drives, FitsTold}
-use Rattle.async_cell_wakers.specs.Named.{same_name}
 use Rattle.async_cell_driver.proofs.ReadyNow.{awake, ready_now, started_now}
 use Rattle.async_cell_driver.proofs.WokenTasks.{mark-wake_each, woken_if, kinds-wake_each, results-wake_each, named-wait_list, named-append}
 
 done_woken : (named : Bool) (m : Option Mark) → is_done_mark (woken_if named m) ≡ is_done_mark m
-done_woken false m = refl
-done_woken true None = refl
-done_woken true (Some mark.Ready) = refl
-done_woken true (Some mark.Waiting) = refl
-done_woken true (Some mark.Woken) = refl
-done_woken true (Some mark.Done) = refl
+done_woken named m = grind arith
 
 waits_woken : (named : Bool) (m : Option Mark) → waits_mark (woken_if named m) ≡ waits_mark m
-waits_woken false m = refl
-waits_woken true None = refl
-waits_woken true (Some mark.Ready) = refl
-waits_woken true (Some mark.Waiting) = refl
-waits_woken true (Some mark.Woken) = refl
-waits_woken true (Some mark.Done) = refl
+waits_woken named m = grind arith
 
 ready_woken : (named : Bool) (m : Option Mark) → is_ready_mark (woken_if named m) ≡ (is_some m && (not (is_done_mark m) && (named || is_due_mark m)))
-ready_woken false None = refl
-ready_woken false (Some mark.Ready) = refl
-ready_woken false (Some mark.Waiting) = refl
-ready_woken false (Some mark.Woken) = refl
-ready_woken false (Some mark.Done) = refl
-ready_woken true None = refl
-ready_woken true (Some mark.Ready) = refl
-ready_woken true (Some mark.Waiting) = refl
-ready_woken true (Some mark.Woken) = refl
-ready_woken true (Some mark.Done) = refl
+ready_woken named m = grind arith
 
 not_woken : (named : Bool) (m : Option Mark) → woken_if named m ≡ Some mark.Waiting → (named ≡ false) × (m ≡ Some mark.Waiting)
-not_woken false m stands = (refl, stands)
-not_woken true None stands = cc
-not_woken true (Some mark.Ready) stands = cc
-not_woken true (Some mark.Waiting) stands = cc
-not_woken true (Some mark.Woken) stands = cc
-not_woken true (Some mark.Done) stands = cc
+not_woken named m stands = grind arith
 
 -- who waits stays, but where all that wait are handed out
 kept_named : (ends : Bool) (l cut : List Named) (i : ℕ) → ends ≡ false → is_named i l ≡ true → is_named i (wait_list same_name ((if ends || false then [] else l) ++ cut)) ≡ true
-kept_named true l cut i not named = cc
-kept_named false l cut i not named = named-wait_list i (l ++ cut) ∙ (named-append i l cut ∙ ap (λ p. p || is_named i cut) named)
-
--- who waits after an entry that adds nobody waited before it, and the entry ended no waiting
-named_before : {T : Type 0} (ends : Bool) (l : List Named) (e : Entry T Named) (i : ℕ) → pending_waker e ≡ None
-    → is_named i (wait_list same_name ((if ends || false then [] else l) ++ filter_map pending_waker (if ends || false then [] else e ∷ []))) ≡ true → (ends ≡ false) × (is_named i l ≡ true)
-named_before true l e i none named = cc
-named_before false l e i none named = let same = rw (none, append-nil l) at named in (refl, sym (named-wait_list i l) ∙ same)
-
--- where an entry ends no waiting, it wakes none
-unnamed_by : (ends : Bool) (l names : List Named) (i : ℕ) → names ≡ (if ends then l else []) → ends ≡ false → is_named i names ≡ false
-unnamed_by true l names i same going_on = cc
-unnamed_by false l names i same going_on = ap (is_named i) same
-
-silent_entry : {T : Type 0} (call : Kept T Named) (r : Reply T) → is_pending r ≡ false → pending_waker (record { call = call; reply = r }) ≡ None
-silent_entry call r silent = rw silent refl
+kept_named ends l cut i not named = grind (arith, named-wait_list, named-append)
 
 named_handed : (ends : Bool) (l names : List Named) (i : ℕ) → names ≡ (if ends then l else []) → is_named i names ≡ false → is_named i l ≡ true → ends ≡ false
-named_handed true l names i same unnamed named = let all : is_named i names ≡ true = ap (is_named i) same ∙ named in cc
-named_handed false l names i same unnamed named = refl
+named_handed ends l names i same unnamed named = grind arith
 
 module _ {T : Type 0} where
   -- the names are those that the entry wakes
@@ -164,59 +99,33 @@ module _ {T : Type 0} where
   -- is not woken
   waiting_after : (from to : State T Named) (call : Kept T Named) (r : Reply T) (names : List Named) (tasks : List (Task T)) → is_pending r ≡ false → Does same_name true from (record { call = call; reply = r }) names to
       → AllWaiting (record { core = from; tasks = tasks }) → AllWaiting (record { core = to; tasks = wake_each names tasks })
-  waiting_after from to call r names tasks silent answers waiting_all i named =
-      let e : Entry T Named = record { call = call; reply = r } in
-      let there : is_named i (waiting same_name from (e ∷ [])) ≡ true = ap (is_named i) (sym (model_of same_name true from to call r names answers).waiting_is) ∙ named in
-      let before = named_before (ends_waiting from.cell (next from.cell e)) from.waiting e i (silent_entry call r silent) there in
-      let unnamed : is_named i names ≡ false = unnamed_by (ends_waiting from.cell (next from.cell e)) from.waiting names i (names_are from to call r names answers) before.0 in
-      mark-wake_each names tasks i ∙ (ap (λ (woken : Bool). woken_if woken (mark_at tasks i)) unnamed ∙ waiting_all i before.1)
+  waiting_after from to call r names tasks silent answers waiting_all i named = grind (arith, model_of, names_are, mark-wake_each, named-wait_list, append-nil, waiting_all)
 
   pub covered_called : (from : DriverState T) (core : State T Named) (tasks : List (Task T)) (names : List Named) (call : Kept T Named) (r : Reply T) → is_pending r ≡ false → NamesMatch from
       → Does same_name true from.core (record { call = call; reply = r }) names core → tasks ≡ wake_each names from.tasks → NamesMatch (record { core = core; tasks = tasks })
-  covered_called from core tasks names call r silent covered answers tasks_are =
-      subst (λ (ts : List (Task T)). NamesMatch (record { core = core; tasks = ts })) (sym tasks_are)
-      (named_after from.core core call r names from.tasks answers covered.0, waiting_after from.core core call r names from.tasks silent answers covered.1)
+  covered_called from core tasks names call r silent covered answers tasks_are = grind (arith, named_after, waiting_after, covered.0, covered.1)
 
   -- a reply that gives a value is the model's
   pub value_is : (from to : State T Named) (call : Kept T Named) (value : Option T) (names : List Named) → Does same_name true from (record { call = call; reply = reply.Value value }) names to → reply.Value value ≡ model_reply from.cell call
-  value_is from to call value names answers =
-      elim answers.replied [ inl is ↦ is | inr refused ↦ let no = refused.0 in cc ]
-
-  held_vacant : (c : Cell T) (value : T) (unused : Option T) → is_vacant c ≡ true
-      → content (next {W = Named} c (record { call = kept.OrSet value; reply = reply.Value unused })) ≡ Some value
-  held_vacant Closed value unused vacant = cc
-  held_vacant (Open None owners) value unused vacant = refl
-  held_vacant (Open (Some v) owners) value unused vacant = cc
+  value_is from to call value names answers = grind arith
 
   -- a value that is offered to a vacant cell is held
   pub offer_holds : (from to : State T Named) (value : T) (unused : Option T) (names : List Named)
       → Does same_name true from (record { call = kept.OrSet value; reply = reply.Value unused }) names to → is_vacant from.cell ≡ true → content to.cell ≡ Some value
-  offer_holds from to value unused names answers vacant = ap content answers.cell_is ∙ held_vacant from.cell value unused vacant
-
-  left_full : (c : Cell T) (value : T) (unused : Option T) → is_full c ≡ true
-      → next {W = Named} c (record { call = kept.OrSet value; reply = reply.Value unused }) ≡ c
-  left_full Closed value unused full = cc
-  left_full (Open None owners) value unused full = cc
-  left_full (Open (Some v) owners) value unused full = refl
+  offer_holds from to value unused names answers vacant = grind arith
 
   -- a value that is offered to a full cell leaves it as it was
   pub offer_leaves : (from to : State T Named) (value : T) (unused : Option T) (names : List Named)
       → Does same_name true from (record { call = kept.OrSet value; reply = reply.Value unused }) names to → is_full from.cell ≡ true → to.cell ≡ from.cell
-  offer_leaves from to value unused names answers full = answers.cell_is ∙ left_full from.cell value unused full
-
-  sole_closes : (c : Cell T) (value : Option T) → owners_of c ≡ 1 → is_closed (next {W = Named} c (record { call = kept.EndOwner; reply = reply.Value value })) ≡ true
-  sole_closes Closed value sole = refl
-  sole_closes (Open held owners) value sole = rw sole refl
+  offer_leaves from to value unused names answers full = grind arith
 
   -- an update, as a history keeps it
   pub update_is : (c : Cell T) (edit : Option T → Option T) (put : Option T) → is_closed c ≡ false → put ≡ edit (content c) → kept_update c edit ≡ kept.Update (content c) put
-  update_is Closed edit put open_ is = cc
-  update_is (Open value owners) edit put open_ is = ap (kept.Update value) (sym is)
+  update_is c edit put open_ is = grind arith
 
   pub update_refused_is : (c d : Cell T) (edit : Option T → Option T) → (is_closed c ≡ false → ⊥) → d ≡ c → kept_update c edit ≡ kept.Update (content c) (content d)
-  update_refused_is Closed d edit not_open same = rw same refl
-  update_refused_is (Open value owners) d edit not_open same = absurd (not_open refl)
+  update_refused_is c d edit not_open same = grind (arith, not_open)
 
   -- the last end closes the cell
   pub last_closes : (from to : State T Named) (value : Option T) (names : List Named) → Does same_name true from (record { call = kept.EndOwner; reply = reply.Value value }) names to → owners_of from.cell ≡ 1 → is_closed to.cell ≡ true
-  last_closes from to value names answers sole = ap is_closed answers.cell_is ∙ sole_closes from.cell value sole
+  last_closes from to value names answers sole = grind arith

@@ -1,7 +1,5 @@
 -- What one change does to a list of tasks.
-use Rattle.std.proofs.Common.{◌≡◌, ◌<◌, ◌≤◌, ℕ, zero, suc, List, [], ◌∷◌, length, get_or, set, refl, ap, arith}
-use Rattle.async_cell_driver.specs.declared.task.Task.{Task}
-use Rattle.async_cell_driver.specs.DriverState.{change, result_at}
+use Rattle.async_cell_driver.proofs.Words.{◌≡◌, ◌<◌, ◌≤◌, ℕ, zero, suc, List, [], ◌∷◌, length, get_or, set, refl, ap, arith, Task, change, result_at}
 
 module _ {T : Type 0} where
   -- within the list one task is written

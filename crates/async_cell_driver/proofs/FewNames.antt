@@ -1,19 +1,5 @@
 -- How many names stand in a driver's wait list.
-use Rattle.std.proofs.Common.{◌≡◌, ◌≢◌, ℕ, zero, suc, ◌<◌, ◌≤◌, Bool, true, false, List, [], ◌∷◌, Some, length, get_or, map, refl, sym, subst, ◌∙◌, arith}
-use Rattle.std.specs.Prelude.{nat_eq, AllPairs}
-use Rattle.std.specs.List.{list_any, IsDistinct}
-use Rattle.std.proofs.lemmas.Bool.{eqb-true, eqb-false, eq-eqb, ne_eqb}
-use Rattle.std.proofs.lemmas.List.{get_or-map, length-map}
-use Rattle.std.proofs.lemmas.Map.Keys.{IsDistinct-from_apart}
-use Rattle.std.proofs.lemmas.Map.Steps.{length-le_from_distinct_below}
-use Rattle.async_cell_wakers.specs.declared.named.Named.{Named}
-use Rattle.async_cell_model.specs.Machine.{IsSound}
-use Rattle.async_cell_model.proofs.OneMoreWaker.{wait_list-distinct}
-use Rattle.async_cell_driver.specs.declared.task.Mark.{Mark}
-use Rattle.async_cell_driver.specs.declared.task.Mark.TheVariants.{Waiting}
-use Rattle.async_cell_driver.specs.declared.task.Task.{Task}
-use Rattle.async_cell_driver.specs.DriverState.{DriverState, mark_at, name_of, NamesMatch, is_named}
-use Rattle.async_cell_wakers.specs.Named.{same_name}
+use Rattle.async_cell_driver.proofs.Words.{◌≡◌, ◌≢◌, ℕ, zero, suc, ◌<◌, ◌≤◌, Bool, false, List, [], ◌∷◌, Some, length, get_or, map, refl, sym, subst, ◌∙◌, arith, nat_eq, AllPairs, list_any, IsDistinct, eqb-true, eqb-false, eq-eqb, ne_eqb, get_or-map, length-map, IsDistinct-from_apart, length-le_from_distinct_below, Named, IsSound, wait_list-distinct, Mark, Waiting, Task, DriverState, mark_at, name_of, NamesMatch, is_named, same_name}
 
 numbers_apart : (a b : Named) → a ≢ b → nat_eq a.0 b.0 ≡ false
 numbers_apart a b other = ne_eqb a.0 b.0 (λ same. other (λ k. record { 0 = same k }))
@@ -26,8 +12,7 @@ numbers_distinct names distinct = IsDistinct-from_apart nat_eq (map (λ (name : 
     (numbers_apart (get_or names i (name_of d)) (get_or names j (name_of d)) (distinct i j (name_of d) before high)))
 
 same_if : (a b : ℕ) (same : Bool) → nat_eq a b ≡ same → nat_eq a b ≡ nat_eq b a
-same_if a b true is = is ∙ sym (eq-eqb b a (sym (eqb-true a b is)))
-same_if a b false is = is ∙ sym (ne_eqb b a (λ e. eqb-false a b is (sym e)))
+same_if a b same is = grind (arith, eq-eqb, eqb-true, ne_eqb, eqb-false)
 
 named_number : (q : ℕ) (names : List Named) → list_any (nat_eq q) (map (λ (name : Named). name.0) names) ≡ is_named q names
 named_number q [] = refl

@@ -1,51 +1,14 @@
 -- Logs joined line by line.
-use Rattle.std.proofs.Common.{◌≡◌, ℕ, zero, suc, Bool, true, false, not, ◌&&◌, ◌||◌, List, [], ◌∷◌, ◌++◌, Option, Some, None, map, length, refl, ap, sym, ◌∙◌, subst, arith, append_assoc, append-nil, length-append, ◌+◌}
-use Rattle.std.specs.Prelude.{slice_get, is_some, if◌then◌else◌, option_to_list, reverse}
-use Rattle.std.specs.Option.{option_map}
-use Rattle.std.proofs.lemmas.Bool.{eqb-true}
-use Rattle.std.proofs.Math.Bool.{or-true}
-use Rattle.std.proofs.lemmas.List.{map-append, length-map, reverse-append}
-use Rattle.async_cell_wakers.specs.declared.named.Named.{Named}
-use Rattle.async_cell_model.specs.declared.cell.Cell.{Cell}
-use Rattle.async_cell_model.specs.History.{History, cell_after}
-use Rattle.async_cell_model.specs.Machine.{IsSound, UpToClones}
-use Rattle.async_cell_model.proofs.JoinedHistory.{cell_after-append}
-use Rattle.async_cell_model.proofs.LegalHistories.{Runs-nil}
-use Rattle.async_cell_model.specs.Legal.{RunsUpTo}
-use Rattle.async_cell_model.proofs.LegalHistories.{Runs-join-by}
-use Rattle.async_cell_model.proofs.UpTo.{up_to_clones}
-use Rattle.async_cell_driver.specs.declared.task.Kind.{Kind}
-use Rattle.async_cell_driver.specs.declared.task.Mark.{Mark}
-use Rattle.async_cell_driver.specs.declared.event.Event.{Event}
-use Rattle.async_cell_driver.specs.declared.event.Event.TheVariants.{Start, Poll, Set, OrSet, Replace, Update, TryTake, AddOwner, EndOwner}
-use Rattle.async_cell_driver.specs.declared.event.Told.{Told}
-use Rattle.async_cell_driver.specs.declared.event.Told.TheVariants as told
-use Rattle.async_cell_driver.specs.declared.event.Polled.TheVariants.{Ready, Pending, NotReady}
-use Rattle.async_cell_driver.specs.Mark.{is_due_mark}
-use Rattle.async_cell_driver.specs.DriverState.{DriverState, mark_at, is_named, NamesMatch}
-use Rattle.async_cell_driver.specs.Log.{Line, Log, lines, log_of, with_edit, kinds, is_started, is_done, waits, is_due, is_ready, is_poll_of, was_ready, was_pending, was_refused, started}
-use Rattle.async_cell_driver.specs.History.{line_of, history, handed_out, call_of, reply_of, entry_of}
-use Rattle.async_cell_driver.specs.Drives.{Drives, FitsTold, IsLegal, IsSpared, AllSpared}
-use Rattle.async_cell_wakers.specs.Named.{same_name}
+use Rattle.async_cell_driver.proofs.Words.{◌≡◌, ℕ, zero, suc, Bool, true, false, not, ◌&&◌, ◌||◌, List, [], ◌∷◌, ◌++◌, Option, map, length, refl, ap, sym, ◌∙◌, subst, arith, append_assoc, append-nil, length-append, ◌+◌, slice_get, is_some, if◌then◌else◌, option_to_list, option_map, eqb-true, or-true, map-append, length-map, reverse-append, Named, Cell, History, cell_after, IsSound, UpToClones, cell_after-append, Runs-nil, RunsUpTo, Runs-join-by, up_to_clones, Kind, Event, Told, DriverState, is_named, NamesMatch, Line, Log, lines, log_of, with_edit, kinds, is_started, is_done, waits, is_due, is_ready, is_poll_of, was_ready, was_pending, was_refused, started, line_of, history, handed_out, call_of, reply_of, entry_of, Drives, FitsTold, IsLegal, IsSpared, AllSpared, same_name}
 use Rattle.async_cell_driver.proofs.ReadyNow.{awake, started_now}
-
-not_started_mark : (m : Option Mark) → is_some m ≡ false → is_due_mark m ≡ true
-not_started_mark None gone = refl
-not_started_mark (Some m) gone = cc
 
 some_before : {A : Type 0} (xs ys : List A) (i : ℕ) → is_some (slice_get (xs ++ ys) i) ≡ false → is_some (slice_get xs i) ≡ false
 some_before [] ys i none = refl
 some_before (x ∷ xs) ys zero none = none
 some_before (x ∷ xs) ys (suc i) none = some_before xs ys i none
 
-no_and : (s x : Bool) → s ≡ false → (s && x) ≡ true → ⊥
-no_and true x gone all = cc
-no_and false x gone all = cc
-
 due_step : (p s d f n u : Bool) → (p ≡ true → (s && (not d && u)) ≡ true) → s ≡ false → u ≡ true → (if p then f else (n || u)) ≡ true
-due_step true s d f n u ready gone is = absurd (no_and s (not d && u) gone (ready refl))
-due_step false s d f true u ready gone is = refl
-due_step false s d f false u ready gone is = is
+due_step p s d f n u ready gone is = grind (arith, ready)
 
 module _ {T : Type 0} where
   -- no line leads nowhere
@@ -62,53 +25,22 @@ module _ {T : Type 0} where
 
   -- only a ready task is polled
   polled_ready : (count : ℕ) (ready : ℕ → Bool) (event : Event T (Option T → Option T)) (answer : Told T) (names : List Named) (i : ℕ) → FitsTold count ready event answer names → is_poll_of i event answer ≡ true → ready i ≡ true
-  polled_ready count ready (Poll j) (told.Polled NotReady) names i fits polled = cc
-  polled_ready count ready (Poll j) (told.Polled (Ready value)) names i fits polled = subst (λ k. ready k ≡ true) (eqb-true j i polled) fits.0
-  polled_ready count ready (Poll j) (told.Polled Pending) names i fits polled = subst (λ k. ready k ≡ true) (eqb-true j i polled) fits.0
-  polled_ready count ready (Poll j) (told.Refused why) names i fits polled = subst (λ k. ready k ≡ true) (eqb-true j i polled) fits.0
-  polled_ready count ready (Poll j) (told.Started number) names i fits polled = absurd fits
-  polled_ready count ready (Poll j) (told.Reply reply) names i fits polled = absurd fits
-  polled_ready count ready (Start kind) answer names i fits polled = cc
-  polled_ready count ready (Set value) answer names i fits polled = cc
-  polled_ready count ready (OrSet value) answer names i fits polled = cc
-  polled_ready count ready (Replace value) answer names i fits polled = cc
-  polled_ready count ready (Update edit) answer names i fits polled = cc
-  polled_ready count ready TryTake answer names i fits polled = cc
-  polled_ready count ready AddOwner answer names i fits polled = cc
-  polled_ready count ready EndOwner answer names i fits polled = cc
+  polled_ready count ready event answer names i fits polled = grind (arith, eqb-true)
 
   -- a task that is not there was never polled
   unstarted_due : (from : DriverState T) (log : Log T) (i : ℕ) → IsLegal from log → is_started from log i ≡ false → is_due from log i ≡ true
-  unstarted_due from [] i legal gone = not_started_mark (mark_at from.tasks i) (sym (started_now i from.tasks) ∙ gone)
+  unstarted_due from [] i legal gone = grind (arith, started_now)
   unstarted_due from (line ∷ earlier) i legal gone =
       let before : is_started from earlier i ≡ false = some_before (kinds from earlier) (started line.event line.told) i gone in
       due_step (is_poll_of i line.event line.told) (is_started from earlier i) (is_done from earlier i) (was_refused line.told) (is_named i line.names) (is_due from earlier i)
       (polled_ready _ _ line.event line.told line.names i legal.0) before (unstarted_due from earlier i legal.1 before)
-
-ready_over : (s t d p r f n u u' : Bool) → (s && (not d && u)) ≡ (s && (not d && u')) → (s ≡ false → u ≡ true) → (s ≡ false → u' ≡ true)
-    → (t && (not ((p && r) || d) && (if p then f else (n || u)))) ≡ (t && (not ((p && r) || d) && (if p then f else (n || u'))))
-ready_over false t d p r f n u u' same none none' = ap (λ v. t && (not ((p && r) || d) && (if p then f else (n || v)))) (none refl ∙ sym (none' refl))
-ready_over true t true p r f n u u' same none none' = rw (or-true (p && r)) refl
-ready_over true t false p r f n u u' same none none' = ap (λ v. t && (not ((p && r) || false) && (if p then f else (n || v)))) same
 
 module _ {T : Type 0} where
   -- what one line says of a task, where two logs agree on it
   ready_line : (from at : DriverState T) (earlier later : Log T) (line : Line T) (i : ℕ) → IsLegal from earlier → IsLegal at later
       → kinds at later ≡ kinds from earlier → is_done at later i ≡ is_done from earlier i → is_ready at later i ≡ is_ready from earlier i
       → is_ready at (line ∷ later) i ≡ is_ready from (line ∷ earlier) i
-  ready_line from at earlier later line i legal legal' same_kinds same_done same =
-      let p = is_poll_of i line.event line.told in
-      let r = was_ready line.told in
-      let f = was_refused line.told in
-      let n = is_named i line.names in
-      let begun : is_started at later i ≡ is_started from earlier i = ap (λ all. is_some (slice_get all i)) same_kinds in
-      let due : (is_started from earlier i && (not (is_done from earlier i) && is_due at later i)) ≡ (is_started from earlier i && (not (is_done from earlier i) && is_due from earlier i)) =
-      (λ k. sym begun k && (not (sym same_done k) && is_due at later i)) ∙ same in
-      let kinds_then : is_ready at (line ∷ later) i ≡ (is_started from (line ∷ earlier) i && (not ((p && r) || is_done from earlier i) && (if p then f else (n || is_due at later i)))) =
-      λ k. is_some (slice_get (same_kinds k ++ started line.event line.told) i) && (not ((p && r) || same_done k) && (if p then f else (n || is_due at later i))) in
-      kinds_then
-      ∙ ready_over (is_started from earlier i) (is_started from (line ∷ earlier) i) (is_done from earlier i) p r f n (is_due at later i) (is_due from earlier i) due
-      (λ gone. unstarted_due at later i legal' (begun ∙ gone)) (unstarted_due from earlier i legal)
+  ready_line from at earlier later line i legal legal' same_kinds same_done same = grind (arith, or-true, unstarted_due)
 
   kinds_join : (from at : DriverState T) (earlier later : Log T) → map (λ task. task.kind) at.tasks ≡ kinds from earlier → kinds at later ≡ kinds from (later ++ earlier)
   kinds_join from at earlier [] same = same
@@ -139,9 +71,7 @@ module _ {T : Type 0} where
 
   cell_join : (from at : DriverState T) (earlier later : Log T) → at.core.cell ≡ cell_after from.core.cell (history from earlier) → history from (later ++ earlier) ≡ history from earlier ++ history at later
       → cell_after at.core.cell (history at later) ≡ cell_after from.core.cell (history from (later ++ earlier))
-  cell_join from at earlier later cell_is joined =
-      ap (λ (c : Cell T). cell_after c (history at later)) cell_is
-      ∙ (sym (cell_after-append from.core.cell (history from earlier) (history at later)) ∙ ap (λ (h : History T Named). cell_after from.core.cell h) (sym joined))
+  cell_join from at earlier later cell_is joined = grind (arith, cell_after-append)
 
   -- the core's call that a later line is
   entry_join : (from at : DriverState T) (earlier later : Log T) (line : Line T) → kinds at later ≡ kinds from (later ++ earlier)
@@ -185,27 +115,20 @@ module _ {T : Type 0} where
   lines-append : (events more : List (Event T (Option T → Option T))) (answers others : List (Told T)) (handed later : List (List Named)) → length answers ≡ length events → length handed ≡ length events
       → lines (events ++ more) (answers ++ others) (handed ++ later) ≡ lines events answers handed ++ lines more others later
   lines-append [] more [] others [] later same same' = refl
-  lines-append [] more (t ∷ answers) others handed later same same' = absurd (omega arith)
-  lines-append [] more [] others (n ∷ handed) later same same' = absurd (omega arith)
-  lines-append (e ∷ events) more [] others handed later same same' = absurd (omega arith)
-  lines-append (e ∷ events) more (t ∷ answers) others [] later same same' = absurd (omega arith)
   lines-append (e ∷ events) more (t ∷ answers) others (n ∷ handed) later same same' =
       let first : Line T = record { event = e; told = t; names = n } in
       ap (λ (ls : List (Line T)). first ∷ ls) (lines-append events more answers others handed later (omega arith) (omega arith))
+  lines-append events more answers others handed later same same' = absurd (omega arith)
 
   -- the log of joined lists
   pub log_of-append : (events more : List (Event T (Option T → Option T))) (answers others : List (Told T)) (handed later : List (List Named)) → length answers ≡ length events → length handed ≡ length events
       → log_of (events ++ more) (answers ++ others) (handed ++ later) ≡ log_of more others later ++ log_of events answers handed
-  log_of-append events more answers others handed later same same' =
-      ap reverse (lines-append events more answers others handed later same same') ∙ reverse-append (lines events answers handed) (lines more others later)
+  log_of-append events more answers others handed later same same' = grind (arith, lines-append, reverse-append)
 
   -- the same, where the edits of the updates are functions by name
   pub log_of-append-edits : {E : Type 0} (edit : E → Option T → Option T) (events more : List (Event T E)) (answers others : List (Told T)) (handed later : List (List Named)) → length answers ≡ length events → length handed ≡ length events
       → log_of (map (with_edit edit) (events ++ more)) (answers ++ others) (handed ++ later) ≡ log_of (map (with_edit edit) more) others later ++ log_of (map (with_edit edit) events) answers handed
-  log_of-append-edits edit events more answers others handed later same same' =
-      let mapped = length-map events (with_edit edit) in
-      ap (λ es. log_of es (answers ++ others) (handed ++ later)) (map-append (with_edit edit) events more)
-      ∙ log_of-append (map (with_edit edit) events) (map (with_edit edit) more) answers others handed later (same ∙ sym mapped) (same' ∙ sym mapped)
+  log_of-append-edits edit events more answers others handed later same same' = grind (arith, length-map, map-append, log_of-append)
 
   pub log_of-push : (events : List (Event T (Option T → Option T))) (answers : List (Told T)) (handed : List (List Named)) (line : Line T) → length answers ≡ length events → length handed ≡ length events
       → log_of (events ++ line.event ∷ []) (answers ++ line.told ∷ []) (handed ++ line.names ∷ []) ≡ line ∷ log_of events answers handed

@@ -8,3 +8,4 @@ pub mod PolledTask
 pub mod ReadyNow
 pub mod Settled
 pub mod WokenTasks
+pub mod Words

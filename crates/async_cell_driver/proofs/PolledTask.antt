@@ -1,54 +1,18 @@
 -- Where a poll leads.
-use Rattle.std.proofs.Common.{◌≡◌, ◌≢◌, ℕ, Bool, true, false, not, ◌&&◌, ◌||◌, List, [], ◌∷◌, ◌++◌, Option, Some, None, map, length, refl, ap, sym, ◌∙◌, subst, append-nil}
-use Rattle.std.specs.Prelude.{slice_get, is_some, nat_eq, if◌then◌else◌, Result, Ok, Err, IsOk, IfOk, IfErr, OnOk, MatchOption}
-use Rattle.std.specs.Option.{option_map}
-use Rattle.std.proofs.lemmas.Bool.{eqb-true, eqb-false, eq-eqb}
-use Rattle.std.proofs.Math.Bool.{or-false, or-true}
+use Rattle.async_cell_driver.proofs.Words.{◌≡◌, ◌≢◌, ℕ, Bool, true, false, not, ◌&&◌, ◌||◌, List, [], ◌∷◌, ◌++◌, Option, Some, None, map, length, refl, ap, sym, ◌∙◌, subst, append-nil, arith, is_some, nat_eq, if◌then◌else◌, Result, Ok, Err, IsOk, IfOk, IfErr, OnOk, MatchOption, option_map, eqb-true, eqb-false, eq-eqb, or-false, or-true, Named, Cell, Reply, Refusal, Memory, ends_waiting, next, State, IsSound, woken_by, RunsUpTo, StepsUpTo, poll_reply, IsReadyWith, Kind, Mark, Task, Told, Polled, is_done_mark, waits_mark, is_due_mark, is_ready_mark, DriverState, name_of, mark_at, result_of, result_at, kind_at, NamesMatch, AllNamed, AllWaiting, is_named, change, with_mark, Line, kinds, is_ready, is_poll_of, was_ready, was_pending, was_refused, poll_of, told_of, line_of, history, handed_out, waiting_when, mark_after, polled_of, IsPolledWith, Drives, FitsTold, same_name}
 use Rattle.futures.specs.declared.task.Poll.{Poll}
 use Rattle.futures.specs.declared.task.Poll.TheVariants.{Ready, Pending}
-use Rattle.async_cell_wakers.specs.declared.named.Named.{Named}
-use Rattle.async_cell_model.specs.declared.cell.Cell.{Cell}
-use Rattle.async_cell_model.specs.declared.cell.Cell.TheVariants.{Closed, Open}
-use Rattle.async_cell_model.specs.declared.reply.Reply.{Reply}
 use Rattle.async_cell_model.specs.declared.reply.Reply.TheVariants as reply
-use Rattle.async_cell_model.specs.declared.refusal.Refusal.{Refusal}
-use Rattle.async_cell_model.specs.declared.refusal.Refusal.TheVariants.{Memory}
-use Rattle.async_cell_model.specs.Machine.{ends_waiting, next, is_memory, State, IsSound}
-use Rattle.async_cell_model.specs.Legal.{woken_by, RunsUpTo, StepsUpTo}
-use Rattle.async_cell_core.specs.Polled.{poll_reply, IsReadyWith}
-use Rattle.async_cell_driver.specs.declared.task.Kind.{Kind}
-use Rattle.async_cell_driver.specs.declared.task.Kind.TheVariants.{Take, Get}
-use Rattle.async_cell_driver.specs.declared.task.Mark.{Mark}
 use Rattle.async_cell_driver.specs.declared.task.Mark.TheVariants as mark
-use Rattle.async_cell_driver.specs.declared.task.Task.{Task}
 use Rattle.async_cell_driver.specs.declared.event.Event.TheVariants as event
-use Rattle.async_cell_driver.specs.declared.event.Told.{Told}
 use Rattle.async_cell_driver.specs.declared.event.Told.TheVariants as told
-use Rattle.async_cell_driver.specs.declared.event.Polled.{Polled}
 use Rattle.async_cell_driver.specs.declared.event.Polled.TheVariants as polled
-use Rattle.async_cell_driver.specs.Mark.{is_done_mark, waits_mark, is_due_mark, is_ready_mark}
-use Rattle.async_cell_driver.specs.DriverState.{DriverState, name_of, mark_at, result_of, result_at, kind_at, NamesMatch, AllNamed, AllWaiting, is_named, change, with_mark}
-use Rattle.async_cell_driver.specs.Log.{Line, kinds, is_ready, is_poll_of, was_ready, was_pending, was_refused}
-use Rattle.async_cell_driver.specs.History.{poll_of, told_of, line_of, history, handed_out}
-use Rattle.async_cell_driver.specs.Asked.{waiting_when, mark_after, polled_of, IsPolledWith}
-use Rattle.async_cell_driver.specs.Drives.{Drives, FitsTold}
-use Rattle.async_cell_wakers.specs.Named.{same_name}
 use Rattle.async_cell_driver.proofs.ReadyNow.{awake, ready_now, started_now, ready_by}
 use Rattle.async_cell_driver.proofs.WokenTasks.{slice_get-change_same, slice_get-change_other, says_same, map-change, named-append}
 
 module _ {T : Type 0} where
-  -- a cell that stays open and gets no value ends no waiting
-  ends_none : (value later : Option T) (owners : ℕ) (memory : Bool) → (value ≡ None → later ≡ None) → ends_waiting (Open value owners) (if memory then Open value owners else Open later owners) ≡ false
-  ends_none None later owners true none = refl
-  ends_none None later owners false none = rw (none refl) refl
-  ends_none (Some v) later owners true none = refl
-  ends_none (Some v) later owners false none = refl
-
   pub poll_ends_none : (c : Cell T) (kind : Option Kind) (i : ℕ) (r : Reply T) → ends_waiting c (next c (record { call = poll_of kind i; reply = r })) ≡ false
-  poll_ends_none Closed kind i r = refl
-  poll_ends_none (Open value owners) None i r = ends_none value None owners (is_memory r) (λ none. refl)
-  poll_ends_none (Open value owners) (Some Take) i r = ends_none value None owners (is_memory r) (λ none. refl)
-  poll_ends_none (Open value owners) (Some Get) i r = ends_none value value owners (is_memory r) (λ none. none)
+  poll_ends_none c kind i r = grind arith
 
   -- a poll wakes none
   pub poll_hands_none : (core : State T Named) (kind : Option Kind) (i : ℕ) (r : Reply T) → woken_by core (record { call = poll_of kind i; reply = r }) ≡ []
@@ -61,75 +25,38 @@ marked_if false m old = old
 
 done_polled : (polled : Bool) (m : Mark) (old : Option Mark) (r : Bool) → (polled ≡ true → is_ready_mark old ≡ true) → r ≡ is_done_mark (Some m)
     → is_done_mark (marked_if polled m old) ≡ ((polled && r) || is_done_mark old)
-done_polled false m old r ready says = refl
-done_polled true m None r ready says = let no = ready refl in cc
-done_polled true m (Some mark.Ready) r ready says = rw says (sym (or-false (is_done_mark (Some m))))
-done_polled true m (Some mark.Woken) r ready says = rw says (sym (or-false (is_done_mark (Some m))))
-done_polled true m (Some mark.Waiting) r ready says = let no = ready refl in cc
-done_polled true m (Some mark.Done) r ready says = let no = ready refl in cc
+done_polled polled m old r ready says = grind (arith, or-false, ready)
 
 waits_polled : (polled : Bool) (m : Mark) (old : Option Mark) (p : Bool) → (polled ≡ true → is_ready_mark old ≡ true) → p ≡ waits_mark (Some m)
     → waits_mark (marked_if polled m old) ≡ (if polled then p else waits_mark old)
-waits_polled false m old p ready says = refl
-waits_polled true m None p ready says = let no = ready refl in cc
-waits_polled true m (Some old) p ready says = sym says
+waits_polled polled m old p ready says = grind (arith, ready)
 
 ready_polled : (polled : Bool) (m : Mark) (old : Option Mark) (r f : Bool) → (polled ≡ true → is_ready_mark old ≡ true) → r ≡ is_done_mark (Some m) → f ≡ is_due_mark (Some m)
     → is_ready_mark (marked_if polled m old) ≡ (is_some old && (not ((polled && r) || is_done_mark old) && (if polled then f else is_due_mark old)))
-ready_polled false m old r f ready says due = sym (ready_by old)
-ready_polled true m None r f ready says due = let no = ready refl in cc
-ready_polled true m (Some mark.Ready) r f ready says due = rw (says, due, or-false (is_done_mark (Some m))) (sym (ready_by (Some m)))
-ready_polled true m (Some mark.Woken) r f ready says due = rw (says, due, or-false (is_done_mark (Some m))) (sym (ready_by (Some m)))
-ready_polled true m (Some mark.Waiting) r f ready says due = let no = ready refl in cc
-ready_polled true m (Some mark.Done) r f ready says due = let no = ready refl in cc
+ready_polled polled m old r f ready says due = grind (arith, ready_by, or-false, ready)
 
 unmarked : (b : Bool) (m : Mark) (old : Option Mark) → (m ≡ mark.Waiting → ⊥) → marked_if b m old ≡ Some mark.Waiting → old ≡ Some mark.Waiting
-unmarked false m old otherwise stands = stands
-unmarked true m None otherwise stands = cc
-unmarked true m (Some old) otherwise stands = let same : m ≡ mark.Waiting = cc in absurd (otherwise same)
+unmarked b m old otherwise stands = grind (arith, otherwise)
 
 named_or_asked : (i j : ℕ) (b : Bool) → nat_eq i j ≡ b → (l : List Named) (old : Option Mark) → (old ≡ Some mark.Waiting → is_named j l ≡ true) → marked_if b mark.Waiting old ≡ Some mark.Waiting
     → is_named j (l ++ name_of i ∷ []) ≡ true
-named_or_asked i j true is l old covered stands = named-append j l (name_of i ∷ []) ∙ rw is (or-true (is_named j l))
-named_or_asked i j false is l old covered stands = named-append j l (name_of i ∷ []) ∙ ap (λ p. p || is_named j (name_of i ∷ [])) (covered stands)
+named_or_asked i j b is l old covered stands = grind (arith, named-append, or-true, covered)
 
 -- a name that was in the list before a poll is not the task's own, and its task waits as before
 waiting_beside : (b : Bool) (m : Mark) (old : Option Mark) → (b ≡ true → is_ready_mark old ≡ true) → old ≡ Some mark.Waiting → marked_if b m old ≡ Some mark.Waiting
-waiting_beside false m old ready stands = stands
-waiting_beside true m old ready stands = let no : false ≡ true = sym (ap is_ready_mark stands) ∙ ready refl in cc
+waiting_beside b m old ready stands = grind (arith, ready)
 
 some_marked : (m : Mark) (old : Option Mark) → is_ready_mark old ≡ true → option_map (λ _. m) old ≡ Some m
-some_marked m None ready = cc
-some_marked m (Some old) ready = refl
+some_marked m old ready = grind arith
 
 -- a name in the list after a poll that waits is the task's own, or was there before
 waiting_or_asked : (i j : ℕ) (b : Bool) → nat_eq i j ≡ b → (l : List Named) (old : Option Mark) → (b ≡ true → is_ready_mark old ≡ true) → (is_named j l ≡ true → old ≡ Some mark.Waiting)
     → is_named j (l ++ name_of i ∷ []) ≡ true → marked_if b mark.Waiting old ≡ Some mark.Waiting
-waiting_or_asked i j true is l old ready waits named = some_marked mark.Waiting old (ready refl)
-waiting_or_asked i j false is l old ready waits named =
-    let either : (is_named j l || (nat_eq i j || false)) ≡ true = sym (named-append j l (name_of i ∷ [])) ∙ named in
-    let before : (is_named j l || false) ≡ true = rw is at either in
-    waits (sym (or-false (is_named j l)) ∙ before)
-
-pub same_kind : (k l : Kind) → Some k ≡ Some l → k ≡ l
-same_kind k l same = cc
-
--- no test both fails and passes
-pub not_both : (b : Bool) → b ≡ false → b ≡ true → ⊥
-not_both b fails passes = let no : true ≡ false = sym passes ∙ fails in cc
-
-eqb-same : (i : ℕ) → nat_eq i i ≡ true
-eqb-same i = eq-eqb i i refl
+waiting_or_asked i j b is l old ready waits named = grind (arith, some_marked, named-append, or-false, ready, waits)
 
 module _ {T : Type 0} where
-  mark_of_marked : (m : Mark) (t : Option (Task T)) → option_map (λ task. task.mark) (option_map (with_mark m) t) ≡ option_map (λ _. m) (option_map (λ task. task.mark) t)
-  mark_of_marked m None = refl
-  mark_of_marked m (Some t) = refl
-
   mark-marked_one : (m : Mark) (i j : ℕ) (b : Bool) → nat_eq i j ≡ b → (tasks : List (Task T)) → mark_at (change (with_mark m) i tasks) j ≡ marked_if b m (mark_at tasks j)
-  mark-marked_one m i j true is tasks =
-      rw (eqb-true i j is) (ap (option_map (λ task. task.mark)) (slice_get-change_same (with_mark m) j tasks) ∙ mark_of_marked m (slice_get tasks j))
-  mark-marked_one m i j false is tasks = ap (option_map (λ task. task.mark)) (slice_get-change_other (with_mark m) i j tasks (eqb-false i j is))
+  mark-marked_one m i j b is tasks = grind (arith, eqb-true, slice_get-change_same, slice_get-change_other, eqb-false)
 
   pub mark-marked : (m : Mark) (i j : ℕ) (tasks : List (Task T)) → mark_at (change (with_mark m) i tasks) j ≡ marked_if (nat_eq i j) m (mark_at tasks j)
   mark-marked m i j tasks = mark-marked_one m i j (nat_eq i j) refl tasks
@@ -177,20 +104,12 @@ module _ {T : Type 0} where
   waiting_polled : (from : DriverState T) (core : State T Named) (i : ℕ) (asked : Result (Poll (Option T)) Refusal) → AllWaiting from → is_ready_mark (mark_at from.tasks i) ≡ true
       → IfErr asked (λ why. (why ≡ Memory) × (core.cell ≡ from.core.cell) × (core.waiting ≡ from.core.waiting)) → IfOk asked (λ p. core.waiting ≡ waiting_when p (name_of i) from.core.waiting)
       → AllWaiting (record { core = core; tasks = change (with_mark (mark_after asked)) i from.tasks })
-  waiting_polled from core i (Ok (Ready value)) all ready refused waits j named =
-      mark-marked mark.Done i j from.tasks ∙ waiting_beside (nat_eq i j) mark.Done (mark_at from.tasks j) (this_ready i j from.tasks ready) (all j (ap (is_named j) (sym waits) ∙ named))
-  waiting_polled from core i (Ok Pending) all ready refused waits j named =
-      mark-marked mark.Waiting i j from.tasks ∙ waiting_or_asked i j (nat_eq i j) refl from.core.waiting (mark_at from.tasks j) (this_ready i j from.tasks ready) (all j) (ap (is_named j) (sym waits) ∙ named)
-  waiting_polled from core i (Err why) all ready refused waits j named =
-      mark-marked mark.Ready i j from.tasks ∙ waiting_beside (nat_eq i j) mark.Ready (mark_at from.tasks j) (this_ready i j from.tasks ready) (all j (ap (is_named j) (sym refused.2) ∙ named))
+  waiting_polled from core i asked all ready refused waits j named = grind (arith, mark-marked, waiting_beside, this_ready, waiting_or_asked, all)
 
   pub covered_polled : (from : DriverState T) (core : State T Named) (i : ℕ) (asked : Result (Poll (Option T)) Refusal) → NamesMatch from → is_ready_mark (mark_at from.tasks i) ≡ true
       → IfErr asked (λ why. (why ≡ Memory) × (core.cell ≡ from.core.cell) × (core.waiting ≡ from.core.waiting)) → IfOk asked (λ p. core.waiting ≡ waiting_when p (name_of i) from.core.waiting)
       → NamesMatch (record { core = core; tasks = change (with_mark (mark_after asked)) i from.tasks })
-  covered_polled from core i asked covered ready refused waits = (
-    named_polled from core i asked covered.0 refused waits,
-    waiting_polled from core i asked covered.1 ready refused waits,
-  )
+  covered_polled from core i asked covered ready refused waits = grind (arith, named_polled, waiting_polled, covered.0, covered.1)
 
   -- where the poll of a ready task leads
   pub poll_drives : (is_clone : T → T → Type 0) (from : DriverState T) (core : State T Named) (i : ℕ) (kind : Kind) (asked : Result (Poll (Option T)) Refusal)
@@ -210,41 +129,26 @@ module _ {T : Type 0} where
 
   -- what holds anyway holds for each content
   pub sure_anyway : (o : Option T) (P : Type 0) (Q : T → Type 0) → P → MatchOption o P (λ value. Q value → P)
-  sure_anyway None P Q holds = holds
-  sure_anyway (Some value) P Q holds = λ q. holds
-
-  sure_after : (o : Option T) (P R : Type 0) (Q : T → Type 0) → (P → R) → MatchOption o P (λ value. Q value → P) → MatchOption o R (λ value. Q value → R)
-  sure_after None P R Q follows sure = follows sure
-  sure_after (Some value) P R Q follows sure = λ q. follows (sure q)
+  sure_anyway o P Q holds = grind arith
 
   ok_polled : (asked : Result (Poll (Option T)) Refusal) → IsOk asked → IsOk (polled_of asked)
-  ok_polled (Ok (Ready value)) ok = refl
-  ok_polled (Ok Pending) ok = refl
-  ok_polled (Err why) ok = cc
+  ok_polled asked ok = grind arith
 
   -- where the core's answer cannot fail, the task's poll cannot
   pub sure_polled : (o : Option T) (Q : T → Type 0) (asked : Result (Poll (Option T)) Refusal) → MatchOption o (IsOk asked) (λ value. Q value → IsOk asked)
       → MatchOption o (IsOk (polled_of asked)) (λ value. Q value → IsOk (polled_of asked))
-  sure_polled o Q asked sure = sure_after o (IsOk asked) (IsOk (polled_of asked)) Q (ok_polled asked) sure
+  sure_polled o Q asked sure = grind (arith, ok_polled)
 
   -- what the core's answer says, the task's poll says
   pub ok_as_polled : (asked : Result (Poll (Option T)) Refusal) (P : Type 0) → OnOk asked P → OnOk (polled_of asked) P
-  ok_as_polled (Ok (Ready value)) P holds = holds
-  ok_as_polled (Ok Pending) P holds = holds
-  ok_as_polled (Err why) P holds = tt
+  ok_as_polled asked P holds = grind arith
 
   pub ready_as_polled : (asked : Result (Poll (Option T)) Refusal) (P : Option T → Type 0) → IfOk asked (IsReadyWith P) → IfOk (polled_of asked) (IsPolledWith P)
-  ready_as_polled (Ok (Ready value)) P holds = holds
-  ready_as_polled (Ok Pending) P holds = absurd holds
-  ready_as_polled (Err why) P holds = tt
-
-  marked_result : (m : Mark) (t : Option (Task T)) → result_of (option_map (with_mark m) t) ≡ result_of t
-  marked_result m None = refl
-  marked_result m (Some t) = refl
+  ready_as_polled asked P holds = grind arith
 
   -- a poll leaves the results
   pub results-marked : (m : Mark) (i j : ℕ) (tasks : List (Task T)) → result_at (change (with_mark m) i tasks) j ≡ result_at tasks j
-  results-marked m i j tasks = says_same result_of (with_mark m) (marked_result m) i j tasks
+  results-marked m i j tasks = says_same result_of (with_mark m) (λ t. grind arith) i j tasks
 
   -- the same, for an old state, tasks and an answer that are known by what they equal
   pub poll_drives_as : (is_clone : T → T → Type 0) (from old : DriverState T) → from ≡ old → (core : State T Named) (tasks : List (Task T)) (i : ℕ) (kind : Kind) (asked : Result (Poll (Option T)) Refusal) (answer : Result (Polled T) Refusal)
@@ -258,14 +162,12 @@ module _ {T : Type 0} where
       (rw (tasks_are, answer_is) (poll_drives is_clone from core i kind asked sound covered is_kind ready answers refused waits))
 
   marked_same : (m : Mark) (i : ℕ) (tasks : List (Task T)) → is_ready_mark (mark_at tasks i) ≡ true → mark_at (change (with_mark m) i tasks) i ≡ Some m
-  marked_same m i tasks ready = mark-marked_one m i i true (eqb-same i) tasks ∙ some_marked m (mark_at tasks i) ready
+  marked_same m i tasks ready = mark-marked_one m i i true (eq-eqb i i refl) tasks ∙ some_marked m (mark_at tasks i) ready
 
   -- a task whose poll was not refused is not ready
   pub ready_no_more : (core : State T Named) (i : ℕ) (asked : Result (Poll (Option T)) Refusal) (tasks : List (Task T)) → is_ready_mark (mark_at tasks i) ≡ true
       → OnOk (polled_of asked) (is_ready (record { core = core; tasks = change (with_mark (mark_after asked)) i tasks }) [] i ≡ false)
-  ready_no_more core i (Ok (Ready value)) tasks ready = ready_now (record { core = core; tasks = change (with_mark mark.Done) i tasks }) i ∙ ap is_ready_mark (marked_same mark.Done i tasks ready)
-  ready_no_more core i (Ok Pending) tasks ready = ready_now (record { core = core; tasks = change (with_mark mark.Waiting) i tasks }) i ∙ ap is_ready_mark (marked_same mark.Waiting i tasks ready)
-  ready_no_more core i (Err why) tasks ready = tt
+  ready_no_more core i asked tasks ready = grind (arith, ready_now, marked_same)
 
   -- the others are as ready as before
   pub others_stay : (core : State T Named) (from : DriverState T) (m : Mark) (i j : ℕ) → i ≢ j → is_ready (record { core = core; tasks = change (with_mark m) i from.tasks }) [] j ≡ is_ready from [] j

@@ -1,7 +1,4 @@
-use Rattle.async_cell_model.proofs.UpTo.{exact_told}
-use Rattle.async_cell_wakers.specs.Named.{same_name}
-use Rattle.async_cell_driver.specs.History.{history, handed_out}
-use Rattle.std.proofs.Common.{true}
+use Rattle.async_cell_driver.proofs.Words.{exact_told, same_name, history, handed_out, true}
 use Rattle.async_cell_driver.proofs.laws.a_log_is_exact_where_clones_are.Goals as goal
 
 pub returns : goal.returns

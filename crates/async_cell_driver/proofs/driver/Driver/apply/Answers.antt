@@ -1,8 +1,4 @@
-use Rattle.std.proofs.Common.{◌≡◌, [], rules, arith, refl, sym, ◌∙◌, append_assoc, append-nil, length-append}
-use Rattle.std.proofs.lemmas.List.{nil_from_length}
-use Rattle.std.proofs.lemmas.Grind.{common_steps}
-use Rattle.std.specs.Vec.Iter.{into_iter_items}
-use Rattle.async_cell_driver.specs.DriverState.{DriverState}
+use Rattle.async_cell_driver.proofs.Words.{◌≡◌, [], rules, arith, refl, sym, ◌∙◌, append_assoc, append-nil, length-append, nil_from_length, common_steps, into_iter_items, DriverState}
 use Rattle.async_cell_driver.proofs.JoinedLogs.{drives_nil, happen_more}
 use Rattle.async_cell_driver.proofs.driver.Driver.apply.Goals as goal
 

@@ -1,8 +1,4 @@
-use Rattle.std.proofs.Common.{◌≡◌, ◌≤◌, ◌+◌, List, map, length, vec_len, vec_capacity, ◌++◌}
-use Rattle.std.specs.Vec.Iter.{into_iter_items, into_iter_len}
-use Rattle.async_cell_wakers.specs.declared.named.Named.{Named}
-use Rattle.async_cell_driver.specs.Log.{log_of, with_edit}
-use Rattle.async_cell_driver.specs.Drives.{AllSpared, Drives, ResultsStay}
+use Rattle.async_cell_driver.proofs.Words.{◌≡◌, ◌≤◌, ◌+◌, List, map, length, vec_len, vec_capacity, ◌++◌, into_iter_items, into_iter_len, Named, log_of, with_edit, AllSpared, Drives, ResultsStay}
 use Rattle.async_cell_driver.proofs.driver.Driver.apply.Given as goal
 
 -- the events that happened so far, and what they were told

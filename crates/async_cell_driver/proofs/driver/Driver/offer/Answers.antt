@@ -1,36 +1,27 @@
-use Rattle.std.proofs.Common.{refl, Some, ap, sym}
-use Rattle.std.proofs.lemmas.Result.{err_from_is_err_and}
+use Rattle.async_cell_driver.proofs.Words.{refl, Some, ap, sym, err_from_is_err_and, OrSet}
 use Rattle.async_cell_model.specs.declared.reply.Reply.TheVariants as reply
 use Rattle.async_cell_model.specs.declared.refusal.Refusal.TheVariants as why
-use Rattle.async_cell_driver.specs.declared.event.Event.TheVariants as event
 use Rattle.async_cell_driver.specs.declared.event.Told.TheVariants as told
-use Rattle.async_cell_driver.specs.DriverState.{DriverState}
 use Rattle.async_cell_driver.proofs.CellCalls.{call_drives, covered_called, results_woken, value_is, offer_holds, offer_leaves}
 use Rattle.async_cell_driver.proofs.driver.Driver.offer.Goals as goal
 
 pub returns-in_err-unused-clause-refused : goal.returns-in_err-unused-clause-refused
 returns-in_err-unused-clause-refused g c =
-    let at : DriverState g.row.T.Denot = record { core = c.self.inside.core; tasks = c.self.inside.tasks } in
     let p = err_from_is_err_and c.from_residual.result c.from_residual.ensures.1 in
-    rw p.1 (call_drives g.T.Clone.is_clone at c.args.self.now c.self.view_is c.or_set.new.self c.self.inside.tasks _ (event.OrSet c.args.value) (told.Reply (reply.Refused why.Closed (Some c.args.value))) _ _
+    rw p.1 (call_drives g.T.Clone.is_clone _ _ c.self.view_is _ _ _ (OrSet c.args.value) (told.Reply (reply.Refused why.Closed (Some c.args.value))) _ _
     refl (ap (λ v. Some (reply.Refused why.Closed (Some v))) (sym c.in_err-unused.ensures.comes_back)) (λ i. refl) refl (λ count ready names. tt)
     c.self.invariant c.in_err-unused.ensures.model refl)
 
 pub invariant_of-self-2 : goal.invariant_of-self-2
-invariant_of-self-2 g c =
-    let at : DriverState g.row.T.Denot = record { core = c.self.inside.core; tasks = c.self.inside.tasks } in
-    covered_called at c.or_set.new.self c.wake.new.self _ _ _ refl c.self.invariant c.in_ok-unused.ensures.model c.wake.ensures
+invariant_of-self-2 g c = covered_called _ _ _ _ _ _ refl c.self.invariant c.in_ok-unused.ensures.model c.wake.ensures
 
 pub returns-clause-done : goal.returns-clause-done
 returns-clause-done g c =
-    let at : DriverState g.row.T.Denot = record { core = c.self.inside.core; tasks = c.self.inside.tasks } in
-    call_drives g.T.Clone.is_clone at c.args.self.now c.self.view_is c.or_set.new.self c.wake.new.self _ (event.OrSet c.args.value) (told.Reply (reply.Value c.in_ok-unused.unused)) _ _ refl refl (λ i. refl) refl (λ count ready names. tt)
+    call_drives g.T.Clone.is_clone _ _ c.self.view_is _ _ _ (OrSet c.args.value) (told.Reply (reply.Value c.in_ok-unused.unused)) _ _ refl refl (λ i. refl) refl (λ count ready names. tt)
     c.self.invariant c.in_ok-unused.ensures.model c.wake.ensures
 
 pub returns-clause-results_stay : goal.returns-clause-results_stay
-returns-clause-results_stay g c i =
-    let at : DriverState g.row.T.Denot = record { core = c.self.inside.core; tasks = c.self.inside.tasks } in
-    results_woken c.in_ok-unused.woken at c.args.self.now c.wake.new.self c.self.view_is c.wake.ensures i
+returns-clause-results_stay g c i = results_woken c.in_ok-unused.woken _ _ _ c.self.view_is c.wake.ensures i
 
 pub returns-clause-unused : goal.returns-clause-unused
 returns-clause-unused g c = rw (← c.self.view_is) (ap told.Reply (value_is _ _ _ _ _ c.in_ok-unused.ensures.model))

@@ -1,13 +1,7 @@
-use Rattle.std.proofs.Common.{◌≡◌, [], true, false, refl, sym, ap, ◌∙◌}
-use Rattle.async_cell_model.proofs.Machine.{model_up_to}
-use Rattle.async_cell_wakers.specs.Named.{same_name}
-use Rattle.async_cell_driver.specs.Mark.{is_ready_mark}
-use Rattle.async_cell_driver.specs.DriverState.{DriverState, mark_at}
-use Rattle.async_cell_driver.specs.Log.{is_ready}
-use Rattle.async_cell_driver.specs.Asked.{polled_of}
+use Rattle.async_cell_driver.proofs.Words.{◌≡◌, [], true, false, refl, sym, ap, ◌∙◌, model_up_to, same_name, is_ready_mark, DriverState, mark_at, is_ready, polled_of}
 use Rattle.async_cell_driver.proofs.ReadyNow.{ready_now}
 use Rattle.async_cell_driver.proofs.Lines.{not_polled}
-use Rattle.async_cell_driver.proofs.PolledTask.{covered_polled, poll_drives_as, results-marked, ready_no_more, others_stay, sure_anyway, sure_polled, same_kind, not_both, ok_as_polled, ready_as_polled}
+use Rattle.async_cell_driver.proofs.PolledTask.{covered_polled, poll_drives_as, results-marked, ready_no_more, others_stay, sure_anyway, sure_polled, ok_as_polled, ready_as_polled}
 use Rattle.async_cell_driver.proofs.driver.Driver.poll.Goals as goal
 
 pub returns-in_default-clause-drives : goal.returns-in_default-clause-drives
@@ -30,11 +24,10 @@ invariant_of-self g c =
 
 pub returns-clause-drives : goal.returns-clause-drives
 returns-clause-drives g c =
-    let at : DriverState g.row.T.Denot = record { core = c.self.inside.core; tasks = c.self.inside.tasks } in
     let asked = c.ask-asked.ensures in
     let ready = rw c.in-Some.is at c.ready.ensures.kind in
     let E = g.T.Clone.is_clone in
-    poll_drives_as E at c.args.self.now c.self.view_is c.ask-asked.new.core c.set_mark.new.self c.args.i c.in-Some.kind c.ask-asked.result c.polled.result
+    poll_drives_as E _ _ c.self.view_is c.ask-asked.new.core c.set_mark.new.self c.args.i c.in-Some.kind c.ask-asked.result c.polled.result
     c.soundness-2.ensures c.self.invariant ready.0 ready.1
     (model_up_to E same_name true _ _ _ _ _ asked.model) asked.refused asked.waiting (rw c.mark_of.ensures at c.set_mark.ensures) c.polled.ensures
 
@@ -60,26 +53,26 @@ pub returns-in_default-clause-taker : goal.returns-in_default-clause-taker
 returns-in_default-clause-taker g c =
     let at : DriverState g.row.T.Denot = record { core = c.self.inside.core; tasks = c.self.inside.tasks } in
     let not_ready : is_ready at [] c.args.i ≡ false = ready_now at c.args.i ∙ (rw c.in_default.is at c.ready.ensures.not_ready) in
-    rw (← c.self.view_is) (λ is_kind ready. absurd (not_both _ not_ready ready))
+    rw (← c.self.view_is) (λ is_kind ready. cc)
 
 pub returns-in_default-clause-getter : goal.returns-in_default-clause-getter
 returns-in_default-clause-getter g c =
     let at : DriverState g.row.T.Denot = record { core = c.self.inside.core; tasks = c.self.inside.tasks } in
     let not_ready : is_ready at [] c.args.i ≡ false = ready_now at c.args.i ∙ (rw c.in_default.is at c.ready.ensures.not_ready) in
-    rw (← c.self.view_is) (λ is_kind ready. absurd (not_both _ not_ready ready))
+    rw (← c.self.view_is) (λ is_kind ready. cc)
 
 pub returns-clause-taker : goal.returns-clause-taker
 returns-clause-taker g c =
     let ready = rw c.in-Some.is at c.ready.ensures.kind in
     rw (← c.self.view_is) (λ is_taker is_ready. record {
-      takes = λ not_vacant. c.polled.ensures ∙ ap polled_of (c.ask-asked.ensures.taker_takes (same_kind _ _ (sym ready.0 ∙ is_taker)) not_vacant);
-      leaves_none = rw c.polled.ensures (ok_as_polled c.ask-asked.result _ (c.ask-asked.ensures.taker_leaves_none (same_kind _ _ (sym ready.0 ∙ is_taker))));
+      takes = λ not_vacant. c.polled.ensures ∙ ap polled_of (c.ask-asked.ensures.taker_takes (cc (ready.0)) not_vacant);
+      leaves_none = rw c.polled.ensures (ok_as_polled c.ask-asked.result _ (c.ask-asked.ensures.taker_leaves_none (cc (ready.0))));
     })
 
 pub returns-clause-getter : goal.returns-clause-getter
 returns-clause-getter g c =
     let ready = rw c.in-Some.is at c.ready.ensures.kind in
     rw (← c.self.view_is) (λ is_getter is_ready. record {
-      clones = λ not_vacant. rw c.polled.ensures (ready_as_polled c.ask-asked.result _ (c.ask-asked.ensures.getter_clones (same_kind _ _ (sym ready.0 ∙ is_getter)) not_vacant));
-      leaves = λ not_vacant. c.ask-asked.ensures.getter_leaves (same_kind _ _ (sym ready.0 ∙ is_getter)) not_vacant;
+      clones = λ not_vacant. rw c.polled.ensures (ready_as_polled c.ask-asked.result _ (c.ask-asked.ensures.getter_clones (cc (ready.0)) not_vacant));
+      leaves = λ not_vacant. c.ask-asked.ensures.getter_leaves (cc (ready.0)) not_vacant;
     })

@@ -1,12 +1,5 @@
-use Rattle.std.proofs.Common.{[], ◌∷◌, Some, map, refl, ap, sym, subst, ◌∙◌}
-use Rattle.std.proofs.lemmas.Result.{err_from_is_err_and}
-use Rattle.async_cell_driver.specs.DriverState.{DriverState, result_at}
-use Rattle.async_cell_driver.specs.Log.{is_ready}
-use Rattle.async_cell_driver.specs.History.{line_of}
-use Rattle.async_cell_driver.specs.Drives.{Drives}
-use Rattle.async_cell_driver.specs.declared.event.Event.TheVariants.{Poll}
+use Rattle.async_cell_driver.proofs.Words.{[], ◌∷◌, Some, map, refl, ap, sym, subst, ◌∙◌, err_from_is_err_and, DriverState, result_at, is_ready, line_of, Drives, Poll, Ready}
 use Rattle.async_cell_driver.specs.declared.event.Told.TheVariants as told
-use Rattle.async_cell_driver.specs.declared.event.Polled.TheVariants.{Ready}
 use Rattle.async_cell_driver.proofs.KeptResult.{covered_keeping, ready-keeping, drives_keeping}
 use Rattle.async_cell_driver.proofs.PolledTask.{sure_anyway}
 use Rattle.async_cell_driver.proofs.Settled.{keeps_one, size_kept, one_refused, one_pending}

@@ -1,5 +1,4 @@
-use Rattle.std.proofs.Common.{None, sym, []}
-use Rattle.async_cell_driver.specs.DriverState.{DriverState}
+use Rattle.async_cell_driver.proofs.Words.{None, sym, [], DriverState}
 use Rattle.async_cell_driver.proofs.JoinedLogs.{drives_nil}
 use Rattle.async_cell_driver.proofs.KeptResult.{covered_keeping, drives_keeping, result-forgotten, result-keeping_other}
 use Rattle.async_cell_driver.proofs.driver.Driver.result.Goals as goal

@@ -1,7 +1,4 @@
-use Rattle.std.proofs.Common.{◌≡◌, [], true, false, arith, rules, refl, sym, ◌∙◌, below_more}
-use Rattle.std.proofs.lemmas.Result.{err_from_is_err_and}
-use Rattle.async_cell_driver.specs.DriverState.{DriverState}
-use Rattle.async_cell_driver.specs.Log.{is_ready}
+use Rattle.async_cell_driver.proofs.Words.{◌≡◌, [], true, false, arith, rules, refl, sym, ◌∙◌, below_more, err_from_is_err_and, DriverState, is_ready}
 use Rattle.async_cell_driver.proofs.JoinedLogs.{drives_nil}
 use Rattle.async_cell_driver.proofs.PolledTask.{sure_anyway}
 use Rattle.async_cell_driver.proofs.Settled.{so_far_nil, so_far_skip, so_far_more, settles_refused, none_ready, none_waits}

@@ -1,5 +1,4 @@
-use Rattle.std.proofs.Common.{◌≡◌, ◌≤◌, ◌<◌, ℕ, [], false, length}
-use Rattle.async_cell_driver.specs.Log.{Log, is_ready}
+use Rattle.async_cell_driver.proofs.Words.{◌≡◌, ◌≤◌, ◌<◌, ℕ, [], false, length, Log, is_ready}
 use Rattle.async_cell_driver.proofs.Settled.{SoFar}
 use Rattle.async_cell_driver.proofs.driver.Driver.settle.Given as goal
 

@@ -1,4 +1,4 @@
-use Rattle.std.proofs.lemmas.Result.{MatchResult-weaker}
+use Rattle.async_cell_driver.proofs.Words.{MatchResult-weaker}
 use Rattle.async_cell_driver.proofs.Lines.{starts_as, start_refused_as, results_stay}
 use Rattle.async_cell_driver.proofs.driver.Driver.start.Goals as goal
 

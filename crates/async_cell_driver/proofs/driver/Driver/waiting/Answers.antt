@@ -1,4 +1,4 @@
-use Rattle.std.proofs.Common.{arith}
+use Rattle.async_cell_driver.proofs.Words.{arith}
 use Rattle.async_cell_driver.proofs.FewNames.{waiting_few}
 use Rattle.async_cell_driver.proofs.driver.Driver.waiting.Goals as goal
 

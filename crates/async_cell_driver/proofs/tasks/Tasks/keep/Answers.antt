@@ -1,5 +1,4 @@
-use Rattle.std.proofs.Common.{rules, Some, ap, ◌∙◌}
-use Rattle.async_cell_driver.specs.DriverState.{change, with_result}
+use Rattle.async_cell_driver.proofs.Words.{rules, Some, ap, ◌∙◌, change, with_result}
 use Rattle.async_cell_driver.proofs.ChangedTask.{change_within}
 use Rattle.async_cell_driver.proofs.tasks.Tasks.keep.Goals as goal
 

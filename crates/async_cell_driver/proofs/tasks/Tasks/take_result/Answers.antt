@@ -1,5 +1,4 @@
-use Rattle.std.proofs.Common.{rules, None, ap, ◌∙◌}
-use Rattle.async_cell_driver.specs.DriverState.{change, with_result, result_at}
+use Rattle.async_cell_driver.proofs.Words.{rules, None, ap, ◌∙◌, change, with_result, result_at}
 use Rattle.async_cell_driver.proofs.ChangedTask.{change_within, result_within}
 use Rattle.async_cell_driver.proofs.tasks.Tasks.take_result.Goals as goal
 

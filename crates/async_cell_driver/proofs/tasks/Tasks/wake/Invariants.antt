@@ -1,5 +1,4 @@
-use Rattle.std.proofs.Common.{◌≡◌, length}
-use Rattle.async_cell_driver.specs.DriverState.{wake_each}
+use Rattle.async_cell_driver.proofs.Words.{◌≡◌, length, wake_each}
 use Rattle.async_cell_driver.proofs.tasks.Tasks.wake.Given as goal
 
 -- what is left to wake leads where all of them do

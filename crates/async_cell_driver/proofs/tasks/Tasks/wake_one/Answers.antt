@@ -1,5 +1,4 @@
-use Rattle.std.proofs.Common.{rules, ap, ◌∙◌}
-use Rattle.async_cell_driver.specs.DriverState.{change, wake}
+use Rattle.async_cell_driver.proofs.Words.{rules, ap, ◌∙◌, change, wake}
 use Rattle.async_cell_driver.proofs.ChangedTask.{change_within}
 use Rattle.async_cell_driver.proofs.tasks.Tasks.wake_one.Goals as goal
 
