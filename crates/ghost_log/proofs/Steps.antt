@@ -1,26 +1,16 @@
 -- The ghost side of each function, and which tokens cross threads. Assumes `Logic`.
-use Rattle.std.proofs.Common.{◌≡◌, ℕ, ◌≤◌, Bool, true, false, List, [], ◌∷◌, ◌++◌, map, length, refl, inl, inr, arith}
-use mathlib.Core.List.{IsPrefix}
-use mathlib.Core.Logic.{◌⊎◌}
+use Rattle.ghost_log.proofs.Words.{lists, log_owns, seen_owns, ◌≡◌, ℕ, ◌≤◌, Bool, true, false, List, [], ◌∷◌, ◌++◌, map, length, refl, inl, inr, arith, Lft, Share, Fml, fbor, full_share, SProp, ent, sep, ex, guard, emp, via, Lends, IsPrefix, ◌⊎◌, ‵, ◌⊛◌, some, given, ◌$◌, ◌∵◌, !, qed, by, keep, split, pick, learn, check, done, use2, rewrite, updating, now, raw, Logic, sem, lfts, bor_fracture}
 use seplogic.Ra.Ura.{Ura}
 use Rattle.std.proofs.lemmas.List.{length-map}
-use base.Fraction.{full_share}
 use base.Stored.{Gv, Coded}
-use base.Logic.{SProp, ent, sep, ex, guard, emp, via}
-use base.Fml.{Lft, Share, Fml, fbor}
 use base.Share
 use base.Growing.{Least, latest, at_least, prefix_anti, prefix_refl}
 use base.Shift.{Keyless}
 use ghost.Rules.{Halves}
-use types.Logic.{Logic, sem, lfts}
-use types.Tokens.{bor_fracture}
 use denote.Sharing.{one}
-use denote.Struct.Lending.{Lends}
 use types.Owned.{basic}
 use types.Growing.{latest_new, latest_grows, latest_shows, latest_bounds, latest_cut, latest_glue, at_least_dup, at_least_join}
-use types.Kit.{‵, ◌⊛◌, some, given, ◌$◌, ◌∵◌, !, qed, by, keep, split, pick, learn, check, done, use2, rewrite, updating, now, raw}
 use Rattle.logbook.proofs.Roster.{prefix_out, prefix_in}
-use Rattle.ghost_log.specs.Owned.{lists, log_owns, seen_owns}
 
 -- of two beginnings of one list the shorter begins the longer
 pub shorter_begins : {A : Type 0} (xs ys zs : List A) → IsPrefix xs zs → IsPrefix ys zs → length xs ≤ length ys → IsPrefix xs ys

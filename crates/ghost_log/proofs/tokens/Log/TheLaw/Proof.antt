@@ -1,12 +1,7 @@
 -- A `&` to a `Log` holds a share of the right. Assumes `Logic`.
-use denote.RattleType.{RattleType}
+use Rattle.ghost_log.proofs.Words.{log_owns, Laws, copy_shared, RattleType, field_copy, of_Lends}
 use denote.SharingLaws.{one_shr_laws}
-use denote.Param.Laws.{Laws}
-use denote.Param.Shared.{copy_shared}
-use denote.Struct.Laws.{field_copy}
-use denote.Struct.Lending.{of_Lends}
 use Rattle.core.specs.contracts.marker.PhantomData as marker
-use Rattle.ghost_log.specs.Owned.{log_owns}
 use Rattle.ghost_log.specs.contracts.tokens.Log as C
 use Rattle.ghost_log.proofs.Steps.{log_lends}
 use Rattle.ghost_log.proofs.tokens.Log.TheLaw.Statement.{statement}

@@ -1,6 +1,4 @@
-use base.Fraction.{full_share}
-use denote.RattleType.{RattleType}
-use denote.Param.Send.{IsSend}
+use Rattle.ghost_log.proofs.Words.{full_share, IsSend, RattleType}
 use Rattle.ghost_log.specs.contracts.tokens.Log.{the_row}
 use Rattle.ghost_log.proofs.Steps.{log_keyless}
 

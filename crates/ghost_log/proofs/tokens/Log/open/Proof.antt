@@ -1,25 +1,5 @@
 -- `open` makes a name of its own.
-use Rattle.std.proofs.Common.{ℕ, [], ◌∷◌, refl}
-use mir.Syntax.{a_type, dnil}
-use mir.Val.{Val}
-use mir.MapTy.{inst_fn}
-use base.Fraction.{full_share}
-use base.Logic.{SProp, emp}
-use base.Fml.{Fml, ftrue, fsep, flft}
-use types.Kit.{‵, raw, ◌⊛◌, some, later, ◌$◌, ◌∵◌, !, qed, by, keep, split, fjoin, pick, use0, await}
-use types.Run.{no_more, and_then, returns, enter}
-use types.ByLocal.{alloc_all, pass_all, free_all, look_at, get, sets}
-use types.Part.{agg}
-use contract.Monad.{fact_i}
-use contract.Running.{tables}
-use denote.RattleType.{RattleType, owns}
-use denote.Signature.{types_at}
-use denote.Steps.{nothing}
-use denote.Param.{param, bounded}
-use denote.Triple.Walked.{Stays, walk_of}
-use Rattle.atomic_table.proofs.Walks.{proved}
-use Rattle.logbook.proofs.Fields.{token, Token, token_made, ends}
-use Rattle.ghost_log.specs.Owned.{log_owns}
+use Rattle.ghost_log.proofs.Words.{proved, log_owns, token, Token, token_made, ends, ℕ, [], ◌∷◌, refl, Fml, ftrue, fsep, flft, full_share, SProp, emp, fact_i, tables, param, bounded, RattleType, owns, types_at, nothing, Stays, walk_of, inst_fn, a_type, dnil, Val, alloc_all, pass_all, free_all, look_at, get, sets, ‵, raw, ◌⊛◌, some, later, ◌$◌, ◌∵◌, !, qed, by, keep, split, fjoin, pick, use0, await, agg, no_more, and_then, returns, enter}
 use Rattle.ghost_log.specs.contracts.tokens.Log as Log
 use Rattle.ghost_log.specs.contracts.tokens.Seen as Seen
 use Rattle.ghost_log.proofs.Steps as steps

@@ -1,27 +1,5 @@
 -- `push` moves the list on.
-use Rattle.std.proofs.Common.{List, [], ◌∷◌, ◌++◌, refl}
-use mir.Syntax.{a_type, dcons, dnil, named}
-use mir.Val.{Val, vunit, vptr}
-use mir.MapTy.{inst_fn}
-use base.Fraction.{full_share}
-use base.Logic.{SProp}
-use base.Fml.{Fml, ftrue, fsep, flft}
-use types.Kit.{‵, raw, ◌⊛◌, later, ◌$◌, ◌∵◌, !, qed, by, move, keep, split, fsplit, fsplit3, fjoin, fjoin3, use1, await, feq_i}
-use types.Run.{unit_lit, of_opd, returns, enter}
-use types.ByLocal.{alloc_all, pass_all, free_all, look_at, sets}
-use contract.Running.{tables}
-use Rattle.core.proofs.ledger.Walks.{tells, tells_last}
-use denote.Exit.{yes}
-use denote.RattleType.{RattleType, owns}
-use denote.Signature.{types_at, plain}
-use denote.Builtin.{RefOf}
-use denote.Ref.{mut_vals, mut_Tells, shr_vals, shr_Tells}
-use denote.Steps.{nothing, opens, closes}
-use denote.Param.{param, bounded}
-use denote.Triple.Walked.{Stays, stay_dropped, stay_ref, walk_of, Goes-dropped, Goes-ref}
-use Rattle.atomic_table.proofs.Walks.{proved}
-use Rattle.logbook.proofs.Fields.{ends}
-use Rattle.ghost_log.specs.Owned.{log_owns}
+use Rattle.ghost_log.proofs.Words.{proved, tells, tells_last, log_owns, ends, List, [], ◌∷◌, ◌++◌, refl, Fml, ftrue, fsep, flft, full_share, SProp, tables, RefOf, yes, param, bounded, RattleType, owns, mut_vals, mut_Tells, shr_vals, shr_Tells, types_at, plain, nothing, opens, closes, Stays, stay_dropped, stay_ref, walk_of, Goes-dropped, Goes-ref, inst_fn, a_type, dcons, dnil, named, Val, vunit, vptr, alloc_all, pass_all, free_all, look_at, sets, ‵, raw, ◌⊛◌, later, ◌$◌, ◌∵◌, !, qed, by, move, keep, split, fsplit, fsplit3, fjoin, fjoin3, use1, await, feq_i, unit_lit, of_opd, returns, enter}
 use Rattle.ghost_log.specs.contracts.tokens.Log as Log
 use Rattle.ghost_log.specs.contracts.tokens.Seen as Seen
 use Rattle.ghost_log.proofs.Steps as steps

@@ -1,16 +1,8 @@
 -- A `&` to a `Seen` holds what it knows, which can be had twice. Assumes `Logic`.
-use base.Logic.{snd∗}
+use Rattle.ghost_log.proofs.Words.{seen_owns, lends_twice, snd∗, Laws, copy_shared, RattleType, field_copy, of_Lends, sem}
 use base.Before.{before}
-use types.Logic.{sem}
-use denote.RattleType.{RattleType}
-use denote.Param.Laws.{Laws}
-use denote.Param.Shared.{copy_shared}
-use denote.Struct.Laws.{field_copy}
-use denote.Struct.Lending.{of_Lends}
 use Rattle.core.specs.contracts.marker.PhantomData as marker
-use Rattle.ghost_log.specs.Owned.{seen_owns}
 use Rattle.ghost_log.specs.contracts.tokens.Seen as C
-use Rattle.logbook.proofs.Fields.{lends_twice}
 use Rattle.ghost_log.proofs.Steps.{twice}
 use Rattle.ghost_log.proofs.tokens.Seen.TheLaw.Statement.{statement}
 

@@ -1,5 +1,4 @@
-use denote.RattleType.{RattleType}
-use denote.Param.Send.{IsSend}
+use Rattle.ghost_log.proofs.Words.{IsSend, RattleType}
 use Rattle.ghost_log.specs.contracts.tokens.Seen.{the_row}
 use Rattle.ghost_log.proofs.Steps.{seen_keyless}
 

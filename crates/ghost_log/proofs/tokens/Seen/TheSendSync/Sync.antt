@@ -1,7 +1,4 @@
-use denote.RattleType.{RattleType}
-use denote.Param.Send.{IsSync, sendable}
-use denote.Struct.Struct.{Struct}
-use denote.Struct.Owning.{shape}
+use Rattle.ghost_log.proofs.Words.{IsSync, sendable, RattleType, shape, Struct}
 use Rattle.ghost_log.specs.contracts.tokens.Seen.{the_row, the_type}
 use Rattle.ghost_log.proofs.Steps.{seen_keyless}
 

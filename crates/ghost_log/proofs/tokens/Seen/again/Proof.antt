@@ -1,31 +1,6 @@
 -- `again` copies what is known.
-use Rattle.std.proofs.Common.{[], ◌∷◌, refl}
-use mir.Syntax.{a_type, dnil, named}
-use mir.Val.{Val, vptr}
-use mir.MapTy.{inst_fn}
-use base.Logic.{SProp, emp}
-use base.Fml.{Fml, ftrue, fsep, flft, fhide}
-use types.Kit.{‵, raw, ◌⊛◌, ◌$◌, ◌∵◌, !, qed, by, move, keep, drop, split, fsplit, fjoin, use0, use1}
-use types.Run.{no_more, and_then, returns, enter}
-use types.ByLocal.{alloc_all, pass_all, free_all, look_at, get, sets}
-use types.Part.{agg}
-use contract.Monad.{fact_i}
-use contract.Running.{tables}
-use denote.Exit.{yes}
-use denote.RattleType.{RattleType, owns}
-use denote.Signature.{types_at, plain}
-use denote.Builtin.{RefOf}
-use denote.Ref.{shr_vals, shr_Tells}
-use denote.Memory.{hidden_shr}
-use denote.Opens.{unhide}
-use denote.Steps.{nothing}
-use denote.Param.{param, bounded}
-use denote.Struct.Lending.{lent_out}
-use denote.Triple.Walked.{Stays, stay_dropped, walk_of, Goes-dropped}
+use Rattle.ghost_log.proofs.Words.{proved, seen_owns, token, Token, token_made, ends, [], ◌∷◌, refl, Fml, ftrue, fsep, flft, fhide, SProp, emp, fact_i, tables, RefOf, yes, hidden_shr, unhide, param, bounded, RattleType, owns, shr_vals, shr_Tells, types_at, plain, nothing, lent_out, Stays, stay_dropped, walk_of, Goes-dropped, inst_fn, a_type, dnil, named, Val, vptr, alloc_all, pass_all, free_all, look_at, get, sets, ‵, raw, ◌⊛◌, ◌$◌, ◌∵◌, !, qed, by, move, keep, drop, split, fsplit, fjoin, use0, use1, agg, no_more, and_then, returns, enter}
 use Rattle.core.specs.contracts.marker.PhantomData as marker
-use Rattle.atomic_table.proofs.Walks.{proved}
-use Rattle.logbook.proofs.Fields.{token, Token, token_made, ends}
-use Rattle.ghost_log.specs.Owned.{seen_owns}
 use Rattle.ghost_log.specs.contracts.tokens.Log as Log
 use Rattle.ghost_log.specs.contracts.tokens.Seen as Seen
 use Rattle.ghost_log.specs.contracts.tokens.Seen.again.{ended, clauses}

@@ -1,33 +1,6 @@
 -- `learn` compares with the list, and then knows it.
-use Rattle.std.proofs.Common.{ℕ, List, [], ◌∷◌, sym, refl}
-use mathlib.Core.List.{IsPrefix}
-use mir.Syntax.{a_type, dnil, named}
-use mir.Val.{Val, vunit, vptr}
-use mir.MapTy.{inst_fn}
-use base.Logic.{SProp}
-use base.Fml.{Fml, ftrue, fsep, flft, fhide, fshr_bor}
-use types.Tokens.{shr_bor-open, obor_close}
-use types.Kit.{‵, raw, ◌⊛◌, given, ◌$◌, ◌∵◌, !, qed, by, move, keep, drop, split, fsplit, fsplit3, fjoin, fjoin3, learn, use1, use2, rewrite, feq_i}
-use types.Run.{unit_lit, of_opd, returns, enter}
-use types.ByLocal.{alloc_all, pass_all, free_all, look_at, sets}
-use contract.Monad.{fact}
-use contract.Running.{tables}
-use Rattle.core.proofs.ledger.Walks.{tells, tells_last}
-use denote.Exit.{yes}
-use denote.RattleType.{RattleType, owns}
-use denote.Signature.{types_at, plain}
-use denote.Builtin.{RefOf}
-use denote.Ref.{mut_vals, mut_Tells, shr_vals, shr_Tells}
-use denote.Memory.{hidden_shr}
-use denote.Opens.{unhide}
-use denote.Steps.{nothing, opens, closes}
-use denote.Param.{param, bounded}
-use denote.Struct.Lending.{lent_out}
-use denote.Triple.Walked.{Stays, stay_dropped, stay_ref, walk_of, Goes-dropped, Goes-ref}
+use Rattle.ghost_log.proofs.Words.{proved, tells, tells_last, log_owns, seen_owns, Token, ends, ℕ, List, [], ◌∷◌, sym, refl, Fml, ftrue, fsep, flft, fhide, fshr_bor, SProp, fact, tables, RefOf, yes, hidden_shr, unhide, param, bounded, RattleType, owns, mut_vals, mut_Tells, shr_vals, shr_Tells, types_at, plain, nothing, opens, closes, lent_out, Stays, stay_dropped, stay_ref, walk_of, Goes-dropped, Goes-ref, IsPrefix, inst_fn, a_type, dnil, named, Val, vunit, vptr, alloc_all, pass_all, free_all, look_at, sets, ‵, raw, ◌⊛◌, given, ◌$◌, ◌∵◌, !, qed, by, move, keep, drop, split, fsplit, fsplit3, fjoin, fjoin3, learn, use1, use2, rewrite, feq_i, unit_lit, of_opd, returns, enter, shr_bor-open, obor_close}
 use Rattle.core.specs.contracts.marker.PhantomData as marker
-use Rattle.atomic_table.proofs.Walks.{proved}
-use Rattle.logbook.proofs.Fields.{Token, ends}
-use Rattle.ghost_log.specs.Owned.{log_owns, seen_owns}
 use Rattle.ghost_log.specs.contracts.tokens.Log as Log
 use Rattle.ghost_log.specs.contracts.tokens.Seen as Seen
 use Rattle.ghost_log.proofs.Steps as steps

@@ -1,34 +1,6 @@
 -- `longer` joins what two know of one name.
-use Rattle.std.proofs.Common.{◌≡◌, ℕ, [], ◌∷◌, refl}
-use mathlib.Core.List.{IsPrefix}
-use mathlib.Core.Logic.{◌⊎◌}
-use mir.Syntax.{a_type, dnil, named}
-use mir.Val.{Val, vptr}
-use mir.MapTy.{inst_fn}
-use base.Logic.{SProp}
-use base.Fml.{Fml, ftrue, fsep, flft, fhide}
-use types.Kit.{‵, raw, ◌⊛◌, given, ◌$◌, ◌∵◌, !, qed, by, move, keep, drop, split, fsplit, fjoin, learn, use0, use1, use2, rewrite}
-use types.Run.{no_more, and_then, returns, enter}
-use types.ByLocal.{alloc_all, pass_all, free_all, look_at, get, sets}
-use types.Part.{agg}
-use contract.Monad.{fact}
-use contract.Running.{tables}
-use Rattle.core.proofs.ledger.Walks.{tells, tells_last}
-use denote.Exit.{yes}
-use denote.RattleType.{RattleType, owns}
-use denote.Signature.{types_at, plain}
-use denote.Builtin.{RefOf}
-use denote.Ref.{shr_vals, shr_Tells}
-use denote.Memory.{hidden_shr}
-use denote.Opens.{unhide}
-use denote.Steps.{nothing}
-use denote.Param.{param, bounded}
-use denote.Struct.Lending.{lent_out}
-use denote.Triple.Walked.{Stays, stay_dropped, walk_of, Goes-dropped}
+use Rattle.ghost_log.proofs.Words.{proved, tells, tells_last, seen_owns, token, Token, token_made, ends, ◌≡◌, ℕ, [], ◌∷◌, refl, Fml, ftrue, fsep, flft, fhide, SProp, fact, tables, RefOf, yes, hidden_shr, unhide, param, bounded, RattleType, owns, shr_vals, shr_Tells, types_at, plain, nothing, lent_out, Stays, stay_dropped, walk_of, Goes-dropped, IsPrefix, ◌⊎◌, inst_fn, a_type, dnil, named, Val, vptr, alloc_all, pass_all, free_all, look_at, get, sets, ‵, raw, ◌⊛◌, given, ◌$◌, ◌∵◌, !, qed, by, move, keep, drop, split, fsplit, fjoin, learn, use0, use1, use2, rewrite, agg, no_more, and_then, returns, enter}
 use Rattle.core.specs.contracts.marker.PhantomData as marker
-use Rattle.atomic_table.proofs.Walks.{proved}
-use Rattle.logbook.proofs.Fields.{token, Token, token_made, ends}
-use Rattle.ghost_log.specs.Owned.{seen_owns}
 use Rattle.ghost_log.specs.contracts.tokens.Log as Log
 use Rattle.ghost_log.specs.contracts.tokens.Seen as Seen
 use Rattle.ghost_log.proofs.Steps as steps
