@@ -18,6 +18,7 @@ mod shared;
 mod take;
 mod take_as;
 mod weak;
+mod weak_as;
 mod weak_owner;
 mod witnessed;
 
@@ -37,6 +38,7 @@ pub use owner::Owner;
 pub use reply::{Replier, Reply, reply_slot, reply_slot_of};
 pub use shared::Shared;
 pub use take::Take;
-pub use take_as::{GetAs, OwnerRef, TakeAs};
+pub use take_as::{GetAs, TakeAs};
 pub use weak::{GetWeak, TakeWeak, Values, Weak};
+pub use weak_as::{GetWeakAs, TakeWeakAs};
 pub use weak_owner::WeakOwner;
