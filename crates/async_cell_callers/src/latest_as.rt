@@ -55,7 +55,7 @@ where
     requires rule { (value : ℕ) → N.holds value → value < limit }
     ensures below { IfOk result (λ value. value < limit) }
 {
-    let (owner, seen) = Owner::<u64, R, N>::named(rt.alloc(), 0, blank, rt)?;
+    let (owner, seen) = Owner::<u64, R, N>::witnessed(rt.alloc(), 0, blank, rt)?;
     let mut follower = owner.follow()?;
     let mut writer = seen.again();
     let write = move || -> bool

@@ -95,7 +95,7 @@ fn all_named<N: Protocol<u64, TaskWaker>, R: Host>(
     requires rule { IfSome (content blank.start.cell) N.holds }
     requires may { (call : Called ℕ Waker) → N.may call }
 {
-    let (owner, mut one) = Owner::<u64, R, N>::named(rt.alloc(), blank, rt)?;
+    let (owner, mut one) = Owner::<u64, R, N>::witnessed(rt.alloc(), blank, rt)?;
     let mut other = one.again();
     one.sign_as::<First>();
     other.sign_as::<Second>();
@@ -116,8 +116,31 @@ fn all_named<N: Protocol<u64, TaskWaker>, R: Host>(
     Ok(())
 }
 
+/// Takes by a plain future, and by a weak owner's, on the cell that `N` names.
+fn plain_named<N: Takeable<u64, TaskWaker>, R: Host>(
+    rt: R,
+    blank: Blank<u64, TaskWaker>,
+) -> anyhow::Result<()>
+    requires named { N.named ≡ Some blank }
+    requires rule { IfSome (content blank.start.cell) N.holds }
+    requires may { (call : Called ℕ Waker) → N.may call }
+{
+    let (owner, one) = Owner::<u64, R, N>::witnessed(rt.alloc(), blank, rt)?;
+    owner.set(1);
+    let _ = block_on(&rt, owner.take())??;
+    owner.set(2);
+    let weak = owner.downgrade();
+    let _ = weak.is_closed()?;
+    let _ = block_on(&rt, weak.get_as(one.again()))??;
+    let mut values = weak.take_as(one).values();
+    let _ = block_on(&rt, values.next())?;
+    Ok(())
+}
+
 /// Makes them, on a cell of which any call may be made.
 pub fn all<R: Host>(rt: R) -> anyhow::Result<()> {
     let blank = Blank::new(rt.alloc(), None);
-    all_named::<Brand, R>(rt, blank)
+    all_named::<Brand, R>(rt, blank)?;
+    let blank = Blank::new(rt.alloc(), None);
+    plain_named::<Brand, R>(rt, blank)
 }

@@ -49,7 +49,7 @@ where
     requires may { N.may Kept.TryTake }
     ensures once { IfOk result (λ both. IfSome both.0 (λ _. IfSome both.1 (λ _. ⊥))) }
 {
-    let (owner, seen) = Owner::<u64, R, N>::named(rt.alloc(), job, rt)?;
+    let (owner, seen) = Owner::<u64, R, N>::witnessed(rt.alloc(), job, rt)?;
     let other = owner.another()?;
     let mut one = seen.again();
     one.sign_as::<First>();

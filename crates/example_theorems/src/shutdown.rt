@@ -36,7 +36,7 @@ where
     requires rule { IfSome (content over.start.cell) N.holds }
     requires may { N.may (Kept.Set tt) }
 {
-    let (owner, mut seen) = Owner::<(), R, N>::named(rt.alloc(), over, rt)?;
+    let (owner, mut seen) = Owner::<(), R, N>::witnessed(rt.alloc(), over, rt)?;
     let server = owner.another()?;
     Ok(join(
         &rt,

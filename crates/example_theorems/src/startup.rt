@@ -39,7 +39,7 @@ where
     requires may { (value : ℕ) → N.may (Kept.OrSet value) }
     ensures alike { IfOk result (λ both. IfOk both.0 (λ v. IfOk both.1 (λ w. v ≡ w))) }
 {
-    let (owner, seen) = Owner::<u64, R, N>::named(rt.alloc(), value, rt)?;
+    let (owner, seen) = Owner::<u64, R, N>::witnessed(rt.alloc(), value, rt)?;
     let other = owner.another()?;
     let (mut one, mut two) = (seen.again(), seen);
     let ((first, one), (second, two)) = join(

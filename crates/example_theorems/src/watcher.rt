@@ -36,7 +36,7 @@ where
     requires may_fail { N.may (Kept.Update None None) }
     ensures rises { IfOk result (λ looks. IfOk looks (λ both. both.0 ≤ both.1)) }
 {
-    let (owner, seen) = Owner::<u64, R, N>::named(rt.alloc(), level, rt)?;
+    let (owner, seen) = Owner::<u64, R, N>::witnessed(rt.alloc(), level, rt)?;
     let other = owner.another()?;
     let ((), looks) = join(
         &rt,

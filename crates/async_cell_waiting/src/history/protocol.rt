@@ -117,6 +117,11 @@ impl<T, W> Protocol<T, W> for Brand {
     ghost keeps = { λ call _. puts_any call };
 }
 
+/// As for a `Protocol`: a cell with a history whose plain futures take.
+impl<T, W> Takeable<T, W> for Brand {
+    ghost takes = { λ _ _. tt };
+}
+
 /// As for a `Protocol`: a rule that names values of the program.
 impl<T> Rule<T> for Brand {
     ghost holds = { λ _. ⊤ };
