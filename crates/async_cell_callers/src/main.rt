@@ -8,25 +8,24 @@
 
 ghost use Rattle.std.specs.Prelude.{◌≡◌, ◌%◌};
 
-mod cells;
-mod latest;
-mod latest_as;
-mod pointers;
-mod sync;
-mod takers;
-mod unsync;
-
 pub mod audit;
 pub mod calls;
+mod cells;
 pub mod executor;
 pub mod follower;
+mod latest;
+mod latest_as;
 pub mod laws;
 pub mod logs;
 pub mod notice;
+mod pointers;
 pub mod put;
 pub mod reply_slot;
 pub mod shutdown;
+mod sync;
 pub mod taken;
+mod takers;
+mod unsync;
 
 use anyhow::Result;
 use async_cell_sync::Rule;

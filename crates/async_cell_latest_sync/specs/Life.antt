@@ -1,4 +1,4 @@
--- What is told of a state: the values that it has had, in order, and whether it is closed.
+-- The history of a state: the values that it has had, in order, and whether it is closed.
 use Rattle.std.specs.Prelude.{◌≡◌, ◌≤◌, ◌⊎◌, ℕ, Bool, true, false, List, [], ◌∷◌, ◌++◌, length, ⊤, Option, Some, None, IsSome}
 use mathlib.Core.List.{IsPrefix}
 use Rattle.async_cell_latest.specs.State.{State, is_closed, versions_limit}
@@ -32,7 +32,7 @@ module _ {T : Type 0} where
   closed_of (Some value ∷ rest) = closed_of rest
   closed_of (None ∷ rest) = true
 
-  -- the life that it tells of
+  -- the life that these writes make
   abbrev pub life_of : List (Option T) → Life T
   life_of writes = record { values = values_of writes; closed = closed_of writes }
 

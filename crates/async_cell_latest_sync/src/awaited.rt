@@ -60,9 +60,9 @@ impl<T: Drop, R: Wait + Drop, N: Protocol<T>> Future for Changed<'_, T, R, N> {
     ghost gives = { λ _. FailsWithMemoryOrClosed };
 
     fn poll(&mut self, cx: &mut Context<'_>) -> Poll<Result<(), Refusal>>
-        ensures marks { IfReady result (λ told. OnOk told
+        ensures marks { IfReady result (λ given. OnOk given
             (self.new.follower.now.seen ≢ self.old.follower.now.seen)) }
-        ensures unmarked { IfReady result (λ told. OnErr told
+        ensures unmarked { IfReady result (λ given. OnErr given
             (self.new.follower.now ≡ self.old.follower.now)) }
         ensures unchanged { OnPending result (self.new.follower.now ≡ self.old.follower.now) }
         ensures of_this { cell_followed self.new.follower.now
@@ -82,8 +82,8 @@ impl<T: Drop, R: Wait + Drop, N: Protocol<T>> Future for Changed<'_, T, R, N> {
             cx,
             &follower.rt,
         ) {
-            Poll::Ready(Ok(told)) => {
-                self.follower.seen = told;
+            Poll::Ready(Ok(given)) => {
+                self.follower.seen = given;
                 Poll::Ready(Ok(()))
             }
             Poll::Ready(Err(why)) => Poll::Ready(Err(why)),
@@ -263,9 +263,9 @@ impl<T: Clone, R: Wait + Drop, N: Protocol<T>> Stream for States<T, R, N> {
 
     fn poll_next(&mut self, cx: &mut Context<'_>) -> Poll<Option<Result<T, Refusal>>>
         ensures value { IfReady result (λ item. IfSome item (IsItem T.is_clone N.holds)) }
-        ensures marks { IfReady result (λ item. IfSome item (λ told. OnOk told
+        ensures marks { IfReady result (λ item. IfSome item (λ given. OnOk given
             (self.new.follower.seen ≢ self.old.follower.seen))) }
-        ensures unmarked { IfReady result (λ item. IfSome item (λ told. OnErr told
+        ensures unmarked { IfReady result (λ item. IfSome item (λ given. OnErr given
             (self.new.follower ≡ self.old.follower))) }
         ensures ended { IfReady result (λ item. IfNone item
             (self.new.follower ≡ self.old.follower)) }

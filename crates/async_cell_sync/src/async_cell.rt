@@ -29,8 +29,8 @@ use std::sync::Wait;
 /// list is no longer than the number of such futures that were alive at once. Each `poll_shared`
 /// that waits adds one waker, which stays until the next write or close.
 ///
-/// `N` says what is known of the values (see `Rule`), and to which history a witness sees: of a
-/// plain cell neither.
+/// `N` says what is known of the values (see `Rule`), and which history a witness sees. `Unruled`,
+/// the default, has neither.
 pub struct AsyncCell<T, N: Protocol<T, TaskWaker> = Unruled> {
     pub(crate) core: LockedCore<T, TaskWaker, N>,
     /// The source that waiting tasks register with.

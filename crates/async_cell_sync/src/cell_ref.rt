@@ -15,7 +15,7 @@ pub trait CellRef {
     /// The type of the value in the cell.
     type Value: Drop;
 
-    /// What is known of the values (see `Rule`): of a plain cell `Unruled`.
+    /// What is known of the values (see `Rule`): `Unruled` if nothing is.
     type Rules: Protocol<Self::Value, TaskWaker>;
 
     /// The source that a pending future over this pointer has registered with. Leave it out in your

@@ -26,8 +26,8 @@ use std::sync::Wait;
 /// **Letting one go may wait for the lock**, as its other calls may. `Shared` is the owner that
 /// must be consumed by a call, so that each end stands in the program.
 ///
-/// `N` says what is known of the values (see `Rule`), and to which history a witness sees: of a
-/// plain cell neither.
+/// `N` says what is known of the values (see `Rule`), and which history a witness sees. `Unruled`,
+/// the default, has neither.
 #[derive_where(Debug)]
 pub struct Owner<T: Drop, R: Wait + Drop, N: Protocol<T, TaskWaker> = Unruled> {
     #[derive_where(skip)]

@@ -12,7 +12,7 @@ pub trait CellRef: Drop {
     /// The type of the value in the cell.
     type Value: Drop;
 
-    /// What is known of the values (see `Rule`): of a plain cell `Unruled`.
+    /// What is known of the values (see `Rule`): `Unruled` if nothing is.
     type Rules: Free<Self::Value, TaskWaker>;
 
     /// The source that a pending future over this pointer has registered with. Leave it out in your

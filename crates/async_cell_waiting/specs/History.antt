@@ -1,4 +1,4 @@
--- What is told of a cell: which cell it is, its history, and what a call adds to it.
+-- The history of a cell: which cell it is, the calls on it, and what a call adds to it.
 use Rattle.std.specs.Prelude.{◌≡◌, ℕ, Bool, true, false, List, [], ◌∷◌, ◌++◌, Contains, length, filter_map, option_to_list, ⊤, Option, Some, None, IfSome, IsSome, IsSomeAnd, Result, Ok, Err}
 use Rattle.std.specs.List.{All}
 use mathlib.Core.List.{IsPrefix}

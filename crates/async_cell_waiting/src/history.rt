@@ -1,4 +1,4 @@
-//! What is told of a cell: its history, which exists in the proofs alone.
+//! The history of a cell, which exists in the proofs alone.
 mod blank;
 mod calls;
 mod cancel;

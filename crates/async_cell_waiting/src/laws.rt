@@ -1,4 +1,4 @@
-//! Laws of what is told of a cell. Each is the contract of a function that does nothing.
+//! Laws of the history of a cell. Each is the contract of a function that does nothing.
 ghost use Rattle.std.specs.Prelude.{◌≡◌, ◌≢◌, ◌+◌, ◌⊎◌, ◌++◌, ◌∷◌, [], ℕ, Bool, true, false, length, Some, IfSome, option_to_list};
 ghost use Rattle.std.specs.List.{count_by};
 ghost use mathlib.Core.List.{IsPrefix};
@@ -35,23 +35,23 @@ pub fn a_value_is_one_that_may_be_set<T, W: Wakes, N: Protocol<T, W>>()
 /// wake it.
 pub fn a_fill_or_close_wakes_who_waits<T, W: Wakes, N: Protocol<T, W>>()
     ensures { (seen now : History T W) (call : Called T W) (reply : Replied T) (w : W)
-        (told : IsLinearized W.Wakes N.named seen call reply now)
+        (made : IsLinearized W.Wakes N.named seen call reply now)
         → IsLawful W.will_wake W.SURE_CLONE N.may (start_of N.named) now
-        → StillWaits (start_of N.named).cell w told.before
-        → ends_waiting (cell_after (start_of N.named).cell told.before)
+        → StillWaits (start_of N.named).cell w made.before
+        → ends_waiting (cell_after (start_of N.named).cell made.before)
         (cell_after (start_of N.named).cell now) ≡ true
-        → IsCovered W.will_wake told.woken w }
+        → IsCovered W.will_wake made.woken w }
 {}
 
 /// A `set` that was done wakes each waker that still waits there, or one that would wake it.
 pub fn a_set_wakes_who_waits<T, W: Wakes, N: Protocol<T, W>>()
     ensures { (seen now : History T W) (v : T) (w : W)
-        (told : IsLinearized W.Wakes N.named seen (Kept.Set v) Reply.Done now)
+        (made : IsLinearized W.Wakes N.named seen (Kept.Set v) Reply.Done now)
         → IsLawful W.will_wake W.SURE_CLONE N.may (start_of N.named) now
-        → StillWaits (start_of N.named).cell w told.before → IsCovered W.will_wake told.woken w }
+        → StillWaits (start_of N.named).cell w made.before → IsCovered W.will_wake made.woken w }
 {}
 
-/// What was told is in the history, and stays there.
+/// A call that was linearized is in the history, and stays there.
 pub fn what_was_seen_stays<T, W: Wakes, N: Protocol<T, W>>()
     ensures linearized { (seen now : History T W) (call : Called T W) (reply : Replied T)
         → IsLinearized W.Wakes N.named seen call reply now → HasEntry now call reply }
@@ -91,7 +91,7 @@ pub fn what_is_got_never_goes_back<T, W: Wakes, N: Protocol<T, W>>()
         → follows v w ≡ true }
 {}
 
-/// A take that an author was told of is one of its own, for ever: also in all that was seen later.
+/// A take that an author signed is one of its own, for ever: also in all that was seen later.
 pub fn a_seen_take_is_of_its_author<T, W: Wakes, N: Protocol<T, W>>()
     ensures linearized { (seen now : Seen T W) (v : T)
         → IsLinearized W.Wakes N.named seen.calls Kept.TryTake (Reply.Value (Some v)) now.calls

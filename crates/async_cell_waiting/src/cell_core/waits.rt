@@ -67,7 +67,7 @@ impl<T: Clone, N: Protocol<T, TaskWaker>> Query<CellCore<T, TaskWaker, N>> for C
     }
 }
 
-/// A query by a caller: an owner is never told `Closed`.
+/// A query by a caller: an owner never gets `Closed`.
 #[derive(Drop)]
 pub struct By<'a, K, Q> {
     caller: &'a K,

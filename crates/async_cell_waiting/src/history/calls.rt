@@ -1,4 +1,4 @@
-//! The calls of the model, for a thread that is told of the cell's history.
+//! The calls of the model, for a thread whose witness sees the cell's history.
 ghost use Rattle.std.specs.Prelude.{◌≡◌, Option, Some, None, IfErr, IfOk, IfSome, IsOk, IsSomeAnd, OnErr, OnOk, IsTrue};
 ghost use Rattle.async_cell_model.specs.Refusal.{FailsWithClosed, FailsWithMemory};
 ghost use Rattle.async_cell_core.specs.Polled.{poll_reply};
@@ -141,7 +141,7 @@ impl<T: Drop, W: Wakes, N: Protocol<T, W>> Witness<T, W, N> {
     }
 
     /// Calls the closure on the content and stores what it returns. Wakes all waiters if that puts
-    /// a value into an empty cell. Fails with `Closed` on a closed cell, and is then told that it
+    /// a value into an empty cell. Fails with `Closed` on a closed cell, and has then seen that it
     /// is closed.
     pub fn update<'a, F, M: Stores<Core = CellCore<T, W, N>>, K: Caller<T, W, N>, R: Opens<'a, M>>(
         &mut self,
@@ -180,7 +180,7 @@ impl<T: Drop, W: Wakes, N: Protocol<T, W>> Witness<T, W, N> {
     }
 
     /// Calls the closure on the value, if there is one, and stores what it returns. Fails with
-    /// `Closed` on a closed cell, and is then told that it is closed. A closure that was not called
+    /// `Closed` on a closed cell, and has then seen that it is closed. A closure that was not called
     /// is dropped after the step.
     pub fn update_some<
         'a,

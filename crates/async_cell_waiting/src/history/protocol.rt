@@ -7,7 +7,7 @@ use std::marker::{Brand, PhantomData};
 /// Which cell it is, which changes of its content may be made, and what is known of its values.
 /// Only contracts read it.
 pub trait Protocol<T, W> {
-    /// How the cell began. `None`: it has no name, and nobody can be told of it.
+    /// How the cell began. `None`: it has no name, and nobody sees its history.
     ghost named: { Option (Begun T W) };
 
     /// The changes that may be made: writes and takes.
@@ -39,7 +39,7 @@ pub trait Unwitnessed<T, W>: Free<T, W> {
 }
 
 /// A rule on values: whoever writes one to the cell shows that it holds, so whoever takes or gets
-/// one is told so. Only contracts read it.
+/// one knows it. Only contracts read it.
 ///
 /// ```rust
 /// struct Even;
@@ -117,7 +117,7 @@ impl<T, W> Protocol<T, W> for Brand {
     ghost keeps = { λ call _. puts_any call };
 }
 
-/// As for a `Protocol`: a cell with a history whose plain futures take.
+/// As for a `Protocol`: futures without a witness may take the values of such a cell, too.
 impl<T, W> Takeable<T, W> for Brand {
     ghost takes = { λ _ _. tt };
 }
