@@ -1,9 +1,9 @@
-ghost use Rattle.std.specs.Prelude.{◌≡◌, None, Err, IfOk, IfErr, IsSomeAnd};
+ghost use Rattle.std.specs.Prelude.{◌≡◌, None, Ok, Err, IfOk, IfErr, IfSome, IsSomeAnd};
 ghost use Rattle.std.specs.Arc.{arc_value};
 ghost use Rattle.core.specs.Mem.{manually_drop_value};
 ghost use Rattle.futures.specs.Poll.{IfReady, OnPending};
 ghost use Rattle.futures.specs.Task.{Covers, Keeps};
-ghost use Rattle.async_cell_model.specs.Refusal.{FailsWithMemory, FailsWithMemoryOrClosed};
+ghost use Rattle.async_cell_model.specs.Refusal.{FailsWithClosed, FailsWithMemory, FailsWithMemoryOrClosed};
 ghost use Rattle.async_cell_model.specs.declared.refusal.Refusal.TheVariants.{Closed};
 ghost use Rattle.async_cell_sync.specs.Source.{source_of};
 
@@ -137,6 +137,53 @@ impl<T: Drop, R: Wait + Drop, N: Unwitnessed<T, TaskWaker>> Drop for Replier<T, 
     fn drop(self) {
         let Replier { cell, rt } = self;
         let _ = cell.core.end_owner(&rt); // The cell has one owner: both sides together.
+    }
+}
+
+impl<T: Drop, R: Wait + Drop, N: Unwitnessed<T, TaskWaker>> Reply<T, R, N> {
+    /// Takes the value, if it was set, without waiting. `Ok(None)` says that it may still come.
+    /// Fails with `Closed` if the `Replier` was dropped without a `set`, and after the reply was
+    /// taken.
+    ///
+    /// ```rust
+    /// let (replier, mut reply) = reply_slot(rt.alloc(), rt)?;
+    /// println!(rt; "{:?}", reply.try_take())?; // prints Ok(None)
+    /// let _ = replier.set(42);
+    /// println!(rt; "{:?}", reply.try_take())?; // prints Ok(Some(42))
+    /// ```
+    pub fn try_take(&mut self) -> Result<Option<T>, Refusal>
+        ensures rule { IfOk result (λ found. IfSome found N.holds) }
+        ensures closed { self.old.cell ≡ None → result ≡ Err Refusal.Closed }
+        ensures over { IfOk result (λ found. IfSome found (λ _. self.new.cell ≡ None)) }
+        ensures stays { result ≡ Ok None → self.new.cell ≡ self.old.cell }
+        ensures refused { FailsWithClosed result }
+    {
+        let Some(cell) = &self.cell else {
+            return Err(Refusal::Closed);
+        };
+        let content = match cell.core.take_out(&self.rt) {
+            Some(None) => return Ok(None),
+            Some(content) => Ok(content),
+            None => Err(Refusal::Closed),
+        };
+        self.cell = None;
+        content
+    }
+
+    /// Closes the slot, and returns the value if it was set: where the wait has a limit, a reply
+    /// that came too late is not lost. One that is set later comes back to the `Replier`.
+    ///
+    /// ```rust
+    /// let (replier, reply) = reply_slot(rt.alloc(), rt)?;
+    /// let _ = replier.set(42);
+    /// println!(rt; "{:?}", reply.close())?; // prints Some(42)
+    /// ```
+    pub fn close(self) -> Option<T>
+        ensures rule { IfSome result N.holds }
+        ensures over { self.cell ≡ None → result ≡ None }
+    {
+        let Reply { cell, rt, place: _ } = self;
+        cell?.core.take_inner(&rt).unwrap_or(None)
     }
 }
 
