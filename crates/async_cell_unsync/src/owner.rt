@@ -76,8 +76,11 @@ impl<T: Drop, P: Rule<T>> Owner<T, Ruled<P>> {
     pub fn ruled(alloc: Global) -> Result<Self, Refusal>
         ensures refused { FailsWithMemory result }
     {
-        let cell = AsyncCell::<T, Ruled<P>>::ruled(alloc);
-        Ok(cell.into_shared_or_drop()?.with())
+        Ok(
+            AsyncCell::<T, Ruled<P>>::ruled(alloc)
+                .into_shared_or_drop()?
+                .with(),
+        )
     }
 
     /// Makes a cell that holds a value, whose values keep the rule `P`, and its first owner. Fails
