@@ -12,7 +12,7 @@ LENGTH = 40
 WRITES = ["set", "or_set", "try_set", "replace", "update", "update_some", "guarded"]
 MAKES = ["own", "guard", "take_shared", "get_shared", "take_weak", "get_weak", "values"]
 MARKS = ["mark_unchanged", "mark_changed", "read_and_update", "peek_and_update"]
-LOOKS = ["try_take", "try_get", "is_set", "waiting", "debug", "purge"]
+LOOKS = ["try_take", "try_get", "peek", "is_set", "is_closed", "waiting", "debug", "purge"]
 LOOKS_OF_A_STATE = ["read", "peek", "has_changed", "is_closed", *MARKS]
 
 
@@ -75,7 +75,7 @@ class Maker:
     def end(self, name):
         """Drops or cancels a future or a stream."""
         _, place, kind = self.made.pop(name)
-        word = "cancel" if kind != "stream" and self.random.random() < 0.5 else "drop"
+        word = self.some(["cancel", "drop"])
         self.cell.leave(word, place)
         if kind == "owner":
             self.cell.end_owner()
@@ -110,7 +110,7 @@ class Owners(Maker):
 
     def __init__(self, seed):
         super().__init__(seed, "owners", Cell())
-        self.owners, self.guards = ["it"], {}
+        self.owners, self.weak, self.guards = ["it"], ["w"], {}
         self.line("new")
         self.line("weak w")
 
@@ -132,24 +132,34 @@ class Owners(Maker):
         self.line(f"{word} {name} on {owner}")
 
     def upgrade(self):
-        """Upgrades the weak owner, or makes a future of it."""
-        if self.random.random() < 0.5:
-            name = self.name("t")
-            self.made[name] = [True, None, "weak"]
-            return self.line(f"take {name} on w")
+        """Upgrades a weak owner or a weak future, or makes another one of a weak owner."""
+        weak, name, how = self.some(self.weak), self.name("u"), self.some(["take", "get", "clone"])
+        futures = [it for it, (_, _, kind) in self.made.items() if kind == "weak"]
+        of = self.some([weak, *futures])
+        if self.random.random() < 0.3 and how == "clone":
+            self.weak.append(name)
+            return self.line(f"clone {weak} {name}")
+        if self.random.random() < 0.3 and how != "clone":
+            self.made[name] = [how == "take", None, "weak"]
+            return self.line(f"{how} {name} on {weak}")
         if not self.cell.owners:
-            return self.line("upgrade w none", "closed")
-        self.owners.append(self.name("u"))
+            return self.line(f"upgrade {of} none", "closed")
         self.cell.owners += 1
-        return self.line(f"upgrade w {self.owners[-1]}")
+        if of == weak:
+            self.owners.append(name)
+        else:
+            self.made[name] = [self.made[of][0], None, "owner"]
+        return self.line(f"upgrade {of} {name}")
 
     def end_guard(self):
         name, value = self.some(self.guards), self.value()
+        if self.random.random() < 0.3:
+            return self.line(f"is_set {name}", self.cell.look("is_set"))
         cancel = self.guards.pop(name)
         how = self.some(["drop", "release", "set", "or_set"])
         self.cell.guarded(cancel, how, value)
         self.cell.end_owner()
-        self.line(f"{how} {value} on {name}" if how.endswith("set") else f"{how} {name}")
+        return self.line(f"{how} {value} on {name}" if how.endswith("set") else f"{how} {name}")
 
     def end_owner(self):
         name = self.some(self.owners)
@@ -194,16 +204,23 @@ class States(Maker):
 
     def write(self, on=""):
         value, old = self.value(), self.cell.content
-        word = self.some(["set", "replace", "update", "modify add"])
-        replies = {"replace": f"old {old}", "modify add": str(old + value)}
+        word = self.some(["set", "replace", "update", "modify", "modify_if"])
+        how = self.some(["", "add", "keep", "hide"]) if word.startswith("modify") else ""
         if word.startswith(("update", "modify")):
             self.cell.happen("saw", old)
-        self.cell.content = old + value if word == "modify add" else value
-        self.version += 1
-        self.cell.wake_all()
-        if word not in replies:
+        self.cell.content = {"": value, "keep": old}.get(how, old + value)
+        if word.startswith("modify") and not how:
             self.cell.drop(old)
-        self.line(f"{word} {value}{on}", replies.get(word, "ok"))
+        is_told = word != "modify_if" or how in ("", "add")
+        if is_told:
+            self.version += 1
+            self.cell.wake_all()
+        if word in ("set", "update"):
+            self.cell.drop(old)
+        replies = {"replace": f"old {old}", "modify": str(self.cell.content)}
+        replies["modify_if"] = str(is_told).lower()
+        given = how if how == "keep" else f"{how} {value}".strip()
+        self.line(f"{word} {given}{on}", replies.get(word, "ok"))
 
     def follow(self):
         name, of = self.name("f"), self.some([*self.owners, *self.free()])
@@ -230,11 +247,12 @@ class States(Maker):
             reply = str(has_changed).lower() if word == "has_changed" else "ok"
         self.line(f"{word} {name}", reply)
 
-    def places(self):
-        """Asks for the places of those who wait, or has those that were left let go."""
-        owner = self.some(self.owners)
-        word = "waiting" if self.random.random() < 0.5 else "purge"
-        self.line(f"{word} {owner}", self.cell.look(word))
+    def ask(self):
+        """Asks an owner for the state or for the places of those who wait, or has those that were
+        left let go."""
+        word = self.some(["waiting", "purge", "peek", "read"])
+        reply = self.cell.cloned("some") if word == "read" else self.cell.look(word)
+        self.line(f"{word} {self.some(self.owners)}", reply)
 
     def lend(self):
         """Polls a new future or stream of a follower: its place, and the state that it looked at."""
@@ -290,11 +308,11 @@ class States(Maker):
         self.line(f"{self.some(['drop', 'end'])} {name}")
 
     def step(self):
-        chosen = self.random.randrange(12)
+        chosen = self.random.randrange(13)
         if chosen < 2 and self.owners:
             self.write(f" on {self.some(self.owners)}")
-        elif chosen == 2 and self.owners:
-            self.random.choice([self.own, self.places])()
+        elif chosen in (2, 12) and self.owners:
+            self.random.choice([self.own, self.ask, self.ask])()
         elif chosen == 3 and len(self.seen) < 5 and (self.owners or self.free()):
             self.follow()
         elif chosen < 6 and self.free() and len(self.made) < 5:

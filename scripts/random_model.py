@@ -116,6 +116,12 @@ class Cell:
     def try_get(self):
         return "none" if self.content is None else self.cloned("some")
 
+    def peek(self):
+        if self.content is None:
+            return "none"
+        self.happen("saw", self.content)
+        return str(self.content)
+
     def cloned(self, word):
         self.happen("cloned", self.content)
         return f"{word} {self.content}'"
