@@ -35,10 +35,17 @@ module _ {T : Type 0} where
   pub covered_with_fresh : (from : DriverState T) (kind : Kind) → NamesMatch from → NamesMatch (record from { tasks = from.tasks ++ fresh kind ∷ [] })
   covered_with_fresh from kind covered = grind (arith, waiting_with_fresh, still_with_fresh, covered.0, covered.1)
 
-  -- where a task is started
-  pub starts : (is_clone : T → T → Type 0) (from : DriverState T) (kind : Kind) → IsSound same_name from.core → NamesMatch from
-      → Drives is_clone from (line_of from (Start kind) (Started (length from.tasks)) ∷ []) (record from { tasks = from.tasks ++ fresh kind ∷ [] })
-  starts is_clone from kind sound covered = record {
+  -- where a task is not polled
+  pub not_polled : (from : DriverState T) (i : ℕ) (is_clone : T → T → Type 0) → IsSound same_name from.core → NamesMatch from → is_ready from [] i ≡ false
+      → Drives is_clone from (line_of from (Poll i) (Polled NotReady) ∷ []) from
+  not_polled from i is_clone sound covered not_ready = grind (arith, up_to_clones, Runs-nil, append-nil, awake, covered.0, covered.1)
+
+  -- Where a task is started, or the start is refused. The new task and its number are known by what
+  -- they equal.
+  pub starts_as : (is_clone : T → T → Type 0) (from : DriverState T) (kind : Kind) (tasks : List (Task T)) (number : ℕ) → IsSound same_name from.core → NamesMatch from
+      → number ≡ length from.tasks → tasks ≡ from.tasks ++ fresh kind ∷ []
+      → Drives is_clone from (line_of from (Start kind) (Started number) ∷ []) (record { core = from.core; tasks = tasks })
+  starts_as is_clone from kind tasks number sound covered counts made = rw (counts, made) record {
     legal = ((sym (length-map from.tasks (λ task. task.kind)), refl), tt);
     core_leads = up_to_clones is_clone same_name true from.core from.core [] [] (Runs-nil same_name true from.core sound);
     kinds_are = map-append (λ task. task.kind) from.tasks (fresh kind ∷ []);
@@ -47,17 +54,6 @@ module _ {T : Type 0} where
     ready_is = λ i. rw (map-append (λ task. task.kind) from.tasks (fresh kind ∷ []), says_with_fresh is_done_mark refl from.tasks kind i, says_with_fresh is_due_mark refl from.tasks kind i) refl;
     none_forgotten = awake _ sound (covered_with_fresh from kind covered).0;
   }
-
-  -- where a task is not polled
-  pub not_polled : (from : DriverState T) (i : ℕ) (is_clone : T → T → Type 0) → IsSound same_name from.core → NamesMatch from → is_ready from [] i ≡ false
-      → Drives is_clone from (line_of from (Poll i) (Polled NotReady) ∷ []) from
-  not_polled from i is_clone sound covered not_ready = grind (arith, up_to_clones, Runs-nil, append-nil, awake, covered.0, covered.1)
-
-  -- the same, where the new task and its number are known by what they equal
-  pub starts_as : (is_clone : T → T → Type 0) (from : DriverState T) (kind : Kind) (tasks : List (Task T)) (number : ℕ) → IsSound same_name from.core → NamesMatch from
-      → number ≡ length from.tasks → tasks ≡ from.tasks ++ fresh kind ∷ []
-      → Drives is_clone from (line_of from (Start kind) (Started number) ∷ []) (record { core = from.core; tasks = tasks })
-  starts_as is_clone from kind tasks number sound covered counts made = rw (counts, made) (starts is_clone from kind sound covered)
 
   pub start_refused_as : (is_clone : T → T → Type 0) (from : DriverState T) (kind : Kind) (tasks : List (Task T)) (why : Refusal) → IsSound same_name from.core → NamesMatch from
       → why ≡ Memory → tasks ≡ from.tasks → Drives is_clone from (line_of from (Start kind) (Refused why) ∷ []) (record { core = from.core; tasks = tasks })

@@ -1,5 +1,5 @@
 -- Where a poll leads.
-use Rattle.async_cell_driver.proofs.Words.{◌≡◌, ◌≢◌, ℕ, Bool, true, false, not, ◌&&◌, ◌||◌, List, [], ◌∷◌, ◌++◌, Option, Some, None, map, length, refl, ap, sym, ◌∙◌, subst, append-nil, arith, is_some, nat_eq, if◌then◌else◌, Result, Ok, Err, IsOk, IfOk, IfErr, OnOk, MatchOption, option_map, eqb-true, eqb-false, eq-eqb, or-false, or-true, Named, Cell, Reply, Refusal, Memory, ends_waiting, next, State, IsSound, woken_by, RunsUpTo, StepsUpTo, poll_reply, IsReadyWith, Kind, Mark, Task, Told, Polled, is_done_mark, waits_mark, is_due_mark, is_ready_mark, DriverState, name_of, mark_at, result_of, result_at, kind_at, NamesMatch, AllNamed, AllWaiting, is_named, change, with_mark, Line, kinds, is_ready, is_poll_of, was_ready, was_pending, was_refused, poll_of, told_of, line_of, history, handed_out, waiting_when, mark_after, polled_of, IsPolledWith, Drives, FitsTold, same_name}
+use Rattle.async_cell_driver.proofs.Words.{◌≡◌, ◌≢◌, ℕ, Bool, true, false, not, ◌&&◌, ◌||◌, List, [], ◌∷◌, ◌++◌, Option, Some, None, map, length, refl, ap, sym, ◌∙◌, subst, append-nil, arith, is_some, nat_eq, if◌then◌else◌, Result, Ok, Err, IsOk, IfOk, IfErr, OnOk, MatchOption, option_map, eqb-true, eqb-false, eq-eqb, or-false, or-true, Named, Reply, Refusal, Memory, State, IsSound, woken_by, RunsUpTo, StepsUpTo, poll_reply, IsReadyWith, Kind, Mark, Task, Told, Polled, is_done_mark, waits_mark, is_due_mark, is_ready_mark, DriverState, name_of, mark_at, result_of, result_at, kind_at, NamesMatch, AllNamed, AllWaiting, is_named, change, with_mark, Line, kinds, is_ready, is_poll_of, was_ready, was_pending, was_refused, poll_of, told_of, line_of, history, handed_out, waiting_when, mark_after, polled_of, IsPolledWith, Drives, FitsTold, same_name}
 use Rattle.futures.specs.declared.task.Poll.{Poll}
 use Rattle.futures.specs.declared.task.Poll.TheVariants.{Ready, Pending}
 use Rattle.async_cell_model.specs.declared.reply.Reply.TheVariants as reply
@@ -11,12 +11,9 @@ use Rattle.async_cell_driver.proofs.ReadyNow.{awake, ready_now, started_now, rea
 use Rattle.async_cell_driver.proofs.WokenTasks.{slice_get-change_same, slice_get-change_other, says_same, map-change, named-append}
 
 module _ {T : Type 0} where
-  pub poll_ends_none : (c : Cell T) (kind : Option Kind) (i : ℕ) (r : Reply T) → ends_waiting c (next c (record { call = poll_of kind i; reply = r })) ≡ false
-  poll_ends_none c kind i r = grind arith
-
   -- a poll wakes none
   pub poll_hands_none : (core : State T Named) (kind : Option Kind) (i : ℕ) (r : Reply T) → woken_by core (record { call = poll_of kind i; reply = r }) ≡ []
-  poll_hands_none core kind i r = ap (λ (ends : Bool). if ends then core.waiting else []) (poll_ends_none core.cell kind i r)
+  poll_hands_none core kind i r = grind arith
 
 -- the mark of a task that is marked if it is polled
 abbrev pub marked_if : Bool → Mark → Option Mark → Option Mark
@@ -46,13 +43,10 @@ named_or_asked i j b is l old covered stands = grind (arith, named-append, or-tr
 waiting_beside : (b : Bool) (m : Mark) (old : Option Mark) → (b ≡ true → is_ready_mark old ≡ true) → old ≡ Some mark.Waiting → marked_if b m old ≡ Some mark.Waiting
 waiting_beside b m old ready stands = grind (arith, ready)
 
-some_marked : (m : Mark) (old : Option Mark) → is_ready_mark old ≡ true → option_map (λ _. m) old ≡ Some m
-some_marked m old ready = grind arith
-
 -- a name in the list after a poll that waits is the task's own, or was there before
 waiting_or_asked : (i j : ℕ) (b : Bool) → nat_eq i j ≡ b → (l : List Named) (old : Option Mark) → (b ≡ true → is_ready_mark old ≡ true) → (is_named j l ≡ true → old ≡ Some mark.Waiting)
     → is_named j (l ++ name_of i ∷ []) ≡ true → marked_if b mark.Waiting old ≡ Some mark.Waiting
-waiting_or_asked i j b is l old ready waits named = grind (arith, some_marked, named-append, or-false, ready, waits)
+waiting_or_asked i j b is l old ready waits named = grind (arith, named-append, or-false, ready, waits)
 
 module _ {T : Type 0} where
   mark-marked_one : (m : Mark) (i j : ℕ) (b : Bool) → nat_eq i j ≡ b → (tasks : List (Task T)) → mark_at (change (with_mark m) i tasks) j ≡ marked_if b m (mark_at tasks j)
@@ -162,7 +156,7 @@ module _ {T : Type 0} where
       (rw (tasks_are, answer_is) (poll_drives is_clone from core i kind asked sound covered is_kind ready answers refused waits))
 
   marked_same : (m : Mark) (i : ℕ) (tasks : List (Task T)) → is_ready_mark (mark_at tasks i) ≡ true → mark_at (change (with_mark m) i tasks) i ≡ Some m
-  marked_same m i tasks ready = mark-marked_one m i i true (eq-eqb i i refl) tasks ∙ some_marked m (mark_at tasks i) ready
+  marked_same m i tasks ready = grind (arith, mark-marked, eq-eqb)
 
   -- a task whose poll was not refused is not ready
   pub ready_no_more : (core : State T Named) (i : ℕ) (asked : Result (Poll (Option T)) Refusal) (tasks : List (Task T)) → is_ready_mark (mark_at tasks i) ≡ true

@@ -1,8 +1,8 @@
 -- Polls of all that are ready, one by one.
-use Rattle.async_cell_driver.proofs.Words.{◌≡◌, ◌<◌, ◌≤◌, ◌+◌, ◌-◌, inl, inr, le_trans, ℕ, zero, suc, Bool, true, false, ◌||◌, List, [], ◌∷◌, ◌++◌, Option, Some, None, Ok, Err, map, length, reverse, refl, ap, sym, ◌∙◌, arith, append-nil, append_assoc, length-append, add-one, slice_get, is_some, nat_eq, filter, Result, MatchResult, if◌then◌else◌, option_map, eqb-true, eqb-false, cases_lt, slice_get_past, filter-append, map-append, length-map, reverse-append, Refusal, is_vacant, Task, Poll, Told, Polled, Ready, is_ready_mark, DriverState, result_at, change, with_result, Line, Log, is_ready, waits, was_refused, line_of, Drives, ResultsStay, NoneForgotten, numbers, events_of, has_refused, got_by, got_or, Keeps, Settles, SettlesOne}
+use Rattle.async_cell_driver.proofs.Words.{◌≡◌, ◌<◌, ◌≤◌, ◌+◌, ◌-◌, ℕ, zero, suc, Bool, true, false, ◌||◌, List, [], ◌∷◌, ◌++◌, Option, Some, None, Ok, Err, map, length, reverse, refl, ap, sym, ◌∙◌, arith, append-nil, append_assoc, length-append, add-one, slice_get, is_some, nat_eq, filter, Result, MatchResult, if◌then◌else◌, eqb-true, eqb-false, slice_get_past, filter-append, map-append, length-map, reverse-append, Refusal, is_vacant, Poll, Told, Polled, Ready, DriverState, result_at, change, with_result, Line, Log, is_ready, waits, was_refused, line_of, Drives, ResultsStay, NoneForgotten, numbers, events_of, has_refused, got_by, got_or, Keeps, Settles, SettlesOne}
 use Rattle.async_cell_driver.specs.declared.event.Told.TheVariants as told
 use Rattle.async_cell_driver.proofs.JoinedLogs.{drives_more}
-use Rattle.async_cell_driver.proofs.ReadyNow.{ready_now}
+use Rattle.async_cell_driver.proofs.ReadyNow.{ready_now, started_now}
 use Rattle.async_cell_driver.proofs.KeptResult.{keeping, result-keeping_other}
 use Rattle.async_cell_driver.proofs.WokenTasks.{slice_get-change_same, length-change}
 
@@ -76,18 +76,13 @@ module _ {T : Type 0} where
         keeps = keeps_more from at to log (line_of at (Poll i) answer) here.keeps one.keeps;
       }
 
-  some_of_map : {A : Type 0} (f : Task T → A) (tasks : List (Task T)) (i : ℕ) → is_some (slice_get (map f tasks) i) ≡ is_some (slice_get tasks i)
-  some_of_map f [] i = refl
-  some_of_map f (t ∷ tasks) zero = refl
-  some_of_map f (t ∷ tasks) (suc i) = some_of_map f tasks i
-
   keeps_over : (from at : DriverState T) (i j : ℕ) (value : Option T) (b : Bool) → nat_eq i j ≡ b → is_some (slice_get at.tasks i) ≡ true → ResultsStay from at
       → result_at (change (with_result (Some value)) i at.tasks) j ≡ got_or (got_or (if b then Some value else None) None) (result_at from.tasks j)
   keeps_over from at i j value b is there stay = grind (arith, eqb-true, slice_get-change_same, result-keeping_other, eqb-false, stay)
 
   pub keeps_one : (from at : DriverState T) (i : ℕ) (value : Option T) → is_ready from [] i ≡ true → map (λ task. task.kind) at.tasks ≡ map (λ task. task.kind) from.tasks ++ [] → ResultsStay from at
       → Keeps from (line_of from (Poll i) (told.Polled (Ready value)) ∷ []) (keeping i (Some value) at)
-  keeps_one from at i value ready kinds stay j = grind (arith, some_of_map, append-nil, keeps_over, stay)
+  keeps_one from at i value ready kinds stay j = grind (arith, started_now, append-nil, keeps_over, stay)
 
   size_same : (from at : DriverState T) → map (λ task. task.kind) at.tasks ≡ map (λ task. task.kind) from.tasks ++ [] → length at.tasks ≡ length from.tasks
   size_same from at kinds = sym (length-map at.tasks (λ task. task.kind)) ∙ (ap length (kinds ∙ append-nil _) ∙ length-map from.tasks (λ task. task.kind))
@@ -112,12 +107,9 @@ module _ {T : Type 0} where
   pub size_kept : (from at : DriverState T) (i : ℕ) (result : Option (Option T)) → map (λ task. task.kind) at.tasks ≡ map (λ task. task.kind) from.tasks ++ [] → length (change (with_result result) i at.tasks) ≡ length from.tasks
   size_kept from at i result kinds = grind (arith, length-change, size_same)
 
-  past_ready : (at : DriverState T) (i : ℕ) → length at.tasks ≤ i → is_ready at [] i ≡ false
-  past_ready at i past = ready_now at i ∙ ap (λ t. is_ready_mark (option_map (λ task. task.mark) t)) (slice_get_past at.tasks i past)
-
   -- where no task was left out, none is ready
   pub none_ready : (at : DriverState T) (n : ℕ) → length at.tasks ≤ n → ((j : ℕ) → j < n → is_ready at [] j ≡ false) → (j : ℕ) → is_ready at [] j ≡ false
-  none_ready at n size passed j = elim (cases_lt j n) [ inl below ↦ passed j below | inr above ↦ past_ready at j (le_trans size above) ]
+  none_ready at n size passed j = grind (arith, ready_now, slice_get_past, passed)
 
   -- and where the cell is full or closed then, none waits
   pub none_waits : (at : DriverState T) → NoneForgotten at → ((j : ℕ) → is_ready at [] j ≡ false) → is_vacant at.core.cell ≡ false → (j : ℕ) → waits at [] j ≡ false

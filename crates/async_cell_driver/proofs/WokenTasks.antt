@@ -31,10 +31,6 @@ module _ {T : Type 0} where
   length-change f zero (t ∷ tasks) = refl
   length-change f (suc n) (t ∷ tasks) = ap suc (length-change f n tasks)
 
-  pub length-wake_each : (names : List Named) (tasks : List (Task T)) → length (wake_each names tasks) ≡ length tasks
-  length-wake_each [] tasks = refl
-  length-wake_each (n ∷ names) tasks = length-wake_each names (change wake n.0 tasks) ∙ length-change wake n.0 tasks
-
   pub kinds-wake_each : (names : List Named) (tasks : List (Task T)) → map (λ task. task.kind) (wake_each names tasks) ≡ map (λ task. task.kind) tasks
   kinds-wake_each [] tasks = refl
   kinds-wake_each (n ∷ names) tasks = kinds-wake_each names (change wake n.0 tasks) ∙ map-change (λ task. task.kind) wake (λ t. refl) n.0 tasks
@@ -48,9 +44,6 @@ abbrev pub woken_if : Bool → Option Mark → Option Mark
 woken_if true mark = option_map woken mark
 woken_if false mark = mark
 
-woken_twice : (p q : Bool) (mark : Option Mark) → woken_if q (woken_if p mark) ≡ woken_if (p || q) mark
-woken_twice p q mark = grind arith
-
 module _ {T : Type 0} where
   mark-wake_one : (n i : ℕ) (b : Bool) → nat_eq n i ≡ b → (tasks : List (Task T)) → mark_at (change wake n tasks) i ≡ woken_if b (mark_at tasks i)
   mark-wake_one n i b is tasks = grind (arith, eqb-true, slice_get-change_same, slice_get-change_other, eqb-false)
@@ -58,9 +51,7 @@ module _ {T : Type 0} where
   pub mark-wake_each : (names : List Named) (tasks : List (Task T)) (i : ℕ) → mark_at (wake_each names tasks) i ≡ woken_if (is_named i names) (mark_at tasks i)
   mark-wake_each [] tasks i = refl
   mark-wake_each (n ∷ names) tasks i =
-      mark-wake_each names (change wake n.0 tasks) i
-      ∙ (ap (woken_if (is_named i names)) (mark-wake_one n.0 i (nat_eq n.0 i) refl tasks)
-      ∙ woken_twice (nat_eq n.0 i) (is_named i names) (mark_at tasks i))
+      let one = mark-wake_one n.0 i (nat_eq n.0 i) refl tasks in let rest = mark-wake_each names (change wake n.0 tasks) i in grind (arith, one, rest)
 
 pub named-append : (i : ℕ) (xs ys : List Named) → is_named i (xs ++ ys) ≡ (is_named i xs || is_named i ys)
 named-append i xs ys = list_any-append (λ name. nat_eq name.0 i) xs ys

@@ -23,7 +23,7 @@ pub use Rattle.async_cell_model.proofs.Machine.{model_of, model_up_to}
 pub use Rattle.async_cell_model.proofs.OneEntry.{Runs-sound}
 pub use Rattle.async_cell_model.proofs.OneMoreWaker.{wait_list-distinct}
 pub use Rattle.async_cell_model.proofs.UpTo.{exact_told, up_to_clones}
-pub use Rattle.async_cell_model.specs.History.{History, cell_after, waiting}
+pub use Rattle.async_cell_model.specs.History.{History, cell_after}
 pub use Rattle.async_cell_model.specs.Legal.{RunsUpTo, StepsUpTo, woken_by}
 pub use Rattle.async_cell_model.specs.Machine.{Does, IsSound, State, UpToClones, content, ends_waiting, is_closed, is_full, is_pending, is_vacant, next, owners_of, reply as model_reply, skips, wait_list, with_one_more}
 pub use Rattle.async_cell_model.specs.declared.cell.Cell.{Cell}
@@ -34,9 +34,9 @@ pub use Rattle.async_cell_model.specs.declared.refusal.Refusal.TheVariants.{Memo
 pub use Rattle.async_cell_model.specs.declared.reply.Reply.{Reply}
 pub use Rattle.async_cell_wakers.specs.Named.{same_name}
 pub use Rattle.async_cell_wakers.specs.declared.named.Named.{Named}
-pub use Rattle.std.proofs.Common.{Bool, List, None, Option, Some, [], add-one, ap, append-nil, append_assoc, arith, below_more, false, get_or, inl, inr, le_trans, length, length-append, map, not, refl, rules, set, subst, suc, sym, true, vec_capacity, vec_len, zero, ℕ, ◌&&◌, ◌++◌, ◌+◌, ◌-◌, ◌<◌, ◌||◌, ◌∙◌, ◌∷◌, ◌≡◌, ◌≢◌, ◌≤◌}
+pub use Rattle.std.proofs.Common.{Bool, List, None, Option, Some, [], add-one, ap, append-nil, append_assoc, arith, below_more, false, get_or, length, length-append, map, not, refl, rules, set, subst, suc, sym, true, vec_capacity, vec_len, zero, ℕ, ◌&&◌, ◌++◌, ◌+◌, ◌-◌, ◌<◌, ◌||◌, ◌∙◌, ◌∷◌, ◌≡◌, ◌≢◌, ◌≤◌}
 pub use Rattle.std.proofs.Math.Bool.{or-false, or-true}
-pub use Rattle.std.proofs.lemmas.Bool.{cases_lt, eq-eqb, eqb-false, eqb-true, ne_eqb}
+pub use Rattle.std.proofs.lemmas.Bool.{eq-eqb, eqb-false, eqb-true, ne_eqb}
 pub use Rattle.std.proofs.lemmas.Grind.{common_steps}
 pub use Rattle.std.proofs.lemmas.List.{get_or-map, length-map, map-append, nil_from_length, reverse-append}
 pub use Rattle.std.proofs.lemmas.List.Elements.{filter-append}

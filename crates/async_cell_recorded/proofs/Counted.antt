@@ -1,14 +1,5 @@
 -- What is counted.
-use Rattle.std.proofs.Common.{◌≡◌, ◌<◌, ℕ, zero, suc, List, [], ◌∷◌, ◌++◌, ◌≤◌, length, map, take, refl, ap, sym, subst, ◌∙◌, arith, length-append}
-use Rattle.std.specs.List.{All, AllZip, sum_by}
-use Rattle.std.specs.Prelude.{Option, Some, IsSomeAnd, slice_index_or}
-use Rattle.std.proofs.lemmas.List.{map-append}
-use Rattle.std.proofs.lemmas.List.Sums.{sum_by-cons}
-use Rattle.std.proofs.lemmas.List.Elements.{All-nil, All-push, All-cons, All-head, All-tail, All-rest, All-same}
-use Rattle.async_cell_recorded.specs.declared.session.Seat.{Seat}
-use Rattle.async_cell_recorded.specs.Counting.{ShareState, new_shares}
-use Rattle.async_cell_recorded.specs.Outcomes.{HasEnded, share_of}
-use Rattle.async_cell_recorded.specs.Recording.{numbers_below}
+use Rattle.async_cell_recorded.proofs.Words.{◌≡◌, ◌<◌, ℕ, zero, suc, List, [], ◌∷◌, ◌++◌, ◌≤◌, length, map, take, refl, ap, sym, subst, ◌∙◌, arith, length-append, All, AllZip, sum_by, Option, Some, IsSomeAnd, slice_index_or, map-append, sum_by-cons, All-nil, All-push, All-cons, All-head, All-tail, All-rest, All-same, Seat, ShareState, new_shares, HasEnded, share_of, numbers_below}
 
 pub length_new_shares : (n : ℕ) → length (new_shares n) ≡ n
 length_new_shares zero = refl
@@ -31,9 +22,8 @@ numbers_of_new (suc n) =
 -- one more outcome, and its share
 pub AllZip-more : {A B : Type 0} (R : A → B → Type 0) (xs : List A) (ys : List B) (x : A) (y : B) → AllZip R xs ys → R x y → AllZip R (xs ++ x ∷ []) (ys ++ y ∷ [])
 AllZip-more R [] [] x y all one = (one, tt)
-AllZip-more R [] (b ∷ ys) x y all one = absurd all
-AllZip-more R (a ∷ xs) [] x y all one = absurd all
 AllZip-more R (a ∷ xs) (b ∷ ys) x y all one = (all.0, AllZip-more R xs ys x y all.1 one)
+AllZip-more R xs ys x y all one = absurd all
 
 -- the first share is new, and so are the others
 pub unused_step : (share : ShareState) (all rest : List ShareState) → all ≡ share ∷ rest → All IsUnused all → IsUnused share × All IsUnused rest
@@ -46,12 +36,11 @@ module _ {O : Type 0} where
       → ((k : ℕ) (d : Seat ShareState O) → k < length xs → (slice_index_or ys k d).number ≡ (slice_index_or xs k d).number)
       → map (λ (s : Seat ShareState O). s.number) ys ≡ map (λ (s : Seat ShareState O). s.number) xs
   same_numbers [] [] len each = refl
-  same_numbers [] (y ∷ ys) len each = absurd (omega (arith, len))
-  same_numbers (x ∷ xs) [] len each = absurd (omega (arith, len))
   same_numbers (x ∷ xs) (y ∷ ys) len each =
       let first = each 0 x (omega arith) in
       let rest = same_numbers xs ys (omega (arith, len)) (λ k d below. each (suc k) d (omega (arith, below))) in
       λ i. first i ∷ rest i
+  same_numbers xs ys len each = absurd (omega (arith, len))
 
   -- the shares of seats, under their numbers
   pub numbers_of_shares : (seats : List (Seat ShareState O)) → map (λ (s : ShareState). s.number) (map share_of seats) ≡ map (λ (s : Seat ShareState O). s.number) seats

@@ -4,3 +4,4 @@ mod KeptEntry
 mod OneMoreEntry
 mod PlainHistories
 mod Serials
+mod Words

@@ -1,27 +1,7 @@
 -- What one more entry makes of a journal.
-use Rattle.std.proofs.Common.{◌≡◌, ◌≤◌, ◌<◌, ◌^◌, ◌+◌, ◌-◌, ℕ, inl, inr, Bool, true, false, List, [], ◌∷◌, ◌++◌, map, refl, ap, sym, subst, ◌∙◌, arith, zero-le, length-append, append_assoc, append-nil}
-use Rattle.std.specs.Prelude.{if◌then◌else◌}
-use Rattle.std.proofs.lemmas.List.{map-append}
-use Rattle.std.proofs.lemmas.List.Elements.{All-push}
-use Rattle.async_cell_wakers.specs.declared.named.Named.{Named}
-use Rattle.async_cell_model.specs.declared.cell.Cell.{Cell}
+use Rattle.async_cell_recorded.proofs.Words.{◌≡◌, ◌≤◌, ◌<◌, ◌^◌, ◌+◌, ℕ, true, false, List, [], ◌∷◌, ◌++◌, map, refl, ap, sym, subst, ◌∙◌, arith, length-append, append_assoc, append-nil, if◌then◌else◌, map-append, All-push, Named, Cell, is_memory, reply, State, IsSound, ends_waiting, Does, History, after, IsLegal, woken_by, wakes_after, Runs, Runs-join, model_of, Entry, Recording, IsRecorded, plain_entry, made_by, start, state, same_name, slice_set, replicate, length-set, length-replicate, get_or-replicate, Totals, Test, IsJournal, from_bool, picked_after}
 use Rattle.async_cell_model.specs.declared.entry.Entry as model
-use Rattle.async_cell_model.specs.Machine.{is_memory, reply, State, IsSound, ends_waiting, Does}
-use Rattle.async_cell_model.specs.History.{History, has_fill_or_close, after}
-use Rattle.async_cell_model.specs.Legal.{IsLegal, woken_by, wakes_after, Runs}
-use Rattle.async_cell_model.proofs.LegalHistories.{Runs-join}
-use Rattle.async_cell_model.proofs.Machine.{model_of}
-use Rattle.async_cell_recorded.specs.declared.entry.Entry.{Entry}
-use Rattle.async_cell_recorded.specs.Recording.{Recording, IsRecorded, plain_entry, made_by, start, state}
-use Rattle.async_cell_wakers.specs.Named.{same_name}
-use Rattle.std.specs.Prelude.{slice_set, replicate}
-use Rattle.std.proofs.lemmas.List.{length-set, length-replicate, get_or-replicate}
 use Rattle.async_cell_recorded.proofs.Serials.{serials_more, each_more}
-use Rattle.async_cell_recorded.specs.Counting.{Totals, Test, IsJournal, from_bool, picked_after}
-
-room_none : (ends : Bool) (taken left : ℕ) → (if ends then 0 else 0 - taken) ≤ left
-room_none true taken left = zero-le
-room_none false taken left = omega arith
 
 module _ {T : Type 0} where
   -- a recorded history that is longer by one
@@ -37,14 +17,7 @@ module _ {T : Type 0} where
   -- a recorded history leads to a core with its cell and its waiting list
   leads : (r : Recording T) (core : State T Named) → IsRecorded r → core.cell ≡ (state r).cell → core.waiting ≡ (state r).waiting
       → Runs same_name true (start r.begin) (map plain_entry r.entries) (wakes_after same_name (start r.begin) [] (map plain_entry r.entries)) core
-  leads r core recorded cell_is waiting_is = record {
-    sound = starts r.begin recorded.owned;
-    legal = recorded.legal;
-    cell_is = cell_is;
-    waiting_is = waiting_is;
-    room_is_left = room_none (has_fill_or_close (start r.begin).cell (map plain_entry r.entries)) _ core.room;
-    wakes_are = refl;
-  }
+  leads r core recorded cell_is waiting_is = grind (arith, starts)
 
   wakes_same : (a b : State T Named) (e : model.Entry T Named) → a.cell ≡ b.cell → a.waiting ≡ b.waiting → woken_by a e ≡ woken_by b e
   wakes_same a b e cells lists = λ i. woken_by (record { cell = cells i; waiting = lists i; room = a.room }) e
@@ -108,38 +81,13 @@ module _ {T : Type 0} (test : Test T) where
 
   -- the core is another with the same cell and the same waiting list
   pub journal_same : (r : Recording T) (core core' : State T Named) (counted : Totals) → IsJournal test r core counted → core'.cell ≡ core.cell → core'.waiting ≡ core.waiting → IsJournal test r core' counted
-  journal_same r core core' counted journal cells lists = record {
-    recorded = journal.recorded;
-    cell_is = cells ∙ journal.cell_is;
-    waiting_is = lists ∙ journal.waiting_is;
-    counts_calls = journal.counts_calls;
-    counts_picked = journal.counts_picked;
-    counts_shares = journal.counts_shares;
-    counts_each = journal.counts_each;
-  }
+  journal_same r core core' counted journal cells lists = grind arith
 
 -- the reply is the model's
 pub step_replies : {T : Type 0} (test : Test T) (r : Recording T) (core core' : State T Named) (counted : Totals) (e : Entry T) (woken : List Named) → IsJournal test r core counted → is_memory e.reply ≡ false
     → Does same_name true core (record { call = e.call; reply = e.reply }) woken core' → e.reply ≡ reply (state r).cell e.call
-step_replies {T} test r core core' counted e woken journal found one = elim one.replied [
-  | inl same ↦ same ∙ ap (λ (c : Cell T). reply c e.call) journal.cell_is
-  | inr refused ↦ let memory : is_memory e.reply ≡ true = rw refused.0 refl in cc
-]
+step_replies test r core core' counted e woken journal found one = grind arith
 
 -- a new journal
 pub journal_new : {T : Type 0} (test : Test T) (n : ℕ) → 1 ≤ n → n < 2 ^ 32 → IsJournal test (record { begin = n; entries = [] }) (start n) (record { calls = 0; picked = 0; next_serials = replicate n 0 })
-journal_new test n some fits = record {
-  recorded = record {
-    owned = (some, omega arith);
-    legal = tt;
-    answered = λ k d below. absurd (omega arith);
-    of_shares = λ k d below. absurd (omega arith);
-    serials = λ share. refl;
-  };
-  cell_is = refl;
-  waiting_is = refl;
-  counts_calls = refl;
-  counts_picked = refl;
-  counts_shares = length-replicate n 0;
-  counts_each = λ share below. get_or-replicate n share 0 0 below;
-}
+journal_new test n some fits = grind (arith, length-replicate, get_or-replicate)

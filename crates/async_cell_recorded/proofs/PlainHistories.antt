@@ -1,15 +1,6 @@
 -- Histories without their shares, and plain histories as those of one share.
-use Rattle.std.proofs.Common.{◌≡◌, ◌≤◌, ◌<◌, ◌+◌, ℕ, suc, true, false, List, [], ◌∷◌, ◌++◌, length, map, refl, ap, sym, subst, ◌∙◌, arith, append-nil, append_assoc}
-use Rattle.std.specs.List.{All}
-use Rattle.std.proofs.lemmas.List.Elements.{All-nil, All-cons, All-head, All-tail, All-map}
-use Rattle.async_cell_wakers.specs.declared.named.Named.{Named}
+use Rattle.async_cell_recorded.proofs.Words.{◌≡◌, ◌≤◌, ◌<◌, ◌+◌, ℕ, suc, true, false, List, [], ◌∷◌, ◌++◌, length, map, refl, ap, sym, subst, ◌∙◌, arith, append-nil, append_assoc, All, All-nil, All-cons, All-head, All-tail, All-map, Named, History, IsLegal, is_memory, Entry, Recording, PlainRecording, IsRecorded, IsPlain, plain_entry, without_shares, of_one_share, with_one_share, made_by, serials_of, numbers_below, start, same_name}
 use Rattle.async_cell_model.specs.declared.entry.Entry as model
-use Rattle.async_cell_model.specs.History.{History}
-use Rattle.async_cell_model.specs.Legal.{IsLegal}
-use Rattle.async_cell_model.specs.Machine.{is_memory}
-use Rattle.async_cell_recorded.specs.declared.entry.Entry.{Entry}
-use Rattle.async_cell_recorded.specs.Recording.{Recording, PlainRecording, IsRecorded, IsPlain, plain_entry, without_shares, of_one_share, with_one_share, made_by, serials_of, numbers_below, start}
-use Rattle.async_cell_wakers.specs.Named.{same_name}
 use Rattle.async_cell_recorded.proofs.Serials.{serials_more, made_by_same}
 
 module _ {T : Type 0} where
@@ -32,7 +23,7 @@ module _ {T : Type 0} where
       ap (λ (l : List (Entry T)). entry_at serial x ∷ l) (of_one_share-snoc (serial + 1) h e ∙ ap (λ (n : ℕ). of_one_share (serial + 1) h ++ entry_at n e ∷ []) (omega arith))
 
   pub one_more : (h : History T Named) (e : model.Entry T Named) → of_one_share 0 (h ++ e ∷ []) ≡ of_one_share 0 h ++ entry_at (length h) e ∷ []
-  one_more h e = of_one_share-snoc 0 h e ∙ ap (λ (n : ℕ). of_one_share 0 h ++ entry_at n e ∷ []) (omega arith)
+  one_more h e = grind (arith, of_one_share-snoc)
 
   -- without its shares it is the plain history
   pub same_calls : (serial : ℕ) (h : History T Named) → map plain_entry (of_one_share serial h) ≡ h

@@ -1,4 +1,4 @@
-use Rattle.async_cell_recorded.specs.Counting.{from_bool}
+use Rattle.async_cell_recorded.proofs.Words.{from_bool}
 use Rattle.async_cell_recorded.proofs.books.count.Given as goal
 
 -- one where the answer was picked

@@ -1,6 +1,4 @@
-use Rattle.std.proofs.Common.{◌≡◌, true, false, rules}
-use Rattle.async_cell_model.specs.Machine.{is_memory}
-use Rattle.async_cell_wakers.specs.Named.{same_name}
+use Rattle.async_cell_recorded.proofs.Words.{◌≡◌, true, false, rules, is_memory, same_name}
 use Rattle.async_cell_recorded.proofs.KeptEntry.{kept_made, refused_unchanged}
 use Rattle.async_cell_recorded.proofs.made.make.Goals as goal
 

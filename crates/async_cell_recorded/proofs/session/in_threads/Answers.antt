@@ -1,7 +1,4 @@
-use Rattle.std.proofs.Common.{◌≡◌, ◌<◌, length, rules, ap, sym, ◌∙◌, subst}
-use Rattle.async_cell_recorded.specs.declared.session.Seat.{Seat}
-use Rattle.async_cell_recorded.specs.Counting.{ShareState}
-use Rattle.async_cell_recorded.specs.Outcomes.{HasEnded}
+use Rattle.async_cell_recorded.proofs.Words.{◌≡◌, ◌<◌, length, rules, ap, sym, ◌∙◌, subst, Seat, ShareState, HasEnded}
 use Rattle.async_cell_recorded.proofs.Counted.{same_numbers}
 use Rattle.async_cell_recorded.proofs.session.in_threads.Goals as goal
 

@@ -1,8 +1,4 @@
-use Rattle.std.proofs.Common.{◌++◌, ◌∷◌, [], arith, sym, ◌∙◌, length-append}
-use Rattle.std.specs.Vec.Iter.{into_iter_items}
-use Rattle.std.proofs.lemmas.List.{map-append}
-use Rattle.async_cell_recorded.specs.declared.session.Seat.{Seat}
-use Rattle.async_cell_recorded.specs.Counting.{ShareState}
+use Rattle.async_cell_recorded.proofs.Words.{◌++◌, ◌∷◌, [], arith, sym, ◌∙◌, length-append, into_iter_items, map-append, Seat, ShareState}
 use Rattle.async_cell_recorded.proofs.Counted.{ended_step, described_more}
 use Rattle.async_cell_recorded.proofs.session.part.Goals as goal
 

@@ -1,7 +1,4 @@
-use Rattle.std.proofs.Common.{◌≡◌, ◌≤◌, ◌+◌, length, map, vec_len, vec_capacity}
-use Rattle.std.specs.List.{All, AllZip}
-use Rattle.std.specs.Vec.Iter.{into_iter_items, into_iter_len}
-use Rattle.async_cell_recorded.specs.Outcomes.{HasEnded, share_of}
+use Rattle.async_cell_recorded.proofs.Words.{◌≡◌, ◌≤◌, ◌+◌, length, map, vec_len, vec_capacity, All, AllZip, into_iter_items, into_iter_len, HasEnded, share_of}
 use Rattle.async_cell_recorded.proofs.session.part.Given as goal
 
 -- an outcome and a share for each seat that was parted, and room for the others

@@ -1,10 +1,4 @@
-use Rattle.std.proofs.Common.{◌≡◌, ◌++◌, List, arith, length, map, take, drop, refl, ap, sym, ◌∙◌}
-use Rattle.std.specs.List.{sum_by}
-use Rattle.std.proofs.lemmas.List.{take_at}
-use Rattle.std.proofs.lemmas.List.Elements.{All-same}
-use Rattle.async_cell_recorded.specs.declared.session.Seat.{Seat}
-use Rattle.async_cell_recorded.specs.Counting.{ShareState, Test, new_shares, picked}
-use Rattle.async_cell_recorded.specs.Outcomes.{HasEnded, IsNew, share_of}
+use Rattle.async_cell_recorded.proofs.Words.{◌≡◌, ◌++◌, List, arith, length, map, take, drop, refl, ap, sym, ◌∙◌, sum_by, take_at, All-same, Seat, ShareState, Test, new_shares, picked, HasEnded, IsNew, share_of}
 use Rattle.async_cell_recorded.proofs.Counted.{All-front, IsUnused, new_shares_unused, numbers_of_new, numbers_of_shares, sum_of_shares}
 use Rattle.async_cell_recorded.proofs.session.run_marked.Goals as goal
 

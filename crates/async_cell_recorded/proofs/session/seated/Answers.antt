@@ -1,10 +1,4 @@
-use Rattle.std.proofs.Common.{◌++◌, ◌∷◌, [], List, arith, ap, sym, ◌∙◌, map, None, length-append}
-use Rattle.std.specs.Vec.Iter.{into_iter_items}
-use Rattle.std.proofs.lemmas.List.{map-append}
-use Rattle.std.proofs.lemmas.List.Elements.{All-push}
-use Rattle.async_cell_recorded.specs.declared.session.Seat.{Seat}
-use Rattle.async_cell_recorded.specs.Counting.{ShareState}
-use Rattle.async_cell_recorded.specs.Outcomes.{IsNew}
+use Rattle.async_cell_recorded.proofs.Words.{◌++◌, ◌∷◌, [], List, arith, ap, sym, ◌∙◌, map, None, length-append, into_iter_items, map-append, All-push, Seat, ShareState, IsNew}
 use Rattle.async_cell_recorded.proofs.Counted.{unused_step}
 use Rattle.async_cell_recorded.proofs.session.seated.Goals as goal
 

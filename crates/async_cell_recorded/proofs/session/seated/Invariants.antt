@@ -1,7 +1,4 @@
-use Rattle.std.proofs.Common.{◌≡◌, ◌≤◌, ◌+◌, length, map, vec_len, vec_capacity}
-use Rattle.std.specs.List.{All}
-use Rattle.std.specs.Vec.Iter.{into_iter_items, into_iter_len}
-use Rattle.async_cell_recorded.specs.Outcomes.{IsNew}
+use Rattle.async_cell_recorded.proofs.Words.{◌≡◌, ◌≤◌, ◌+◌, length, map, vec_len, vec_capacity, All, into_iter_items, into_iter_len, IsNew}
 use Rattle.async_cell_recorded.proofs.session.seated.Given as goal
 
 -- a seat for each share that was taken, and room for the others

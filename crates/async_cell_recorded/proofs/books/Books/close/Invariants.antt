@@ -1,5 +1,4 @@
-use Rattle.std.proofs.Common.{◌≡◌, length}
-use Rattle.std.specs.List.{sum_by}
+use Rattle.async_cell_recorded.proofs.Words.{◌≡◌, length, sum_by}
 use Rattle.async_cell_recorded.proofs.books.Books.close.Given as goal
 
 -- the shares that were taken back, each with its part and its count

@@ -1,5 +1,4 @@
-use Rattle.std.proofs.Common.{◌≡◌, ◌≤◌, ◌+◌, vec_len, vec_capacity}
-use Rattle.async_cell_recorded.specs.Counting.{new_shares}
+use Rattle.async_cell_recorded.proofs.Words.{◌≡◌, ◌≤◌, ◌+◌, vec_len, vec_capacity, new_shares}
 use Rattle.async_cell_recorded.proofs.books.Books.open.Given as goal
 
 -- a part of each ledger is left for each share that is still to be made

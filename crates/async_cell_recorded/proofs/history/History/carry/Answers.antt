@@ -1,11 +1,4 @@
-use Rattle.std.proofs.Common.{◌≡◌, ◌++◌, ◌∷◌, [], arith, ap, sym, ◌∙◌, length, length-append}
-use Rattle.std.specs.Vec.Iter.{into_iter_len}
-use Rattle.std.proofs.lemmas.List.{map-id}
-use Rattle.std.proofs.lemmas.Iterator.Adapters.{YieldsList-from_vec}
-use Rattle.std.proofs.lemmas.Iterator.Consumers.{YieldsList-end}
-use Rattle.async_cell_wakers.specs.declared.named.Named.{Named}
-use Rattle.async_cell_model.specs.History.{History}
-use Rattle.async_cell_recorded.specs.Recording.{Recording, PlainRecording, with_one_share, without_shares}
+use Rattle.async_cell_recorded.proofs.Words.{◌≡◌, ◌++◌, ◌∷◌, [], arith, ap, sym, ◌∙◌, length, length-append, into_iter_len, map-id, YieldsList-from_vec, YieldsList-end, Named, History, Recording, PlainRecording, with_one_share, without_shares}
 use Rattle.async_cell_recorded.proofs.PlainHistories.{entry_at, one_more, carried_is, same_calls}
 use Rattle.async_cell_recorded.proofs.history.History.carry.Goals as goal
 

@@ -1,6 +1,4 @@
-use Rattle.std.proofs.Common.{◌≡◌, ◌≤◌, ◌+◌, length, vec_len, vec_capacity}
-use Rattle.std.specs.Vec.Iter.{into_iter_len}
-use Rattle.async_cell_recorded.specs.Recording.{of_one_share}
+use Rattle.async_cell_recorded.proofs.Words.{◌≡◌, ◌≤◌, ◌+◌, length, vec_len, vec_capacity, into_iter_len, of_one_share}
 use Rattle.async_cell_recorded.proofs.history.History.carry.Given as goal
 
 -- the entries so far, and room for the others

@@ -1,7 +1,4 @@
-use Rattle.std.proofs.Common.{◌≡◌, ◌∙◌, List, ap, map}
-use Rattle.std.proofs.lemmas.List.{take_all}
-use Rattle.async_cell_recorded.specs.declared.entry.Entry.{Entry}
-use Rattle.async_cell_recorded.specs.Recording.{plain_entry}
+use Rattle.async_cell_recorded.proofs.Words.{◌≡◌, ◌∙◌, List, ap, map, take_all, Entry, plain_entry}
 use Rattle.async_cell_recorded.proofs.PlainHistories.{plain_is}
 use Rattle.async_cell_recorded.proofs.history.History.plain.Goals as goal
 

@@ -1,5 +1,4 @@
-use Rattle.std.proofs.Common.{◌≡◌, ◌≤◌, length, map, take, vec_len, vec_capacity}
-use Rattle.async_cell_recorded.specs.Recording.{plain_entry}
+use Rattle.async_cell_recorded.proofs.Words.{◌≡◌, ◌≤◌, length, map, take, vec_len, vec_capacity, plain_entry}
 use Rattle.async_cell_recorded.proofs.history.History.plain.Given as goal
 
 -- the entries so far, and room for the others

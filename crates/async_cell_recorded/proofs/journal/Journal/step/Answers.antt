@@ -1,9 +1,4 @@
-use Rattle.std.proofs.Common.{◌≡◌, ◌<◌, ℕ, ap, ◌∙◌, sym, arith}
-use Rattle.std.specs.Prelude.{slice_index}
-use Rattle.async_cell_model.specs.declared.cell.Cell.{Cell}
-use Rattle.async_cell_core.specs.Kept.{kept_call}
-use Rattle.async_cell_recorded.specs.declared.entry.Entry.{Entry}
-use Rattle.async_cell_recorded.specs.Recording.{Recording, state, made_by}
+use Rattle.async_cell_recorded.proofs.Words.{◌≡◌, ◌<◌, ℕ, ap, ◌∙◌, sym, arith, slice_index, Cell, kept_call, Entry, Recording, state, made_by}
 use Rattle.async_cell_recorded.proofs.Serials.{made_by-le-length}
 use Rattle.async_cell_recorded.proofs.OneMoreEntry.{IsNext, journal_more, journal_same, step_replies}
 use Rattle.async_cell_recorded.proofs.journal.Journal.step.Goals as goal
