@@ -1,22 +1,15 @@
 -- The number that the first digits of a text write.
-use Rattle.std.proofs.Common.{◌≡◌, ℕ, ◌+◌, ◌*◌, ◌-◌, ◌<◌, ◌≤◌, List, length, take, get_or, arith}
-use Rattle.std.specs.Int.{IsInRange}
-use Rattle.std.specs.Str.Parse.{AllDigits, digits_value}
+use Rattle.cellrun.proofs.Words.{◌≡◌, ℕ, ◌+◌, ◌*◌, ◌-◌, ◌<◌, ◌≤◌, List, length, take, get_or, arith, digits_value-take-le, IsInRange, AllDigits, digits_value}
 use Rattle.std.proofs.lemmas.Int.Digits.{digits_value_more, digits_more}
 use Rattle.std.proofs.lemmas.Str.{digit_value_digit}
-use Rattle.std.proofs.lemmas.Str.Parse.{digits_value-take-le}
 
 -- with one more digit
 pub one_more : (text : List ℕ) (k n : ℕ) → k < length text → IsInRange 48 57 (get_or text k 0) → n ≡ digits_value 10 (take k text) → digits_value 10 (take (k + 1) text) ≡ n * 10 + (get_or text k 0 - 48)
-one_more text k n within digit so_far =
-    let value = digit_value_digit (get_or text k 0) digit in
-    omega (arith, value, so_far, digits_value_more 10 text k within)
+one_more text k n within digit so_far = grind (arith, digit_value_digit, digits_value_more)
 
 -- and the bytes so far are digits
 pub more_digits : (text : List ℕ) (k : ℕ) → k < length text → IsInRange 48 57 (get_or text k 0) → AllDigits 10 (take k text) → AllDigits 10 (take (k + 1) text)
-more_digits text k within digit so_far =
-    let value = digit_value_digit (get_or text k 0) digit in
-    digits_more 10 text k within so_far (omega (arith, value, digit.0, digit.1))
+more_digits text k within digit so_far = grind (arith, digit_value_digit, digits_more)
 
 -- it is no more than the number that they all write
 pub at_most : (text : List ℕ) (k n : ℕ) → k < length text → IsInRange 48 57 (get_or text k 0) → n ≡ digits_value 10 (take k text) → n * 10 + (get_or text k 0 - 48) ≤ digits_value 10 text

@@ -1,10 +1,9 @@
 pub mod Digits
-pub mod EndText
 pub mod LineFeed
-pub mod LineNumber
-pub mod LineParts
 pub mod Names
+pub mod Operand
 pub mod OutputContents
 pub mod Places
-pub mod UpdateReply
+pub mod ReplyText
 pub mod Written
+pub mod Words

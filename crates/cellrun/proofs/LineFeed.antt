@@ -1,13 +1,9 @@
 -- The index of the first line feed in joined bytes, and the next line that follows from it.
-use Rattle.std.proofs.Common.{◌≡◌, ◌≢◌, ℕ, ◌+◌, ◌<◌, ◌≤◌, Bool, true, false, not, cond, List, [], ◌∷◌, ◌++◌, length, take, drop, Option, Some, None, IfSome, if◌then◌else◌, ◌==◌, refl, sym, ap, ◌∙◌, arith, append_assoc, append-nil, take_all, zero-add}
-use Rattle.std.specs.List.{position_or_len}
-use Rattle.std.specs.Io.KnownBytes.{Keeps, IsAtEnd, prepend_known}
+use Rattle.cellrun.proofs.Words.{IsLine, IsNext, is_line_feed, first_line, after_line, Bad, ◌≡◌, ◌≢◌, ℕ, ◌+◌, ◌<◌, ◌≤◌, Bool, true, false, not, cond, List, [], ◌∷◌, ◌++◌, length, take, drop, Option, Some, None, IfSome, if◌then◌else◌, ◌==◌, refl, sym, ap, ◌∙◌, arith, append_assoc, append-nil, take_all, zero-add, take-append-drop, drop_all, take-append-le, length-append, length-take, Keeps, IsAtEnd, prepend_known, position_or_len}
+use Rattle.cellrun.specs.declared.lines.Next.TheVariants.{End}
 use Rattle.std.specs.Io.BufRead.{DropsConsumable}
 use Rattle.std.proofs.Math.Seq.{take-append-add, drop-append-add}
-use Rattle.std.proofs.lemmas.List.{drop_all, take-append-le, take-append-drop, length-append, length-take}
-use Rattle.cellrun.specs.Next.{IsLine, IsNext, is_line_feed, first_line, after_line}
 use Rattle.cellrun.specs.declared.lines.Next.{Next}
-use Rattle.cellrun.specs.declared.lines.Next.TheVariants.{Call, Blank, Bad, End}
 
 -- the place of the first line feed, or the length
 abbrev place : List ℕ → ℕ
@@ -15,12 +11,10 @@ place bytes = position_or_len is_line_feed bytes
 
 -- one more byte in front, by whether it is no line feed
 none_cons : (m : Bool) (a b : ℕ) → cond m (1 + a) 0 ≡ 1 + b → (m ≡ true) × (a ≡ b)
-none_cons true a b e = (refl, omega arith)
-none_cons false a b e = absurd (omega arith)
+none_cons m a b e = grind arith
 
 some_cons : (m : Bool) (a b l : ℕ) → (a < l → b ≡ a) → cond m (1 + a) 0 < 1 + l → cond m (1 + b) 0 ≡ cond m (1 + a) 0
-some_cons true a b l e h = omega (arith, e (omega arith))
-some_cons false a b l e h = refl
+some_cons m a b l e h = grind (arith, e)
 
 -- after bytes with no line feed it is further on
 pub place-append_none : (xs ys : List ℕ) → place xs ≡ length xs → place (xs ++ ys) ≡ length xs + place ys
@@ -51,39 +45,34 @@ first_line_long h f t none also =
 
 -- what a line that ends in f says of the bytes
 pub next_of_line : (bytes line rest : List ℕ) (next : Next) → bytes ≢ [] → first_line bytes ≡ line → after_line bytes ≡ rest → IsLine line next → IsNext bytes (Some rest) next
-next_of_line bytes line rest (Call call) some e r h = (some, rw e h, rw r refl)
-next_of_line bytes line rest Blank some e r h = (some, e ∙ h, rw r refl)
-next_of_line bytes line rest Bad some e r h = rw e h
-next_of_line bytes line rest End some e r h = absurd h
+next_of_line bytes line rest next some e r h = grind arith
 
--- the reader's known bytes begin with what its buffer shows
-known_front : (buffer xs : List ℕ) (inner : Option (List ℕ)) (none : Bool) → Keeps (Some xs) (if none then None else prepend_known buffer inner) → (ys : List ℕ) × (xs ≡ buffer ++ ys) × ((if none then None else prepend_known buffer inner) ≡ Some xs)
-known_front buffer xs inner true k = absurd k
-known_front buffer xs None false k = absurd k
-known_front buffer xs (Some ys) false k = (ys, sym k, ap (λ (zs : List ℕ). Some zs) k)
+-- the reader's known bytes begin with the front of what its buffer shows
+known_front : (buffer f xs : List ℕ) (n : ℕ) (inner : Option (List ℕ)) (none : Bool) → f ≡ take n buffer → Keeps (Some xs) (if none then None else prepend_known buffer inner)
+    → (t : List ℕ) × (xs ≡ f ++ t) × ((if none then None else prepend_known buffer inner) ≡ Some xs)
+known_front buffer f xs n inner true e k = absurd k
+known_front buffer f xs n None false e k = absurd k
+known_front buffer f xs n (Some ys) false e k =
+    (drop n buffer ++ ys, rw (e, ← append_assoc (take n buffer) (drop n buffer) ys, take-append-drop n buffer) (sym k), ap (λ (zs : List ℕ). Some zs) k)
 
 -- what is held and the front of the buffer are longer than a line, and have no line feed
 pub bad_next : (h buffer f : List ℕ) (n : ℕ) (none : Bool) (old inner left : Option (List ℕ)) → f ≡ take n buffer → Keeps old (if none then None else prepend_known buffer inner) → place h ≡ length h → place f ≡ length f → 64 < length h + length f → IfSome (prepend_known h old) (λ bytes. IsNext bytes left Bad)
 bad_next h buffer f n none None inner left e k held also long = tt
 bad_next h buffer f n none (Some xs) inner left e k held also long =
-    let known = known_front buffer xs inner none k in
-    let t = drop n buffer ++ known.0 in
-    let split : xs ≡ f ++ t = known.1 ∙ (ap (λ (zs : List ℕ). zs ++ known.0) (sym (take-append-drop n buffer)) ∙ (append_assoc (take n buffer) (drop n buffer) (known.0) ∙ ap (λ (zs : List ℕ). zs ++ t) (sym e))) in
-    let line : length h + length f ≤ length (first_line (h ++ xs)) = rw split (first_line_long h f t held also) in
+    let known = known_front buffer f xs n inner none e k in
+    let line : length h + length f ≤ length (first_line (h ++ xs)) = rw (known.1) (first_line_long h f (known.0) held also) in
     ((λ empty. omega (arith, long, line, ap (length {A = ℕ}) empty)), (λ short. absurd (omega (arith, long, line, short))))
 
 -- the front of the buffer has a line feed
 pub line_next : (h buffer f : List ℕ) (n end : ℕ) (none : Bool) (old inner after : Option (List ℕ)) (next : Next) → f ≡ take n buffer → Keeps old (if none then None else prepend_known buffer inner) → place h ≡ length h → end ≡ place f → place f < length f → DropsConsumable (if none then None else prepend_known buffer inner) after (Some (length buffer)) (end + 1) → IsLine (h ++ take end f) next → IfSome (prepend_known h old) (λ bytes. IsNext bytes (prepend_known [] after) next)
 line_next h buffer f n end none None inner after next e k held is in_bounds drops line = tt
 line_next h buffer f n end none (Some xs) inner after next e k held is in_bounds drops line =
-    let known = known_front buffer xs inner none k in
-    let t = drop n buffer ++ known.0 in
-    let split : xs ≡ f ++ t = known.1 ∙ (ap (λ (zs : List ℕ). zs ++ known.0) (sym (take-append-drop n buffer)) ∙ (append_assoc (take n buffer) (drop n buffer) (known.0) ∙ ap (λ (zs : List ℕ). zs ++ t) (sym e))) in
+    let known = known_front buffer f xs n inner none e k in
     let bound : length f ≤ length buffer = rw e (rw length-take (omega arith)) in
     let rest : after ≡ Some (drop (end + 1) xs) = (rw (known.2) at drops) (omega arith) in
-    let some : h ++ xs ≢ [] = (λ empty. omega (arith, ap (length {A = ℕ}) empty, length-append h xs, ap (length {A = ℕ}) split, length-append f t)) in
-    let first : first_line (h ++ xs) ≡ h ++ take end f = rw (split, is) (first_line_found h f t held in_bounds) in
-    let others : after_line (h ++ xs) ≡ drop (end + 1) xs = rw (split, is) (after_line_found h f t held in_bounds) in
+    let some : h ++ xs ≢ [] = (λ empty. omega (arith, ap (length {A = ℕ}) empty, length-append h xs, ap (length {A = ℕ}) known.1, length-append f known.0)) in
+    let first : first_line (h ++ xs) ≡ h ++ take end f = rw (known.1, is) (first_line_found h f (known.0) held in_bounds) in
+    let others : after_line (h ++ xs) ≡ drop (end + 1) xs = rw (known.1, is) (after_line_found h f (known.0) held in_bounds) in
     rw rest (next_of_line (h ++ xs) (h ++ take end f) (drop (end + 1) xs) next some first others line)
 
 -- none in either is none in both
@@ -92,9 +81,7 @@ place_joined h f held also = omega (arith, place-append_none h f held, length-ap
 
 -- the next line is the same if nothing was lost before
 pub kept_next : (old now left : Option (List ℕ)) (next : Next) → Keeps old now → IfSome now (λ bytes. IsNext bytes left next) → IfSome old (λ bytes. IsNext bytes left next)
-kept_next None now left next k h = tt
-kept_next (Some xs) None left next k h = absurd k
-kept_next (Some xs) (Some ys) left next k h = rw (← k) h
+kept_next old now left next k h = grind arith
 
 -- bytes with no line feed are one line
 whole_line : (bytes : List ℕ) → place bytes ≡ length bytes → first_line bytes ≡ bytes

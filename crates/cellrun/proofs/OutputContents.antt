@@ -1,8 +1,5 @@
 -- The bytes of an output, after more are gathered and after some are written.
-use Rattle.std.proofs.Common.{◌≡◌, ℕ, ◌+◌, List, take, drop, ◌++◌, Option, Some, None, length, ◌≤◌, ◌-◌, sym, arith, append_assoc, take-append-drop, drop-drop, length-drop, take_all}
-use Rattle.std.proofs.lemmas.List.{drop-append-le}
-use Rattle.std.specs.Io.KnownBytes.{Keeps, Appends, append_known}
-use Rattle.std.proofs.KnownBytes.{append_known-moved}
+use Rattle.cellrun.proofs.Words.{◌≡◌, ℕ, ◌+◌, List, take, drop, ◌++◌, Option, Some, None, length, ◌≤◌, ◌-◌, sym, arith, append_assoc, take-append-drop, drop-drop, length-drop, take_all, append_known-moved, drop-append-le, Keeps, Appends, append_known}
 
 pub moved : (old new : Option (List ℕ)) (gathered : List ℕ) (written n : ℕ) → Appends old new (take n (drop written gathered)) → Keeps (append_known old (drop written gathered)) (append_known new (drop (written + n) gathered))
 moved old new gathered written n more =

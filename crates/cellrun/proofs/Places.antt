@@ -1,16 +1,13 @@
 -- What `position` returns.
-use Rattle.std.proofs.Common.{◌≡◌, ℕ, ◌<◌, Bool, true, false, not, cond, nat_lt, List, length, take, drop, ◌-◌, take_all, length-drop, Some, None, refl, arith}
-use Rattle.std.specs.List.{position, position_or_len}
+use Rattle.cellrun.proofs.Words.{◌≡◌, ℕ, ◌<◌, Bool, true, false, not, cond, nat_lt, List, length, Some, None, arith, position, position_or_len}
 use Rattle.std.proofs.lemmas.List.Sums.{prefix_len-le-length}
 use borrow.Author.Tests.{ltb-true, ltb-false}
 
 found_cond : (m : Bool) (a k : ℕ) → cond m (Some a) None ≡ Some k → (m ≡ true) × (k ≡ a)
-found_cond true a k e = (refl, cc)
-found_cond false a k e = absurd (cc e)
+found_cond m a k e = grind arith
 
 none_cond : (m : Bool) (a : ℕ) → cond m (Some a) None ≡ None → m ≡ false
-none_cond true a e = absurd (cc e)
-none_cond false a e = refl
+none_cond m a e = grind arith
 
 pub position_found : (p : ℕ → Bool) (xs : List ℕ) (k : ℕ) → position p xs ≡ Some k → (k ≡ position_or_len p xs) × (position_or_len p xs < length xs)
 position_found p xs k e =
@@ -21,9 +18,3 @@ pub position_none : (p : ℕ → Bool) (xs : List ℕ) → position p xs ≡ Non
 position_none p xs e =
     let test : nat_lt (position_or_len p xs) (length xs) ≡ false = none_cond (nat_lt (position_or_len p xs) (length xs)) (position_or_len p xs) e in
     omega (arith, ltb-false (position_or_len p xs) (length xs) test, prefix_len-le-length (λ x. not (p x)) xs)
-
--- the elements from an index on
-pub from_place : (xs : List ℕ) (k : ℕ) → take (length xs - k) (drop k xs) ≡ drop k xs
-from_place xs k =
-    let len = length-drop k xs in
-    take_all (length xs - k) (drop k xs) (omega arith)

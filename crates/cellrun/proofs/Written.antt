@@ -1,89 +1,77 @@
 -- What a script has written, from one line to the next, and at its end.
-use Rattle.std.proofs.Common.{◌≡◌, ℕ, ℤ, ◌+◌, List, [], ◌++◌, Option, Some, None, IfSome, Result, Ok, Err, IsErr, refl, sym, ap, ◌∙◌, append-nil, append_assoc}
-use Rattle.std.specs.Result.{result_unwrap_or}
-use Rattle.std.specs.Io.KnownBytes.{Keeps, Appends, append_known}
-use Rattle.async_cell_wakers.specs.declared.named.Named.{Named}
-use Rattle.async_cell_model.specs.Machine.{State}
-use Rattle.cellrun.specs.CallPrints.{CallPrints}
-use Rattle.cellrun.specs.Next.{IsNext}
+use Rattle.cellrun.proofs.Words.{State, Named, CallPrints, IsNext, after_line, Command, Call, Blank, Done, BadLine, Failed, arith, ◌≡◌, ℕ, ℤ, ◌+◌, List, [], ◌++◌, Option, Some, None, IfSome, Result, Ok, Err, IsErr, refl, sym, ap, append_assoc, Appends-nil, Appends-kept, Appends-trans, Keeps, Appends, append_known, result_unwrap_or}
+use Rattle.cellrun.specs.Ended.{ComesTo, EndsAs, past, start as first}
 use Rattle.cellrun.specs.Written.{Prints, StopsAt, Owes, new_cell}
 use Rattle.cellrun.specs.Written.{start, blank, called}
-use Rattle.cellrun.specs.declared.command.Command.{Command}
-use Rattle.cellrun.specs.declared.lines.Next.TheVariants.{Call, Blank, Bad, End}
 use Rattle.cellrun.specs.declared.script.Ended.{Ended}
-use Rattle.cellrun.specs.declared.script.Ended.TheVariants.{Done, BadLine, Failed}
 
--- If the input's bytes are known, those that are left begin with line n, and the calls before it
--- lead to the cell. If the writer's bytes are known too, it has the text of these calls.
+-- What is left of the input begins with line n, the calls before it lead to the cell, and they print
+-- what the writer got since `before`, if its bytes are known.
+pub record Stands (input : List ℕ) (left : Option (List ℕ)) (n : ℕ) (cell : State ℤ Named) (before now : Option (List ℕ)) : Type 0 where
+  pub rest : List ℕ
+  pub text : List ℕ
+  pub left_is : left ≡ Some rest
+  pub prints : Prints input n rest cell text
+  pub appends : Appends before now text
+
+-- the same, if the input's bytes are known
 abbrev pub IsPrinted : Option (List ℕ) → Option (List ℕ) → ℕ → State ℤ Named → Option (List ℕ) → Option (List ℕ) → Type 0
-IsPrinted None left n cell before now = Unit {0}
-IsPrinted (Some bytes) None n cell before now = ⊥
-IsPrinted (Some bytes) (Some rest) n cell None now = Unit {0}
-IsPrinted (Some bytes) (Some rest) n cell (Some before) None = ⊥
-IsPrinted (Some bytes) (Some rest) n cell (Some before) (Some now) = (text : List ℕ) × Prints bytes n rest cell text × (now ≡ before ++ text)
+IsPrinted bytes left n cell before now = IfSome bytes (λ input. Stands input left n cell before now)
 
 pub printed_start : (left before : Option (List ℕ)) → IsPrinted left left 1 new_cell before before
 printed_start None before = tt
-printed_start (Some bytes) None = tt
-printed_start (Some bytes) (Some before) = ([], start, sym (append-nil before))
+printed_start (Some bytes) before = record { rest = bytes; text = []; left_is = refl; prints = start; appends = Appends-nil before }
 
-pub printed_blank : (bytes left next : Option (List ℕ)) (n : ℕ) (cell : State ℤ Named) (before now mid : Option (List ℕ)) → IsPrinted bytes left n cell before now → IfSome left (λ rest. IsNext rest next Blank) → Keeps now mid → IsPrinted bytes next (n + 1) cell before mid
-printed_blank None left next n cell before now mid h i k = tt
-printed_blank (Some bytes) None next n cell before now mid h i k = absurd h
-printed_blank (Some bytes) (Some rest) next n cell None now mid h i k = rw (i.2) tt
-printed_blank (Some bytes) (Some rest) next n cell (Some before) None mid h i k = absurd h
-printed_blank (Some bytes) (Some rest) next n cell (Some before) (Some now) None h i k = absurd k
-printed_blank (Some bytes) (Some rest) next n cell (Some before) (Some now) (Some mid) h i k = rw (i.2) (h.0, blank (h.1) (i.0) (i.1), rw k (h.2))
+module _ (left : Option (List ℕ)) (n : ℕ) (cell : State ℤ Named) (before now : Option (List ℕ)) where
+  pub printed_blank : (bytes next mid : Option (List ℕ)) → IsPrinted bytes left n cell before now → IfSome left (λ rest. IsNext rest next Blank) → Keeps now mid → IsPrinted bytes next (n + 1) cell before mid
+  printed_blank None next mid s i k = tt
+  printed_blank (Some input) next mid s i k =
+      let is = rw s.left_is at i in record {
+        rest = after_line s.rest;
+        text = s.text;
+        left_is = is.2;
+        prints = blank s.prints is.0 is.1;
+        appends = Appends-kept before now mid s.text s.appends k;
+      }
 
-pub printed_call : (bytes left next : Option (List ℕ)) (n : ℕ) (call : Command) (line : List ℕ) (cell to : State ℤ Named) (before now mid after : Option (List ℕ)) → IsPrinted bytes left n cell before now → IfSome left (λ rest. IsNext rest next (Call call)) → Keeps now mid → CallPrints cell call line to → Appends mid after line → IsPrinted bytes next (n + 1) to before after
-printed_call None left next n call line cell to before now mid after h i k a p = tt
-printed_call (Some bytes) None next n call line cell to before now mid after h i k a p = absurd h
-printed_call (Some bytes) (Some rest) next n call line cell to None now mid after h i k a p = rw (i.2) tt
-printed_call (Some bytes) (Some rest) next n call line cell to (Some before) None mid after h i k a p = absurd h
-printed_call (Some bytes) (Some rest) next n call line cell to (Some before) (Some now) None after h i k a p = absurd k
-printed_call (Some bytes) (Some rest) next n call line cell to (Some before) (Some now) (Some mid) None h i k a p = absurd p
-printed_call (Some bytes) (Some rest) next n call line cell to (Some before) (Some now) (Some mid) (Some after) h i k a p =
-    rw (i.2) (
-      h.0 ++ line,
-      called call line (h.1) (i.0) (i.1) a,
-      rw (p, k, h.2) (append_assoc before (h.0) line),
-    )
+  pub printed_call : (bytes next mid after : Option (List ℕ)) (call : Command) (line : List ℕ) (to : State ℤ Named) → IsPrinted bytes left n cell before now → IfSome left (λ rest. IsNext rest next (Call call)) → Keeps now mid
+      → CallPrints cell call line to → Appends mid after line → IsPrinted bytes next (n + 1) to before after
+  printed_call None next mid after call line to s i k does more = tt
+  printed_call (Some input) next mid after call line to s i k does more =
+      let is = rw s.left_is at i in record {
+        rest = after_line s.rest;
+        text = s.text ++ line;
+        left_is = is.2;
+        prints = called call line s.prints is.0 is.1 does;
+        appends = Appends-trans before mid after s.text line (Appends-kept before now mid s.text s.appends k) more;
+      }
 
-pub owes_done : (bytes left next : Option (List ℕ)) (n : ℕ) (cell : State ℤ Named) (before now after : Option (List ℕ)) → IsPrinted bytes left n cell before now → IfSome left (λ rest. IsNext rest next End) → Keeps now after → Owes bytes before after Done
-owes_done None left next n cell before now after h i k = tt
-owes_done (Some bytes) None next n cell before now after h i k = absurd h
-owes_done (Some bytes) (Some rest) next n cell None now after h i k = tt
-owes_done (Some bytes) (Some rest) next n cell (Some before) None after h i k = absurd h
-owes_done (Some bytes) (Some rest) next n cell (Some before) (Some now) None h i k = absurd k
-owes_done (Some bytes) (Some rest) next n cell (Some before) (Some now) (Some after) h i k =
-    (n, rest, cell, h.0, h.1, (i, ap Some (k ∙ h.2)))
+-- each line before is a call or empty
+comes : {input rest text : List ℕ} {n : ℕ} {cell : State ℤ Named} → Prints input n rest cell text → ComesTo input n rest
+comes start = first
+comes (blank prints some is) = past Blank (comes prints) some (λ e. cc) is
+comes (called call line prints some is does) = past (Call call) (comes prints) some (λ e. cc) is
 
-pub owes_bad : (bytes left next : Option (List ℕ)) (n : ℕ) (cell : State ℤ Named) (before now after : Option (List ℕ)) → IsPrinted bytes left n cell before now → IfSome left (λ rest. IsNext rest next Bad) → Keeps now after → Owes bytes before after (BadLine n)
-owes_bad None left next n cell before now after h i k = tt
-owes_bad (Some bytes) None next n cell before now after h i k = absurd h
-owes_bad (Some bytes) (Some rest) next n cell None now after h i k = tt
-owes_bad (Some bytes) (Some rest) next n cell (Some before) None after h i k = absurd h
-owes_bad (Some bytes) (Some rest) next n cell (Some before) (Some now) None h i k = absurd k
-owes_bad (Some bytes) (Some rest) next n cell (Some before) (Some now) (Some after) h i k =
-    (n, rest, cell, h.0, h.1, (refl, i, ap Some (k ∙ h.2)))
+known : (held : List ℕ) (after : Option (List ℕ)) (text : List ℕ) → Appends (Some held) after text → after ≡ Some (held ++ text)
+known held None text h = absurd h
+known held (Some ys) text h = ap Some h
 
-pub owes_failed : (bytes left : Option (List ℕ)) (n : ℕ) (cell : State ℤ Named) (before now mid after : Option (List ℕ)) → IsPrinted bytes left n cell before now → Keeps now mid → Keeps mid after → Owes bytes before after Failed
-owes_failed None left n cell before now mid after h k l = tt
-owes_failed (Some bytes) None n cell before now mid after h k l = absurd h
-owes_failed (Some bytes) (Some rest) n cell None now mid after h k l = tt
-owes_failed (Some bytes) (Some rest) n cell (Some before) None mid after h k l = absurd h
-owes_failed (Some bytes) (Some rest) n cell (Some before) (Some now) None after h k l = absurd k
-owes_failed (Some bytes) (Some rest) n cell (Some before) (Some now) (Some mid) None h k l = absurd l
-owes_failed (Some bytes) (Some rest) n cell (Some before) (Some now) (Some mid) (Some after) h k l =
-    (n, rest, cell, h.0, h.1, ([], ap Some (append-nil after ∙ l ∙ k ∙ h.2)))
+-- how the script ends there
+pub ends : (bytes left : Option (List ℕ)) (n : ℕ) (cell : State ℤ Named) (before now : Option (List ℕ)) (ended : Ended) → IsPrinted bytes left n cell before now
+    → ((input rest : List ℕ) → left ≡ Some rest → ComesTo input n rest → EndsAs input ended) → IfSome bytes (λ input. EndsAs input ended)
+ends None left n cell before now ended s stops = tt
+ends (Some input) left n cell before now ended s stops = stops input s.rest s.left_is (comes s.prints)
+
+-- and what it has written
+pub owes : (bytes left : Option (List ℕ)) (n : ℕ) (cell : State ℤ Named) (before now after : Option (List ℕ)) (ended : Ended) → IsPrinted bytes left n cell before now → Keeps now after
+    → ((rest whole : List ℕ) → left ≡ Some rest → StopsAt n rest whole (Some whole) ended) → Owes bytes before after ended
+owes None left n cell before now after ended s k stops = tt
+owes (Some input) left n cell None now after ended s k stops = tt
+owes (Some input) left n cell (Some held) now after ended s k stops =
+    (n, s.rest, cell, s.text, s.prints, rw (known held after s.text (Appends-kept (Some held) now after s.text s.appends k)) (stops s.rest (held ++ s.text) s.left_is))
 
 kept_stop : (n : ℕ) (rest whole : List ℕ) (total flushed after : Option (List ℕ)) (ended : Ended) → StopsAt n rest whole total ended → Keeps total flushed → Keeps flushed after → StopsAt n rest whole after ended
-kept_stop n rest whole None flushed after Done h k l = absurd (cc (h.1))
-kept_stop n rest whole None flushed after (BadLine number) h k l = absurd (cc (h.2))
-kept_stop n rest whole None flushed after Failed h k l = absurd (cc (h.1))
-kept_stop n rest whole (Some total) None after ended h k l = absurd k
-kept_stop n rest whole (Some total) (Some flushed) None ended h k l = absurd l
-kept_stop n rest whole (Some total) (Some flushed) (Some after) ended h k l = rw (l, k) h
+kept_stop n rest whole total flushed after ended h k l = grind arith
 
 -- after all that was gathered is written
 pub owes_flushed : (bytes before total flushed after : Option (List ℕ)) (ended : Ended) → Owes bytes before total ended → Keeps total flushed → Keeps flushed after → Owes bytes before after ended
@@ -122,8 +110,4 @@ owes_nothing (Some bytes) (Some before) = (1, bytes, new_cell, [], start, ([], r
 
 -- the same of the reader and the writer that a script is given
 pub owes_kept : (bytes left before now after : Option (List ℕ)) (ended : Ended) → Keeps bytes left → Keeps before now → Owes left now after ended → Owes bytes before after ended
-owes_kept None left before now after ended k l h = tt
-owes_kept (Some bytes) None before now after ended k l h = absurd k
-owes_kept (Some bytes) (Some left) None now after ended k l h = tt
-owes_kept (Some bytes) (Some left) (Some before) None after ended k l h = absurd l
-owes_kept (Some bytes) (Some left) (Some before) (Some now) after ended k l h = rw (← k, ← l) h
+owes_kept bytes left before now after ended k l h = grind arith

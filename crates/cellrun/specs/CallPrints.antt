@@ -1,5 +1,5 @@
 -- What a call prints.
-use Rattle.std.specs.Prelude.{◌≡◌, ◌+ℤ◌, ℕ, ℤ, true, List, [], ◌∷◌, ◌++◌, Option, Some, None, Result, Ok, Err, codes, decimal, if◌then◌else◌}
+use Rattle.std.specs.Prelude.{◌≡◌, ◌+ℤ◌, ℕ, ℤ, true, List, [], ◌∷◌, ◌++◌, Option, Some, None, codes, decimal, if◌then◌else◌}
 use Rattle.std.specs.Int.{w64, saturate_signed}
 use Rattle.std.specs.Fmt.{signed_decimal}
 use Rattle.std.specs.Option.{option_map}
@@ -13,8 +13,6 @@ use Rattle.async_cell_model.specs.declared.reply.Reply.TheVariants.{Done, Value,
 use Rattle.async_cell_model.specs.declared.refusal.Refusal.{Refusal}
 use Rattle.async_cell_model.specs.declared.refusal.Refusal.TheVariants as why
 use Rattle.async_cell_model.specs.Machine.{content, is_closed, owners_of, State, Does}
-use Rattle.futures.specs.declared.task.Poll.{Poll}
-use Rattle.futures.specs.declared.task.Poll.TheVariants as poll
 use Rattle.cellrun.specs.declared.command.Command.{Command}
 use Rattle.cellrun.specs.declared.command.Command.TheVariants.{Set, OrSet, Replace, UpdatePut, UpdateNone, UpdateKeep, UpdateSomeAdd, Take, Get, TryTake, TryGet, Own, End, Inner, Debug}
 
@@ -46,6 +44,17 @@ kept_call cell End = kept.EndOwner
 kept_call cell Inner = kept.TakeInner
 kept_call cell _ = kept.IsSet
 
+-- what the closure of an update makes of the content
+abbrev pub edited : Command → Option ℤ → Option ℤ
+edited (UpdatePut v) content = Some v
+edited UpdateNone content = None
+edited call content = content
+
+-- what the closure of `update_some` makes of the value
+abbrev pub increased : Command → ℤ → ℤ
+increased (UpdateSomeAdd more) v = saturate_signed w64 (v +ℤ more)
+increased call v = v
+
 -- why a call was refused
 abbrev pub refusal_text : Refusal → List ℕ
 refusal_text why.Closed = codes "refused closed"
@@ -53,20 +62,10 @@ refusal_text why.OwnersFull = codes "refused owners"
 refusal_text why.StillShared = codes "refused shared"
 refusal_text _ = codes "refused memory"
 
--- the old value that `replace` returns
-abbrev pub old_text : Option ℤ → List ℕ
-old_text None = codes "old none"
-old_text (Some v) = codes "old " ++ signed_decimal v
-
--- the value that was found, if there was one
-abbrev pub found_text : Option ℤ → List ℕ
-found_text None = codes "none"
-found_text (Some v) = codes "some " ++ signed_decimal v
-
--- the value with which a poll is ready
-abbrev pub ready_text : Option ℤ → List ℕ
-ready_text None = codes "closed"
-ready_text (Some v) = codes "ready " ++ signed_decimal v
+-- a value after its label, or the text that stands for none
+abbrev pub value_text : List ℕ → List ℕ → Option ℤ → List ℕ
+value_text label none None = none
+value_text label none (Some v) = label ++ signed_decimal v
 
 -- the number of owners
 abbrev pub owners_text : ℕ → List ℕ
@@ -82,34 +81,18 @@ abbrev pub end_text : List Named → List ℕ
 end_text [] = codes "\n"
 end_text (name ∷ names) = codes " woke" ++ names_text (name ∷ names) ++ codes "\n"
 
--- what a write that returns no value prints, by the wakers it wakes; `None` if it is refused
-abbrev pub done_text : Option (List Named) → List ℕ
-done_text None = refusal_text why.Closed ++ codes "\n"
-done_text (Some woken) = codes "done" ++ end_text woken
-
--- what `replace` prints, by the old value and the wakers it wakes; `None` if it is refused
-abbrev pub replaced_text : Option (Option ℤ × List Named) → List ℕ
-replaced_text None = refusal_text why.Closed ++ codes "\n"
-replaced_text (Some reply) = old_text reply.0 ++ end_text reply.1
-
--- what a poll prints
-abbrev pub polled_text : Result (Poll (Option ℤ)) Refusal → List ℕ
-polled_text (Ok (poll.Ready value)) = ready_text value ++ codes "\n"
-polled_text (Ok poll.Pending) = codes "pending\n"
-polled_text (Err why) = refusal_text why ++ codes "\n"
-
 -- the reply to the call, on a cell that then has this number of owners
-abbrev pub reply_text : Command → Reply ℤ → ℕ → List ℕ
-reply_text (Replace v) (Value old) owners = old_text old
-reply_text (OrSet v) (Value unused) owners = codes "done"
-reply_text Own Done owners = owners_text owners
-reply_text End (Value last) owners = owners_text owners
-reply_text call Done owners = codes "done"
-reply_text call (Value found) owners = found_text found
-reply_text call (Is holds) owners = if holds then codes "true" else codes "false"
-reply_text call Pending owners = codes "pending"
-reply_text call (Ready value) owners = ready_text value
-reply_text call (Refused why back) owners = refusal_text why
+abbrev pub reply_text : Reply ℤ → Command → ℕ → List ℕ
+reply_text (Value old) (Replace v) owners = value_text (codes "old ") (codes "old none") old
+reply_text (Value unused) (OrSet v) owners = codes "done"
+reply_text Done Own owners = owners_text owners
+reply_text (Value last) End owners = owners_text owners
+reply_text Done call owners = codes "done"
+reply_text (Value found) call owners = value_text (codes "some ") (codes "none") found
+reply_text (Is holds) call owners = if holds then codes "true" else codes "false"
+reply_text Pending call owners = codes "pending"
+reply_text (Ready value) call owners = value_text (codes "ready ") (codes "closed") value
+reply_text (Refused why back) call owners = refusal_text why
 
 -- The machine does the call between these two cells, and the line is its reply and the wakers
 -- that it wakes. Of `debug` this says only that the cell stays as it was.
@@ -117,4 +100,4 @@ abbrev pub CallPrints : State ℤ Named → Command → List ℕ → State ℤ N
 CallPrints from Debug line to = to ≡ from
 CallPrints from call line to = (reply : Reply ℤ) × (woken : List Named)
     × Does same_name true from (record { call = kept_call from.cell call; reply = reply }) woken to
-    × (line ≡ reply_text call reply (owners_of to.cell) ++ end_text woken)
+    × (line ≡ reply_text reply call (owners_of to.cell) ++ end_text woken)

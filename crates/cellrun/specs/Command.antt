@@ -1,5 +1,5 @@
 -- Which line is which call.
-use Rattle.std.specs.Prelude.{◌≡◌, ℕ, ◌^◌, ◌<◌, List, ◌++◌, drop, Bool, ◌==◌, ℤ, pos, neg_ℤ, codes, FitsSigned, if◌then◌else◌}
+use Rattle.std.specs.Prelude.{◌≡◌, ℕ, ◌^◌, ◌<◌, List, ◌++◌, drop, Bool, true, false, ℤ, pos, neg_ℤ, codes, FitsSigned, if◌then◌else◌}
 use Rattle.std.specs.Int.{w64}
 use Rattle.std.specs.Str.Parse.{IsNumeral, digits_value, starts_with_minus}
 use Rattle.cellrun.specs.declared.command.Command.{Command}
@@ -62,38 +62,13 @@ Spells line Debug = line ≡ codes "debug"
 abbrev pub SpellsNone : List ℕ → Type 0
 SpellsNone line = (call : Command) → ¬ (Spells line call)
 
--- the edit of an `update`, which is what follows that word, is the call
-abbrev pub SpellsEdit : List ℕ → Command → Type 0
-SpellsEdit edit (UpdatePut v) = EndsWithValue (codes "put ") edit v
-SpellsEdit edit UpdateNone = edit ≡ codes "none"
-SpellsEdit edit UpdateKeep = edit ≡ codes "keep"
-SpellsEdit edit _ = ⊥
-
--- the byte separates words
-abbrev pub is_space : ℕ → Bool
-is_space = λ byte. byte == 32
-
--- a word, a space and the rest are the call
-abbrev pub SpellsParts : List ℕ → List ℕ → Command → Type 0
-SpellsParts word rest (Set v) = (word ≡ codes "set") × WritesValue rest v
-SpellsParts word rest (OrSet v) = (word ≡ codes "or_set") × WritesValue rest v
-SpellsParts word rest (Replace v) = (word ≡ codes "replace") × WritesValue rest v
-SpellsParts word rest (UpdatePut v) = (word ≡ codes "update") × EndsWithValue (codes "put ") rest v
-SpellsParts word rest UpdateNone = (word ≡ codes "update") × (rest ≡ codes "none")
-SpellsParts word rest UpdateKeep = (word ≡ codes "update") × (rest ≡ codes "keep")
-SpellsParts word rest (UpdateSomeAdd v) =
-    (word ≡ codes "update_some") × EndsWithValue (codes "add ") rest v
-SpellsParts word rest (Take w) = (word ≡ codes "take") × WritesWaker rest w
-SpellsParts word rest (Get w) = (word ≡ codes "get") × WritesWaker rest w
-SpellsParts word rest _ = ⊥
-
--- one word alone is the call
-abbrev pub SpellsWord : List ℕ → Command → Type 0
-SpellsWord word TryTake = word ≡ codes "try_take"
-SpellsWord word TryGet = word ≡ codes "try_get"
-SpellsWord word IsSet = word ≡ codes "is_set"
-SpellsWord word Own = word ≡ codes "own"
-SpellsWord word End = word ≡ codes "end"
-SpellsWord word Inner = word ≡ codes "inner"
-SpellsWord word Debug = word ≡ codes "debug"
-SpellsWord word _ = ⊥
+-- the call's line ends with a value or with the name of a waker
+abbrev pub has_operand : Command → Bool
+has_operand (Set v) = true
+has_operand (OrSet v) = true
+has_operand (Replace v) = true
+has_operand (UpdatePut v) = true
+has_operand (UpdateSomeAdd v) = true
+has_operand (Take w) = true
+has_operand (Get w) = true
+has_operand _ = false

@@ -1,8 +1,6 @@
 //! Parses a line into a call.
-ghost use Rattle.std.specs.Prelude.{◌≡◌, ◌≤◌, length, IsSome, IfSome, IfNone, codes};
-ghost use Rattle.std.specs.List.{position};
-ghost use Rattle.cellrun.specs.Command.{Spells, SpellsNone, SpellsWord, SpellsParts, SpellsEdit};
-ghost use Rattle.cellrun.specs.Command.{is_space};
+ghost use Rattle.std.specs.Prelude.{◌≡◌, ◌≤◌, ℕ, ℤ, true, false, length, IsSome, IfSome, IfNone};
+ghost use Rattle.cellrun.specs.Command.{Spells, SpellsNone, EndsWithValue, EndsWithWaker, has_operand};
 ghost use Rattle.cellrun.specs.declared.command.Command.{Command};
 
 use crate::number::{digits, value};
@@ -56,25 +54,21 @@ pub fn parse(line: &[u8]) -> Option<Command>
     if line.len() > MAX_LINE {
         return None;
     }
-    match first_space(line) {
-        None => bare(line),
-        Some(space) => with_operand(&line[..space], &line[space + 1..]),
+    if let Some(call) = bare(line) {
+        return Some(call);
     }
+    with_operand(line)
 }
 
-/// Returns the index of the first space.
-fn first_space(line: &[u8]) -> Option<usize>
-    ensures { result ≡ position is_space line.now }
+/// Parses a line of words alone.
+fn bare(line: &[u8]) -> Option<Command>
+    ensures call { IfSome result (Spells line.now) }
+    ensures refused { IfNone result
+        ((call : Command) → has_operand call ≡ false → ¬ (Spells line.now call)) }
 {
-    line.iter().position(|byte| *byte == b' ')
-}
-
-/// Parses a line of one word.
-fn bare(word: &[u8]) -> Option<Command>
-    ensures call { IfSome result (SpellsWord word.now) }
-    ensures refused { IfNone result ((call : Command) → ¬ (SpellsWord word.now call)) }
-{
-    match word {
+    match line {
+        b"update none" => Some(Command::UpdateNone),
+        b"update keep" => Some(Command::UpdateKeep),
         b"try_take" => Some(Command::TryTake),
         b"try_get" => Some(Command::TryGet),
         b"is_set" => Some(Command::IsSet),
@@ -86,31 +80,50 @@ fn bare(word: &[u8]) -> Option<Command>
     }
 }
 
-/// Parses a line from its first word and the `rest` after the space.
-fn with_operand(word: &[u8], rest: &[u8]) -> Option<Command>
-    ensures call { IfSome result (SpellsParts word.now rest.now) }
-    ensures refused { IfNone result ((call : Command) → ¬ (SpellsParts word.now rest.now call)) }
+/// Parses a line that ends with a value or with the name of a waker.
+fn with_operand(line: &[u8]) -> Option<Command>
+    ensures call { IfSome result (Spells line.now) }
+    ensures refused { IfNone result
+        ((call : Command) → has_operand call ≡ true → ¬ (Spells line.now call)) }
 {
-    match word {
-        b"set" => value(rest).map(Command::Set),
-        b"or_set" => value(rest).map(Command::OrSet),
-        b"replace" => value(rest).map(Command::Replace),
-        b"update" => update(rest),
-        b"update_some" => value(rest.strip_prefix(b"add ")?).map(Command::UpdateSomeAdd),
-        b"take" => digits(rest).map(Command::Take),
-        b"get" => digits(rest).map(Command::Get),
-        _ => None,
+    if let Some(value) = value_after(b"set ", line) {
+        return Some(Command::Set(value));
     }
+    if let Some(value) = value_after(b"or_set ", line) {
+        return Some(Command::OrSet(value));
+    }
+    if let Some(value) = value_after(b"replace ", line) {
+        return Some(Command::Replace(value));
+    }
+    if let Some(value) = value_after(b"update put ", line) {
+        return Some(Command::UpdatePut(value));
+    }
+    if let Some(more) = value_after(b"update_some add ", line) {
+        return Some(Command::UpdateSomeAdd(more));
+    }
+    if let Some(name) = waker_after(b"take ", line) {
+        return Some(Command::Take(name));
+    }
+    if let Some(name) = waker_after(b"get ", line) {
+        return Some(Command::Get(name));
+    }
+    None
 }
 
-/// Parses what follows the word `update`.
-fn update(edit: &[u8]) -> Option<Command>
-    ensures call { IfSome result (SpellsEdit edit.now) }
-    ensures refused { IfNone result ((call : Command) → ¬ (SpellsEdit edit.now call)) }
+/// Returns the value after these words, if the line is that.
+fn value_after(words: &[u8], line: &[u8]) -> Option<i64>
+    ensures some { IfSome result (EndsWithValue words.now line.now) }
+    ensures none { IfNone result ((v : ℤ) → ¬ (EndsWithValue words.now line.now v)) }
 {
-    match edit {
-        b"none" => Some(Command::UpdateNone),
-        b"keep" => Some(Command::UpdateKeep),
-        _ => value(edit.strip_prefix(b"put ")?).map(Command::UpdatePut),
-    }
+    let text = line.strip_prefix(words)?;
+    value(text)
+}
+
+/// Returns the name of a waker after these words, if the line is that.
+fn waker_after(words: &[u8], line: &[u8]) -> Option<u64>
+    ensures some { IfSome result (EndsWithWaker words.now line.now) }
+    ensures none { IfNone result ((w : ℕ) → ¬ (EndsWithWaker words.now line.now w)) }
+{
+    let text = line.strip_prefix(words)?;
+    digits(text)
 }

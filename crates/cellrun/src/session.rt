@@ -1,18 +1,18 @@
 //! The cell that a script steps.
-ghost use Rattle.std.specs.Prelude.{◌≡◌, [], true, false, OnOk};
+ghost use Rattle.std.specs.Prelude.{◌≡◌, ℤ, [], true, false, OnOk, Some};
 ghost use Rattle.std.specs.Ordering.{nat_cmp};
 ghost use Rattle.std.specs.BTreeSet.{contains};
-ghost use Rattle.async_cell_model.specs.Machine.{Does, skips};
+ghost use Rattle.async_cell_model.specs.Machine.{Does, skips, waker_of};
 ghost use Rattle.async_cell_wakers.specs.Named.{same_name};
-ghost use Rattle.async_cell_core.specs.Polled.{poll_reply};
-ghost use Rattle.cellrun.specs.CallPrints.{CallPrints};
+ghost use Rattle.async_cell_model.specs.declared.cell.Cell.{Cell};
+ghost use Rattle.async_cell_core.specs.Kept.{kept_call as listed_call};
+ghost use Rattle.cellrun.specs.CallPrints.{CallPrints, kept_call, edited, increased};
 ghost use Rattle.cellrun.specs.Names.{KnowsNames};
 ghost use Rattle.cellrun.specs.Written.{new_cell};
 
 use crate::command::Command;
-use crate::reply::{done, found, owned, polled, refused, replaced, woke};
-use async_cell_core::{Core, Named, Poll};
-use async_cell_model::{Kept, Refusal};
+use crate::reply::{replied, woke};
+use async_cell_core::{Answer, Call, Core, Edit, Named, Reply, Wakers, step_copied};
 use std::alloc::{AllocError, Global};
 use std::collections::BTreeSet;
 use std::io::Write;
@@ -44,93 +44,52 @@ impl Session {
 
     /// Makes the call, and appends what it prints to `out`, which must be empty. Fails if there is
     /// no memory for the text.
-    #[tactic(auto, using(crate::proofs::Names::no_poll))]
+    #[tactic(auto, using(crate::proofs::ReplyText::prints))]
     pub fn step(&mut self, command: Command, out: &mut Vec<u8>) -> Result<(), AllocError>
         requires { out.old.items ≡ [] }
         ensures { OnOk result (CallPrints self.old.core command out.new.items self.new.core) }
     {
+        if command == Command::Debug {
+            return writeln!(out, "{:?}", self.core).map_err(|_| AllocError);
+        }
+        let answer = self.call(command);
+        replied(out, command, answer.reply, self.core.owners())?;
+        woke(out, answer.woken)
+    }
+
+    /// Makes the call.
+    #[tactic(auto, using(crate::proofs::Names::known_after))]
+    fn call(&mut self, command: Command) -> Answer<i64, Named>
+        ensures { Does same_name true self.old.core
+            (record { call = kept_call self.old.core.cell command; reply = result.reply })
+            result.woken self.new.core }
+    {
         match command {
-            Command::Set(value) => done(out, self.core.set(value).ok()),
-            Command::OrSet(value) => done(out, self.core.or_set(value).ok().map(|reply| reply.1)),
-            Command::Replace(value) => replaced(out, self.core.replace(value).ok()),
-            Command::UpdatePut(value) => done(out, self.core.update(|_| Some(value)).ok()),
-            Command::UpdateNone => done(out, self.core.update(|_| None).ok()),
-            Command::UpdateKeep => done(out, self.core.update(|content| content).ok()),
-            Command::UpdateSomeAdd(more) => match self
-                .core
-                .update_some(|value| value.saturating_add(more))
-            {
-                Ok(()) => out.extend_from_slice(b"done\n"),
-                Err(why) => refused(out, why),
-            },
-            Command::Take(name) => polled(out, self.poll_take(name)),
-            Command::Get(name) => polled(out, self.poll_get(name)),
-            Command::TryTake => {
-                found(out, self.core.try_take())?;
-                out.extend_from_slice(b"\n")
-            }
-            Command::TryGet => match self.core.try_get() {
-                Ok(content) => {
-                    found(out, content)?;
-                    out.extend_from_slice(b"\n")
-                }
-                Err(why) => refused(out, why),
-            },
-            Command::IsSet => match self.core.is_set() {
-                true => out.extend_from_slice(b"true\n"),
-                false => out.extend_from_slice(b"false\n"),
-            },
-            Command::Own => match self.core.add_owner() {
-                Ok(()) => {
-                    owned(out, self.core.owners())?;
-                    out.extend_from_slice(b"\n")
-                }
-                Err(why) => refused(out, why),
-            },
-            Command::End => match self.core.end_owner() {
-                Ok((_, woken)) => {
-                    owned(out, self.core.owners())?;
-                    woke(out, woken)
-                }
-                Err(why) => refused(out, why),
-            },
-            Command::Inner => match self.core.take_inner() {
-                Ok((inner, woken)) => {
-                    found(out, inner)?;
-                    woke(out, woken)
-                }
-                Err(why) => refused(out, why),
-            },
-            Command::Debug => writeln!(out, "{:?}", self.core).map_err(|_| AllocError),
+            Command::Take(name) => self.poll(name, command),
+            Command::Get(name) => self.poll(name, command),
+            _ => step_copied(&mut self.core, call_of(command)),
         }
     }
 
-    /// Polls for the value, to take it.
-    #[tactic(auto, using(crate::proofs::Names::one_more, crate::proofs::Names::polled, crate::proofs::Names::not_pending))]
-    fn poll_take(&mut self, name: u64) -> Result<Poll<Option<i64>>, Refusal>
+    /// Makes a poll by this name.
+    #[tactic(auto, using(crate::proofs::Names::known_after))]
+    fn poll(&mut self, name: u64, command: Command) -> Answer<i64, Named>
+        requires { waker_of (kept_call self.old.core.cell command) ≡ Some (record { 0 = name }) }
         ensures { Does same_name true self.old.core
-            (record { call = Kept.PollTake (record { 0 = name }); reply = poll_reply result })
-            [] self.new.core }
+            (record { call = kept_call self.old.core.cell command; reply = result.reply })
+            result.woken self.new.core }
     {
-        if self.core.is_vacant() && self.is_new(name) {
-            self.core.add_unique(&Named(name))?;
-            return Ok(Poll::Pending);
+        if self.is_new(name) && self.core.is_vacant() {
+            let reply = match self.core.add_unique(&Named(name)) {
+                Ok(()) => Reply::Pending,
+                Err(why) => Reply::Refused(why, None),
+            };
+            return Answer {
+                reply,
+                woken: Wakers::none(),
+            };
         }
-        self.core.poll_take(&Named(name))
-    }
-
-    /// Polls for a copy of the value.
-    #[tactic(auto, using(crate::proofs::Names::one_more, crate::proofs::Names::polled))]
-    fn poll_get(&mut self, name: u64) -> Result<Poll<Option<i64>>, Refusal>
-        ensures { Does same_name true self.old.core
-            (record { call = Kept.PollGet (record { 0 = name }); reply = poll_reply result })
-            [] self.new.core }
-    {
-        if self.core.is_vacant() && self.is_new(name) {
-            self.core.add_unique(&Named(name))?;
-            return Ok(Poll::Pending);
-        }
-        self.core.poll_get(&Named(name))
+        step_copied(&mut self.core, call_of(command))
     }
 
     /// Adds the name to those that are known. Returns whether it is known to be none that waits.
@@ -152,6 +111,58 @@ impl Session {
                 self.are_all = false;
                 were_all
             }
+        }
+    }
+}
+
+/// Returns the call that the command makes: `IsSet` for `debug`, which makes none.
+fn call_of(command: Command) -> Call<i64, Named, Command>
+    ensures { (cell : Cell ℤ) → listed_call edited increased cell result ≡ kept_call cell command }
+{
+    match command {
+        Command::Set(value) => Call::Set(value),
+        Command::OrSet(value) => Call::OrSet(value),
+        Command::Replace(value) => Call::Replace(value),
+        Command::UpdatePut(_) => Call::Update(command),
+        Command::UpdateNone => Call::Update(command),
+        Command::UpdateKeep => Call::Update(command),
+        Command::UpdateSomeAdd(_) => Call::UpdateSome(command),
+        Command::Take(name) => Call::PollTake(Named(name)),
+        Command::Get(name) => Call::PollGet(Named(name)),
+        Command::TryTake => Call::TryTake,
+        Command::TryGet => Call::TryGet,
+        Command::IsSet => Call::IsSet,
+        Command::Own => Call::AddOwner,
+        Command::End => Call::EndOwner,
+        Command::Inner => Call::TakeInner,
+        Command::Debug => Call::IsSet,
+    }
+}
+
+impl Edit<i64> for Command {
+    ghost use Rattle.std.specs.Prelude.{◌≡◌};
+    ghost use Rattle.cellrun.specs.CallPrints.{edited, increased};
+
+    ghost edit = { edited };
+
+    ghost edit_some = { increased };
+
+    fn edit(&self, content: Option<i64>) -> Option<i64>
+        ensures { result ≡ edited self.now content }
+    {
+        match self {
+            Command::UpdatePut(value) => Some(*value),
+            Command::UpdateNone => None,
+            _ => content,
+        }
+    }
+
+    fn edit_some(&self, value: i64) -> i64
+        ensures { result ≡ increased self.now value }
+    {
+        match self {
+            Command::UpdateSomeAdd(more) => value.saturating_add(*more),
+            _ => value,
         }
     }
 }

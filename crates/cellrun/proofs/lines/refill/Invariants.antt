@@ -1,5 +1,4 @@
-use Rattle.std.specs.Io.KnownBytes.{Keeps}
-use Rattle.std.specs.Io.Buffered.{reader_remaining}
+use Rattle.cellrun.proofs.Words.{reader_remaining, Keeps}
 use Rattle.cellrun.proofs.lines.refill.Given as goal
 
 abbrev pub invariant-loop : goal.invariant-loop

@@ -1,6 +1,4 @@
-use Rattle.std.proofs.Common.{◌<◌, length, get_or, arith, rules, take_all}
-use Rattle.std.specs.Int.{IsInRange}
-use Rattle.std.proofs.lemmas.Str.Parse.{digit_at}
+use Rattle.cellrun.proofs.Words.{◌<◌, length, get_or, arith, rules, take_all, digit_at, IsInRange}
 use Rattle.cellrun.proofs.Digits.{one_more, more_digits, at_most}
 use Rattle.cellrun.proofs.number.digits.Goals as goal
 

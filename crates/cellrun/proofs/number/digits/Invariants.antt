@@ -1,5 +1,4 @@
-use Rattle.std.proofs.Common.{◌≡◌, ◌<◌, ◌^◌, take}
-use Rattle.std.specs.Str.Parse.{AllDigits, digits_value}
+use Rattle.cellrun.proofs.Words.{◌≡◌, ◌<◌, ◌^◌, take, AllDigits, digits_value}
 use Rattle.cellrun.proofs.number.digits.Given as goal
 
 -- the bytes so far are digits, and write the number

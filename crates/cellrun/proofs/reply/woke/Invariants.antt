@@ -1,5 +1,4 @@
-use Rattle.std.proofs.Common.{◌≡◌, ◌++◌}
-use Rattle.cellrun.specs.CallPrints.{names_text}
+use Rattle.cellrun.proofs.Words.{names_text, ◌≡◌, ◌++◌}
 use Rattle.cellrun.proofs.reply.woke.Given as goal
 
 -- the text so far and the names that are left make up the whole text

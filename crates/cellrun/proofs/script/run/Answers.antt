@@ -1,8 +1,4 @@
-use Rattle.std.proofs.Common.{drop}
-use Rattle.std.proofs.KnownBytes.{Keeps-refl}
-use Rattle.cellrun.specs.Lines.{bytes_left}
-use Rattle.cellrun.specs.Output.{output_contents}
-use Rattle.cellrun.specs.declared.script.Ended.TheVariants.{Failed}
+use Rattle.cellrun.proofs.Words.{bytes_left, output_contents, Failed, drop, Keeps-refl}
 use Rattle.cellrun.proofs.Written.{err_fails, owes_cut}
 use Rattle.cellrun.proofs.script.run.Goals as goal
 

@@ -1,7 +1,4 @@
-use Rattle.std.specs.Result.{result_unwrap_or}
-use Rattle.cellrun.specs.Lines.{bytes_left}
-use Rattle.cellrun.specs.Output.{output_contents}
-use Rattle.cellrun.specs.declared.script.Ended.TheVariants.{Failed}
+use Rattle.cellrun.proofs.Words.{bytes_left, output_contents, Failed, result_unwrap_or}
 use Rattle.cellrun.proofs.Written.{owes_nothing, owes_kept}
 use Rattle.cellrun.proofs.script.script.Goals as goal
 

@@ -1,8 +1,6 @@
-use Rattle.std.proofs.Common.{◌≡◌, ℕ, ◌+◌, ◌<◌, ◌≤◌, ◌==◌, true, false, None, length, take, Result, Ok, Err, OnOk, IsOk, is_err, refl, sym, arith, rules}
-use Rattle.std.specs.Io.Buffered.{reader_remaining, reader_buffer, reader_capacity}
+use Rattle.cellrun.proofs.Words.{is_line_feed, ◌≡◌, ℕ, ◌+◌, ◌<◌, ◌≤◌, ◌==◌, true, false, None, length, take, Result, Ok, Err, OnOk, IsOk, is_err, refl, sym, arith, rules, reader_remaining, reader_buffer, reader_capacity}
 use Rattle.cellrun.proofs.LineFeed.{place_joined, bad_next, line_next, end_next}
 use Rattle.cellrun.proofs.Places.{position_found, position_none}
-use Rattle.cellrun.specs.Next.{is_line_feed}
 use Rattle.cellrun.proofs.lines.Lines.look.Goals as goal
 
 when_ok : {T E P : Type 0} (r : Result T E) → false ≡ is_err r → OnOk r P → P

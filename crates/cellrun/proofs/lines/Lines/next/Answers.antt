@@ -1,5 +1,4 @@
-use Rattle.std.proofs.Common.{arith}
-use Rattle.cellrun.specs.Lines.{bytes_left}
+use Rattle.cellrun.proofs.Words.{bytes_left, arith}
 use Rattle.cellrun.proofs.LineFeed.{kept_next}
 use Rattle.cellrun.proofs.lines.Lines.next.Goals as goal
 

@@ -1,8 +1,5 @@
-use Rattle.std.proofs.Common.{◌-◌}
-use Rattle.std.specs.Io.KnownBytes.{Keeps}
+use Rattle.cellrun.proofs.Words.{bytes_left, output_contents, ◌-◌, Keeps}
 use Rattle.arrayvec.specs.ArrayVec.{array_vec_len}
-use Rattle.cellrun.specs.Lines.{bytes_left}
-use Rattle.cellrun.specs.Output.{output_contents}
 use Rattle.cellrun.proofs.lines.Lines.next.Given as goal
 
 -- nothing is lost

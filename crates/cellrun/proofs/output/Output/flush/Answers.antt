@@ -1,4 +1,4 @@
-use Rattle.std.proofs.KnownBytes.{Keeps-trans, append_known-kept}
+use Rattle.cellrun.proofs.Words.{Keeps-trans, append_known-kept}
 use Rattle.cellrun.proofs.OutputContents.{moved, unwritten}
 use Rattle.cellrun.proofs.output.Output.flush.Goals as goal
 use Rattle.cellrun.proofs.output.Output.flush.Goals.{in-Ok, in-Err+else-ne}

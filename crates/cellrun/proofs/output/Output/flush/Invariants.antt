@@ -1,5 +1,4 @@
-use Rattle.std.specs.Io.KnownBytes.{Keeps}
-use Rattle.cellrun.specs.Output.{output_contents}
+use Rattle.cellrun.proofs.Words.{output_contents, Keeps}
 use Rattle.cellrun.proofs.output.Output.flush.Given as goal
 
 -- nothing is lost
