@@ -1,4 +1,4 @@
-//! Two witnesses of one cell, which sign with two numbers, are told of two takes.
+//! Two witnesses of one cell, which sign with two numbers, see two takes.
 ghost use Rattle.std.specs.Prelude.{◌≡◌, ◌≢◌, ◌+◌, ◌++◌, ℕ, Bool, Some, false, IfSome, option_to_list};
 ghost use Rattle.std.specs.List.{count_by};
 ghost use Rattle.async_cell_model.specs.declared.entry.Kept.{Kept as Called};
@@ -9,7 +9,8 @@ ghost use Rattle.async_cell_sync.specs.declared.TaskWaker.{TaskWaker as Waker};
 
 use crate::Host;
 use async_cell_model::Kept;
-use async_cell_sync::{Author, Blank, Owner, Protocol, TaskWaker, Witness, laws};
+use async_cell_sync::{Author, Blank, Owner, Protocol, Takeable, TaskWaker, Witness, laws};
+use futures::StreamExt;
 use futures::executor::block_on;
 use std::marker::Brand;
 use std::sync::Wait;
@@ -28,7 +29,7 @@ impl Author for Second {
     ghost number = { 2 };
 }
 
-/// Each of two witnesses is told of a take. If all that was put in differs, the two values do.
+/// Each of two witnesses sees its take. If all that was put in differs, the two values do.
 fn two_take<N: Protocol<u64, TaskWaker>, R: Wait + Copy>(
     owner: &Owner<u64, R, N>,
     one: &mut Witness<u64, TaskWaker, N>,

@@ -81,11 +81,9 @@ impl<T: Drop, R: Wait + Copy, P: Rule<T>> Owner<T, R, Ruled<P>> {
     pub fn ruled(alloc: Global, rt: R) -> Result<Self, Refusal>
         ensures refused { FailsWithMemory result }
     {
-        Ok(
-            AsyncCell::<T, Ruled<P>>::ruled(alloc)
-                .into_shared_or_drop()?
-                .with(rt),
-        )
+        let cell = AsyncCell::<T, Ruled<P>>::ruled(alloc);
+        let owner = cell.into_shared_or_drop()?;
+        Ok(owner.with(rt))
     }
 
     /// Makes a cell that holds a value, whose values keep the rule `P`, and its first owner. Fails

@@ -19,8 +19,8 @@ use futures::task::{Context, Poll};
 use std::sync::Wait;
 
 /// Takes the value of a cell and extends a witness, which it gives back, and is no owner: it is
-/// `None` once the last owner has ended. Otherwise it is a `TakeWeak`, whose `values` each bring
-/// the history up to their take.
+/// `None` once the last owner has ended. Otherwise it is a `TakeWeak`. Of the items of its `values`
+/// the contract says the rule alone.
 #[derive(Drop)]
 pub struct TakeWeakAs<T, N: Protocol<T, TaskWaker>> {
     weak: Weak<T, N>,

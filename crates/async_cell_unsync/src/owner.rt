@@ -76,11 +76,9 @@ impl<T: Drop, P: Rule<T>> Owner<T, Ruled<P>> {
     pub fn ruled(alloc: Global) -> Result<Self, Refusal>
         ensures refused { FailsWithMemory result }
     {
-        Ok(
-            AsyncCell::<T, Ruled<P>>::ruled(alloc)
-                .into_shared_or_drop()?
-                .with(),
-        )
+        let cell = AsyncCell::<T, Ruled<P>>::ruled(alloc);
+        let owner = cell.into_shared_or_drop()?;
+        Ok(owner.with())
     }
 
     /// Makes a cell that holds a value, whose values keep the rule `P`, and its first owner. Fails
