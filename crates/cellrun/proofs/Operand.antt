@@ -17,8 +17,8 @@ pub either_way : (b : Bool) {P : Type 0} → (b ≡ false → P → ⊥) → (b 
 either_way b one other p = grind (arith, one, other)
 
 -- a line that is none of these is no call with an operand
-pub none_spelled : (line : List ℕ) → ((v : ℤ) → EndsWithValue (codes "set ") line v → ⊥) → ((v : ℤ) → EndsWithValue (codes "or_set ") line v → ⊥) → ((v : ℤ) → EndsWithValue (codes "replace ") line v → ⊥)
-    → ((v : ℤ) → EndsWithValue (codes "update put ") line v → ⊥) → ((v : ℤ) → EndsWithValue (codes "update_some add ") line v → ⊥)
+pub none_spelled : (line : List ℕ) → ((v : ℤ) → EndsWithValue (codes "set ") line v → ⊥) → ((v : ℤ) → EndsWithValue (codes "or_set ") line v → ⊥)
+    → ((v : ℤ) → EndsWithValue (codes "replace ") line v → ⊥) → ((v : ℤ) → EndsWithValue (codes "update put ") line v → ⊥) → ((v : ℤ) → EndsWithValue (codes "update_some add ") line v → ⊥)
     → ((w : ℕ) → EndsWithWaker (codes "take ") line w → ⊥) → ((w : ℕ) → EndsWithWaker (codes "get ") line w → ⊥) → (call : Command) → has_operand call ≡ true → Spells line call → ⊥
 none_spelled line set or_set replace put add take get (Set v) has spelled = set v spelled
 none_spelled line set or_set replace put add take get (OrSet v) has spelled = or_set v spelled

@@ -23,7 +23,8 @@ printed_start None before = tt
 printed_start (Some bytes) before = record { rest = bytes; text = []; left_is = refl; prints = start; appends = Appends-nil before }
 
 module _ (left : Option (List ℕ)) (n : ℕ) (cell : State ℤ Named) (before now : Option (List ℕ)) where
-  pub printed_blank : (bytes next mid : Option (List ℕ)) → IsPrinted bytes left n cell before now → IfSome left (λ rest. IsNext rest next Blank) → Keeps now mid → IsPrinted bytes next (n + 1) cell before mid
+  pub printed_blank : (bytes next mid : Option (List ℕ)) → IsPrinted bytes left n cell before now → IfSome left (λ rest. IsNext rest next Blank)
+      → Keeps now mid → IsPrinted bytes next (n + 1) cell before mid
   printed_blank None next mid s i k = tt
   printed_blank (Some input) next mid s i k =
       let is = rw s.left_is at i in record {
@@ -34,8 +35,8 @@ module _ (left : Option (List ℕ)) (n : ℕ) (cell : State ℤ Named) (before n
         appends = Appends-kept before now mid s.text s.appends k;
       }
 
-  pub printed_call : (bytes next mid after : Option (List ℕ)) (call : Command) (line : List ℕ) (to : State ℤ Named) → IsPrinted bytes left n cell before now → IfSome left (λ rest. IsNext rest next (Call call)) → Keeps now mid
-      → CallPrints cell call line to → Appends mid after line → IsPrinted bytes next (n + 1) to before after
+  pub printed_call : (bytes next mid after : Option (List ℕ)) (call : Command) (line : List ℕ) (to : State ℤ Named) → IsPrinted bytes left n cell before now
+      → IfSome left (λ rest. IsNext rest next (Call call)) → Keeps now mid → CallPrints cell call line to → Appends mid after line → IsPrinted bytes next (n + 1) to before after
   printed_call None next mid after call line to s i k does more = tt
   printed_call (Some input) next mid after call line to s i k does more =
       let is = rw s.left_is at i in record {
