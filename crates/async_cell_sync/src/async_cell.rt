@@ -10,7 +10,7 @@ use crate::shared::Shared;
 use crate::take::Take;
 use async_cell_core::{Core, Place, Refusal, TaskWaker};
 use async_cell_model::Kept;
-use async_cell_waiting::{OwnerPermit, Places, Protocol, Rule, Ruled, Unruled};
+use async_cell_waiting::{Places, Protocol, Rule, Ruled, Unruled};
 use futures::task::Source;
 use std::alloc::Global;
 use std::sync::Wait;
@@ -113,17 +113,6 @@ impl<T: Drop, N: Protocol<T, TaskWaker>> AsyncCell<T, N> {
         ensures refused { FailsWithMemory result }
     {
         self.into_shared().map_err(|(why, _)| why)
-    }
-
-    /// Ends the cell with its last owner. Wakes all waiters, and drops the value.
-    #[inline(always)]
-    pub(crate) fn end_with(self, permit: OwnerPermit<T, TaskWaker, N>) {
-        let AsyncCell {
-            core,
-            source: _,
-            alloc: _,
-        } = self;
-        core.end_with(permit);
     }
 
     /// Returns the number of places in the wait list.

@@ -17,7 +17,7 @@ use async_cell_core::{Refusal, TaskWaker};
 use async_cell_model::Kept;
 use async_cell_waiting::{Protocol, Rule, Ruled, Takeable, Unruled, With};
 use std::alloc::Global;
-use std::sync::Wait;
+use std::sync::{Arc, Wait};
 
 /// One counted owner of a cell, with the right to wait for the lock. It ends by its drop, in any
 /// thread, also at `?` or an early `return`. Its calls and futures take no `rt`. The end of the
@@ -104,7 +104,12 @@ impl<T: Drop, R: Wait + Copy, N: Protocol<T, TaskWaker>> Owner<T, R, N> {
         ensures of_this { IfOk result (λ owner. cell_owned owner ≡ cell_owned self.now) }
         ensures refused { IfErr result IsOwnerRefusal }
     {
-        Ok(Shared::owning(&self.shared.cell, &self.rt)?.with(self.rt))
+        let cell = Arc::try_clone(&self.shared.cell)?;
+        let permit = cell.core.add_counted(&self.rt)?;
+        Ok(Owner {
+            shared: Shared { cell, permit },
+            rt: self.rt,
+        })
     }
 
     /// Returns a weak owner. If its pointer cannot be counted, its calls fail with `Memory`.

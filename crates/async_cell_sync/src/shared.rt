@@ -39,7 +39,8 @@ impl<T: Drop> Shared<T> {
 
 impl<T: Drop, N: Protocol<T, TaskWaker>> Shared<T, N> {
     /// Makes the first owner of this cell. Fails with `Memory`; the cell is then returned in the
-    /// error. `AsyncCell::into_shared_or_drop` is the form for `?`.
+    /// error. `AsyncCell::into_shared_or_drop` is the form for `?`. A cell with a history is made
+    /// with its first owner, by `Owner::witnessed`.
     pub fn into_shared(cell: AsyncCell<T, N>) -> Result<Self, (Refusal, AsyncCell<T, N>)>
         requires nameless { N.named ≡ None }
         ensures owns { IfOk result (λ owner. cell_of owner ≡ cell) }
@@ -177,14 +178,10 @@ impl<T: Drop, N: Protocol<T, TaskWaker>> Shared<T, N> {
     /// Ends the owner. The only pointer is the end of the cell, for which no lock is taken.
     #[inline(always)]
     pub(crate) fn let_go<R: Wait>(self, rt: &R) {
-        let Shared { cell, permit } = self;
-        if Arc::strong_count(&cell) != 1 {
-            let _ = cell.core.end_counted(permit, rt);
-            return;
-        }
-        match Arc::try_unwrap(cell) {
-            Ok(cell) => cell.end_with(permit),
-            Err(cell) => {
+        let Shared { mut cell, permit } = self;
+        match Arc::get_mut(&mut cell) {
+            Some(last) => last.core.rest(permit),
+            None => {
                 let _ = cell.core.end_counted(permit, rt);
             }
         }

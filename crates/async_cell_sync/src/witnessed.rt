@@ -37,8 +37,8 @@ impl<T: Drop, R: Wait + Copy, N: Protocol<T, TaskWaker>> Owner<T, R, N> {
         };
         match Arc::new(alloc, cell) {
             Ok(cell) => Ok((Shared { cell, permit }.with(rt), seen)),
-            Err(AllocFailed { value: cell }) => {
-                cell.end_with(permit);
+            Err(AllocFailed { value: mut cell }) => {
+                cell.core.rest(permit);
                 Err(Refusal::Memory)
             }
         }

@@ -10,9 +10,7 @@ use crate::guarded_cell::GuardedCell;
 use crate::shared::Shared;
 use crate::take::Take;
 use async_cell_core::{Core, Place, Refusal, TaskWaker, Wakes};
-use async_cell_waiting::{
-    CellCore, Free, Lender, OneThread, OwnerPermit, Places, Rule, Ruled, Unruled,
-};
+use async_cell_waiting::{CellCore, Free, Lender, OneThread, Places, Rule, Ruled, Unruled};
 use futures::task::Source;
 use std::alloc::Global;
 use std::fmt;
@@ -116,17 +114,6 @@ impl<T: Drop, N: Free<T, TaskWaker>> AsyncCell<T, N> {
         ensures refused { FailsWithMemory result }
     {
         self.into_shared().map_err(|(why, _)| why)
-    }
-
-    /// Ends the cell with its last owner. Wakes all waiters, and drops the value.
-    #[inline(always)]
-    pub(crate) fn end_with(self, permit: OwnerPermit<T, TaskWaker, N>) {
-        let AsyncCell {
-            core,
-            source: _,
-            alloc: _,
-        } = self;
-        core.end_with(permit);
     }
 
     /// Sets the value and drops the old one. Wakes all waiters.

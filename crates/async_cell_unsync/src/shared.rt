@@ -179,15 +179,10 @@ impl Shared<()> {
 /// Dropping it ends the owner.
 impl<T: Drop, N: Free<T, TaskWaker>> Drop for Shared<T, N> {
     fn drop(self) {
-        let Shared { cell, permit } = self;
-        if Rc::strong_count(&cell) != 1 {
-            let _ = cell.core.end_counted(permit, &OneThread);
-            return;
-        }
-        // The only pointer is the end of the cell.
-        match Rc::try_unwrap(cell) {
-            Ok(cell) => cell.end_with(permit),
-            Err(cell) => {
+        let Shared { mut cell, permit } = self;
+        match Rc::get_mut(&mut cell) {
+            Some(last) => last.core.rest(permit), // The only pointer is the end of the cell.
+            None => {
                 let _ = cell.core.end_counted(permit, &OneThread);
             }
         }

@@ -77,16 +77,6 @@ impl<T: Drop, W: Wakes, N: Protocol<T, W>> CellCore<T, W, N> {
         inner
     }
 
-    /// Ends the cell, which nobody else can call, with an owner. Returns the core.
-    pub fn end_with(self, permit: OwnerPermit<T, W, N>) -> Core<T, W>
-        ensures sound { IsSound W.will_wake result }
-    {
-        let CellCore { inner, mut past } = self;
-        past.take(permit);
-        inner.soundness();
-        inner
-    }
-
     /// Does nothing. Its contract states what holds of every core: its state is sound.
     #[inline(always)]
     pub fn soundness(&self)

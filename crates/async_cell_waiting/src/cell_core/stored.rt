@@ -326,11 +326,11 @@ impl<M: Stores<Core = CellCore<T, W, N>>, T: Drop, W: Wakes, N: Protocol<T, W>> 
         }
     }
 
-    /// Ends the cell, which nobody else can call, with an owner: wakes all waiters and drops the
-    /// value. Takes no lock.
+    /// Lets go the permit of the last owner. The cell, which nobody else can call, is to end next,
+    /// by its drop.
     #[inline(always)]
-    pub fn end_with(self, permit: OwnerPermit<T, W, N>) {
-        self.into_stored().end_with(permit).end();
+    pub fn rest(&mut self, permit: OwnerPermit<T, W, N>) {
+        permit.rest();
     }
 
     /// `add_owner`, which gives the permit of the new owner.

@@ -62,6 +62,13 @@ impl<T, W, N: Protocol<T, W>> OwnerPermit<T, W, N> {
         permit.lose();
     }
 
+    /// Lets go the permit of the last owner of a cell that ends next.
+    #[inline(always)]
+    pub(crate) fn rest(self) {
+        let OwnerPermit { permit, of: _ } = self;
+        permit.lose();
+    }
+
     /// Loses the permit where no step could be lent: nobody closes the cell then.
     #[inline(always)]
     pub(crate) fn lose<'a, M: Stores, R: Opens<'a, M>>(self, _: &R)
@@ -108,7 +115,7 @@ impl<T, W: Wakes, N: Protocol<T, W>> Past<T, W, N> {
     }
 }
 
-/// Who makes a call: an owner, while which the cell is open, or anyone.
+/// Who makes a call: an owner, whose cell is open, or anyone.
 pub trait Caller<T, W: Wakes, N: Protocol<T, W>> {
     /// It is an owner that is counted.
     ghost owns: { Type 0 };
