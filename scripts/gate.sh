@@ -1,12 +1,13 @@
 #!/usr/bin/env bash
-# The whole gate, which CI runs too: a look at the deliberate bugs, the pages and the docstrings,
-# all tests without a proof, `rt ci`, the check of the script that tries deliberate bugs, those of
-# bugs.txt (of crates that are not in the record, and of one that is), the built program, also with
-# each request for memory refused, the cases of misuse that must not compile, the first program in a
+# The whole gate, which CI runs too: a look at the deliberate bugs, the pages, the docstrings and
+# what changed for users since the last release, all tests without a proof, `rt ci`, the check of
+# the script that tries deliberate bugs, those of bugs.txt (of crates that are not in the record, and
+# of one that is), the built program, also with each request for memory refused, the cases of misuse
+# that must not compile, copies of the crates in hostile places, and the first program in a
 # repository of its own, the snippets of the pages and docstrings, and what the calls cost, which
 # valgrind counts: without it the gate fails, but where WITHOUT_VALGRIND=yes says so. With the word
-# --all, as before a release, it tries the bugs of all crates, which it records, and the programs of
-# examples/tokio.
+# --all, as before a release, it tries the bugs of all crates, which it records, all cases of copies,
+# as root, and the programs of examples/tokio.
 # Prints a line at least every minute. At the end comes a line for each step, with its seconds by
 # the clock, its minutes of processors and what it has shown, then how large the repository is, and
 # last 'N passed, M failed', with the totals of the tests, of `rt ci` and of the deliberate bugs. A
@@ -98,17 +99,19 @@ count() {
     finish 1
 }
 
-# The last line of a step that counts, and those of five that do not.
+# The last line of a step that counts, and those of six that do not.
 counts='^([a-z]+: )?[1-9][0-9]* passed, 0 failed$'
 applied='^[1-9][0-9]* deliberate bugs, 0 of which cannot be applied$'
 read='^pages: [1-9][0-9]* read, 0 faults; '
 documented='^api: [1-9][0-9]* public items, 0 faults$'
 vendored='^vendor_check: .* runs in a repository of its own: .'
+named='^clauses: [1-9][0-9]* facts, [0-9]+ changed, 0 faults$'
 counted='^count: [1-9][0-9]* counted, 0 rose '
 
 show 'the deliberate bugs can be applied' "$applied" python3 scripts/bugs.py --list
 show 'the pages (scripts/pages.py)' "$read" python3 scripts/pages.py
 show 'the docstrings (scripts/api.py)' "$documented" python3 scripts/api.py --check
+show 'what changed for users (scripts/clauses.py)' "$named" python3 scripts/clauses.py
 count 'all tests, without a proof (scripts/tests.sh)' bash scripts/tests.sh
 count 'proofs, programs, and the bugs of must-fail/ (rt ci)' rt ci
 # (it passes an edit of which the prover said no more than that a proof names what it took away, or
@@ -119,7 +122,7 @@ show 'what tries deliberate bugs (scripts/bugs_check.py)' "$counts" python3 scri
 count 'the bugs of bugs.txt (scripts/bugs.py)' python3 scripts/bugs.py ${1:+--record --all}
 show 'the built program (scripts/program.py)' "$counts" python3 scripts/program.py
 show 'misuse that must not compile (misuse/check.sh)' "$counts" bash misuse/check.sh
-show 'a project of its own (scripts/vendor_check.sh)' "$vendored" bash scripts/vendor_check.sh
+show 'a project of its own (scripts/vendor_check.sh)' "$vendored" bash scripts/vendor_check.sh "$@"
 show 'the snippets of the pages (scripts/snippets.py)' "$counts" python3 scripts/snippets.py
 [ $# -eq 0 ] || show 'the examples (scripts/examples.sh)' "$counts" bash scripts/examples.sh
 show 'what tells a rise in cost (bench/count_check.py)' "$counts" python3 bench/count_check.py

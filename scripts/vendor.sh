@@ -1,117 +1,279 @@
 #!/usr/bin/env bash
-# Takes crates along into another project: a crate can depend only on those of its own, and the kit's.
+# Takes crates into another project, as a crate can depend only on those of its own, and the kit's.
 #
 #     bash scripts/vendor.sh CRATE.. FOLDER          copies the crates, or adds further ones
-#     bash scripts/vendor.sh --update FOLDER         brings what was copied up to date
+#     bash scripts/vendor.sh --update FOLDER         brings what was copied to a release
 #     bash scripts/vendor.sh --program NAME FOLDER   makes a program there, a copy of the reply slot
+#     bash scripts/vendor.sh --to RELEASE ..         each of these, at another release than the last
 #
-# FOLDER is the project's `crates`. Crates come as the last commit here has them, with those that
-# they stand on, without deliberate bugs. FOLDER/railyarrow/VERSION names release and commit.
-# Each call brings all of it up to date, and finishes one that was cut off. If a file of it was
-# changed there, it tells which, and writes nothing. The project's crates.txt, HANDLES and
-# .gitignore are written, or the lines printed that they have yet to get.
-set -euo pipefail
+# FOLDER is the project's `crates`. RELEASE is one of RELEASES, also an earlier one, or a commit;
+# without it, the last that is not withdrawn, or if there is none, the last commit. Crates come with
+# those that they stand on, without deliberate bugs. Each call brings all of the copy to one
+# release, which FOLDER/railyarrow/VERSION names, and finishes one that was cut off. If a file was
+# changed there, it tells which, and writes nothing. It keeps its part of crates.txt; HANDLES and
+# .gitignore are written, or what they lack is printed. By .gitattributes of a crate a call knows of
+# which tree it was, and git keeps its lines.
+set -eu
+[ "${BASH_VERSION:-}" ] || { echo 'vendor: call it by bash' >&2 && exit 2; }
+set -o pipefail
+unset TAR_OPTIONS POSIXLY_CORRECT CDPATH
 top=$(cd "$(dirname "$(readlink -f "$0")")/.." && pwd)
-work=$(mktemp -d)
-mkdir "$work/was"
-trap 'rm -rf "$work"' EXIT
+work=$(mktemp -d) made=''
+trap 'rm -rf "$work"; [ -z "$made" ] || rmdir "$made" 2>/dev/null' EXIT
+# The pages of a copy, as calls of 0.2.0 made it, and as it is made now.
+old='GUIDE|DEFINITIONS' now='GUIDE|DEFINITIONS|PROMISES|CHANGELOG'
 refuse() { printf 'vendor: %s\n' "$*" >&2 && exit 1; }
-git() { command git --git-dir="$top/.git" "$@" 2>"$work/why" || refuse "$top: $(cat "$work/why")"; }
+git() { command git -c core.autocrlf=false --git-dir="$top/.git" "$@"; }
 
 # The lines of a crates.txt for these crates, and for what they stand on of it: FILE CRATE..
 lines_of() {
-    local it line
-    for it in "${@:2}"; do
-        if line=$(grep "^$it:" "$1"); then echo "$line" && lines_of "$1" ${line#*:}; fi
+    awk -F : -v names="${*:2}" '{ needs[$1] = $2 } END {
+        for (n = split(names, all, " "); n; ) {
+            it = all[n--]
+            if (!(it in needs) || seen[it]++) continue
+            print it ":" needs[it]
+            for (k = split(needs[it], more, " "); k; ) all[++n] = more[k--]
+        }
+    }' "$1" | sort
+}
+
+# Links of a folder's pages that lead elsewhere than to those of the copy become plain words.
+link() {
+    find "$1" -maxdepth 1 -name '*.md' -exec sed -zEi "
+        s,\]\((\.\./(\.\./)?)?(docs/)?(($pages)\.md),](../railyarrow/\4,g
+        s,\[([^]]*)\]\((\.\./[^r]|[A-Z])[^)]*\),\1,g" {} +
+}
+
+# Lays out in $work a crate of a copy: NAME CRATE TREE
+lay_crate() {
+    local why to=$work/$1/$2
+    mkdir -p "$to"
+    why=$({ git archive "$3" | tar -x -C "$to"; } 2>&1) || refuse "$work: ${why%%$'\n'*}"
+    rm -rf "$to"/{bugs*,must-fail}
+    [ "$pages" = "$old" ] || printf '# %s of tree %s\n* -text\n' "${@:2}" >"$to/.gitattributes"
+    link "$to"
+}
+
+# Lays out in $work what a copy of these crates has: NAME COMMIT CRATE..
+lay_out() {
+    local it to=$work/$1
+    mkdir -p "$to/railyarrow"
+    git cat-file -e "$2^{commit}" 2>/dev/null ||
+        refuse "the copy has commit $2, which $top has not: get it there by git fetch --unshallow"
+    git show "$2:crates.txt" >"$to.txt"
+    lines_of "$to.txt" "${@:3}" >"$to.lines"
+    while IFS=: read -r it _; do
+        lay_crate "$1" "$it" "$(git rev-parse "$2:crates/$it")"
+    done <"$to.lines"
+    for it in LICENSE NOTICE CHANGELOG.md docs/{GUIDE,DEFINITIONS,PROMISES}.md; do
+        [[ $it != *.md || ${it%.md} =~ ($pages)$ ]] || continue
+        ! git cat-file -e "$2:$it" 2>/dev/null || git show "$2:$it" >"$to/railyarrow/${it#docs/}"
+    done
+    [ "$pages" = "$old" ] || echo '* -text' >"$to/railyarrow/.gitattributes"
+    link "$to/railyarrow"
+    it=$(sed -En "s/^[^ ]+ $2 ([^ ]+).*/, for \1/p" "$work/releases")
+    printf 'version %s\ncommit %s\ncrates %s\n' "$(name_of "$2")$it" "$2" "${*:3}" \
+        >"$to/railyarrow/VERSION"
+}
+
+# The release of a commit, or that before it and how many commits came since: COMMIT
+name_of() {
+    local name commit last='no release'
+    while read -r name commit _; do
+        [ "$commit" != "$1" ] || { echo "$name" && return; }
+        ! git merge-base --is-ancestor "$commit" "$1" 2>/dev/null ||
+            last="$name, and $(git rev-list --count "$commit..$1") commits since"
+    done <"$work/releases"
+    echo "$last"
+}
+
+# Whether a folder is as in $work/NAME, but for how lines end and for what was built in its own
+# `out`; if not, $work/told says how it differs: NAME FOLDER
+is_as() {
+    local told
+    told=$(cd "$folder" && {
+        diff -rq --no-dereference --strip-trailing-cr "$work/$1/$2" "$2" 2>&1 |
+            { if [ -d "$2/out" ]; then grep -vx "Only in $2: out"; else cat; fi; } || true
+        [ ! -d "$2" ] || find "$2" -path "$2/out" -prune -o -type f ! -perm -u+w \
+            -printf '%p is read-only\n'
+    })
+    echo "${told//"$work/$1"/"Railyarrow's"}" >"$work/told"
+    [ -z "$told" ]
+}
+
+# The tree that a folder says that it was copied from: FOLDER
+tree_of() { sed -n "s/^# $1 of tree //p" "$folder/$1/.gitattributes" 2>/dev/null; }
+
+# Whether a folder is as a call of this script made it, at the commit of VERSION or at another one.
+is_known() {
+    local tree
+    if [ -e "$work/was/$1" ] && is_as was "$1"; then return; fi
+    tree=$(tree_of "$1") && git cat-file -e "${tree:-none}^{tree}" 2>/dev/null &&
+        lay_crate from "$1" "$tree" && is_as from "$1"
+}
+
+# Writes the part of crates.txt that is Railyarrow's, in place of what earlier calls had written or
+# printed, and the line of a new program: PROGRAM
+write_lines() {
+    local twice ours begin="# Railyarrow's crates, by its vendor.sh:" end="# (They end.)"
+    : >"$work/yours" && [ ! -e "$project/crates.txt" ] || cp "$project/crates.txt" "$work/yours"
+    [ "$(grep -c "^$begin" "$work/yours")" = "$(grep -c "^$end" "$work/yours")" ] ||
+        refuse "$project/crates.txt has no line '$end'"
+    ours=$(sed 's/ / +/g; s/^/(# crates.txt has to have: )?/; s/$/ *\r?/' "$work"/*.lines)
+    {
+        echo "$begin" && cat "$work/to.lines" && echo "$end"
+        sed "/^$begin/,/^$end/d; \$a\\" "$work/yours" | grep -vxE "$ours" || true
+        [ ! -s "$work/program" ] || grep -q "^$1:" "$work/yours" || cat "$work/program"
+    } >"$work/crates.txt"
+    twice=$(sed -n 's/^\([a-z0-9_]*\):.*/\1/p' "$work/crates.txt" | sort | uniq -d | paste -sd ' ')
+    [ -z "$twice" ] || refuse "$project/crates.txt has other lines for $twice: remove these"
+}
+
+# Moves the folders $todo of $work/to to their places; railyarrow, which has VERSION, comes last.
+replace() {
+    local it
+    made=
+    mkdir -p "$new"
+    : >"$new/begun"
+    rm -rf "$new/old" "$new/next"
+    mkdir "$new/old"
+    cp -r "$work/to" "$new/next"
+    for it in "${todo[@]}"; do
+        [ ! -e "$folder/$it" ] || mv "$folder/$it" "$new/old/"
+        [ ! -e "$new/next/$it" ] || mv "$new/next/$it" "$folder/"
+        [ ! -d "$new/old/$it/out" ] || [ ! -e "$folder/$it" ] ||
+            mv "$new/old/$it/out" "$folder/$it/"
     done
 }
 
-# Lays out in $work what a copy of these crates has: NAME COMMIT CRATE.. Links of its pages that
-# lead elsewhere than to the guide and the definitions become plain words.
-lay_out() {
-    local it to=$work/$1 all=$work/$1.all
-    mkdir -p "$to/railyarrow" "$all"
-    git archive "$2" | tar -x -C "$all" 2>/dev/null
-    lines_of "$all/crates.txt" "${@:3}" | sort -u >"$to.lines"
-    cut -d : -f 1 "$to.lines" | (cd "$all/crates" && xargs -r cp -rt "$to")
-    rm -rf "$to"/*/{bugs*,must-fail}
-    cp "$all/LICENSE" "$all"/docs/{GUIDE,DEFINITIONS}.md "$to/railyarrow/"
-    for it in NOTICE VERSION; do [ ! -e "$all/$it" ] || cp "$all/$it" "$to/railyarrow/"; done
-    printf 'commit %s\ncrates %s\n' "$2" "${*:3}" >>"$to/railyarrow/VERSION"
-    sed -zEi 's,\]\((../../docs/)?((GUIDE|DEFINITIONS).md),](../railyarrow/\2,g
-        s,\[([^]]*)\]\((../[^r]|[A-Z])[^)]*\),\1,g' "$to"/*/*.md
-}
-
-# Whether a folder of the copy is as in $work/NAME; and how it differs: NAME FOLDER
-is_as() { diff -rqN --no-dereference -x out "$work/$1/$2" "$folder/$2" &>"$work/told"; }
-
-# Writes a file of the project, or prints the lines that it has yet to get: NAME LINES
+# Writes HANDLES, if the sources or the program need one, and .gitignore, or prints what they lack.
 settle() {
-    [ -s "$project/$1" ] || echo "$2" >"$project/$1"
-    while read -r it; do
-        grep -qF "${it%.}" "$project/$1" || echo "# $1 has to have: $it"
-    done <<<"$2"
+    local it words='' has=$project/HANDLES
+    for it in Threads Wait; do
+        [ "$option" = --program ] || grep -rqw --include='*.rt' "$it" "$work/to" || continue
+        words+="${words:+, }$it"
+    done
+    [ -s "$has" ] || [ -z "$words" ] || echo "Handles allowed: $words." >"$has"
+    for it in ${words//,/}; do
+        grep '^Handles allowed:' "$has" | grep -qw "$it" || echo "# HANDLES has to have: $it"
+    done
+    [ -s "$project/.gitignore" ] || echo 'out/' >"$project/.gitignore"
+    tr -d '\r' <"$project/.gitignore" | grep -xE '(\*\*/|/?crates/\*/)?out/?' >/dev/null ||
+        echo '# .gitignore has to have: out/'
 }
 
-option=''
+# Prints of a release, for it and for the copy as it was: that it is withdrawn, or for another kit.
+warn() {
+    local name commit kit why has
+    has=$(rt version 2>/dev/null | cut -d ' ' -f 1) || true
+    while read -r name commit kit why; do
+        [[ $commit = "$target" || $commit = "$was" ]] || continue
+        [ ! "$why" ] || echo "# $name is $why"
+        [[ $commit != "$target" || -z $has || $has = "$kit" ]] ||
+            echo "# $name is for $kit, and rt is of $has: it may not find each proof."
+    done <"$work/releases"
+    [ "$target" != "$(git rev-parse HEAD)" ] ||
+        git --work-tree="$top" diff --quiet HEAD -- "$top/crates" ||
+        echo "# $top has changes that are in no commit; they did not come along."
+    [ "${was:-$target}" = "$target" ] || ! git merge-base --is-ancestor "$target" "$was" ||
+        echo "# This goes back, from $(name_of "$was") to $(name_of "$target")."
+}
+
+to='' option=''
+[ "${1:-}" != --to ] || { to=${2:-} && shift $(($# < 2 ? 1 : 2)); }
 case ${1:-} in --update | --program) option=$1 && shift ;; esac
-case $option$# in 0 | 1 | --update[!1] | --program[!2])
-    sed -n '4,6s/^# *//p' "$0" >&2 && exit 2 ;;
-esac
-names=("${@:1:$#-1}") folder=$(realpath -m "${!#}")
-project=$(dirname "$folder") new=$folder/.railyarrow version=$folder/railyarrow/VERSION
+[[ $option$# =~ ^(--update1|--program2|[2-9]|[1-9][0-9]+)$ ]] ||
+    { sed -n '4,7s/^# *//p' "$0" >&2 && exit 2; }
+given=("${@:1:$#-1}") folder=$(realpath -ms "${@: -1}")
+project=$(realpath -m "$(dirname "$folder")")
+folder=$project/${folder##*/}
+new=$folder/.railyarrow version=$folder/railyarrow/VERSION
 [[ $folder = */crates && $folder/ != "$top"/* ]] ||
     refuse "$folder is not the folder 'crates' of a project of yours"
-[ -e "$folder/railyarrow" ] || mv "$new/old/railyarrow" "$folder/" 2>/dev/null || true
-for it in "$version" "$project"/{crates.txt,HANDLES,.gitignore}; do
+[[ $to =~ ^([0-9A-Za-z][0-9A-Za-z./_~^-]*)?$ ]] || refuse "no name of a release: $to"
+git rev-parse -q --verify HEAD >/dev/null 2>"$work/why" ||
+    refuse "$top is no clone with a commit, as a copy needs it: $(cat "$work/why")"
+git show HEAD:RELEASES 2>/dev/null | sed '/^#/d' >"$work/releases" || true
+target=$(awk -v it="$to" 'it == $1 || it == "" && !/withdrawn/ { found = $2 }
+    END { print found }' "$work/releases")
+target=$(git rev-parse -q --verify "${target:-${to:-HEAD}}^{commit}") ||
+    refuse "${to:-the last release} is no release of RELEASES and no commit of $top"
+for it in "$folder" "$version" "$project"/{crates.txt,HANDLES,.gitignore}; do
     [ "$(realpath -m "$it")" = "$it" ] || refuse "$it is a link"
-    [ ! -e "$it" ] || iconv -f utf-8 "$it" &>/dev/null || refuse "$it is no text"
+    [ ! -e "$it" ] || [[ -d $folder && $it = "$folder" ]] || iconv -f utf-8 "$it" &>/dev/null ||
+        refuse "$it is no text"
+done
+[ ! -e "$new" ] || [ -f "$new/begun" ] || rmdir "$new" 2>/dev/null ||
+    refuse "$new is none that this script made"
+[ "$option" != --update ] || [ -e "$version" ] || [ -e "$new/old/railyarrow" ] ||
+    refuse "$folder has no copy of these crates"
+[ -e "$folder" ] || made=$folder
+mkdir -p "$folder" || refuse "$folder cannot be made"
+exec 9<"$folder"
+flock -w 10 9 || refuse "another call is at work in $folder"
+
+# What a call that was cut off had moved away and not replaced, or built, comes back first.
+for it in "$new"/old/*; do
+    name=${it##*/}
+    [ ! -e "$it" ] || [ -e "$folder/$name" ] || mv "$it" "$folder/"
+    [ ! -d "$it/out" ] || [ -e "$folder/$name/out" ] || mv "$it/out" "$folder/$name/"
 done
 
-# What the copy was, at the commit that it names, and what it is to be. The rest was changed there.
-[ "$option" != --program ] || names=(async_cell_sync)
+# What the copy was, and what it is to be. The rest was changed.
+names=() was='' said='' pages=$old
 if [ -e "$version" ]; then
     state='^(version .* )?commit ([0-9a-f]{40}) crates ([a-z0-9_ ]+)$'
-    [[ $(paste -sd ' ' "$version") =~ $state ]] ||
+    [[ $(tr -d '\r' <"$version" | paste -sd ' ') =~ $state ]] ||
         refuse "$version is damaged: take it from your repository's history"
-    read -ra crates <<<"${BASH_REMATCH[3]}"
-    lay_out was "${BASH_REMATCH[2]}" "${crates[@]}"
-    mapfile -t names < <(printf '%s\n' "${crates[@]}" "${names[@]}" | awk '!seen[$0]++')
-elif [ "$option" = --update ]; then
-    refuse "$folder has no copy of these crates"
+    was=${BASH_REMATCH[2]}
+    read -ra names <<<"${BASH_REMATCH[3]}"
+    [ ${#names[@]} -gt 0 ] || refuse "$version names no crate"
+    [ ! -e "$folder/railyarrow/CHANGELOG.md" ] || pages=$now
+    lay_out was "$was" "${names[@]}"
+    cp "$version" "$work/was/railyarrow/" # However it names that commit.
 fi
-lay_out to "$(git rev-parse HEAD)" "${names[@]}"
-for it in "${@:1:$#-1}"; do
+case $option in '') names+=("${given[@]}") ;; --program) names+=(async_cell_sync) ;; esac
+for it in "${names[@]}" "${given[@]}"; do
     [[ $it =~ ^[a-z][a-z0-9_]*$ ]] || refuse "no name of a crate: $it"
-    is_ours=$(grep "^$it:" "$work/to.all/crates.txt" || true)
-    [ "$option" ] || [ "$is_ours" ] || refuse "no crate $it in crates.txt"
-    [ ! "$option" ] || [ ! "$is_ours" ] || refuse "$it is a crate of Railyarrow's"
+done
+mapfile -t names < <(printf '%s\n' "${names[@]}" | awk '!seen[$0]++')
+pages=$now
+lay_out to "$target" "${names[@]}"
+for it in "${names[@]}"; do
+    grep -q "^$it:" "$work/to.txt" || refuse "no crate $it in $(name_of "$target")" \
+        "$([ ! "$was" ] || echo "(see $version; --to takes another release)")"
 done
 if [ "$option" = --program ]; then
-    [ -e "$folder/$1" ] || cp -r "$work/to.all/crates/example_reply_slot" "$work/to/$1"
-    sed -n "s/^example_reply_slot:/$1:/p" "$work/to.all/crates.txt" >>"$work/to.lines"
+    taken=$(cat "$work/to.txt" && echo railyarrow out std alloc)
+    ! grep -qw -- "$1" <<<"$taken" || refuse "a crate cannot be named $1 here"
+    if [ -d "$folder/$1/src" ]; then said="was there, and stays"; else
+        [ ! -e "$folder/$1" ] || refuse "$folder/$1 is no crate"
+        said='is a program now, a copy of the reply slot'
+        lay_crate to "$1" "$(git rev-parse "$target:crates/example_reply_slot")"
+        rm "$work/to/$1/.gitattributes"
+    fi
+    sed -n "s/^example_reply_slot:/$1:/p" "$work/to.txt" >"$work/program"
 fi
 todo=() changed=''
-for it in $({ ls "$work/to" && ls "$work/was"; } | sort -u); do
+for it in $({ ls "$work/to" && [ ! "$was" ] || ls "$work/was"
+    for it in "$folder"/*/.gitattributes; do
+        it=${it%/*} && it=${it##*/} && [ ! "$(tree_of "$it")" ] || echo "$it"
+    done; } | sort -u); do
     [ ! -L "$folder/$it" ] || refuse "$folder/$it is a link"
-    ! is_as to "$it" || continue
+    if [ -e "$work/to/$it" ] && is_as to "$it"; then continue; fi
     todo+=("$it")
-    [ -e "$folder/$it" ] || continue
-    { [ -e "$work/was/$it" ] && is_as was "$it"; } ||
-        changed+=$'\n'$(sed "s|$work/[a-z]*|Railyarrow's|g" "$work/told")
+    [ ! -e "$folder/$it" ] || is_known "$it" || changed+=$'\n'$(cat "$work/told")
 done
-[ -z "$changed" ] || refuse "nothing was written, for there were changes:$changed"
+[ -z "$changed" ] || refuse "nothing was written, for these are not as they were copied:$changed"
 
-# Each folder is made beside its place, and moved there; railyarrow, which has VERSION, comes last.
-rm -rf "$new"
-mkdir -p "$new/old"
-cp -r "$work"/to/* "$new/"
-for it in "${todo[@]}"; do
-    [ ! -d "$folder/$it/out" ] || [ ! -d "$new/$it" ] || mv "$folder/$it/out" "$new/$it/"
-    [ ! -e "$folder/$it" ] || mv "$folder/$it" "$new/old/"
-    [ ! -e "$new/$it" ] || mv "$new/$it" "$folder/"
-done
-rm -rf "$new"
-settle crates.txt "$(cat "$work/to.lines")"
-settle HANDLES 'Handles allowed: Threads, Wait.'
-settle .gitignore 'out/'
+write_lines "$1"
+[ ${#todo[@]} -eq 0 ] || replace
+if ! cmp -s "$work/crates.txt" "$project/crates.txt"; then
+    cp "$work/crates.txt" "$project/.crates.txt.new"
+    mv "$project/.crates.txt.new" "$project/crates.txt"
+fi
+if [ -e "$new" ]; then rm -rf "$new/old" "$new/next" && rm -rf "$new"; fi
+settle
+warn
+[ ! "$said" ] || printf '# %s\n' "$folder/$1 $said. To run it, and to prove it:" \
+    "(cd '$folder/$1' && rt try && rt check)"

@@ -1,74 +1,125 @@
 #!/usr/bin/env bash
-# Tries vendor.sh in a project of its own: what it writes, prints and refuses, that it finishes a
-# call that was cut off, and that the program that one call makes runs there (without a proof).
+# Plays cases of vendor.sh, which are lines of vendor_cases.txt: those of the gate, with every tenth
+# cut, and runs the program that one call makes, without a proof.
+#
+#     bash scripts/vendor_check.sh [--all [WORD]]   as root all, or those whose line holds the word
 set -euo pipefail
 top=$(cd "$(dirname "$0")/.." && pwd)
 work=$(mktemp -d)
-trap 'rm -rf "$work"' EXIT
-lib=crates/async_cell_core/src/lib.rt
-fail() { echo "vendor_check: $1" >&2 && exit 1; }
-vendor() { bash "$work/clone/scripts/vendor.sh" "$@"; }
-# A call is ended before a move of a folder, once so many were made.
-mv() { [ $((moves--)) -gt 0 ] || kill -9 $$ && command mv "$@"; }
-export -f mv
-export moves=99
+room=$work/room
+trap 'umount "$room"/* 2>/dev/null || true; rm -rf "$work"' EXIT
+mkdir -m 1777 "$work/tmp"
+chmod 755 "$work"
+export TMPDIR=$work/tmp GIT_AUTHOR_DATE='@1 +0000' GIT_COMMITTER_DATE='@1 +0000' moves
+two='async_cell_sync async_cell_within' need='async_cell_within: futures'
+lib=async_cell_core/src/lib.rt passed=0 failed=0 every=10
+[ "${1:-}" != --all ] || every=1
 
-# Wants that a call is refused by these words, and writes nothing: WORDS, and the call's own words.
-refused() {
-    local before
-    before=$(find . -type f -exec sha256sum {} +)
-    ! vendor "${@:2}" >"$work/told" 2>&1 || fail "not refused: ${*:2}"
-    grep -qF "$1" "$work/told" || fail "wanted '$1', and got: $(cat "$work/told")"
-    [ "$before" = "$(find . -type f -exec sha256sum {} +)" ] || fail "refused, but written: ${*:2}"
+vendor() { bash "$clone/scripts/vendor.sh" "$@"; }
+nobody() {
+    local user=(setpriv --reuid=65534 --regid=65534 --clear-groups)
+    HOME=/none "${user[@]}" bash "$clone/scripts/vendor.sh" "$@"
+}
+commit() {
+    echo // newer >>"$clone/crates/$lib"
+    git -C "$clone" -c user.name=a -c user.email=a@b commit -qam newer
+}
+# Makes two releases, of which the last has this word in its line, and a commit since: WORD
+released() {
+    echo "0.8.0 $(git -C "$clone" rev-parse HEAD) kit" >>"$clone/RELEASES" && commit
+    echo "0.9.0 $(git -C "$clone" rev-parse HEAD) kit ${1#-}" >>"$clone/RELEASES" && commit
 }
 
-# Wants that a call ends as the whole one, though it was cut off at first, at several points: CALL..
-finishes() {
-    local at
-    rm -rf "$work"/{whole,part.*}
-    cp -r . "$work/whole"
-    (cd "$work/whole" && vendor "$@" >/dev/null)
-    for at in 0 1 2 3; do
-        cp -r . "$work/part.$at"
-        ! (cd "$work/part.$at" && moves=$at vendor "$@") &>/dev/null || fail "never cut off: $*"
-        (cd "$work/part.$at" && vendor "$@" >/dev/null) || fail "cut off at $at, not finished: $*"
-        diff -r "$work/whole" "$work/part.$at" || fail "cut off at $at, finished otherwise: $*"
+# All that is in the project, but for git's.
+state() {
+    find . -path ./.git -prune -o -printf '%y %m %p %l\n' -type f -exec sha256sum {} + | sort
+}
+
+# Whether the copy is as one that nothing disturbed, with nothing beside it.
+is_whole() {
+    local names to
+    names=$(sed -n 's/^crates //p' crates/railyarrow/VERSION)
+    to="$work/whole $(git -C "$clone" rev-parse HEAD) $names"
+    [ -e "$to" ] || { mkdir "$to" && (cd "$to" && vendor $names crates); }
+    diff -r --no-dereference -x out -x mine crates "$to/crates"
+}
+
+# Wants a call to be finished by the next one, of this clone, wherever it ended: HOW CLONE CALL..
+ends() {
+    local at first=$clone
+    cp -r . "$room/start"
+    for ((at = 0; ; at += every)); do
+        find . -mindepth 1 -delete && cp -r "$room/start/." . && clone=$first
+        ! "$1" "$at" "${@:3}" &>/dev/null || break
+        clone=$work/$2
+        { vendor "${@:3}" && is_whole; } || return
     done
 }
+# Ends it before one of these commands, once so many were made: NUMBER CALL..
+cut() (
+    for it in mv cp rm mkdir; do
+        eval "$it() { ((moves-- > 0)) || kill -9 \$\$; command $it \"\$@\"; }" && export -f "${it?}"
+    done
+    moves=$1 && vendor "${@:2}"
+)
+# Ends it and its children at a random moment, 60 times: NUMBER CALL..
+killed() {
+    [ "$1" -ge 60 ] ||
+        ! timeout -s KILL "$((RANDOM * long / 32768))e-6" bash "$clone/scripts/vendor.sh" "${@:2}"
+    [ "$1" -ge 60 ]
+}
 
-git clone -q "$top" "$work/clone"
-cp "$top/scripts/vendor.sh" "$work/clone/scripts/"
-mkdir "$work/mine"
-cd "$work/mine"
-refused 'no crate async_cell_none' async_cell_none crates
-finishes --program mine crates
+# Plays a case for one of its values: START BEFORE CALL WANTED
+play() {
+    local status=0 was told words
+    umount "$room"/* 2>/dev/null || true
+    rm -rf "$room" && mkdir -p "$room/mine" && cd "$room/mine" && clone=$work/1 || return
+    [[ ! "$* $it" =~ \$clone|commit|released ]] ||
+        { cp -r "$work/1" "$room/clone" && clone=$room/clone; }
+    [ "$1" = new ] || cp -r "$work/copied/." .
+    [ "$2" = - ] || eval "$2" &>"$room/before" || { cat "$room/before" && return 1; }
+    was=$(state)
+    told=$(eval "$3" 2>&1) || status=$?
+    echo "$status: $told"
+    [ "${4%% *}" != then ] || { eval "${4#* }" && return || return; }
+    words=$(sed 's/^[a-z]* *//' <<<"${4//'$it'/$it}")
+    [[ $told = *"$words"* ]] || return
+    case ${4%% *} in
+    same) [[ $status = 0 && $was = "$(state)" && ( $words || -z $told ) ]] ;;
+    whole) [ "$status" = 0 ] && is_whole ;;
+    refused) [[ $status != 0 && $told && $was = "$(state)" ]] ;;
+    esac
+}
+
+# Three commits, of which the first was copied.
+git clone -q "$top" "$work/0"
+cp "$top/scripts/vendor.sh" "$work/0/scripts/"
+echo '# None yet.' >"$work/0/RELEASES"
+clone=$work/0 && git -C "$clone" add -A && commit
+for it in 1 2; do cp -r "$clone" "$work/$it" && clone=$work/$it && commit; done
+clone=$work/0 long=${EPOCHREALTIME/./}
+mkdir "$work/copied" && (cd "$work/copied" && vendor $two crates)
+long=$((${EPOCHREALTIME/./} - long))
+
+while read -r line; do
+    [[ $line != \#* && ( $every = 1 || $line = \** ) && $line = *"${2:-}"* ]] || continue
+    mapfile -t field < <(sed 's/^\* //; s/ :: /\n/g' <<<"$line")
+    eval "values=(${field[1]})"
+    for it in "${values[@]}"; do
+        if (play "${field[@]:2}") >"$work/said" 2>&1; then
+            passed=$((passed + 1)) && echo "passed: ${field[0]}, ${it@Q}"
+        else
+            failed=$((failed + 1)) && echo "failed: ${field[0]}, ${it@Q}: $(tail -n 5 "$work/said")"
+        fi
+    done
+done <"$top/scripts/vendor_cases.txt"
+echo "vendor_check: $passed passed, $failed failed"
+[ "$failed" = 0 ] || exit 1
+[ $# -lt 2 ] || exit 0
+
+mkdir "$work/mine" && cd "$work/mine"
 vendor --program mine crates
-[ "$(cat HANDLES .gitignore)" = $'Handles allowed: Threads, Wait.\nout/' ] || fail 'other handles'
-vendor async_cell_recorded crates >"$work/told"
-line="# crates.txt has to have: $(grep ^async_cell_recorded: "$top/crates.txt")"
-[ "$line" = "$(cat "$work/told")" ] || fail "it told other lines: $(cat "$work/told")"
-rm -rf "$work"/clone/crates/*/{bugs*,must-fail}
-for it in crates/async_cell_*; do
-    diff -r -x CALLING.md "$work/clone/$it" "$it" || fail "$it is another"
-done
-python3 -B "$top/scripts/pages.py" "$PWD"/crates/*/*.md || fail 'a link leads nowhere'
-
-# A commit that changes a file and removes one, where a file was changed, is damaged, or is a link.
-sed -i~ '$a // changed' "$work/clone/$lib"
-rm "$work/clone/crates/async_cell_core/CALLING.md"
-git -C "$work/clone" -c user.name=a -c user.email=a@b commit -qam changed
-for it in 'echo // >>'\ {$lib,crates/railyarrow/LICENSE} "rm $lib" "ln -sf $work/clone/$lib~ $lib" \
-    $'echo \xff >'{crates.txt,HANDLES,crates/railyarrow/VERSION} 'echo >crates/railyarrow/VERSION'; do
-    rm -rf "$work/before" && cp -r . "$work/before"
-    eval "$it"
-    refused "${it##*[ >]}" --update crates
-    rm -rf ./* && cp -r "$work/before/." .
-done
-finishes --update crates
-vendor --update crates
-[ "$(tail -n 1 "$lib")" = '// changed' ] || fail 'a change did not come along'
-[ ! -e crates/async_cell_core/CALLING.md ] || fail 'a file that went is there'
 cd crates/mine
-rt try >"$work/output" 2>"$work/log" </dev/null || fail "its status is $?: $(cat "$work/log")"
-cmp "$work/output" stdout || fail "the program printed another text: $(cat "$work/log")"
-echo "vendor_check: a program runs in a repository of its own: $(cat "$work/output")"
+rt try >"$work/output" 2>"$work/log" </dev/null || { cat "$work/log" && exit 1; }
+cmp "$work/output" stdout
+echo "vendor_check: $passed passed, and a program runs in a repository of its own: $(cat stdout)"
