@@ -9,7 +9,7 @@ ghost use Rattle.async_cell_sync.specs.declared.TaskWaker.{TaskWaker as Waker};
 
 use crate::Host;
 use async_cell_model::Kept;
-use async_cell_sync::{Author, Blank, Owner, Protocol, Takeable, TaskWaker, Witness, laws};
+use async_cell_sync::{Author, Blank, Owner, Protocol, TaskWaker, Witness, laws};
 use futures::StreamExt;
 use futures::executor::block_on;
 use std::marker::Brand;
@@ -117,8 +117,8 @@ fn all_named<N: Protocol<u64, TaskWaker>, R: Host>(
     Ok(())
 }
 
-/// Takes by a plain future, and by a weak owner's, on the cell that `N` names.
-fn plain_named<N: Takeable<u64, TaskWaker>, R: Host>(
+/// Gets by a future that extends no witness, and by a weak owner's, on the cell that `N` names.
+fn weak_named<N: Protocol<u64, TaskWaker>, R: Host>(
     rt: R,
     blank: Blank<u64, TaskWaker>,
 ) -> anyhow::Result<()>
@@ -128,8 +128,7 @@ fn plain_named<N: Takeable<u64, TaskWaker>, R: Host>(
 {
     let (owner, one) = Owner::<u64, R, N>::witnessed(rt.alloc(), blank, rt)?;
     owner.set(1);
-    let _ = block_on(&rt, owner.take())??;
-    owner.set(2);
+    let _ = block_on(&rt, owner.get())??;
     let weak = owner.downgrade();
     let _ = weak.is_closed()?;
     let _ = block_on(&rt, weak.get_as(one.again()))??;
@@ -143,5 +142,5 @@ pub fn all<R: Host>(rt: R) -> anyhow::Result<()> {
     let blank = Blank::new(rt.alloc(), None);
     all_named::<Brand, R>(rt, blank)?;
     let blank = Blank::new(rt.alloc(), None);
-    plain_named::<Brand, R>(rt, blank)
+    weak_named::<Brand, R>(rt, blank)
 }

@@ -117,11 +117,6 @@ impl<T, W> Protocol<T, W> for Brand {
     ghost keeps = { λ call _. puts_any call };
 }
 
-/// As for a `Protocol`: futures without a witness may take the values of such a cell, too.
-impl<T, W> Takeable<T, W> for Brand {
-    ghost takes = { λ _ _. tt };
-}
-
 /// As for a `Protocol`: a rule that names values of the program.
 impl<T> Rule<T> for Brand {
     ghost holds = { λ _. ⊤ };

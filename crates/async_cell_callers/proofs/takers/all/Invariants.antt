@@ -6,6 +6,5 @@ use Rattle.async_cell_callers.proofs.takers.all.Given as goal
 abbrev pub ghosts-all_named : goal.ghosts-all_named
 ghosts-all_named g a = record { named = Some a.blank; may = λ _. ⊤; holds = λ _. ⊤; keeps = λ call _. puts_any call }
 
--- and of which each value may be taken
-abbrev pub ghosts-plain_named : goal.ghosts-plain_named
-ghosts-plain_named g a = record { named = Some a.blank; may = λ _. ⊤; holds = λ _. ⊤; keeps = λ call _. puts_any call; takes = λ _ _. tt }
+abbrev pub ghosts-weak_named : goal.ghosts-weak_named
+ghosts-weak_named g a = record { named = Some a.blank; may = λ _. ⊤; holds = λ _. ⊤; keeps = λ call _. puts_any call }
