@@ -18,7 +18,7 @@ trap 'rm -rf "$work"' EXIT
 # Lays the project out: the cells, and the programs: FOLDER
 lay_out() {
     local name text
-    bash "$top/scripts/vendor.sh" async_cell_sync "$1/crates" >/dev/null
+    bash "$top/scripts/vendor.sh" --to HEAD async_cell_sync "$1/crates" >/dev/null
     cat "$from/crates.lines" >>"$1/crates.txt"
     cp "$from/HANDLES" "$1/"
     git init -q "$1"
