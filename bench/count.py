@@ -32,6 +32,8 @@ ROWS = {
     "sync Owner": ("owner", ALL),
     "unsync pair": ("pair", ALL[:1]),
     "sync pair": ("pair", ALL[:1]),
+    "calls of an Owner": ("as", ALL[:2]),
+    "as calls of an Owner": ("as", ALL[:2]),
     "latest_sync": ("latest", ("watch", "fan", "again")),
     "oneshot of the kit": ("pair", ALL[:1]),
 }
