@@ -1,26 +1,7 @@
 -- The ghost side of each function, and which tokens cross threads. Assumes `Logic`.
-use Rattle.std.proofs.Common.{◌≡◌, ℕ, zero, suc, ◌+◌, ◌-◌, ◌<◌, ◌≤◌, Bool, true, false, List, [], ◌∷◌, ◌++◌, refl, sym, arith}
-use mathlib.Core.List.{IsPrefix}
+use Rattle.ghost_count.proofs.Words.{◌≡◌, ℕ, zero, suc, ◌+◌, ◌-◌, ◌<◌, ◌≤◌, Bool, true, false, List, [], ◌∷◌, ◌++◌, refl, sym, arith, IsPrefix, Option, Some, None, IsSome, Ura, full_share, not-OpDef-full_share, SProp, ent, sep, ex, guard, emp, via, Lft, Share, Fml, ftrue, fsep, fex, fbor, numbers, growing, latest, at_least, Keyless, Halves, Logic, sem, lfts, bor_fracture, one, nothing, Lends, basic, own_sum, latest_new, latest_grows, latest_shows, latest_bounds, latest_cut, latest_glue, at_least_dup, ‵, ◌⊛◌, some, given, later, ◌$◌, ◌∵◌, !, qed, by, move, keep, drop, split, join, fsplit, fjoin, fpick, fpack, pick, learn, check, done, frame, use0, use1, use2, rewrite, updating, await, now, raw, show, given_permits, names, counted, outs, right, held, back, is_out, table, counts, count_owns, was_given, is_held, permit_owns}
 use mathlib.Core.Option.{some as opt_some}
-use Rattle.std.specs.Prelude.{Option, Some, None, IsSome}
-use seplogic.Ra.Ura.{Ura}
-use base.Fraction.{full_share}
-use base.FractionLaws.{not-OpDef-full_share}
-use base.Logic.{SProp, ent, sep, ex, guard, emp, via}
-use base.Fml.{Lft, Share, Fml, ftrue, fsep, fex, fbor}
 use base.Share
-use base.Growing.{numbers, growing, latest, at_least}
-use base.Shift.{Keyless}
-use ghost.Rules.{Halves}
-use types.Logic.{Logic, sem, lfts}
-use types.Tokens.{bor_fracture}
-use denote.Sharing.{one}
-use denote.Steps.{nothing}
-use denote.Struct.Lending.{Lends}
-use types.Owned.{basic, own_sum}
-use types.Growing.{latest_new, latest_grows, latest_shows, latest_bounds, latest_cut, latest_glue, at_least_dup}
-use types.Kit.{‵, ◌⊛◌, some, given, later, ◌$◌, ◌∵◌, !, qed, by, move, keep, drop, split, join, fsplit, fjoin, fpick, fpack, pick, learn, check, done, frame, use0, use1, use2, rewrite, updating, await, now, raw, show}
-use Rattle.ghost_count.specs.Owned.{given_permits, names, counted, outs, right, held, back, is_out, table, counts, count_owns, was_given, is_held, permit_owns}
 
 -- the row after these comes back
 abbrev pub flip : List ℕ → List (ℕ × Bool) → List (ℕ × Bool)

@@ -1,4 +1,4 @@
-use denote.Param.Send.{IsSend}
+use Rattle.ghost_count.proofs.Words.{IsSend}
 use Rattle.ghost_count.specs.contracts.permits.Count.{the_row}
 use Rattle.ghost_count.proofs.Steps.{count_keyless}
 

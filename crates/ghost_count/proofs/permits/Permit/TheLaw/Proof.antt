@@ -1,11 +1,6 @@
 -- A `&` to a `Permit` holds a share of it. Assumes `Logic`.
-use denote.Builtin.{unit}
-use denote.SharingLaws.{one_shr_laws}
-use denote.Param.Shared.{copy_shared}
-use denote.Struct.Laws.{field_copy}
-use denote.Struct.Lending.{of_Lends}
+use Rattle.ghost_count.proofs.Words.{unit, one_shr_laws, copy_shared, field_copy, of_Lends, permit_owns}
 use Rattle.core.specs.contracts.marker.PhantomData as marker
-use Rattle.ghost_count.specs.Owned.{permit_owns}
 use Rattle.ghost_count.specs.contracts.permits.Permit as C
 use Rattle.ghost_count.proofs.Steps.{permit_lends}
 use Rattle.ghost_count.proofs.permits.Permit.TheLaw.Statement.{statement}

@@ -1,5 +1,4 @@
-use base.Fraction.{full_share}
-use denote.Param.Send.{IsSend}
+use Rattle.ghost_count.proofs.Words.{full_share, IsSend}
 use Rattle.ghost_count.specs.contracts.permits.Permit.{the_row}
 use Rattle.ghost_count.proofs.Steps.{permit_keyless}
 

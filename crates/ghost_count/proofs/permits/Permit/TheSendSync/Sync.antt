@@ -1,6 +1,4 @@
-use denote.Param.Send.{IsSync, sendable}
-use denote.Struct.Struct.{Struct}
-use denote.Struct.Owning.{shape}
+use Rattle.ghost_count.proofs.Words.{IsSync, sendable, Struct, shape}
 use Rattle.ghost_count.specs.contracts.permits.Permit.{the_row, the_type}
 use Rattle.ghost_count.proofs.Steps.{permit_keyless}
 

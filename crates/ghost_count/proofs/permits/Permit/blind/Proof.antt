@@ -1,33 +1,6 @@
 -- A permit without a name owns nothing.
-use Rattle.std.proofs.Common.{◌≡◌, ℕ, ◌+◌, ◌-◌, ◌<◌, ◌≤◌, List, [], ◌∷◌, refl}
-use mir.Syntax.{named}
-use mir.Val.{Val, vunit, vptr}
-use base.Fraction.{full_share}
-use base.Logic.{SProp, emp}
-use base.Fml.{Fml, ftrue, fsep, flft, fhide, fshr_bor}
-use types.Tokens.{shr_bor-open, obor_close}
-use types.Kit.{‵, raw, ◌⊛◌, some, given, later, ◌$◌, ◌∵◌, !, qed, by, move, keep, drop, split, join, fsplit, fsplit3, fjoin, fjoin3, pick, learn, use0, use1, use2, rewrite, await, feq_i}
-use types.Run.{unit_lit, of_opd, no_more, and_then, returns, enter}
-use types.ByLocal.{alloc_all, pass_all, free_all, look_at, get, sets}
-use types.Part.{agg}
-use contract.Monad.{fact_i}
-use contract.Running.{tables}
-use Rattle.core.proofs.ledger.Walks.{tells, tells_last}
-use denote.Exit.{yes}
-use denote.RattleType.{RattleType, owns}
-use denote.Signature.{types_at, plain}
-use denote.Builtin.{RefOf, unit}
-use denote.Ref.{mut_vals, mut_Tells, shr_vals, shr_Tells}
-use denote.Memory.{hidden_shr}
-use denote.Opens.{unhide}
-use denote.Steps.{nothing, opens, closes}
-use denote.Struct.Lending.{lent_out}
-use denote.Triple.Walked.{Stays, stay_dropped, stay_ref, walk_of, Goes-dropped, Goes-ref}
+use Rattle.ghost_count.proofs.Words.{◌≡◌, ℕ, ◌+◌, ◌-◌, ◌<◌, ◌≤◌, List, [], ◌∷◌, refl, named, Val, vunit, vptr, full_share, SProp, emp, Fml, ftrue, fsep, flft, fhide, fshr_bor, shr_bor-open, obor_close, ‵, raw, ◌⊛◌, some, given, later, ◌$◌, ◌∵◌, !, qed, by, move, keep, drop, split, join, fsplit, fsplit3, fjoin, fjoin3, pick, learn, use0, use1, use2, rewrite, await, feq_i, unit_lit, of_opd, no_more, and_then, returns, enter, alloc_all, pass_all, free_all, look_at, get, sets, agg, fact_i, tables, tells, tells_last, yes, RattleType, owns, types_at, plain, RefOf, unit, mut_vals, mut_Tells, shr_vals, shr_Tells, hidden_shr, unhide, nothing, opens, closes, lent_out, Stays, stay_dropped, stay_ref, walk_of, Goes-dropped, Goes-ref, proved, token, Token, token_told, token_made, ends, Option, Some, None, IsSome, count_owns, permit_owns}
 use Rattle.core.specs.contracts.marker.PhantomData as marker
-use Rattle.atomic_table.proofs.Walks.{proved}
-use Rattle.logbook.proofs.Fields.{token, Token, token_told, token_made, ends}
-use Rattle.std.specs.Prelude.{Option, Some, None, IsSome}
-use Rattle.ghost_count.specs.Owned.{count_owns, permit_owns}
 use Rattle.ghost_count.specs.contracts.permits.Count as Count
 use Rattle.ghost_count.specs.contracts.permits.Permit as Permit
 use Rattle.ghost_count.proofs.Steps as steps
