@@ -1,9 +1,9 @@
 //! Callers of all libraries, at types of a program. Each call here requires something, or is proved
 //! of every closure, clone, edit, waker, pointer, marker or future: that a program can meet what it
 //! is proved from is proved here. The public modules are what another project would prove of
-//! `Core`, `Latest`, a driver and a recorded cell: their contracts follow from those that they call.
-//! What a library calls, without requiring as much of its own callers, needs no call here; what
-//! calls do is for cases and tests.
+//! `Core`, `Latest`, a driver and a recorded cell: their contracts follow from those that they
+//! call. What a library calls, without requiring as much of its own callers, needs no call here;
+//! what calls do is for cases and tests.
 #![tactic(auto)]
 
 ghost use Rattle.std.specs.Prelude.{◌≡◌, ◌%◌};

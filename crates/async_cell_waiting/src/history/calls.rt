@@ -180,8 +180,8 @@ impl<T: Drop, W: Wakes, N: Protocol<T, W>> Witness<T, W, N> {
     }
 
     /// Calls the closure on the value, if there is one, and stores what it returns. Fails with
-    /// `Closed` on a closed cell, and has then seen that it is closed. A closure that was not called
-    /// is dropped after the step.
+    /// `Closed` on a closed cell, and has then seen that it is closed. A closure that was not
+    /// called is dropped after the step.
     pub fn update_some<
         'a,
         F,
