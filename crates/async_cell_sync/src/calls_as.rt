@@ -11,6 +11,7 @@ use crate::owner::Owner;
 use crate::shared::Shared;
 use async_cell_core::{Refusal, TaskWaker, Wakes};
 use async_cell_model::{Kept, Reply};
+use async_cell_waiting::ops::{IsSet, OrSet, Replace, Set, TryGet, TryTake, Update, UpdateSome};
 use async_cell_waiting::{Anyone, Protocol, Witness};
 use std::sync::{Arc, Wait};
 
@@ -28,7 +29,7 @@ impl<T: Drop, N: Protocol<T, TaskWaker>> AsyncCell<T, N> {
         ensures signed { IsSigned seen.old seen.new }
         ensures comes_back { IfErr result (λ back. back ≡ value) }
     {
-        seen.set(&self.core, &Anyone, value, rt)
+        self.core.make(Set(value), &Anyone, seen, rt)
     }
 
     /// Sets the value, wakes all waiters, returns the old one. A closed cell gives the value back.
@@ -45,7 +46,7 @@ impl<T: Drop, N: Protocol<T, TaskWaker>> AsyncCell<T, N> {
         ensures rule { IfOk result (λ old. IfSome old N.holds) }
         ensures comes_back { IfErr result (λ back. back ≡ value) }
     {
-        seen.replace(&self.core, &Anyone, value, rt)
+        self.core.make(Replace(value), &Anyone, seen, rt)
     }
 
     /// Sets the value and wakes all waiters, if there is none. Returns an unused `value`.
@@ -61,7 +62,7 @@ impl<T: Drop, N: Protocol<T, TaskWaker>> AsyncCell<T, N> {
         ensures signed { IsSigned seen.old seen.new }
         ensures comes_back { IfErr result (λ back. back ≡ value) }
     {
-        seen.or_set(&self.core, &Anyone, value, rt)
+        self.core.make(OrSet(value), &Anyone, seen, rt)
     }
 
     /// Takes the value, if there is one.
@@ -72,7 +73,7 @@ impl<T: Drop, N: Protocol<T, TaskWaker>> AsyncCell<T, N> {
         ensures signed { IsSigned seen.old seen.new }
         ensures rule { IfSome result N.holds }
     {
-        seen.try_take(&self.core, rt)
+        self.core.make(TryTake, &Anyone, seen, rt)
     }
 
     /// Returns a clone of the value, if there is one. Fails with `Memory` if the clone fails.
@@ -89,7 +90,7 @@ impl<T: Drop, N: Protocol<T, TaskWaker>> AsyncCell<T, N> {
         ensures rule { IfOk result (λ found. IfSome found (IsCloneOfOne T.is_clone N.holds)) }
         ensures refused { FailsWithMemory result }
     {
-        seen.try_get(&self.core, rt)
+        self.core.make(TryGet, &Anyone, seen, rt)
     }
 
     /// Returns whether the cell holds a value.
@@ -98,7 +99,7 @@ impl<T: Drop, N: Protocol<T, TaskWaker>> AsyncCell<T, N> {
             Kept.IsSet (Reply.Is result) seen.new.calls }
         ensures signed { IsSigned seen.old seen.new }
     {
-        seen.is_set(&self.core, rt)
+        self.core.make(IsSet, &Anyone, seen, rt)
     }
 
     /// Calls the closure on the content, under the lock, and stores what it returns. Wakes all
@@ -121,7 +122,7 @@ impl<T: Drop, N: Protocol<T, TaskWaker>> AsyncCell<T, N> {
         ensures seen_closed { OnErr result (IsSeenClosed N.named seen.old seen.new) }
         ensures refused { FailsWithClosed result }
     {
-        seen.update(&self.core, &Anyone, change, rt)
+        self.core.make(Update(change), &Anyone, seen, rt)
     }
 
     /// Calls the closure on the value, if there is one, under the lock, and stores what it returns.
@@ -145,7 +146,7 @@ impl<T: Drop, N: Protocol<T, TaskWaker>> AsyncCell<T, N> {
         ensures seen_closed { OnErr result (IsSeenClosed N.named seen.old seen.new) }
         ensures refused { FailsWithClosed result }
     {
-        seen.update_some(&self.core, &Anyone, change, rt)
+        self.core.make(UpdateSome(change), &Anyone, seen, rt)
     }
 }
 
@@ -161,7 +162,7 @@ impl<T: Drop, R: Wait + Drop, N: Protocol<T, TaskWaker>> Owner<T, R, N> {
     {
         let Shared { cell, permit } = &self.shared;
         seen.counted();
-        seen.set(&cell.core, permit, value, &self.rt)
+        cell.core.make(Set(value), permit, seen, &self.rt)
     }
 
     /// Sets the value, wakes all waiters, returns the old one. A closed cell gives the value back.
@@ -176,7 +177,7 @@ impl<T: Drop, R: Wait + Drop, N: Protocol<T, TaskWaker>> Owner<T, R, N> {
     {
         let Shared { cell, permit } = &self.shared;
         seen.counted();
-        seen.replace(&cell.core, permit, value, &self.rt)
+        cell.core.make(Replace(value), permit, seen, &self.rt)
     }
 
     /// Sets the value and wakes all waiters, if there is none. Returns an unused `value`.
@@ -190,7 +191,7 @@ impl<T: Drop, R: Wait + Drop, N: Protocol<T, TaskWaker>> Owner<T, R, N> {
     {
         let Shared { cell, permit } = &self.shared;
         seen.counted();
-        seen.or_set(&cell.core, permit, value, &self.rt)
+        cell.core.make(OrSet(value), permit, seen, &self.rt)
     }
 
     /// Takes the value, if there is one.
@@ -248,7 +249,7 @@ impl<T: Drop, R: Wait + Drop, N: Protocol<T, TaskWaker>> Owner<T, R, N> {
     {
         let Shared { cell, permit } = &self.shared;
         seen.counted();
-        seen.update(&cell.core, permit, change, &self.rt)
+        cell.core.make(Update(change), permit, seen, &self.rt)
     }
 
     /// Calls the closure on the value, if there is one, under the lock, and stores what it returns.
@@ -274,7 +275,7 @@ impl<T: Drop, R: Wait + Drop, N: Protocol<T, TaskWaker>> Owner<T, R, N> {
     {
         let Shared { cell, permit } = &self.shared;
         seen.counted();
-        seen.update_some(&cell.core, permit, change, &self.rt)
+        cell.core.make(UpdateSome(change), permit, seen, &self.rt)
     }
 }
 
@@ -293,8 +294,9 @@ impl<T: Drop, R: Wait + Copy, N: Protocol<T, TaskWaker>> Owner<T, R, N> {
         ensures open { IfErr result (λ why. ¬ (why ≡ Refusal.Closed)) }
         ensures refused { IfErr result IsOwnerRefusal }
     {
+        seen.counted();
         let cell = Arc::try_clone(&self.shared.cell)?;
-        let permit = seen.add_owner(&cell.core, &self.shared.permit, &self.rt)?;
+        let permit = cell.core.add_counted(&self.shared.permit, seen, &self.rt)?;
         Ok(Shared { cell, permit }.with(self.rt))
     }
 }

@@ -15,7 +15,7 @@ use crate::weak::{GetWeak, TakeWeak};
 use crate::weak_owner::WeakOwner;
 use async_cell_core::{Refusal, TaskWaker};
 use async_cell_model::Kept;
-use async_cell_waiting::{Protocol, Rule, Ruled, Takeable, Unruled, With};
+use async_cell_waiting::{Anyone, Nobody, Protocol, Rule, Ruled, Takeable, Unruled, With};
 use std::alloc::Global;
 use std::sync::{Arc, Wait};
 
@@ -105,7 +105,7 @@ impl<T: Drop, R: Wait + Copy, N: Protocol<T, TaskWaker>> Owner<T, R, N> {
         ensures refused { IfErr result IsOwnerRefusal }
     {
         let cell = Arc::try_clone(&self.shared.cell)?;
-        let permit = cell.core.add_counted(&self.rt)?;
+        let permit = cell.core.add_counted(&Anyone, &mut Nobody, &self.rt)?;
         Ok(Owner {
             shared: Shared { cell, permit },
             rt: self.rt,

@@ -11,7 +11,7 @@ use crate::take::Take;
 use crate::weak::{GetWeak, TakeWeak, Weak};
 use async_cell_core::{Refusal, TaskWaker};
 use async_cell_model::Kept;
-use async_cell_waiting::{OwnerPermit, Protocol, Unruled};
+use async_cell_waiting::{Anyone, Nobody, OwnerPermit, Protocol, Unruled};
 use std::alloc::{AllocFailed, Global};
 use std::sync::{Arc, Wait};
 
@@ -193,7 +193,7 @@ impl<T: Drop, N: Protocol<T, TaskWaker>> Shared<T, N> {
         ensures refused { IfErr result IsOwnerRefusal }
     {
         let cell = Arc::try_clone(cell)?;
-        let permit = cell.core.add_counted(rt)?;
+        let permit = cell.core.add_counted(&Anyone, &mut Nobody, rt)?;
         Ok(Shared { cell, permit })
     }
 }

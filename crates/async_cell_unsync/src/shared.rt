@@ -10,7 +10,7 @@ use crate::owner::Owner;
 use crate::take::Take;
 use crate::weak::{GetWeak, TakeWeak, Weak};
 use async_cell_core::{Refusal, TaskWaker};
-use async_cell_waiting::{Free, OneThread, OwnerPermit, Unruled};
+use async_cell_waiting::{Anyone, Free, Nobody, OneThread, OwnerPermit, Unruled};
 use std::alloc::{AllocFailed, Global};
 use std::rc::Rc;
 
@@ -161,7 +161,7 @@ impl<T: Drop, N: Free<T, TaskWaker>> Shared<T, N> {
         ensures refused { IfErr result IsOwnerRefusal }
     {
         let cell = cell.clone()?;
-        let permit = cell.core.add_counted(&OneThread)?;
+        let permit = cell.core.add_counted(&Anyone, &mut Nobody, &OneThread)?;
         Ok(Shared { cell, permit })
     }
 }

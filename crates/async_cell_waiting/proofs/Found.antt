@@ -1,50 +1,20 @@
 -- What a future gives that extends a witness: what a take or a get found.
-use Rattle.std.proofs.Common.{◌≡◌, true, false, inl, inr, Option, Some, None, Result, Ok, Err, refl, sym, subst, IfOk, IfSome, OnOk}
+use Rattle.std.proofs.Common.{◌≡◌, true, false, inr, Option, Some, None, Result, Ok, Err, refl, sym, subst, IfOk, IfSome}
 use Rattle.async_cell_model.specs.declared.cell.Cell.{Cell}
 use Rattle.async_cell_model.specs.declared.cell.Cell.TheVariants.{Closed, Open}
-use Rattle.async_cell_model.specs.declared.entry.Kept.{Kept}
-use Rattle.async_cell_model.specs.declared.entry.Kept.TheVariants.{TryTake, TryGet, PollGet}
+use Rattle.async_cell_model.specs.declared.entry.Kept.TheVariants.{TryTake, TryGet}
 use Rattle.async_cell_model.specs.declared.refusal.Refusal.{Refusal}
-use Rattle.async_cell_model.specs.declared.reply.Reply.TheVariants.{Value, Done}
+use Rattle.async_cell_model.specs.declared.reply.Reply.TheVariants.{Value}
 use Rattle.async_cell_model.specs.History.{History}
 use Rattle.async_cell_core.specs.IsStep.{WakerRules}
-use Rattle.async_cell_core.specs.Polled.{IsCloneOf, poll_reply}
-use Rattle.async_cell_model.specs.declared.reply.Reply.{Reply}
-use Rattle.async_cell_model.specs.Machine.{UpToClones, content, is_closed, is_vacant}
-use Rattle.futures.specs.declared.task.Poll.{Poll}
-use Rattle.async_cell_waiting.specs.History.{Begun, Seen, IsCloneOfOne, IsSigned, IsLinearized, IsLinearizedUpTo, get_reply, end_reply, done_reply}
+use Rattle.async_cell_core.specs.Polled.{IsCloneOf}
+use Rattle.async_cell_model.specs.Machine.{content, is_closed, is_vacant}
+use Rattle.async_cell_waiting.specs.History.{Begun, Seen, IsCloneOfOne, IsSigned, IsLinearized, IsLinearizedUpTo, get_reply}
 
 module _ {T W : Type 0} (rules : WakerRules W) (named : Option (Begun T W)) (seen : History T W) where
   copied_as : (is_clone : T → T → Type 0) (h : History T W) (held : Option T) (x : T) → IsLinearized rules named seen TryGet (Value held) h → IsCloneOf is_clone held (Some x) → IsLinearizedUpTo is_clone rules named seen TryGet (Value (Some x)) h
   copied_as is_clone h None x told cloned = absurd cloned
   copied_as is_clone h (Some a) x told cloned = (Value (Some a), told, inr cloned)
-
-  got_as : (is_clone : T → T → Type 0) (now : History T W) (held : Option T) (copied : Result (Option T) Refusal) → IsLinearized rules named seen TryGet (get_reply held copied) now → IfOk copied (IsCloneOf is_clone held) → IsLinearizedUpTo is_clone rules named seen TryGet (end_reply copied) now
-  got_as is_clone now held (Err why) told clones = (end_reply (Err why), told, inl refl)
-  got_as is_clone now None (Ok None) told clones = (Value None, told, inl refl)
-  got_as is_clone now None (Ok (Some x)) told clones = absurd clones
-  got_as is_clone now (Some a) (Ok None) told clones = absurd clones
-  got_as is_clone now (Some a) (Ok (Some x)) told clones = (Value (Some a), told, inr clones)
-
-  -- a get, found or not
-  pub linearized_got : (is_clone : T → T → Type 0) (now : History T W) (held : Option T) (copied got : Result (Option T) Refusal) → IsLinearized rules named seen TryGet (get_reply held copied) now → IfOk copied (IsCloneOf is_clone held) → got ≡ copied → IsLinearizedUpTo is_clone rules named seen TryGet (end_reply got) now
-  linearized_got is_clone now held copied got told clones same =
-      subst (λ g. IsLinearizedUpTo is_clone rules named seen TryGet (end_reply g) now) (sym same) (got_as is_clone now held copied told clones)
-
-  -- a poll of a get
-  pub linearized_poll : (is_clone : T → T → Type 0) (now : History T W) (w : W) (own : Reply T) (polled got : Result (Poll (Option T)) Refusal) → IsLinearized rules named seen (PollGet w) own now → UpToClones is_clone (PollGet w) own (poll_reply polled) → got ≡ polled → IsLinearizedUpTo is_clone rules named seen (PollGet w) (poll_reply got) now
-  linearized_poll is_clone now w own polled got told up same = subst (λ g. IsLinearizedUpTo is_clone rules named seen (PollGet w) (poll_reply g) now) (sym same) (own, told, up)
-
-  put_as : {A : Type 0} (now : History T W) (kept : Option T → Option T → Kept T W) (saw put : Option T) (held : Result A Refusal) (P : Option T → Option T → Type 0) → IsLinearized rules named seen (kept saw put) (done_reply held) now → OnOk held (P saw put)
-      → OnOk held ((s : Option T) × (p : Option T) × IsLinearized rules named seen (kept s p) Done now × P s p)
-  put_as now kept saw put (Ok it) P told called = (saw, put, told, called)
-  put_as now kept saw put (Err why) P told called = tt
-
-  -- an update, made or refused
-  pub linearized_put : {A : Type 0} (now : History T W) (kept : Option T → Option T → Kept T W) (saw put : Option T) (held got : Result A Refusal) (P : Option T → Option T → Type 0) → IsLinearized rules named seen (kept saw put) (done_reply held) now → OnOk held (P saw put) → got ≡ held
-      → OnOk got ((s : Option T) × (p : Option T) × IsLinearized rules named seen (kept s p) Done now × P s p)
-  linearized_put now kept saw put held got P told called same =
-      subst (λ r. OnOk r ((s : Option T) × (p : Option T) × IsLinearized rules named seen (kept s p) Done now × P s p)) (sym same) (put_as now kept saw put held P told called)
 
 module _ {T W : Type 0} (rules : WakerRules W) (named : Option (Begun T W)) (old : Seen T W) where
   -- a take that found a value, of which P holds
@@ -78,10 +48,6 @@ module _ {T : Type 0} (is_clone : T → T → Type 0) (P : T → Type 0) where
   pub cloned_ones : {E : Type 0} (held : Option T) (copied : Result (Option T) E) → IfSome held P → IfOk copied (IsCloneOf is_clone held) → IfOk copied (λ found. IfSome found (IsCloneOfOne is_clone P))
   cloned_ones held (Ok got) holds clones = cloned_one held got holds clones
   cloned_ones held (Err why) holds clones = tt
-
-pub on_ok : {A E P : Type 0} (r : Result A E) → P → OnOk r P
-on_ok (Ok it) p = p
-on_ok (Err why) p = tt
 
 -- a cell that has no value, and on which a poll need not wait, is closed
 pub closed_if_none : {T : Type 0} (c : Cell T) → content c ≡ None → is_vacant c ≡ false → is_closed c ≡ true

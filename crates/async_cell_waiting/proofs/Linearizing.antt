@@ -12,8 +12,9 @@ use Rattle.async_cell_model.proofs.JoinedHistory.{after-append}
 use Rattle.async_cell_model.proofs.Machine.{machine_of}
 use Rattle.async_cell_model.proofs.Whole.{after-nil, IsSound-after}
 use Rattle.async_cell_core.specs.IsStep.{WakerRules}
-use Rattle.async_cell_waiting.specs.History.{Begun, Desk, Made, IsLinearized, start_of}
+use Rattle.async_cell_waiting.specs.History.{Begun, Desk, Made, Seen, IsLinearized, IsReady, IsSigned, start_of}
 use Rattle.async_cell_waiting.proofs.Leading.{RunsTo, runs_more}
+use Rattle.async_cell_waiting.proofs.Signing.{signed_of}
 
 module _ {T W : Type 0} (will_wake : W → W → Bool) (sure : Bool) where
   -- the second part of legal calls is legal after the first
@@ -60,8 +61,11 @@ linearized_of {T} {W} rules named old new seen now call reply led made begins on
       does = subst (λ (h : History T W). Does will_wake sure (after will_wake start old.past.calls) e (woken_by (after will_wake (after will_wake start old.past.calls) []) e) (after will_wake start h)) (sym (is ∙ made.entered)) at;
     }
 
--- the same, where the reply is made of what the caller got, which was held until the step had ended
-pub linearized_held : {T W A : Type 0} (rules : WakerRules W) (named : Option (Begun T W)) (old new : Desk T W) (seen now : History T W) (call : Kept T W) (reply : A → Reply T) (held got : A) → RunsTo rules.will_wake rules.SURE_CLONE old.past old.inner → Made rules.will_wake rules.SURE_CLONE old call (reply held) new
-    → old.past.begun.start ≡ start_of named → IsPrefix seen old.past.calls → now ≡ new.past.calls → got ≡ held → IsLinearized rules named seen call (reply got) now
-linearized_held rules named old new seen now call reply held got led made begins on is same =
-    subst (λ a. IsLinearized rules named seen call (reply a) now) (sym same) (linearized_of rules named old new seen now call (reply held) led made begins on is)
+-- who was ready before a call, and has seen the past after it
+pub seen_of : {T W : Type 0} (rules : WakerRules W) (named : Option (Begun T W)) (holds : T → Type 0) (first ready now : Seen T W) (old new : Desk T W) (call : Kept T W) (reply : Reply T)
+    → IsReady rules.will_wake rules.SURE_CLONE holds named first ready old → Made rules.will_wake rules.SURE_CLONE old call reply new
+    → now.calls ≡ new.past.calls → now.authors ≡ new.past.authors → now.author ≡ ready.author → IsLinearized rules named first.calls call reply now.calls × IsSigned first now
+seen_of rules named holds first ready now old new call reply is made calls authors author = (
+  linearized_of rules named old new first.calls now.calls call reply is.led.0 made is.begun is.calls calls,
+  signed_of old new first now made is.authors is.hand authors (author ∙ is.stays),
+)

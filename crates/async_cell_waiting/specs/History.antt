@@ -3,7 +3,7 @@ use Rattle.std.specs.Prelude.{◌≡◌, ℕ, Bool, true, false, List, [], ◌�
 use Rattle.std.specs.List.{All}
 use mathlib.Core.List.{IsPrefix}
 use Rattle.async_cell_model.specs.declared.cell.Cell.{Cell}
-use Rattle.async_cell_model.specs.declared.cell.Cell.TheVariants.{Closed, Open}
+use Rattle.async_cell_model.specs.declared.cell.Cell.TheVariants.{Closed}
 use Rattle.async_cell_model.specs.declared.entry.Entry.{Entry}
 use Rattle.async_cell_model.specs.declared.entry.Kept.{Kept}
 use Rattle.async_cell_model.specs.declared.entry.Kept.TheVariants.{Set, OrSet, Replace, Update, UpdateSome, TryTake, TryGet, IsSet, PollTake, PollGet, AddOwner, EndOwner, TakeInner}
@@ -150,6 +150,20 @@ pub record IsSigned {T W : Type 0} (seen now : Seen T W) : Type 0 where
   pub before : List ℕ
   pub goes_on : IsPrefix seen.authors before
   pub ends : now.authors ≡ before ++ seen.author ∷ []
+  pub stays : now.author ≡ seen.author
+
+-- The first has seen what begins the past of this core, and signs its next call. The second has
+-- seen all of it, and signs as the first does.
+pub record IsReady {T W : Type 0} (will_wake : W → W → Bool) (sure_wakers : Bool)
+    (holds : T → Type 0) (named : Option (Begun T W)) (seen now : Seen T W) (core : Desk T W)
+    : Type 0 where
+  pub led : Leads will_wake sure_wakers holds core.past core.inner
+  pub begun : core.past.begun.start ≡ start_of named
+  pub calls : IsPrefix seen.calls core.past.calls
+  pub authors : IsPrefix seen.authors core.past.authors
+  pub hand : core.past.hand ≡ seen.author
+  pub whole : now.calls ≡ core.past.calls
+  pub whole_authors : now.authors ≡ core.past.authors
   pub stays : now.author ≡ seen.author
 
 -- What was seen has gone on, and the cell is closed after it.

@@ -14,8 +14,104 @@ use futures::task::Waker;
 /// all that a call handed out (`None` if it handed out none). It is not `Drop` and must be
 /// consumed: by the end of its kind, which wakes them and returns the answer.
 pub struct Held<X, K = ()> {
-    answer: X,
-    woken: K,
+    pub(crate) answer: X,
+    pub(crate) woken: K,
+}
+
+/// What a call leaves for after its step: whom to wake, and what to drop.
+pub trait After<W> {
+    ghost use Rattle.std.specs.Prelude.{List};
+
+    /// The wakers.
+    ghost wakes: { Self → List W };
+
+    /// Wakes them, and drops the rest.
+    fn run(self);
+}
+
+/// At most one waker, and what to drop.
+pub struct One<W, X = ()> {
+    pub(crate) woken: Option<W>,
+    pub(crate) dropped: X,
+}
+
+/// All wakers that a call handed out (`None` if it handed out none), and what to drop.
+pub struct All<W: Wakes, X = ()> {
+    pub(crate) woken: Option<Wakers<W>>,
+    pub(crate) dropped: X,
+}
+
+impl<W, X> One<W, X> {
+    /// Wakes this waker, if any, and drops this.
+    #[inline(always)]
+    pub(crate) fn waking(woken: Option<W>, dropped: X) -> Self
+        ensures { result.woken ≡ woken }
+    {
+        One { woken, dropped }
+    }
+}
+
+impl<W: Wakes, X> All<W, X> {
+    /// Wakes these wakers, and drops this.
+    #[inline(always)]
+    pub(crate) fn waking(woken: Wakers<W>, dropped: X) -> Self
+        ensures { result.woken ≡ Some woken }
+    {
+        All {
+            woken: Some(woken),
+            dropped,
+        }
+    }
+
+    /// Drops this.
+    #[inline(always)]
+    pub(crate) fn dropping(dropped: X) -> Self
+        ensures { result.woken ≡ None }
+    {
+        All {
+            woken: None,
+            dropped,
+        }
+    }
+}
+
+impl<W> After<W> for () {
+    ghost use Rattle.std.specs.Prelude.{[]};
+
+    ghost wakes = { λ _. [] };
+
+    #[inline(always)]
+    fn run(self) {}
+}
+
+impl<W: Wakes, X: Drop> After<W> for One<W, X> {
+    ghost use Rattle.async_cell_waiting.specs.Held.{one_of};
+
+    ghost wakes = { λ one. one_of one.woken };
+
+    #[inline(always)]
+    fn run(self) {
+        let One { woken, dropped } = self;
+        if let Some(waker) = woken {
+            waker.wake();
+        }
+        drop(dropped);
+    }
+}
+
+impl<W: Wakes, X: Drop> After<W> for All<W, X> {
+    ghost use Rattle.async_cell_waiting.specs.Held.{all_of};
+
+    ghost wakes = { λ all. all_of all.woken };
+
+    #[inline(always)]
+    fn run(self) {
+        let All { woken, dropped } = self;
+        if let Some(woken) = woken {
+            woken.wake_all();
+        }
+        drop(dropped);
+    }
 }
 
 /// Ends the step: gives the core back, and returns what was held.
@@ -38,6 +134,17 @@ pub fn end_and_wake<G: Step, X, W: Wakes>(step: G, held: Held<X, Option<Wakers<W
     if let Some(woken) = woken {
         woken.wake_all();
     }
+    answer
+}
+
+/// Ends the step: gives the core back, does what the call left, and returns the answer.
+#[inline(always)]
+pub(crate) fn finish<G: Step, X, W, K: After<W>>(step: G, held: Held<X, K>) -> X
+    ensures answers { result ≡ held.answer }
+{
+    step.release(); // What is woken or dropped may call this cell: never during a step.
+    let Held { answer, woken } = held;
+    woken.run();
     answer
 }
 
@@ -199,7 +306,8 @@ impl<X, K> Held<X, K> {
     /// Holds an answer, and whom to wake.
     #[inline(always)]
     pub fn waking(answer: X, woken: K) -> Self
-        ensures { result.answer ≡ answer }
+        ensures answers { result.answer ≡ answer }
+        ensures wakes { result.woken ≡ woken }
     {
         Held { answer, woken }
     }

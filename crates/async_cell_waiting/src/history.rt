@@ -1,12 +1,12 @@
 //! The history of a cell, which exists in the proofs alone.
 mod blank;
-mod calls;
 mod cancel;
 mod entries;
 mod hand;
 mod past;
 mod permit;
 mod protocol;
+mod sees;
 mod start;
 mod witness;
 
@@ -19,5 +19,6 @@ pub use past::Past;
 pub(crate) use past::{Asked, Enters, Opened};
 pub use permit::{Anyone, Caller, OwnerPermit};
 pub use protocol::{Free, Protocol, Rule, Ruled, Takeable, Unruled, Unwitnessed};
+pub use sees::{Nobody, Sees};
 use start::Start;
 pub use witness::Witness;

@@ -7,6 +7,8 @@ mod cell_core;
 mod ended;
 mod history;
 pub mod laws;
+mod op;
+pub mod ops;
 mod places;
 mod polls;
 mod query;
@@ -17,9 +19,10 @@ mod with;
 pub use cell_core::{By, CellCore, Cloning, CloningAs, Taking, TakingAs};
 pub use ended::{Held, Writes, end, end_and_wake, end_and_wake_one, open_holding, put_held};
 pub use history::{
-    Anyone, Author, Blank, Caller, Cancel, Free, OwnerPermit, Protocol, Rule, Ruled, Takeable,
-    Unruled, Unwitnessed, Witness,
+    Anyone, Author, Blank, Caller, Cancel, Free, Nobody, OwnerPermit, Protocol, Rule, Ruled, Sees,
+    Takeable, Unruled, Unwitnessed, Witness,
 };
+pub use op::Op;
 pub use polls::poll;
 pub use query::Query;
 pub use room::Room;

@@ -2,21 +2,21 @@
 //! one call of it, and holds what comes out, which the end of a step alone lets go.
 ghost use Rattle.std.specs.Prelude.{◌≡◌, ◌⊎◌, [], false, Option, Some, None, IfErr, IfOk, IfSome, IsOk, IsSome, IsSomeAnd, OnOk, IsTrue};
 ghost use Rattle.std.specs.Fn.{FnOnceReturnsAt};
-ghost use Rattle.async_cell_model.specs.Machine.{content, is_closed, is_vacant, IsSound, UpToClones};
-ghost use Rattle.async_cell_core.specs.Polled.{IsCloneOf, poll_reply};
-ghost use Rattle.async_cell_waiting.specs.History.{Fits, IsCloneOfOne, Leads, Made, permits_of, start_of, set_reply, write_reply, done_reply, end_reply, take_reply, get_reply, own_poll};
+ghost use Rattle.async_cell_model.specs.Machine.{content, is_closed, is_vacant, IsSound};
+ghost use Rattle.async_cell_waiting.specs.History.{Fits, Leads, Made, permits_of, start_of, done_reply, end_reply, take_reply};
 ghost use mathlib.Core.List.{IsPrefix};
 ghost use Rattle.async_cell_model.specs.Refusal.{FailsWithClosed, FailsWithMemory};
 
-use crate::ended::{Held, Writes};
+use crate::ended::Held;
 use crate::history::*;
+use crate::op::{Makes, MakesFast, Op};
 use crate::room::Room;
-use async_cell_core::{Core, Place, Poll, Refusal, TaskWaker, Wakers, Wakes, end_guard};
+use async_cell_core::{Core, Place, Refusal, TaskWaker, Wakers, Wakes};
 use async_cell_model::{Kept, Reply};
 use futures::task::Waker;
 use std::alloc::Global;
 use std::fmt;
-use std::marker::Model;
+use std::marker::{Model, PhantomData};
 
 /// The core of a cell, whose own calls it hides: what they return would be woken or dropped during
 /// a step. Its own hold what comes out.
@@ -112,6 +112,8 @@ impl<T: Drop, W: Wakes, N: Protocol<T, W>> CellCore<T, W, N> {
     pub(crate) fn hand_to(&mut self, witness: &mut Witness<T, W, N>)
         ensures goes_on { IsPrefix witness.old.calls self.new.past.calls }
         ensures authors_go_on { IsPrefix witness.old.authors self.new.past.authors }
+        ensures whole { witness.new.calls ≡ self.new.past.calls }
+        ensures whole_authors { witness.new.authors ≡ self.new.past.authors }
         ensures hand { self.new.past.hand ≡ witness.old.author }
         ensures author { witness.new.author ≡ witness.old.author }
         ensures begun { self.new.past.begun.start ≡ start_of N.named }
@@ -132,9 +134,46 @@ impl<T: Drop, W: Wakes, N: Protocol<T, W>> CellCore<T, W, N> {
         witness.leave_hand(&mut self.past);
     }
 
+    /// Makes a call, which is entered.
     #[inline(always)]
-    pub(crate) fn is_set(&self) -> bool {
-        self.inner.is_set()
+    pub(crate) fn make<O: Op<T, W, N>>(&mut self, op: O) -> Held<O::Answer, O::After>
+        requires can { O.can op }
+        ensures made { Made W.will_wake W.SURE_CLONE self.old
+            (O.call self.old.inner op self.new.inner) (O.reply self.old.inner result.answer)
+            self.new }
+        ensures gives { O.gives self.old.inner op result.answer self.new.inner }
+    {
+        let asked = Asked::of(&self.inner, &op);
+        let held = op.make(&mut self.inner);
+        asked.enter(
+            &mut self.past,
+            &Makes::<N, O>(PhantomData),
+            &held,
+            &self.inner,
+        );
+        held
+    }
+
+    /// `make`, on the fast path of the call, if it has one and can take it.
+    #[inline(always)]
+    pub(crate) fn fast<O: Op<T, W, N>>(&mut self, op: O) -> Result<Held<O::Answer, O::Few>, O>
+        requires can { O.can op }
+        ensures made { IfOk result (λ held. Made W.will_wake W.SURE_CLONE self.old
+            (O.call self.old.inner op self.new.inner) (O.reply self.old.inner held.answer)
+            self.new) }
+        ensures gives { IfOk result (λ held.
+            O.gives self.old.inner op held.answer self.new.inner) }
+        ensures comes_back { IfErr result (λ back. back ≡ op) }
+    {
+        let asked = Asked::of(&self.inner, &op);
+        let held = op.fast(&mut self.inner)?;
+        asked.enter(
+            &mut self.past,
+            &MakesFast::<N, O>(PhantomData),
+            &held,
+            &self.inner,
+        );
+        Ok(held)
     }
 
     #[inline(always)]
@@ -167,20 +206,6 @@ impl<T: Drop, W: Wakes, N: Protocol<T, W>> CellCore<T, W, N> {
     }
 
     #[inline(always)]
-    #[tactic(auto, using(crate::proofs::Found::cloned_ones))]
-    pub(crate) fn try_get(&self) -> Held<Result<Option<T>, Refusal>>
-    where
-        T: Clone,
-        ensures clones { IfOk result.answer (IsCloneOf T.is_clone (content self.now.inner.cell)) }
-        ensures rule { IfOk result.answer (λ found.
-            IfSome found (IsCloneOfOne T.is_clone N.holds)) }
-        ensures if_infallible { ((value : T) → T.is_infallible value) → IsOk result.answer }
-        ensures refused { FailsWithMemory result.answer }
-    {
-        Held::of(self.inner.try_get())
-    }
-
-    #[inline(always)]
     pub(crate) fn peek<A, F: FnOnce(&T) -> A>(&self, look: F) -> Held<Result<A, F>>
         requires { F.IsAlwaysCallable look }
         ensures called { IfOk result.answer (λ answer. IsSomeAnd (content self.now.inner.cell)
@@ -202,271 +227,10 @@ impl<T: Drop, W: Wakes, N: Protocol<T, W>> CellCore<T, W, N> {
     }
 
     #[inline(always)]
-    pub(crate) fn overwrite(&mut self, value: T) -> Held<Result<T, T>>
-        requires may { N.may (Kept.Replace value) }
-        ensures rule { IfOk result.answer N.holds }
-        ensures comes_back { IfErr result.answer (λ back. back ≡ value) }
-    {
-        let asked = Asked::of(&self.inner, &value);
-        let written = self.inner.overwrite(value);
-        if let Ok(old) = &written {
-            asked.enter(&mut self.past, &Overwrites, old, &self.inner);
-        }
-        Held::of(written)
-    }
-
-    #[inline(always)]
-    pub(crate) fn fill_first(&mut self, value: T) -> Result<Held<(), Option<W>>, Held<T>>
-        requires may { N.may (Kept.Replace value) }
-        ensures comes_back { IfErr result (λ back. back.answer ≡ value) }
-    {
-        let asked = Asked::of(&self.inner, &value);
-        match self.inner.fill_first(value) {
-            Ok(first) => {
-                asked.enter(&mut self.past, &FillsFirst, &first, &self.inner);
-                Ok(Held::waking((), first))
-            }
-            Err(value) => Err(Held::of(value)),
-        }
-    }
-
-    #[inline(always)]
-    pub(crate) fn put_quiet(&mut self, value: T) -> Result<(), Held<T>>
-        requires may { N.may (Kept.Replace value) }
-        ensures comes_back { IfErr result (λ back. back.answer ≡ value) }
-    {
-        let asked = Asked::of(&self.inner, &value);
-        match self.inner.put_quiet(value) {
-            Ok(()) => {
-                asked.enter(&mut self.past, &PutsQuietly, &(), &self.inner);
-                Ok(())
-            }
-            Err(value) => Err(Held::of(value)),
-        }
-    }
-
-    #[inline(always)]
-    pub(crate) fn replace(&mut self, value: T) -> Held<Result<Option<T>, T>, Option<Wakers<W>>>
-        requires may { N.may (Kept.Replace value) }
-        ensures rule { IfOk result.answer (λ old. IfSome old N.holds) }
-        ensures comes_back { IfErr result.answer (λ back. back ≡ value) }
-        ensures if_open { is_closed self.old.inner.cell ≡ false → IsOk result.answer }
-        ensures made { Made W.will_wake W.SURE_CLONE self.old
-            (Kept.Replace value) (write_reply result.answer) self.new }
-    {
-        let asked = Asked::of(&self.inner, &value);
-        let written = self.inner.replace(value);
-        asked.enter(&mut self.past, &Replaces, &written, &self.inner);
-        match written {
-            Ok((old, woken)) => Held::waking(Ok(old), Some(woken)),
-            Err(value) => Held::waking(Err(value), None),
-        }
-    }
-
-    /// `replace`, entered as a `set`.
-    #[inline(always)]
-    pub(crate) fn set(&mut self, value: T) -> Held<Result<Option<T>, T>, Option<Wakers<W>>>
-        requires may { N.may (Kept.Set value) }
-        ensures comes_back { IfErr result.answer (λ back. back ≡ value) }
-        ensures if_open { is_closed self.old.inner.cell ≡ false → IsOk result.answer }
-        ensures made { Made W.will_wake W.SURE_CLONE self.old
-            (Kept.Set value) (set_reply result.answer) self.new }
-    {
-        let asked = Asked::of(&self.inner, &value);
-        let written = self.inner.replace(value);
-        asked.enter(&mut self.past, &Sets, &written, &self.inner);
-        Held::of_result(written)
-    }
-
-    #[inline(always)]
-    pub(crate) fn or_set(&mut self, value: T) -> Held<Result<Option<T>, T>, Option<Wakers<W>>>
-        requires may { N.may (Kept.OrSet value) }
-        ensures unused { IfOk result.answer (λ unused. IfSome unused (λ back. back ≡ value)) }
-        ensures comes_back { IfErr result.answer (λ back. back ≡ value) }
-        ensures if_open { is_closed self.old.inner.cell ≡ false → IsOk result.answer }
-        ensures made { Made W.will_wake W.SURE_CLONE self.old
-            (Kept.OrSet value) (write_reply result.answer) self.new }
-    {
-        let asked = Asked::of(&self.inner, &value);
-        let written = self.inner.or_set(value);
-        asked.enter(&mut self.past, &OrSets, &written, &self.inner);
-        match written {
-            Ok((unused, woken)) => Held::waking(Ok(unused), Some(woken)),
-            Err(value) => Held::waking(Err(value), None),
-        }
-    }
-
-    #[inline(always)]
-    pub(crate) fn update<F>(&mut self, change: F) -> Held<Result<(), Refusal>, Option<Wakers<W>>>
-    where
-        F: FnOnce(Option<T>) -> Option<T> + Drop,
-        requires callable { F.IsAlwaysCallable change }
-        requires may { (saw put : Option T) → IfSome saw N.holds → F.post change saw put
-            → N.may (Kept.Update saw put) }
-        requires may_fail { N.may (Kept.Update None None) }
-        ensures called { OnOk result.answer
-            (F.post change (content self.old.inner.cell) (content self.new.inner.cell)) }
-        ensures if_open { is_closed self.old.inner.cell ≡ false → IsOk result.answer }
-        ensures refused { FailsWithClosed result.answer }
-        ensures made { Made W.will_wake W.SURE_CLONE self.old
-            (Kept.Update (content self.old.inner.cell) (content self.new.inner.cell))
-            (done_reply result.answer) self.new }
-    {
-        let asked = Asked::of(&self.inner, &());
-        let updated = self.inner.update(change);
-        asked.enter(&mut self.past, &Updates, &updated, &self.inner);
-        match updated {
-            Ok(woken) => Held::waking(Ok(()), Some(woken)),
-            Err(why) => Held::waking(Err(why), None),
-        }
-    }
-
-    #[inline(always)]
-    pub(crate) fn update_some<F>(&mut self, change: F) -> Held<Result<(), Refusal>>
-    where
-        F: FnOnce(T) -> T + Drop,
-        requires callable { F.IsAlwaysCallable change }
-        requires may { (old new : T) → N.holds old → F.post change old new
-            → N.may (Kept.UpdateSome (Some old) (Some new)) }
-        requires may_fail { N.may (Kept.UpdateSome None None) }
-        ensures called { IfSome (content self.old.inner.cell) (λ old.
-            IsSomeAnd (content self.new.inner.cell) (λ new. F.post change old new)) }
-        ensures if_open { is_closed self.old.inner.cell ≡ false → IsOk result.answer }
-        ensures refused { FailsWithClosed result.answer }
-        ensures made { Made W.will_wake W.SURE_CLONE self.old
-            (Kept.UpdateSome (content self.old.inner.cell) (content self.new.inner.cell))
-            (done_reply result.answer) self.new }
-    {
-        let asked = Asked::of(&self.inner, &());
-        let updated = self.inner.update_some(change);
-        asked.enter(&mut self.past, &UpdatesSome, &updated, &self.inner);
-        Held::of(updated)
-    }
-
-    /// `update_some` of an open cell without a value, which calls no closure.
-    #[inline(always)]
-    pub(crate) fn update_none(&mut self)
-        requires vacant { IsTrue (is_vacant self.old.inner.cell) }
-        requires may_fail { N.may (Kept.UpdateSome None None) }
-        ensures made { Made W.will_wake W.SURE_CLONE self.old
-            (Kept.UpdateSome None None) Reply.Done self.new }
-    {
-        let asked = Asked::of(&self.inner, &());
-        let updated = self.inner.update_some(|value| value);
-        asked.enter(&mut self.past, &UpdatesSome, &updated, &self.inner);
-    }
-
-    #[inline(always)]
-    pub(crate) fn try_take(&mut self) -> Held<Option<T>>
-        requires may { N.may Kept.TryTake }
-        ensures gives { result.answer ≡ content self.old.inner.cell }
-        ensures rule { IfSome result.answer N.holds }
-        ensures made { Made W.will_wake W.SURE_CLONE self.old
-            Kept.TryTake (Reply.Value result.answer) self.new }
-    {
-        let asked = Asked::of(&self.inner, &());
-        let taken = self.inner.try_take();
-        asked.enter(&mut self.past, &TryTakes, &taken, &self.inner);
-        Held::of(taken)
-    }
-
-    /// `try_get`, which is entered.
-    #[inline(always)]
-    #[tactic(auto, using(crate::proofs::Found::cloned_ones))]
-    pub(crate) fn get(&mut self) -> Held<Result<Option<T>, Refusal>>
-    where
-        T: Clone,
-        ensures clones { IfOk result.answer (IsCloneOf T.is_clone (content self.old.inner.cell)) }
-        ensures rule { IfOk result.answer (λ found.
-            IfSome found (IsCloneOfOne T.is_clone N.holds)) }
-        ensures refused { FailsWithMemory result.answer }
-        ensures made { Made W.will_wake W.SURE_CLONE self.old Kept.TryGet
-            (get_reply (content self.old.inner.cell) result.answer) self.new }
-    {
-        let asked = Asked::of(&self.inner, &());
-        let copied = self.inner.try_get();
-        asked.enter(&mut self.past, &Gets, &copied, &self.inner);
-        Held::of(copied)
-    }
-
-    /// `is_set`, which is entered.
-    #[inline(always)]
-    pub(crate) fn has_value(&mut self) -> bool
-        ensures made { Made W.will_wake W.SURE_CLONE self.old
-            Kept.IsSet (Reply.Is result) self.new }
-    {
-        let asked = Asked::of(&self.inner, &());
-        let is_set = self.inner.is_set();
-        asked.enter(&mut self.past, &Looks, &is_set, &self.inner);
-        is_set
-    }
-
-    #[inline(always)]
-    pub(crate) fn poll_take(&mut self, waker: &W) -> Held<Result<Poll<Option<T>>, Refusal>>
-        requires may { N.may (Kept.PollTake waker.now) }
-        ensures refused { FailsWithMemory result.answer }
-        ensures made { Made W.will_wake W.SURE_CLONE self.old
-            (Kept.PollTake waker.now) (poll_reply result.answer) self.new }
-    {
-        let asked = Asked::of(&self.inner, waker);
-        let polled = self.inner.poll_take(waker);
-        asked.enter(&mut self.past, &PollsTake, &polled, &self.inner);
-        Held::of(polled)
-    }
-
-    #[inline(always)]
-    pub(crate) fn poll_get(&mut self, waker: &W) -> Held<Result<Poll<Option<T>>, Refusal>>
-    where
-        T: Clone,
-        ensures refused { FailsWithMemory result.answer }
-    {
-        let asked = Asked::of(&self.inner, waker);
-        let polled = self.inner.poll_get(waker);
-        match &polled {
-            Ok(Poll::Ready(_)) => {} // It changed nothing.
-            _ => asked.enter(&mut self.past, &PollsGet, &polled, &self.inner),
-        }
-        Held::of(polled)
-    }
-
-    /// `poll_get`, which is entered with the model's own reply.
-    #[inline(always)]
-    pub(crate) fn poll_own(&mut self, waker: &W) -> Held<Result<Poll<Option<T>>, Refusal>>
-    where
-        T: Clone,
-        ensures up_to_clones { UpToClones T.is_clone (Kept.PollGet waker.now)
-            (own_poll (content self.old.inner.cell) result.answer) (poll_reply result.answer) }
-        ensures refused { FailsWithMemory result.answer }
-        ensures made { Made W.will_wake W.SURE_CLONE self.old (Kept.PollGet waker.now)
-            (own_poll (content self.old.inner.cell) result.answer) self.new }
-    {
-        let asked = Asked::of(&self.inner, waker);
-        let polled = self.inner.poll_get(waker);
-        asked.enter(&mut self.past, &PollsOwn, &polled, &self.inner);
-        Held::of(polled)
-    }
-
-    #[inline(always)]
     pub(crate) fn reserve(&mut self, additional: usize) -> Held<Result<(), Refusal>>
         ensures refused { FailsWithMemory result.answer }
     {
         Held::of(self.inner.reserve(additional))
-    }
-
-    #[inline(always)]
-    pub(crate) fn end_guard(&mut self, cancel: Option<T>) -> Held<Option<T>, Option<Wakers<W>>>
-        requires may { IfSome cancel (λ value. N.may (Kept.OrSet value)) }
-    {
-        let asked = match &cancel {
-            Some(value) => Some(Asked::of(&self.inner, value)),
-            None => None,
-        };
-        let ended = end_guard(&mut self.inner, cancel);
-        if let Some(asked) = &asked {
-            asked.enter(&mut self.past, &EndsGuard, &ended, &self.inner);
-        }
-        let (unused, woken) = ended;
-        Held::waking(unused, Some(woken))
     }
 
     #[inline(always)]
@@ -556,23 +320,6 @@ impl<T: Drop, W: Wakes, N: Protocol<T, W>> CellCore<T, W, N> {
             }
             Err(why) => Held::waking(Err((why, permit)), None),
         }
-    }
-}
-
-impl<T: Drop, W: Wakes, N: Protocol<T, W>> Writes<T> for CellCore<T, W, N> {
-    ghost use Rattle.async_cell_model.specs.declared.entry.Kept.TheVariants.{Replace};
-
-    type Old = Option<T>;
-
-    type Waker = W;
-
-    ghost may = { λ value. N.may (Replace value) };
-
-    ghost gives = { λ old. IfSome old N.holds };
-
-    #[inline(always)]
-    fn write(&mut self, value: T) -> Held<Result<Option<T>, T>, Option<Wakers<W>>> {
-        self.replace(value)
     }
 }
 

@@ -7,7 +7,8 @@ ghost use Rattle.async_cell_waiting.specs.History.{IsCloneOfOne};
 
 use super::CellCore;
 use crate::ended::{Held, end};
-use crate::history::Protocol;
+use crate::history::{Anyone, Nobody, Protocol};
+use crate::ops::{IsSet, TryGet};
 use crate::store::{Opens, Step, StoredCore, Stores};
 use async_cell_core::{Refusal, Wakes};
 use std::alloc::Global;
@@ -34,11 +35,7 @@ impl<M: Stores<Core = CellCore<T, W, N>>, T: Drop, W: Wakes, N: Protocol<T, W>> 
         ensures if_infallible { ((value : T) → T.is_infallible value) → IsOk result }
         ensures refused { FailsWithMemory result }
     {
-        let Some(step) = self.look(rt) else {
-            return Ok(None);
-        };
-        let copied = step.shown().try_get();
-        end(step, copied)
+        self.make(TryGet, &Anyone, &mut Nobody, rt)
     }
 
     /// Calls the closure on the value, if there is one, during
@@ -62,11 +59,7 @@ impl<M: Stores<Core = CellCore<T, W, N>>, T: Drop, W: Wakes, N: Protocol<T, W>> 
     /// Returns whether the cell holds a value.
     #[inline]
     pub fn is_set<'a, R: Opens<'a, M>>(&'a self, rt: &R) -> bool {
-        let Some(step) = self.look(rt) else {
-            return false;
-        };
-        let is_set = step.shown().is_set();
-        end(step, Held::of(is_set))
+        self.make(IsSet, &Anyone, &mut Nobody, rt)
     }
 
     /// Returns whether the cell is closed.

@@ -1,11 +1,13 @@
 //! The calls of a cell, over any store: each makes its change in one step.
-ghost use Rattle.std.specs.Prelude.{◌≡◌, ◌⊎◌, [], Option, Some, None, IfErr, IfOk, IfSome, IsSome, OnOk};
+ghost use Rattle.std.specs.Prelude.{◌≡◌, ◌⊎◌, [], Option, Some, None, IfErr, IfOk, IfSome, IsSome, IsTrue, OnOk};
 ghost use Rattle.async_cell_model.specs.Machine.{content, IsSound};
 ghost use Rattle.async_cell_model.specs.Refusal.{FailsWithClosed, FailsWithMemory};
+ghost use Rattle.async_cell_waiting.specs.History.{done_reply};
 
 use super::CellCore;
-use crate::ended::{Held, end, end_and_wake, end_and_wake_one, put_held, write_held};
-use crate::history::{Blank, OwnerPermit, Protocol, Witness};
+use crate::ended::{Held, end, end_and_wake, end_and_wake_one};
+use crate::history::{Anyone, Blank, Caller, Nobody, OwnerPermit, Protocol, Sees, Witness};
+use crate::ops::{OrSet, PollGet, PollTake, PutBack, Replace, TryTake, Update, UpdateSome};
 use crate::store::{Opens, Step, StoredCore, Stores, opened};
 use async_cell_core::{Core, Poll, Refusal, Wakes};
 use async_cell_model::Kept;
@@ -42,16 +44,7 @@ impl<M: Stores<Core = CellCore<T, W, N>>, T: Drop, W: Wakes, N: Protocol<T, W>> 
     pub fn put<'a, R: Opens<'a, M>>(&'a self, value: T, rt: &R)
         requires may { N.may (Kept.Replace value) }
     {
-        let mut step = opened!(rt, self, else return);
-        if step.shown().is_set() {
-            let old = step.lend().overwrite(value); // Nobody waits on a full cell.
-            let _ = end(step, old);
-            return;
-        }
-        match step.lend().fill_first(value) {
-            Ok(filled) => end_and_wake_one(step, filled),
-            Err(value) => put_held(step, value),
-        }
+        let _ = self.make(Replace(value), &Anyone, &mut Nobody, rt);
     }
 
     /// Sets the value, wakes all waiters, returns the old one. A closed cell gives the value back.
@@ -61,18 +54,7 @@ impl<M: Stores<Core = CellCore<T, W, N>>, T: Drop, W: Wakes, N: Protocol<T, W>> 
         ensures rule { IfOk result (λ old. IfSome old N.holds) }
         ensures comes_back { IfErr result (λ back. back ≡ value) }
     {
-        let mut step = opened!(rt, self, else return Err(value));
-        if step.shown().is_set() {
-            let old = step.lend().overwrite(value); // Nobody waits on a full cell.
-            return Ok(Some(end(step, old)?));
-        }
-        match step.lend().fill_first(value) {
-            Ok(filled) => {
-                end_and_wake_one(step, filled);
-                Ok(None)
-            }
-            Err(value) => write_held(step, value),
-        }
+        self.make(Replace(value), &Anyone, &mut Nobody, rt)
     }
 
     /// Sets the value and wakes all waiters, if the cell holds no value. Drops `value` otherwise.
@@ -81,12 +63,7 @@ impl<M: Stores<Core = CellCore<T, W, N>>, T: Drop, W: Wakes, N: Protocol<T, W>> 
         requires may { N.may (Kept.OrSet value) }
         ensures comes_back { IfErr result (λ back. back ≡ value) }
     {
-        let Some(mut step) = rt.open(self) else {
-            return Err(value);
-        };
-        let written = step.lend().or_set(value);
-        let unused = end_and_wake(step, written)?;
-        drop(unused);
+        drop(self.make(OrSet(value), &Anyone, &mut Nobody, rt)?);
         Ok(())
     }
 
@@ -95,11 +72,8 @@ impl<M: Stores<Core = CellCore<T, W, N>>, T: Drop, W: Wakes, N: Protocol<T, W>> 
         requires may { N.may (Kept.OrSet value) }
         ensures comes_back { IfErr result (λ back. back ≡ value) }
     {
-        let Some(mut step) = rt.open(self) else {
-            return Err(value);
-        };
-        let written = step.lend().or_set(value);
-        end_and_wake(step, written)?.map_or(Ok(()), Err)
+        let unused = self.make(OrSet(value), &Anyone, &mut Nobody, rt)?;
+        unused.map_or(Ok(()), Err)
     }
 
     /// Calls the closure on the content and stores what it returns, all in one step. Wakes all
@@ -116,13 +90,7 @@ impl<M: Stores<Core = CellCore<T, W, N>>, T: Drop, W: Wakes, N: Protocol<T, W>> 
         ensures called { OnOk result ((saw put : Option T) × F.post change saw put) }
         ensures refused { FailsWithClosed result }
     {
-        let mut step = rt.open(self).ok_or(Refusal::Closed)?;
-        if step.shown().is_closed() {
-            let _not_called = end(step, Held::of(change));
-            return Err(Refusal::Closed);
-        }
-        let updated = step.lend().update(change);
-        end_and_wake(step, updated)
+        self.make(Update(change), &Anyone, &mut Nobody, rt)
     }
 
     /// `update`, of a value: the closure is not called if there is none. Fails with `Closed` on a
@@ -137,17 +105,7 @@ impl<M: Stores<Core = CellCore<T, W, N>>, T: Drop, W: Wakes, N: Protocol<T, W>> 
         requires may_fail { N.may (Kept.UpdateSome None None) }
         ensures refused { FailsWithClosed result }
     {
-        let mut step = rt.open(self).ok_or(Refusal::Closed)?;
-        if step.shown().is_set() {
-            let updated = step.lend().update_some(change);
-            return end(step, updated);
-        }
-        let is_closed = step.shown().is_closed();
-        let _not_called = end(step, Held::of(change));
-        match is_closed {
-            true => Err(Refusal::Closed),
-            false => Ok(()),
-        }
+        self.make(UpdateSome(change), &Anyone, &mut Nobody, rt)
     }
 
     /// `put`, of a value that was taken out of the cell.
@@ -155,11 +113,7 @@ impl<M: Stores<Core = CellCore<T, W, N>>, T: Drop, W: Wakes, N: Protocol<T, W>> 
     pub fn put_back<'a, R: Opens<'a, M>>(&'a self, value: T, rt: &R)
         requires may { N.may (Kept.Replace value) }
     {
-        let mut step = opened!(rt, self, else return);
-        match step.lend().put_quiet(value) {
-            Ok(()) => end(step, Held::of(())),
-            Err(value) => put_held(step, value),
-        }
+        let _ = self.make(PutBack(value), &Anyone, &mut Nobody, rt);
     }
 
     /// Takes the value, if there is one. The waiters stay registered.
@@ -168,9 +122,7 @@ impl<M: Stores<Core = CellCore<T, W, N>>, T: Drop, W: Wakes, N: Protocol<T, W>> 
         requires may { N.may Kept.TryTake }
         ensures rule { IfSome result N.holds }
     {
-        let mut step = opened!(rt, self, else return None);
-        let taken = step.lend().try_take();
-        end(step, taken)
+        self.make(TryTake, &Anyone, &mut Nobody, rt)
     }
 
     /// Takes the content out; `None` if the cell is closed.
@@ -183,7 +135,7 @@ impl<M: Stores<Core = CellCore<T, W, N>>, T: Drop, W: Wakes, N: Protocol<T, W>> 
         if step.shown().is_closed() {
             return end(step, Held::of(None));
         }
-        let content = step.lend().try_take();
+        let content = step.lend().make(TryTake);
         Some(end(step, content))
     }
 
@@ -197,9 +149,7 @@ impl<M: Stores<Core = CellCore<T, W, N>>, T: Drop, W: Wakes, N: Protocol<T, W>> 
         requires may { N.may (Kept.PollTake waker.now) }
         ensures refused { FailsWithMemory result }
     {
-        let mut step = rt.open(self).ok_or(Refusal::Memory)?;
-        let polled = step.lend().poll_take(waker);
-        end(step, polled)
+        self.make(PollTake(waker), &Anyone, &mut Nobody, rt)
     }
 
     /// `poll_take`, of a clone made during the step. Fails with `Memory` for the clone too.
@@ -212,9 +162,7 @@ impl<M: Stores<Core = CellCore<T, W, N>>, T: Drop, W: Wakes, N: Protocol<T, W>> 
         T: Clone,
         ensures refused { FailsWithMemory result }
     {
-        let mut step = rt.open(self).ok_or(Refusal::Memory)?;
-        let polled = step.lend().poll_get(waker);
-        end(step, polled)
+        self.make(PollGet(waker), &Anyone, &mut Nobody, rt)
     }
 
     /// Makes room: the next `additional` wakers need no memory beyond their clones, until a fill or
@@ -232,9 +180,8 @@ impl<M: Stores<Core = CellCore<T, W, N>>, T: Drop, W: Wakes, N: Protocol<T, W>> 
     pub fn end_guard<'a, R: Opens<'a, M>>(&'a self, cancel: Option<T>, rt: &R)
         requires may { IfSome cancel (λ value. N.may (Kept.OrSet value)) }
     {
-        if let Some(mut step) = rt.open(self) {
-            let ended = step.lend().end_guard(cancel);
-            drop(end_and_wake(step, ended));
+        if let Some(value) = cancel {
+            let _ = self.or_set(value, rt);
         }
     }
 
@@ -295,7 +242,7 @@ impl<M: Stores<Core = CellCore<T, W, N>>, T: Drop, W: Wakes, N: Protocol<T, W>> 
         ensures refused { IfErr result (λ why.
             (why ≡ Refusal.Closed) ⊎ (why ≡ Refusal.OwnersFull)) }
     {
-        self.add_counted(rt)?.let_go();
+        self.add_counted(&Anyone, &mut Nobody, rt)?.let_go();
         Ok(())
     }
 
@@ -333,16 +280,27 @@ impl<M: Stores<Core = CellCore<T, W, N>>, T: Drop, W: Wakes, N: Protocol<T, W>> 
         permit.rest();
     }
 
-    /// `add_owner`, which gives the permit of the new owner.
-    pub fn add_counted<'a, R: Opens<'a, M>>(
+    /// `add_owner`, which gives the permit of the new owner. The permit of an owner shows that the
+    /// cell is open.
+    pub fn add_counted<'a, K: Caller<T, W, N>, S: Sees<T, W, N>, R: Opens<'a, M>>(
         &'a self,
+        by: &K,
+        seen: &mut S,
         rt: &R,
     ) -> Result<OwnerPermit<T, W, N>, Refusal>
         ensures refused { IfErr result (λ why.
             (why ≡ Refusal.Closed) ⊎ (why ≡ Refusal.OwnersFull)) }
+        ensures open { IsTrue R.always → K.owns
+            → IfErr result (λ why. why ≡ Refusal.OwnersFull) }
+        ensures sees { IsTrue R.always
+            → S.sees seen.old Kept.AddOwner (done_reply result) seen.new }
     {
         let mut step = opened!(rt, self, else return Err(Refusal::Closed));
-        let added = step.lend().add_owner();
+        let core = step.lend();
+        by.shows(core);
+        seen.catch_up(core);
+        let added = core.add_owner();
+        seen.see(core);
         end(step, added)
     }
 

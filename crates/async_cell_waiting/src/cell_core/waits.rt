@@ -3,7 +3,8 @@ ghost use Rattle.std.specs.Prelude.{◌≡◌};
 
 use super::CellCore;
 use crate::ended::Held;
-use crate::history::{Caller, Protocol, Witness};
+use crate::history::{Caller, Protocol, Sees, Witness};
+use crate::ops::{TryGet, TryTake};
 use crate::query::Query;
 use async_cell_core::{Refusal, TaskWaker, Wakes};
 
@@ -38,7 +39,7 @@ impl<T: Drop, N: Protocol<T, TaskWaker>> Query<CellCore<T, TaskWaker, N>> for Ta
     #[inline(always)]
     #[tactic(auto, using(crate::proofs::Found::closed_if_none))]
     fn answer(self, core: &mut CellCore<T, TaskWaker, N>) -> Held<Result<T, Refusal>> {
-        core.try_take().or_closed()
+        core.make(TryTake).or_closed()
     }
 }
 
@@ -63,7 +64,7 @@ impl<T: Clone, N: Protocol<T, TaskWaker>> Query<CellCore<T, TaskWaker, N>> for C
     #[inline(always)]
     #[tactic(auto, using(crate::proofs::Found::closed_if_no_clone))]
     fn answer(self, core: &mut CellCore<T, TaskWaker, N>) -> Held<Result<T, Refusal>> {
-        core.try_get().or_closed()
+        core.make(TryGet).or_closed()
     }
 }
 
@@ -156,9 +157,9 @@ impl<T: Drop, N: Protocol<T, TaskWaker>> Query<CellCore<T, TaskWaker, N>> for Ta
         core: &mut CellCore<T, TaskWaker, N>,
     ) -> Held<Result<(T, Witness<T, TaskWaker, N>), Refusal>> {
         let TakingAs(mut seen) = self;
-        core.hand_to(&mut seen);
-        let taken = core.try_take();
-        core.show_to(&mut seen);
+        seen.catch_up(core);
+        let taken = core.make(TryTake);
+        seen.see(core);
         taken.or_closed().beside(seen)
     }
 }
@@ -193,9 +194,9 @@ impl<T: Clone, N: Protocol<T, TaskWaker>> Query<CellCore<T, TaskWaker, N>> for C
         core: &mut CellCore<T, TaskWaker, N>,
     ) -> Held<Result<(T, Witness<T, TaskWaker, N>), Refusal>> {
         let CloningAs(mut seen) = self;
-        core.hand_to(&mut seen);
-        let copied = core.get();
-        core.show_to(&mut seen);
+        seen.catch_up(core);
+        let copied = core.make(TryGet);
+        seen.see(core);
         copied.or_closed().beside(seen)
     }
 }
