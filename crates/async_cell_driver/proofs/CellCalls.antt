@@ -1,8 +1,7 @@
 -- Where a call on the cell leads.
-use Rattle.async_cell_driver.proofs.Words.{◌≡◌, ℕ, Bool, true, false, not, ◌&&◌, ◌||◌, List, [], ◌∷◌, ◌++◌, Option, Some, map, length, ap, sym, ◌∙◌, subst, append-nil, arith, is_some, if◌then◌else◌, option_to_list, option_map, Named, Cell, Entry, Kept, Reply, ends_waiting, is_vacant, is_full, is_closed, content, owners_of, next, model_reply, wait_list, State, IsSound, is_pending, Does, woken_by, model_of, Runs-sound, up_to_clones, Mark, Task, Event, Told, is_done_mark, waits_mark, is_due_mark, is_ready_mark, DriverState, mark_at, result_at, NamesMatch, is_named, wake_each, AllNamed, AllWaiting, Line, kinds, is_ready, is_poll_of, started, history, handed_out, line_of, call_of, reply_of, entry_of, names_by, kept_update, Drives, FitsTold, same_name}
-use Rattle.async_cell_model.specs.declared.entry.Kept.TheVariants as kept
-use Rattle.async_cell_model.specs.declared.reply.Reply.TheVariants as reply
+use Rattle.async_cell_driver.proofs.Words.{refl, Kind, ◌≡◌, ℕ, Bool, true, false, not, ◌&&◌, ◌||◌, List, [], ◌∷◌, ◌++◌, Option, Some, None, IsSomeAnd, waker_of, map, length, ap, sym, ◌∙◌, subst, append-nil, arith, is_some, if◌then◌else◌, option_to_list, option_map, Named, Cell, Entry, Kept, Reply, ends_waiting, next, wait_list, State, IsSound, Does, woken_by, model_of, Runs-sound, up_to_clones, Mark, Task, Event, is_done_mark, waits_mark, is_due_mark, is_ready_mark, DriverState, mark_at, result_at, NamesMatch, is_named, wake_each, AllNamed, AllWaiting, Line, kinds, is_ready, is_poll_of, started, history, handed_out, line_of, call_of, is_call, with_edit, entry_of, names_by, Drives, FitsTold, same_name}
 use Rattle.async_cell_driver.specs.declared.task.Mark.TheVariants as mark
+use Rattle.async_cell_driver.specs.declared.event.Told.TheVariants as told
 use Rattle.async_cell_driver.proofs.ReadyNow.{awake, ready_now, started_now}
 use Rattle.async_cell_driver.proofs.WokenTasks.{mark-wake_each, woken_if, kinds-wake_each, results-wake_each, named-wait_list, named-append}
 
@@ -24,6 +23,10 @@ kept_named ends l cut i not named = grind (arith, named-wait_list, named-append)
 
 named_handed : (ends : Bool) (l names : List Named) (i : ℕ) → names ≡ (if ends then l else []) → is_named i names ≡ false → is_named i l ≡ true → ends ≡ false
 named_handed ends l names i same unnamed named = grind arith
+
+from_some : {A : Type 0} (o : Option A) (P : A → Type 0) → IsSomeAnd o P → (x : A) × (o ≡ Some x) × P x
+from_some None P has = absurd has
+from_some (Some x) P has = (x, refl, has)
 
 module _ {T : Type 0} where
   -- the names are those that the entry wakes
@@ -72,60 +75,58 @@ module _ {T : Type 0} where
   entry_is : (c d : Option (Kept T Named)) (r s : Option (Reply T)) → c ≡ d → r ≡ s → entry_of c r ≡ entry_of d s
   entry_is c d r s same_call same_reply = λ k. entry_of (same_call k) (same_reply k)
 
-  -- Where a call of the core leads, with the tasks woken whose names it wakes: neither a start nor
-  -- a poll.
+  no_poll : (i : ℕ) (event : Event T (Option T → Option T)) (r : Reply T) → is_call event ≡ true → is_poll_of i event (told.Reply r) ≡ false
+  no_poll i event r is = grind arith
+
+  no_start : (event : Event T (Option T → Option T)) (r : Reply T) → is_call event ≡ true → started event (told.Reply r) ≡ []
+  no_start event r is = grind arith
+
+  fits_any : (count : ℕ) (ready : ℕ → Bool) (event : Event T (Option T → Option T)) (r : Reply T) (names : List Named) → is_call event ≡ true → FitsTold count ready event (told.Reply r) names
+  fits_any count ready event r names is = grind arith
+
+  call_any : (all : List Kind) (c : Cell T) (event : Event T (Option T → Option T)) (call : Kept T Named) → is_call event ≡ true → call_of [] c event ≡ Some call → call_of all c event ≡ Some call
+  call_any all c event call is is_call = grind arith
+
+  -- the core's call of an event, with its reply and the names that it wakes
+  abbrev pub CallsAs : Event T (Option T → Option T) → State T Named → Reply T → List Named → State T Named → Type 0
+  CallsAs event from r names to = IsSomeAnd (call_of [] from.cell event) (λ call. Does same_name true from (record { call = call; reply = r }) names to)
+
+  no_waker : (c : Cell T) (event : Event T (Option T → Option T)) (call : Kept T Named) → is_call event ≡ true → call_of [] c event ≡ Some call → waker_of call ≡ None
+  no_waker c event call is is_call = grind arith
+
+  pub is_call-with_edit : {E : Type 0} (edit : E → Option T → Option T) (event : Event T E) → is_call event ≡ true → is_call (with_edit edit event) ≡ true
+  is_call-with_edit edit event is = grind arith
+
+  -- Where the call of an event leads, with the tasks woken whose names it wakes.
   pub call_drives : (is_clone : T → T → Type 0) (from old : DriverState T) → from ≡ old → (core : State T Named) (tasks : List (Task T)) (names : List Named)
-      (event : Event T (Option T → Option T)) (told : Told T) (call : Kept T Named) (r : Reply T)
-      → call_of (map (λ task. task.kind) from.tasks) from.core.cell event ≡ Some call → reply_of told ≡ Some r
-      → ((i : ℕ) → is_poll_of i event told ≡ false) → started event told ≡ [] → ((count : ℕ) (ready : ℕ → Bool) (names : List Named) → FitsTold count ready event told names)
-      → NamesMatch from → Does same_name true from.core (record { call = call; reply = r }) names core → tasks ≡ wake_each names from.tasks
-      → Drives is_clone old (line_of old event told ∷ []) (record { core = core; tasks = tasks })
-  call_drives is_clone from old same core tasks names event told call r is_call is_reply no_poll no_start fits covered answers tasks_are =
+      (event : Event T (Option T → Option T)) (r : Reply T)
+      → is_call event ≡ true → NamesMatch from → CallsAs event from.core r names core → tasks ≡ wake_each names from.tasks
+      → Drives is_clone old (line_of old event (told.Reply r) ∷ []) (record { core = core; tasks = tasks })
+  call_drives is_clone from old same core tasks names event r is_event covered made tasks_are =
+      let (call, is_call, answers) = from_some _ _ made in
       let e : Entry T Named = record { call = call; reply = r } in
-      let entry : entry_of (call_of (map (λ task. task.kind) from.tasks) from.core.cell event) (reply_of told) ≡ Some e = entry_is _ _ _ _ is_call is_reply in
-      let line : Line T = record { event = event; told = told; names = names } in
-      let line_is : line_of from event told ≡ line =
-      λ k. record { event = event; told = told; names = (ap (names_by from.core) entry ∙ sym (names_are from.core core call r names answers)) k } in
-      subst (λ (s : DriverState T). Drives is_clone s (line_of s event told ∷ []) (record { core = core; tasks = tasks })) same
+      let entry : entry_of (call_of (map (λ task. task.kind) from.tasks) from.core.cell event) (Some r) ≡ Some e = rw (call_any (map (λ task. task.kind) from.tasks) from.core.cell event call is_event is_call) refl in
+      let line : Line T = record { event = event; told = told.Reply r; names = names } in
+      let line_is : line_of from event (told.Reply r) ≡ line =
+      λ k. record { event = event; told = told.Reply r; names = (ap (names_by from.core) entry ∙ sym (names_are from.core core call r names answers)) k } in
+      subst (λ (s : DriverState T). Drives is_clone s (line_of s event (told.Reply r) ∷ []) (record { core = core; tasks = tasks })) same
       (subst (λ (l : Line T). Drives is_clone from (l ∷ []) (record { core = core; tasks = tasks })) (sym line_is)
       (subst (λ (ts : List (Task T)). Drives is_clone from (line ∷ []) (record { core = core; tasks = ts })) (sym tasks_are)
       (called is_clone from core line call r (ap option_to_list entry) (ap (λ (o : Option (Entry T Named)). option_to_list (option_map (λ x. names) o)) entry)
-      (fits (length (kinds from [])) (is_ready from []) names) no_poll no_start covered answers)))
+      (fits_any (length (kinds from [])) (is_ready from []) event r names is_event) (λ i. no_poll i event r is_event) (no_start event r is_event) covered answers)))
 
   pub results_woken : (names : List Named) (from old : DriverState T) (tasks : List (Task T)) → from ≡ old → tasks ≡ wake_each names from.tasks → (i : ℕ) → result_at tasks i ≡ result_at old.tasks i
   results_woken names from old tasks same tasks_are i = ap (λ ts. result_at ts i) tasks_are ∙ (results-wake_each names from.tasks i ∙ ap (λ (s : DriverState T). result_at s.tasks i) same)
 
   -- a call that does not wait adds no name, and each that stays in the list is that of a task that
   -- is not woken
-  waiting_after : (from to : State T Named) (call : Kept T Named) (r : Reply T) (names : List Named) (tasks : List (Task T)) → is_pending r ≡ false → Does same_name true from (record { call = call; reply = r }) names to
+  waiting_after : (from to : State T Named) (call : Kept T Named) (r : Reply T) (names : List Named) (tasks : List (Task T)) → waker_of call ≡ None → Does same_name true from (record { call = call; reply = r }) names to
       → AllWaiting (record { core = from; tasks = tasks }) → AllWaiting (record { core = to; tasks = wake_each names tasks })
   waiting_after from to call r names tasks silent answers waiting_all i named = grind (arith, model_of, names_are, mark-wake_each, named-wait_list, append-nil, waiting_all)
 
-  pub covered_called : (from : DriverState T) (core : State T Named) (tasks : List (Task T)) (names : List Named) (call : Kept T Named) (r : Reply T) → is_pending r ≡ false → NamesMatch from
-      → Does same_name true from.core (record { call = call; reply = r }) names core → tasks ≡ wake_each names from.tasks → NamesMatch (record { core = core; tasks = tasks })
-  covered_called from core tasks names call r silent covered answers tasks_are = grind (arith, named_after, waiting_after, covered.0, covered.1)
-
-  -- a reply that gives a value is the model's
-  pub value_is : (from to : State T Named) (call : Kept T Named) (value : Option T) (names : List Named) → Does same_name true from (record { call = call; reply = reply.Value value }) names to → reply.Value value ≡ model_reply from.cell call
-  value_is from to call value names answers = grind arith
-
-  -- a value that is offered to a vacant cell is held
-  pub offer_holds : (from to : State T Named) (value : T) (unused : Option T) (names : List Named)
-      → Does same_name true from (record { call = kept.OrSet value; reply = reply.Value unused }) names to → is_vacant from.cell ≡ true → content to.cell ≡ Some value
-  offer_holds from to value unused names answers vacant = grind arith
-
-  -- a value that is offered to a full cell leaves it as it was
-  pub offer_leaves : (from to : State T Named) (value : T) (unused : Option T) (names : List Named)
-      → Does same_name true from (record { call = kept.OrSet value; reply = reply.Value unused }) names to → is_full from.cell ≡ true → to.cell ≡ from.cell
-  offer_leaves from to value unused names answers full = grind arith
-
-  -- an update, as a history keeps it
-  pub update_is : (c : Cell T) (edit : Option T → Option T) (put : Option T) → is_closed c ≡ false → put ≡ edit (content c) → kept_update c edit ≡ kept.Update (content c) put
-  update_is c edit put open_ is = grind arith
-
-  pub update_refused_is : (c d : Cell T) (edit : Option T → Option T) → (is_closed c ≡ false → ⊥) → d ≡ c → kept_update c edit ≡ kept.Update (content c) (content d)
-  update_refused_is c d edit not_open same = grind (arith, not_open)
-
-  -- the last end closes the cell
-  pub last_closes : (from to : State T Named) (value : Option T) (names : List Named) → Does same_name true from (record { call = kept.EndOwner; reply = reply.Value value }) names to → owners_of from.cell ≡ 1 → is_closed to.cell ≡ true
-  last_closes from to value names answers sole = grind arith
+  pub covered_called : (from : DriverState T) (core : State T Named) (tasks : List (Task T)) (names : List Named) (event : Event T (Option T → Option T)) (r : Reply T)
+      → is_call event ≡ true → NamesMatch from → CallsAs event from.core r names core → tasks ≡ wake_each names from.tasks → NamesMatch (record { core = core; tasks = tasks })
+  covered_called from core tasks names event r is_event covered made tasks_are =
+      let (call, is_call, answers) = from_some _ _ made in
+      let silent = no_waker from.core.cell event call is_event is_call in
+      grind (arith, named_after, waiting_after, covered.0, covered.1)

@@ -3,7 +3,7 @@ pub use Rattle.async_cell_core.specs.Polled.{IsReadyWith, poll_reply}
 pub use Rattle.async_cell_driver.specs.Asked.{IsPolledWith, mark_after, polled_of, waiting_when}
 pub use Rattle.async_cell_driver.specs.DriverState.{AllNamed, AllWaiting, DriverState, NamesMatch, change, is_named, kind_at, mark_at, name_of, result_at, result_of, wake, wake_each, with_mark, with_result}
 pub use Rattle.async_cell_driver.specs.Drives.{AllSpared, Drives, FitsTold, IsLegal, IsSpared, NoneForgotten, ResultsStay}
-pub use Rattle.async_cell_driver.specs.History.{call_of, entry_of, handed_out, history, kept_update, line_of, names_by, poll_of, reply_of, told_of}
+pub use Rattle.async_cell_driver.specs.History.{is_call, call_of, entry_of, handed_out, history, kept_update, line_of, names_by, poll_of, reply_of, told_of}
 pub use Rattle.async_cell_driver.specs.Log.{Line, Log, is_done, is_due, is_poll_of, is_ready, is_started, kinds, lines, log_of, started, waits, was_pending, was_ready, was_refused, with_edit}
 pub use Rattle.async_cell_driver.specs.Mark.{is_done_mark, is_due_mark, is_ready_mark, waits_mark, woken}
 pub use Rattle.async_cell_driver.specs.Settle.{Keeps, Settles, SettlesOne, events_of, got_by, got_or, has_refused, numbers}
@@ -25,7 +25,7 @@ pub use Rattle.async_cell_model.proofs.OneMoreWaker.{wait_list-distinct}
 pub use Rattle.async_cell_model.proofs.UpTo.{exact_told, up_to_clones}
 pub use Rattle.async_cell_model.specs.History.{History, cell_after}
 pub use Rattle.async_cell_model.specs.Legal.{RunsUpTo, StepsUpTo, woken_by}
-pub use Rattle.async_cell_model.specs.Machine.{Does, IsSound, State, UpToClones, content, ends_waiting, is_closed, is_full, is_pending, is_vacant, next, owners_of, reply as model_reply, skips, wait_list, with_one_more}
+pub use Rattle.async_cell_model.specs.Machine.{Does, IsSound, State, UpToClones, content, ends_waiting, is_closed, is_full, is_pending, is_vacant, next, owners_of, reply as model_reply, skips, wait_list, waker_of, with_one_more}
 pub use Rattle.async_cell_model.specs.declared.cell.Cell.{Cell}
 pub use Rattle.async_cell_model.specs.declared.entry.Entry.{Entry}
 pub use Rattle.async_cell_model.specs.declared.entry.Kept.{Kept}
@@ -46,6 +46,6 @@ pub use Rattle.std.proofs.lemmas.Map.Steps.{length-le_from_distinct_below}
 pub use Rattle.std.proofs.lemmas.Option.{slice_get_past}
 pub use Rattle.std.proofs.lemmas.Result.{MatchResult-weaker, err_from_is_err_and}
 pub use Rattle.std.specs.List.{IsDistinct, list_any}
-pub use Rattle.std.specs.Option.{option_map}
+pub use Rattle.std.specs.Option.{IsSomeAnd, option_map}
 pub use Rattle.std.specs.Prelude.{AllPairs, Err, IfErr, IfOk, IsOk, MatchOption, MatchResult, Ok, OnOk, Result, filter, fold, if◌then◌else◌, is_some, nat_eq, option_to_list, reverse, slice_get}
 pub use Rattle.std.specs.Vec.Iter.{into_iter_items, into_iter_len}

@@ -1,10 +1,12 @@
 -- What a driver promises: which log runs from one state of it to another.
 use Rattle.std.specs.Prelude.{◌≡◌, ℕ, Bool, true, false, List, [], ◌∷◌, Option, ⊤, map, length, MatchOption}
+use Rattle.std.specs.Option.{IsSomeAnd}
 use Rattle.async_cell_wakers.specs.Named.{same_name}
 use Rattle.async_cell_wakers.specs.declared.named.Named.{Named}
 use Rattle.async_cell_model.specs.declared.refusal.Refusal.TheVariants.{Memory}
-use Rattle.async_cell_model.specs.Machine.{content, is_vacant}
+use Rattle.async_cell_model.specs.Machine.{content, is_vacant, next, reply as model_reply, State}
 use Rattle.async_cell_model.specs.declared.cell.Cell.{Cell}
+use Rattle.async_cell_model.specs.declared.reply.Reply.{Reply}
 use Rattle.async_cell_model.specs.History.{cell_after}
 use Rattle.async_cell_model.specs.Legal.{RunsUpTo}
 use Rattle.async_cell_driver.specs.declared.event.Event.{Event}
@@ -14,7 +16,7 @@ use Rattle.async_cell_driver.specs.declared.event.Told.TheVariants as told
 use Rattle.async_cell_driver.specs.declared.event.Polled.TheVariants.{NotReady}
 use Rattle.async_cell_driver.specs.DriverState.{DriverState, result_at}
 use Rattle.async_cell_driver.specs.Log.{Log, kinds, is_done, waits, is_ready}
-use Rattle.async_cell_driver.specs.History.{history, handed_out, line_of}
+use Rattle.async_cell_driver.specs.History.{call_of, history, handed_out, line_of}
 
 -- The outcome and the woken names that an event may have, if this many tasks were started and these
 -- are ready. The outcome of a start is the number of tasks before it. A poll returns `NotReady`
@@ -64,6 +66,13 @@ pub record Drives {T : Type 0} (is_clone : T → T → Type 0)
 abbrev pub Happens : {T : Type 0} → (T → T → Type 0) → DriverState T
     → Event T (Option T → Option T) → Told T → DriverState T → Type 0
 Happens is_clone from event answer to = Drives is_clone from (line_of from event answer ∷ []) to
+
+-- what a call on the cell replies and leaves is the model's
+abbrev pub Replies : {T : Type 0} → State T Named → Event T (Option T → Option T) → Reply T
+    → State T Named → Type 0
+Replies from event reply to = IsSomeAnd (call_of [] from.cell event) (λ call.
+    (reply ≡ model_reply from.cell call)
+    × (to.cell ≡ next from.cell (record { call = call; reply = reply })))
 
 -- If the event polls a task of a full cell and is refused, the clone of the value can fail. A poll
 -- of a closed cell is not refused.

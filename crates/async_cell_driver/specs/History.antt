@@ -1,5 +1,5 @@
 -- The calls that a log makes on the core.
-use Rattle.std.specs.Prelude.{map, ℕ, ◌++◌, List, [], ◌∷◌, Option, Some, None, Result, Ok, Err, slice_get, option_to_list}
+use Rattle.std.specs.Prelude.{map, ℕ, Bool, true, false, ◌++◌, List, [], ◌∷◌, Option, Some, None, Result, Ok, Err, slice_get, option_to_list}
 use Rattle.std.specs.Option.{option_map}
 use Rattle.async_cell_wakers.specs.declared.named.Named.{Named}
 use Rattle.async_cell_model.specs.declared.cell.Cell.{Cell}
@@ -47,6 +47,12 @@ module _ {T : Type 0} where
   call_of all c TryTake = Some kept.TryTake
   call_of all c AddOwner = Some kept.AddOwner
   call_of all c EndOwner = Some kept.EndOwner
+
+  -- whether an event is a call on the cell
+  abbrev pub is_call : {E : Type 0} → Event T E → Bool
+  is_call (Start kind) = false
+  is_call (Poll i) = false
+  is_call _ = true
 
   -- the core's reply in an outcome: `None` if the core was not called
   abbrev pub reply_of : Told T → Option (Reply T)
@@ -104,8 +110,3 @@ told_of (Err why) = told.Refused why
 -- the outcome of a call for which the core finds memory
 abbrev pub told_by : {T : Type 0} → State T Named → Kept T Named → Told T
 told_by core call = told.Reply (model_reply core.cell call)
-
--- the reply for the result of a call that returns no value
-abbrev pub done_or : {T : Type 0} → Result (Unit {0}) Refusal → Reply T
-done_or (Ok done) = reply.Done
-done_or (Err why) = reply.Refused why None

@@ -10,6 +10,7 @@ ghost use Rattle.async_cell_wakers.specs.Named.{same_name};
 ghost use Rattle.async_cell_driver.specs.Asked.{ClonesContent, TakesContent, waiting_when, mark_after, polled_of};
 
 mod apply;
+mod call;
 mod settle;
 mod writes;
 

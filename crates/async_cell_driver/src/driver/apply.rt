@@ -2,12 +2,11 @@
 ghost use Rattle.std.specs.Prelude.{◌≡◌, List, [], map, length, vec_len, IsOk, IfOk, IfErr, OnErr};
 ghost use Rattle.async_cell_wakers.specs.declared.named.Named.{Named as Name};
 ghost use Rattle.async_cell_driver.specs.Log.{log_of, with_edit};
-ghost use Rattle.async_cell_driver.specs.History.{done_or};
 ghost use Rattle.async_cell_driver.specs.Drives.{AllSpared, Drives, Happens, IsSpared, ResultsStay};
 
 use super::Driver;
 use crate::event::{Event, Told};
-use async_cell_core::{Edit, Refusal, Reply};
+use async_cell_core::Edit;
 
 impl<T: Clone> Driver<T> {
     /// Makes the events happen in order, and returns one outcome for each. The outcome of a refused
@@ -57,35 +56,7 @@ impl<T: Clone> Driver<T> {
                 Ok(polled) => Told::Polled(polled),
                 Err(why) => Told::Refused(why),
             },
-            Event::Set(value) => Told::Reply(match self.set(value) {
-                Ok(()) => Reply::Done,
-                Err(back) => Reply::Refused(Refusal::Closed, Some(back)),
-            }),
-            Event::OrSet(value) => Told::Reply(match self.offer(value) {
-                Ok(unused) => Reply::Value(unused),
-                Err(back) => Reply::Refused(Refusal::Closed, Some(back)),
-            }),
-            Event::Replace(value) => Told::Reply(match self.replace(value) {
-                Ok(old) => Reply::Value(old),
-                Err(back) => Reply::Refused(Refusal::Closed, Some(back)),
-            }),
-            Event::Update(edit) => Told::Reply(done(self.update(edit))),
-            Event::TryTake => Told::Reply(Reply::Value(self.try_take())),
-            Event::AddOwner => Told::Reply(done(self.add_owner())),
-            Event::EndOwner => Told::Reply(match self.end() {
-                Ok(last) => Reply::Value(last),
-                Err(why) => Reply::Refused(why, None),
-            }),
+            event => Told::Reply(self.call(event)),
         }
-    }
-}
-
-/// Returns the reply for the result of a call that returns no value.
-fn done<T>(answer: Result<(), Refusal>) -> Reply<T>
-    ensures { result ≡ done_or answer }
-{
-    match answer {
-        Ok(()) => Reply::Done,
-        Err(why) => Reply::Refused(why, None),
     }
 }

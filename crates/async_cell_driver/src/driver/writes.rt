@@ -1,5 +1,4 @@
-//! Calls on the cell of a driver. Each makes one call of the core, and wakes the tasks whose names
-//! it returns.
+//! Calls on the cell of a driver.
 ghost use Rattle.std.specs.Prelude.{◌≡◌, ◌↔◌, ◌+◌, ◌-◌, true, false, Some, None, Err, IsOk, IfOk, IfErr, OnOk, OnErr};
 ghost use Rattle.async_cell_model.specs.Machine.{is_closed, is_full, is_vacant, content, owners_of, owners_limit};
 ghost use Rattle.async_cell_model.specs.declared.entry.Kept.TheVariants as kept;
@@ -7,6 +6,7 @@ ghost use Rattle.async_cell_driver.specs.History.{told_by};
 ghost use Rattle.async_cell_driver.specs.Drives.{Happens, ResultsStay};
 
 use super::Driver;
+use super::call::NoEditEvent;
 use crate::event::{Event, Told};
 use async_cell_core::{Edit, Refusal, Reply};
 
@@ -26,9 +26,11 @@ impl<T: Clone> Driver<T> {
         ensures unchanged { OnErr result (self.new ≡ self.old) }
         ensures comes_back { IfErr result (λ back. back ≡ value) }
     {
-        let woken = self.core.set(value)?;
-        self.tasks.wake(woken);
-        Ok(())
+        match self.call(NoEditEvent::<T>::Set(value)) {
+            Reply::Done => Ok(()),
+            Reply::Refused(_, Some(back)) => Err(back),
+            _ => unreachable!(),
+        }
     }
 
     /// Sets the value if the cell holds none; every waiting task is then ready. Drops `value`
@@ -50,33 +52,11 @@ impl<T: Clone> Driver<T> {
         ensures unchanged { OnErr result (self.new ≡ self.old) }
         ensures comes_back { IfErr result (λ back. back ≡ value) }
     {
-        let _unused = self.offer(value)?;
-        Ok(())
-    }
-
-    /// Does what `or_set` does, and returns the value if it was not used.
-    pub(crate) fn offer(&mut self, value: T) -> Result<Option<T>, T>
-        ensures done { IfOk result (λ unused.
-            Happens T.is_clone self.old (Event.OrSet value)
-            (Told.Reply (Reply.Value unused)) self.new) }
-        ensures refused { OnErr result
-            (Happens T.is_clone self.old (Event.OrSet value)
-            (Told.Reply (Reply.Refused Refusal.Closed (Some value))) self.new) }
-        ensures unused { IfOk result (λ unused.
-            Told.Reply (Reply.Value unused) ≡ told_by self.old.core (kept.OrSet value)) }
-
-        ensures if_open { IsOk result ↔ (is_closed self.old.core.cell ≡ false) }
-        ensures holds { OnOk result
-            (is_vacant self.old.core.cell ≡ true → content self.new.core.cell ≡ Some value) }
-        ensures leaves { is_full self.old.core.cell ≡ true
-            → self.new.core.cell ≡ self.old.core.cell }
-        ensures results_stay { ResultsStay self.old self.new }
-        ensures unchanged { OnErr result (self.new ≡ self.old) }
-        ensures comes_back { IfErr result (λ back. back ≡ value) }
-    {
-        let (unused, woken) = self.core.or_set(value)?;
-        self.tasks.wake(woken);
-        Ok(unused)
+        match self.call(NoEditEvent::<T>::OrSet(value)) {
+            Reply::Value(_) => Ok(()),
+            Reply::Refused(_, Some(back)) => Err(back),
+            _ => unreachable!(),
+        }
     }
 
     /// Sets the value and returns the old one. Every waiting task is then ready. Fails on a closed
@@ -96,9 +76,11 @@ impl<T: Clone> Driver<T> {
         ensures unchanged { OnErr result (self.new ≡ self.old) }
         ensures comes_back { IfErr result (λ back. back ≡ value) }
     {
-        let (old, woken) = self.core.replace(value)?;
-        self.tasks.wake(woken);
-        Ok(old)
+        match self.call(NoEditEvent::<T>::Replace(value)) {
+            Reply::Value(old) => Ok(old),
+            Reply::Refused(_, Some(back)) => Err(back),
+            _ => unreachable!(),
+        }
     }
 
     /// Stores what the edit makes of the content. If that puts a value into an empty cell, every
@@ -117,9 +99,11 @@ impl<T: Clone> Driver<T> {
         ensures results_stay { ResultsStay self.old self.new }
         ensures unchanged { OnErr result (self.new ≡ self.old) }
     {
-        let woken = self.core.update(|content| edit.edit(content))?;
-        self.tasks.wake(woken);
-        Ok(())
+        match self.call(Event::Update(edit)) {
+            Reply::Done => Ok(()),
+            Reply::Refused(why, _) => Err(why),
+            _ => unreachable!(),
+        }
     }
 
     /// Takes the value, if there is one. The waiting tasks still wait.
@@ -131,7 +115,10 @@ impl<T: Clone> Driver<T> {
         ensures leaves_none { content self.new.core.cell ≡ None }
         ensures results_stay { ResultsStay self.old self.new }
     {
-        self.core.try_take()
+        match self.call(NoEditEvent::<T>::TryTake) {
+            Reply::Value(taken) => taken,
+            _ => unreachable!(),
+        }
     }
 
     /// Adds an owner. Fails with `Closed` on a closed cell, and with `OwnersFull` beyond
@@ -151,7 +138,11 @@ impl<T: Clone> Driver<T> {
         ensures results_stay { ResultsStay self.old self.new }
         ensures unchanged { OnErr result (self.new ≡ self.old) }
     {
-        self.core.add_owner()
+        match self.call(NoEditEvent::<T>::AddOwner) {
+            Reply::Done => Ok(()),
+            Reply::Refused(why, _) => Err(why),
+            _ => unreachable!(),
+        }
     }
 
     /// Ends one owner. The last one closes the cell and drops the value, and every waiting task is
@@ -170,28 +161,10 @@ impl<T: Clone> Driver<T> {
         ensures results_stay { ResultsStay self.old self.new }
         ensures unchanged { OnErr result (self.new ≡ self.old) }
     {
-        let _last = self.end()?;
-        Ok(())
-    }
-
-    /// Does what `end_owner` does, and returns the value of a cell that it closes.
-    pub(crate) fn end(&mut self) -> Result<Option<T>, Refusal>
-        ensures done { IfOk result (λ last.
-            Happens T.is_clone self.old Event.EndOwner (Told.Reply (Reply.Value last)) self.new) }
-        ensures refused { IfErr result (λ why.
-            Happens T.is_clone self.old Event.EndOwner
-            (Told.Reply (Reply.Refused why None)) self.new) }
-        ensures last { IfOk result (λ last.
-            Told.Reply (Reply.Value last) ≡ told_by self.old.core kept.EndOwner) }
-
-        ensures if_open { IsOk result ↔ (is_closed self.old.core.cell ≡ false) }
-        ensures counted { owners_of self.new.core.cell ≡ owners_of self.old.core.cell - 1 }
-        ensures closes { owners_of self.old.core.cell ≡ 1 → is_closed self.new.core.cell ≡ true }
-        ensures results_stay { ResultsStay self.old self.new }
-        ensures unchanged { OnErr result (self.new ≡ self.old) }
-    {
-        let (last, woken) = self.core.end_owner()?;
-        self.tasks.wake(woken);
-        Ok(last)
+        match self.call(NoEditEvent::<T>::EndOwner) {
+            Reply::Value(_) => Ok(()),
+            Reply::Refused(why, _) => Err(why),
+            _ => unreachable!(),
+        }
     }
 }
