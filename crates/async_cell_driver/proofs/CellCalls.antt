@@ -1,6 +1,5 @@
 -- Where a call on the cell leads.
-use Rattle.async_cell_driver.proofs.Words.{refl, Kind, ◌≡◌, ℕ, Bool, true, false, not, ◌&&◌, ◌||◌, List, [], ◌∷◌, ◌++◌, Option, Some, None, IsSomeAnd, waker_of, map, length, ap, sym, ◌∙◌, subst, append-nil, arith, is_some, if◌then◌else◌, option_to_list, option_map, Named, Cell, Entry, Kept, Reply, ends_waiting, next, wait_list, State, IsSound, Does, woken_by, model_of, Runs-sound, up_to_clones, Mark, Task, Event, is_done_mark, waits_mark, is_due_mark, is_ready_mark, DriverState, mark_at, result_at, NamesMatch, is_named, wake_each, AllNamed, AllWaiting, Line, kinds, is_ready, is_poll_of, started, history, handed_out, line_of, call_of, is_call, with_edit, entry_of, names_by, Drives, FitsTold, same_name}
-use Rattle.async_cell_driver.specs.declared.task.Mark.TheVariants as mark
+use Rattle.async_cell_driver.proofs.Words.{refl, Kind, ◌≡◌, ℕ, Bool, true, false, not, ◌&&◌, ◌||◌, List, [], ◌∷◌, Option, Some, None, IsSomeAnd, waker_of, map, length, ap, sym, ◌∙◌, subst, append-nil, arith, is_some, if◌then◌else◌, option_to_list, option_map, Named, Cell, Entry, Kept, Reply, ends_waiting, State, IsSound, Does, woken_by, model_of, Runs-sound, up_to_clones, Mark, Task, Event, is_done_mark, waits_mark, is_due_mark, is_ready_mark, DriverState, mark_at, result_at, NamesMatch, is_named, wake_each, AllNamed, AllWaiting, Line, kinds, is_ready, is_poll_of, started, history, handed_out, line_of, call_of, is_call, with_edit, entry_of, names_by, Drives, FitsTold, same_name}
 use Rattle.async_cell_driver.specs.declared.event.Told.TheVariants as told
 use Rattle.async_cell_driver.proofs.ReadyNow.{awake, ready_now, started_now}
 use Rattle.async_cell_driver.proofs.WokenTasks.{mark-wake_each, woken_if, kinds-wake_each, results-wake_each, named-wait_list, named-append}
@@ -13,16 +12,6 @@ waits_woken named m = grind arith
 
 ready_woken : (named : Bool) (m : Option Mark) → is_ready_mark (woken_if named m) ≡ (is_some m && (not (is_done_mark m) && (named || is_due_mark m)))
 ready_woken named m = grind arith
-
-not_woken : (named : Bool) (m : Option Mark) → woken_if named m ≡ Some mark.Waiting → (named ≡ false) × (m ≡ Some mark.Waiting)
-not_woken named m stands = grind arith
-
--- who waits stays, but where all that wait are handed out
-kept_named : (ends : Bool) (l cut : List Named) (i : ℕ) → ends ≡ false → is_named i l ≡ true → is_named i (wait_list same_name ((if ends || false then [] else l) ++ cut)) ≡ true
-kept_named ends l cut i not named = grind (arith, named-wait_list, named-append)
-
-named_handed : (ends : Bool) (l names : List Named) (i : ℕ) → names ≡ (if ends then l else []) → is_named i names ≡ false → is_named i l ≡ true → ends ≡ false
-named_handed ends l names i same unnamed named = grind arith
 
 from_some : {A : Type 0} (o : Option A) (P : A → Type 0) → IsSomeAnd o P → (x : A) × (o ≡ Some x) × P x
 from_some None P has = absurd has
@@ -37,19 +26,12 @@ module _ {T : Type 0} where
   -- where a history leads another begins
   pub begins_there : (from to : State T Named) (call : Kept T Named) (r : Reply T) (names : List Named) → Does same_name true from (record { call = call; reply = r }) names to → IsSound same_name to
   begins_there from to call r names answers =
-      let h : List (Entry T Named) = record { call = call; reply = r } ∷ [] in
-      Runs-sound (λ (x y : T). y ≡ x) same_name true from to h (names ∷ [])
-      (up_to_clones (λ (x y : T). y ≡ x) same_name true from to h (names ∷ []) (model_of same_name true from to call r names answers))
+      Runs-sound (λ (x y : T). y ≡ x) same_name true from to _ _ (up_to_clones _ same_name true from to _ _ (model_of same_name true from to call r names answers))
 
   -- each waiting name still stands in the waiting list, or was woken
   named_after : (from to : State T Named) (call : Kept T Named) (r : Reply T) (names : List Named) (tasks : List (Task T)) → Does same_name true from (record { call = call; reply = r }) names to
       → AllNamed (record { core = from; tasks = tasks }) → AllNamed (record { core = to; tasks = wake_each names tasks })
-  named_after from to call r names tasks answers covered i stands =
-      let e : Entry T Named = record { call = call; reply = r } in
-      let before = not_woken (is_named i names) (mark_at tasks i) (sym (mark-wake_each names tasks i) ∙ stands) in
-      let named = covered i before.1 in
-      let ends : ends_waiting from.cell (next from.cell e) ≡ false = named_handed (ends_waiting from.cell (next from.cell e)) from.waiting names i (names_are from to call r names answers) before.0 named in
-      ap (is_named i) (model_of same_name true from to call r names answers).waiting_is ∙ kept_named (ends_waiting from.cell (next from.cell e)) from.waiting _ i ends named
+  named_after from to call r names tasks answers covered i stands = grind (arith, model_of, names_are, mark-wake_each, named-wait_list, named-append, covered)
 
   -- Where a line leads that is one call of the core, and neither a start nor a poll.
   pub called : (is_clone : T → T → Type 0) (from : DriverState T) (core : State T Named) (line : Line T) (call : Kept T Named) (r : Reply T)
@@ -59,21 +41,18 @@ module _ {T : Type 0} where
       → NamesMatch from → Does same_name true from.core (record { call = call; reply = r }) line.names core
       → Drives is_clone from (line ∷ []) (record { core = core; tasks = wake_each line.names from.tasks })
   called is_clone from core line call r is_history is_handed fits no_poll no_start covered answers =
-      let kinds_stay = kinds-wake_each line.names from.tasks in
       record {
         legal = (fits, tt);
-        core_leads = up_to_clones is_clone same_name true from.core core (history from (line ∷ [])) (handed_out from (line ∷ [])) (rw (is_history, is_handed) (model_of same_name true from.core core call r line.names answers));
-        kinds_are = kinds_stay ∙ (sym (append-nil (map (λ task. task.kind) from.tasks)) ∙ ap (λ new. map (λ task. task.kind) from.tasks ++ new) (sym no_start));
-        done_is = λ i. rw (no_poll i) (ap is_done_mark (mark-wake_each line.names from.tasks i) ∙ done_woken (is_named i line.names) (mark_at from.tasks i));
-        waits_is = λ i. rw (no_poll i) (ap waits_mark (mark-wake_each line.names from.tasks i) ∙ waits_woken (is_named i line.names) (mark_at from.tasks i));
+        core_leads = up_to_clones is_clone same_name true from.core core _ _ (rw (is_history, is_handed) (model_of same_name true from.core core call r line.names answers));
+        kinds_are = grind (arith, kinds-wake_each, append-nil, no_start);
+        done_is = λ i. grind (arith, mark-wake_each, no_poll, done_woken);
+        waits_is = λ i. grind (arith, mark-wake_each, no_poll, waits_woken);
         ready_is = λ i.
-            let here = ready_now (record { core = core; tasks = wake_each line.names from.tasks }) i ∙ (ap is_ready_mark (mark-wake_each line.names from.tasks i) ∙ ready_woken (is_named i line.names) (mark_at from.tasks i)) in
+            let to : DriverState T = record { core = core; tasks = wake_each line.names from.tasks } in
+            let here = ready_now to i ∙ (ap is_ready_mark (mark-wake_each line.names from.tasks i) ∙ ready_woken (is_named i line.names) (mark_at from.tasks i)) in
             rw (no_poll i, no_start, append-nil (map (λ task. task.kind) from.tasks), started_now i from.tasks) here;
         none_forgotten = awake _ (begins_there from.core core call r line.names answers) (named_after from.core core call r line.names from.tasks answers covered.0);
       }
-
-  entry_is : (c d : Option (Kept T Named)) (r s : Option (Reply T)) → c ≡ d → r ≡ s → entry_of c r ≡ entry_of d s
-  entry_is c d r s same_call same_reply = λ k. entry_of (same_call k) (same_reply k)
 
   no_poll : (i : ℕ) (event : Event T (Option T → Option T)) (r : Reply T) → is_call event ≡ true → is_poll_of i event (told.Reply r) ≡ false
   no_poll i event r is = grind arith
@@ -105,7 +84,8 @@ module _ {T : Type 0} where
   call_drives is_clone from old same core tasks names event r is_event covered made tasks_are =
       let (call, is_call, answers) = from_some _ _ made in
       let e : Entry T Named = record { call = call; reply = r } in
-      let entry : entry_of (call_of (map (λ task. task.kind) from.tasks) from.core.cell event) (Some r) ≡ Some e = rw (call_any (map (λ task. task.kind) from.tasks) from.core.cell event call is_event is_call) refl in
+      let entry : entry_of (call_of (map (λ task. task.kind) from.tasks) from.core.cell event) (Some r) ≡ Some e =
+      rw (call_any (map (λ task. task.kind) from.tasks) from.core.cell event call is_event is_call) refl in
       let line : Line T = record { event = event; told = told.Reply r; names = names } in
       let line_is : line_of from event (told.Reply r) ≡ line =
       λ k. record { event = event; told = told.Reply r; names = (ap (names_by from.core) entry ∙ sym (names_are from.core core call r names answers)) k } in
@@ -120,7 +100,8 @@ module _ {T : Type 0} where
 
   -- a call that does not wait adds no name, and each that stays in the list is that of a task that
   -- is not woken
-  waiting_after : (from to : State T Named) (call : Kept T Named) (r : Reply T) (names : List Named) (tasks : List (Task T)) → waker_of call ≡ None → Does same_name true from (record { call = call; reply = r }) names to
+  waiting_after : (from to : State T Named) (call : Kept T Named) (r : Reply T) (names : List Named) (tasks : List (Task T)) → waker_of call ≡ None
+      → Does same_name true from (record { call = call; reply = r }) names to
       → AllWaiting (record { core = from; tasks = tasks }) → AllWaiting (record { core = to; tasks = wake_each names tasks })
   waiting_after from to call r names tasks silent answers waiting_all i named = grind (arith, model_of, names_are, mark-wake_each, named-wait_list, append-nil, waiting_all)
 

@@ -27,6 +27,9 @@ marked_started (suc i) (t ∷ tasks) mark is = let rest = marked_started i tasks
 -- no more wakers wait than there are tasks
 pub waiting_few : {T : Type 0} (at : DriverState T) → IsSound same_name at.core → NamesMatch at → length at.core.waiting ≤ length at.tasks
 waiting_few at sound covered =
-    let distinct : AllPairs (λ (u v : Named). u ≢ v) at.core.waiting = subst (λ (l : List Named). AllPairs (λ (u v : Named). u ≢ v) l) sound.none_skipped (wait_list-distinct same_name at.core.waiting (λ w. eq-eqb w.0 w.0 refl)) in
-    let few = length-le_from_distinct_below (map (λ (name : Named). name.0) at.core.waiting) (length at.tasks) (numbers_distinct at.core.waiting distinct) (λ q has. marked_started q at.tasks Waiting (covered.1 q (sym (named_number q at.core.waiting) ∙ has))) in
+    let distinct : AllPairs (λ (u v : Named). u ≢ v) at.core.waiting =
+    subst (λ (l : List Named). AllPairs (λ (u v : Named). u ≢ v) l) sound.none_skipped (wait_list-distinct same_name at.core.waiting (λ w. eq-eqb w.0 w.0 refl)) in
+    let few =
+    length-le_from_distinct_below (map (λ (name : Named). name.0) at.core.waiting) (length at.tasks) (numbers_distinct at.core.waiting distinct)
+    (λ q has. marked_started q at.tasks Waiting (covered.1 q (sym (named_number q at.core.waiting) ∙ has))) in
     rw length-map at few

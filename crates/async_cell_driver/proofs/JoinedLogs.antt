@@ -24,7 +24,8 @@ module _ {T : Type 0} where
   }
 
   -- only a ready task is polled
-  polled_ready : (count : ℕ) (ready : ℕ → Bool) (event : Event T (Option T → Option T)) (answer : Told T) (names : List Named) (i : ℕ) → FitsTold count ready event answer names → is_poll_of i event answer ≡ true → ready i ≡ true
+  polled_ready : (count : ℕ) (ready : ℕ → Bool) (event : Event T (Option T → Option T)) (answer : Told T) (names : List Named) (i : ℕ)
+      → FitsTold count ready event answer names → is_poll_of i event answer ≡ true → ready i ≡ true
   polled_ready count ready event answer names i fits polled = grind (arith, eqb-true)
 
   -- a task that is not there was never polled
@@ -69,7 +70,8 @@ module _ {T : Type 0} where
         λ i. ready_line from at (later ++ earlier) later line i rest.0 legal.1 same (done_join from at earlier later i (first.done_is i)) (rest.1 i),
       )
 
-  cell_join : (from at : DriverState T) (earlier later : Log T) → at.core.cell ≡ cell_after from.core.cell (history from earlier) → history from (later ++ earlier) ≡ history from earlier ++ history at later
+  cell_join : (from at : DriverState T) (earlier later : Log T) → at.core.cell ≡ cell_after from.core.cell (history from earlier)
+      → history from (later ++ earlier) ≡ history from earlier ++ history at later
       → cell_after at.core.cell (history at later) ≡ cell_after from.core.cell (history from (later ++ earlier))
   cell_join from at earlier later cell_is joined = grind (arith, cell_after-append)
 
@@ -92,7 +94,8 @@ module _ {T : Type 0} where
       )
 
   -- a log, and another from where it leads
-  pub drives_join : (is_clone : T → T → Type 0) (from at to : DriverState T) (earlier later : Log T) → Drives is_clone from earlier at → Drives is_clone at later to → Drives is_clone from (later ++ earlier) to
+  pub drives_join : (is_clone : T → T → Type 0) (from at to : DriverState T) (earlier later : Log T) → Drives is_clone from earlier at → Drives is_clone at later to
+      → Drives is_clone from (later ++ earlier) to
   drives_join is_clone from at to earlier later first second =
       let fits = ready_join is_clone from at earlier later first second.legal in record {
         legal = fits.0;
@@ -109,10 +112,12 @@ module _ {T : Type 0} where
       }
 
   -- a log, and one line from where it leads
-  pub drives_more : (is_clone : T → T → Type 0) (from at to : DriverState T) (log : Log T) (line : Line T) → Drives is_clone from log at → Drives is_clone at (line ∷ []) to → Drives is_clone from (line ∷ log) to
+  pub drives_more : (is_clone : T → T → Type 0) (from at to : DriverState T) (log : Log T) (line : Line T) → Drives is_clone from log at
+      → Drives is_clone at (line ∷ []) to → Drives is_clone from (line ∷ log) to
   drives_more is_clone from at to log line first second = drives_join is_clone from at to log (line ∷ []) first second
 
-  lines-append : (events more : List (Event T (Option T → Option T))) (answers others : List (Told T)) (handed later : List (List Named)) → length answers ≡ length events → length handed ≡ length events
+  lines-append : (events more : List (Event T (Option T → Option T))) (answers others : List (Told T)) (handed later : List (List Named))
+      → length answers ≡ length events → length handed ≡ length events
       → lines (events ++ more) (answers ++ others) (handed ++ later) ≡ lines events answers handed ++ lines more others later
   lines-append [] more [] others [] later same same' = refl
   lines-append (e ∷ events) more (t ∷ answers) others (n ∷ handed) later same same' =
@@ -121,16 +126,19 @@ module _ {T : Type 0} where
   lines-append events more answers others handed later same same' = absurd (omega arith)
 
   -- the log of joined lists
-  pub log_of-append : (events more : List (Event T (Option T → Option T))) (answers others : List (Told T)) (handed later : List (List Named)) → length answers ≡ length events → length handed ≡ length events
+  pub log_of-append : (events more : List (Event T (Option T → Option T))) (answers others : List (Told T)) (handed later : List (List Named))
+      → length answers ≡ length events → length handed ≡ length events
       → log_of (events ++ more) (answers ++ others) (handed ++ later) ≡ log_of more others later ++ log_of events answers handed
   log_of-append events more answers others handed later same same' = grind (arith, lines-append, reverse-append)
 
   -- the same, where the edits of the updates are functions by name
-  pub log_of-append-edits : {E : Type 0} (edit : E → Option T → Option T) (events more : List (Event T E)) (answers others : List (Told T)) (handed later : List (List Named)) → length answers ≡ length events → length handed ≡ length events
+  pub log_of-append-edits : {E : Type 0} (edit : E → Option T → Option T) (events more : List (Event T E)) (answers others : List (Told T))
+      (handed later : List (List Named)) → length answers ≡ length events → length handed ≡ length events
       → log_of (map (with_edit edit) (events ++ more)) (answers ++ others) (handed ++ later) ≡ log_of (map (with_edit edit) more) others later ++ log_of (map (with_edit edit) events) answers handed
   log_of-append-edits edit events more answers others handed later same same' = grind (arith, length-map, map-append, log_of-append)
 
-  pub log_of-push : (events : List (Event T (Option T → Option T))) (answers : List (Told T)) (handed : List (List Named)) (line : Line T) → length answers ≡ length events → length handed ≡ length events
+  pub log_of-push : (events : List (Event T (Option T → Option T))) (answers : List (Told T)) (handed : List (List Named)) (line : Line T)
+      → length answers ≡ length events → length handed ≡ length events
       → log_of (events ++ line.event ∷ []) (answers ++ line.told ∷ []) (handed ++ line.names ∷ []) ≡ line ∷ log_of events answers handed
   log_of-push events answers handed line same same' = log_of-append events (line.event ∷ []) answers (line.told ∷ []) handed (line.names ∷ []) same same'
 

@@ -18,7 +18,8 @@ module _ {T : Type 0} where
   ready-keeping i j result at = ready_now (keeping i result at) j ∙ (ap is_ready_mark (mark-keeping i j result at.tasks) ∙ sym (ready_now at j))
 
   -- where a log leads, something may be kept
-  pub drives_keeping : (is_clone : T → T → Type 0) (i : ℕ) (result : Option (Option T)) (from at : DriverState T) (log : Log T) → Drives is_clone from log at → Drives is_clone from log (keeping i result at)
+  pub drives_keeping : (is_clone : T → T → Type 0) (i : ℕ) (result : Option (Option T)) (from at : DriverState T) (log : Log T) → Drives is_clone from log at
+      → Drives is_clone from log (keeping i result at)
   drives_keeping is_clone i result from at log drives = grind (arith, map-change, mark-keeping, ready-keeping)
 
   pub result-forgotten : (i : ℕ) (tasks : List (Task T)) → result_at (change (with_result None) i tasks) i ≡ None
@@ -26,3 +27,6 @@ module _ {T : Type 0} where
 
   pub result-keeping_other : (i j : ℕ) (result : Option (Option T)) (tasks : List (Task T)) → i ≢ j → result_at (change (with_result result) i tasks) j ≡ result_at tasks j
   result-keeping_other i j result tasks other = ap result_of (slice_get-change_other (with_result result) i j tasks other)
+
+-- what the tactics use in `Driver::result`
+pub ruleset result_steps = (result-forgotten, result-keeping_other)

@@ -10,7 +10,8 @@ module _ {T : Type 0} where
   fresh kind = record { kind = kind; mark = Ready; result = None }
 
   -- a new task says of itself what one that was not started does
-  says_with_fresh : {A : Type 0} (says : Option Mark → A) → says (Some Ready) ≡ says None → (tasks : List (Task T)) (kind : Kind) (i : ℕ) → says (mark_at (tasks ++ fresh kind ∷ []) i) ≡ says (mark_at tasks i)
+  says_with_fresh : {A : Type 0} (says : Option Mark → A) → says (Some Ready) ≡ says None → (tasks : List (Task T)) (kind : Kind) (i : ℕ)
+      → says (mark_at (tasks ++ fresh kind ∷ []) i) ≡ says (mark_at tasks i)
   says_with_fresh says same [] kind zero = same
   says_with_fresh says same (t ∷ tasks) kind (suc i) = says_with_fresh says same tasks kind i
   says_with_fresh says same tasks kind i = refl

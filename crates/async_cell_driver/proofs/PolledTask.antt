@@ -1,8 +1,7 @@
 -- Where a poll leads.
-use Rattle.async_cell_driver.proofs.Words.{◌≡◌, ◌≢◌, ℕ, Bool, true, false, not, ◌&&◌, ◌||◌, List, [], ◌∷◌, ◌++◌, Option, Some, None, map, length, refl, ap, sym, ◌∙◌, subst, append-nil, arith, is_some, nat_eq, if◌then◌else◌, Result, Ok, Err, IsOk, IfOk, IfErr, OnOk, MatchOption, option_map, eqb-true, eqb-false, eq-eqb, or-false, or-true, Named, Reply, Refusal, Memory, State, IsSound, woken_by, RunsUpTo, StepsUpTo, poll_reply, IsReadyWith, Kind, Mark, Task, Told, Polled, is_done_mark, waits_mark, is_due_mark, is_ready_mark, DriverState, name_of, mark_at, result_of, result_at, kind_at, NamesMatch, AllNamed, AllWaiting, is_named, change, with_mark, Line, kinds, is_ready, is_poll_of, was_ready, was_pending, was_refused, poll_of, told_of, line_of, history, handed_out, waiting_when, mark_after, polled_of, IsPolledWith, Drives, FitsTold, same_name}
+use Rattle.async_cell_driver.proofs.Words.{◌≡◌, ◌≢◌, ℕ, Bool, true, false, not, ◌&&◌, ◌||◌, List, [], ◌∷◌, ◌++◌, Option, Some, length, refl, ap, sym, ◌∙◌, subst, append-nil, arith, is_some, nat_eq, if◌then◌else◌, Result, Ok, Err, IsOk, IfOk, IfErr, OnOk, MatchOption, option_map, eqb-true, eqb-false, eq-eqb, or-false, or-true, Named, Reply, Refusal, Memory, State, IsSound, RunsUpTo, StepsUpTo, poll_reply, IsReadyWith, Kind, Mark, Task, Told, Polled, is_done_mark, waits_mark, is_due_mark, is_ready_mark, DriverState, name_of, mark_at, result_of, result_at, kind_at, names_by, entry_of, reply_of, NamesMatch, AllNamed, AllWaiting, is_named, change, with_mark, Line, kinds, is_ready, is_poll_of, was_ready, was_pending, was_refused, poll_of, told_of, line_of, history, handed_out, waiting_when, mark_after, polled_of, IsPolledWith, Drives, FitsTold, same_name}
 use Rattle.futures.specs.declared.task.Poll.{Poll}
 use Rattle.futures.specs.declared.task.Poll.TheVariants.{Ready, Pending}
-use Rattle.async_cell_model.specs.declared.reply.Reply.TheVariants as reply
 use Rattle.async_cell_driver.specs.declared.task.Mark.TheVariants as mark
 use Rattle.async_cell_driver.specs.declared.event.Event.TheVariants as event
 use Rattle.async_cell_driver.specs.declared.event.Told.TheVariants as told
@@ -12,8 +11,8 @@ use Rattle.async_cell_driver.proofs.WokenTasks.{slice_get-change_same, slice_get
 
 module _ {T : Type 0} where
   -- a poll wakes none
-  pub poll_hands_none : (core : State T Named) (kind : Option Kind) (i : ℕ) (r : Reply T) → woken_by core (record { call = poll_of kind i; reply = r }) ≡ []
-  poll_hands_none core kind i r = grind arith
+  poll_wakes_none : (core : State T Named) (kind : Option Kind) (i : ℕ) (r : Option (Reply T)) → names_by core (entry_of (Some (poll_of kind i)) r) ≡ []
+  poll_wakes_none core kind i r = grind arith
 
 -- the mark of a task that is marked if it is polled
 abbrev pub marked_if : Bool → Mark → Option Mark → Option Mark
@@ -59,27 +58,29 @@ module _ {T : Type 0} where
   this_ready : (i j : ℕ) (tasks : List (Task T)) → is_ready_mark (mark_at tasks i) ≡ true → nat_eq i j ≡ true → is_ready_mark (mark_at tasks j) ≡ true
   this_ready i j tasks ready same = subst (λ k. is_ready_mark (mark_at tasks k) ≡ true) (eqb-true i j same) ready
 
-  -- Where a line leads that is a poll of a ready task.
-  polls : (is_clone : T → T → Type 0) (from : DriverState T) (core : State T Named) (i : ℕ) (answer : Told T) (m : Mark) (line : Line T)
-      → line ≡ record { event = event.Poll i; told = answer; names = [] }
+  -- the line of a poll
+  abbrev poll_line : ℕ → Told T → Line T
+  poll_line i answer = record { event = event.Poll i; told = answer; names = [] }
+
+  -- Where the poll of a ready task leads, with this answer and this mark.
+  polls : (is_clone : T → T → Type 0) (from : DriverState T) (core : State T Named) (i : ℕ) (answer : Told T) (m : Mark)
       → IsSound same_name core → AllNamed (record { core = core; tasks = change (with_mark m) i from.tasks })
-      → is_ready from [] i ≡ true
+      → is_ready_mark (mark_at from.tasks i) ≡ true
       → FitsTold (length (kinds from [])) (is_ready from []) (event.Poll i) answer []
       → ((j : ℕ) → is_poll_of j (event.Poll i) answer ≡ nat_eq i j)
       → was_ready answer ≡ is_done_mark (Some m) → was_pending answer ≡ waits_mark (Some m) → was_refused answer ≡ is_due_mark (Some m)
-      → (RunsUpTo same_name true is_clone from.core (history from (record { event = event.Poll i; told = answer; names = [] } ∷ [])) (handed_out from (record { event = event.Poll i; told = answer; names = [] } ∷ [])) core)
-      → Drives is_clone from (line ∷ []) (record { core = core; tasks = change (with_mark m) i from.tasks })
-  polls is_clone from core i answer m line is sound covered ready fits is_poll says_done says_waits says_due leads =
-      let marked_ready : is_ready_mark (mark_at from.tasks i) ≡ true = sym (ready_now from i) ∙ ready in
-      rw is record {
+      → RunsUpTo same_name true is_clone from.core (history from (poll_line i answer ∷ [])) (handed_out from (poll_line i answer ∷ [])) core
+      → Drives is_clone from (line_of from (event.Poll i) answer ∷ []) (record { core = core; tasks = change (with_mark m) i from.tasks })
+  polls is_clone from core i answer m sound covered ready fits is_poll says_done says_waits says_due leads =
+      let line_is : line_of from (event.Poll i) answer ≡ poll_line i answer =
+      λ k. record { event = event.Poll i; told = answer; names = poll_wakes_none from.core (kind_at from.tasks i) i (reply_of answer) k } in
+      rw line_is record {
         legal = (fits, tt);
         core_leads = leads;
-        kinds_are = map-change (λ task. task.kind) (with_mark m) (λ t. refl) i from.tasks ∙ sym (append-nil (map (λ task. task.kind) from.tasks));
-        done_is = λ j. rw (is_poll j) (ap is_done_mark (mark-marked m i j from.tasks) ∙ done_polled (nat_eq i j) m (mark_at from.tasks j) (was_ready answer) (this_ready i j from.tasks marked_ready) says_done);
-        waits_is = λ j. rw (is_poll j) (ap waits_mark (mark-marked m i j from.tasks) ∙ waits_polled (nat_eq i j) m (mark_at from.tasks j) (was_pending answer) (this_ready i j from.tasks marked_ready) says_waits);
-        ready_is = λ j.
-            let here = ready_now (record { core = core; tasks = change (with_mark m) i from.tasks }) j ∙ (ap is_ready_mark (mark-marked m i j from.tasks) ∙ ready_polled (nat_eq i j) m (mark_at from.tasks j) (was_ready answer) (was_refused answer) (this_ready i j from.tasks marked_ready) says_done says_due) in
-            rw (is_poll j, append-nil (map (λ task. task.kind) from.tasks), started_now j from.tasks) here;
+        kinds_are = grind (arith, map-change, append-nil);
+        done_is = λ j. grind (arith, is_poll, mark-marked, done_polled, this_ready);
+        waits_is = λ j. grind (arith, is_poll, mark-marked, waits_polled, this_ready);
+        ready_is = λ j. grind (arith, is_poll, ready_now, mark-marked, ready_polled, this_ready, append-nil, started_now);
         none_forgotten = awake _ sound covered;
       }
 
@@ -112,14 +113,14 @@ module _ {T : Type 0} where
       → IfErr asked (λ why. (why ≡ Memory) × (core.cell ≡ from.core.cell) × (core.waiting ≡ from.core.waiting)) → IfOk asked (λ p. core.waiting ≡ waiting_when p (name_of i) from.core.waiting)
       → Drives is_clone from (line_of from (event.Poll i) (told_of (polled_of asked)) ∷ []) (record { core = core; tasks = change (with_mark (mark_after asked)) i from.tasks })
   poll_drives is_clone from core i kind (Ok (Ready value)) sound covered is_kind ready answers refused waits =
-      polls is_clone from core i (told.Polled (polled.Ready value)) mark.Done _ (λ k. record { event = event.Poll i; told = told.Polled (polled.Ready value); names = poll_hands_none from.core (kind_at from.tasks i) i (reply.Ready value) k })
-      sound (named_polled from core i (Ok (Ready value)) covered.0 refused waits) (ready_now from i ∙ ready) (ready_now from i ∙ ready, refl) (λ j. refl) refl refl refl (rw is_kind answers)
+      polls is_clone from core i (told.Polled (polled.Ready value)) mark.Done
+      sound (named_polled from core i (Ok (Ready value)) covered.0 refused waits) ready (ready_now from i ∙ ready, refl) (λ j. refl) refl refl refl (rw is_kind answers)
   poll_drives is_clone from core i kind (Ok Pending) sound covered is_kind ready answers refused waits =
-      polls is_clone from core i (told.Polled polled.Pending) mark.Waiting _ (λ k. record { event = event.Poll i; told = told.Polled polled.Pending; names = poll_hands_none from.core (kind_at from.tasks i) i reply.Pending k })
-      sound (named_polled from core i (Ok Pending) covered.0 refused waits) (ready_now from i ∙ ready) (ready_now from i ∙ ready, refl) (λ j. refl) refl refl refl (rw is_kind answers)
+      polls is_clone from core i (told.Polled polled.Pending) mark.Waiting
+      sound (named_polled from core i (Ok Pending) covered.0 refused waits) ready (ready_now from i ∙ ready, refl) (λ j. refl) refl refl refl (rw is_kind answers)
   poll_drives is_clone from core i kind (Err why) sound covered is_kind ready answers refused waits =
-      polls is_clone from core i (told.Refused why) mark.Ready _ (λ k. record { event = event.Poll i; told = told.Refused why; names = poll_hands_none from.core (kind_at from.tasks i) i (reply.Refused why None) k })
-      sound (named_polled from core i (Err why) covered.0 refused waits) (ready_now from i ∙ ready) (ready_now from i ∙ ready, refused.0, refl) (λ j. refl) refl refl refl (rw is_kind answers)
+      polls is_clone from core i (told.Refused why) mark.Ready
+      sound (named_polled from core i (Err why) covered.0 refused waits) ready (ready_now from i ∙ ready, refused.0, refl) (λ j. refl) refl refl refl (rw is_kind answers)
 
   -- what holds anyway holds for each content
   pub sure_anyway : (o : Option T) (P : Type 0) (Q : T → Type 0) → P → MatchOption o P (λ value. Q value → P)
@@ -145,7 +146,8 @@ module _ {T : Type 0} where
   results-marked m i j tasks = says_same result_of (with_mark m) (λ t. grind arith) i j tasks
 
   -- the same, for an old state, tasks and an answer that are known by what they equal
-  pub poll_drives_as : (is_clone : T → T → Type 0) (from old : DriverState T) → from ≡ old → (core : State T Named) (tasks : List (Task T)) (i : ℕ) (kind : Kind) (asked : Result (Poll (Option T)) Refusal) (answer : Result (Polled T) Refusal)
+  pub poll_drives_as : (is_clone : T → T → Type 0) (from old : DriverState T) → from ≡ old
+      → (core : State T Named) (tasks : List (Task T)) (i : ℕ) (kind : Kind) (asked : Result (Poll (Option T)) Refusal) (answer : Result (Polled T) Refusal)
       → IsSound same_name core → NamesMatch from → kind_at from.tasks i ≡ Some kind → is_ready_mark (mark_at from.tasks i) ≡ true
       → (StepsUpTo same_name true is_clone from.core (poll_of (Some kind) i) (poll_reply asked) [] core)
       → IfErr asked (λ why. (why ≡ Memory) × (core.cell ≡ from.core.cell) × (core.waiting ≡ from.core.waiting)) → IfOk asked (λ p. core.waiting ≡ waiting_when p (name_of i) from.core.waiting)
@@ -168,3 +170,6 @@ module _ {T : Type 0} where
   others_stay core from m i j other =
       ready_now (record { core = core; tasks = change (with_mark m) i from.tasks }) j
       ∙ (ap (λ t. is_ready_mark (option_map (λ task. task.mark) t)) (slice_get-change_other (with_mark m) i j from.tasks other) ∙ sym (ready_now from j))
+
+-- what the tactics use where a task is polled
+pub ruleset poll_steps = (ready_now, sure_anyway, sure_polled, ok_as_polled, ready_as_polled, results-marked)

@@ -1,5 +1,5 @@
 -- Polls of all that are ready, one by one.
-use Rattle.async_cell_driver.proofs.Words.{◌≡◌, ◌<◌, ◌≤◌, ◌+◌, ◌-◌, ℕ, zero, suc, Bool, true, false, ◌||◌, List, [], ◌∷◌, ◌++◌, Option, Some, None, Ok, Err, map, length, reverse, refl, ap, sym, ◌∙◌, arith, append-nil, append_assoc, length-append, add-one, slice_get, is_some, nat_eq, filter, Result, MatchResult, if◌then◌else◌, eqb-true, eqb-false, slice_get_past, filter-append, map-append, length-map, reverse-append, Refusal, is_vacant, Poll, Told, Polled, Ready, DriverState, result_at, change, with_result, Line, Log, is_ready, waits, was_refused, line_of, Drives, ResultsStay, NoneForgotten, numbers, events_of, has_refused, got_by, got_or, Keeps, Settles, SettlesOne}
+use Rattle.async_cell_driver.proofs.Words.{◌≡◌, ◌<◌, ◌≤◌, ◌+◌, ◌-◌, ℕ, zero, suc, Bool, true, false, ◌||◌, List, [], ◌∷◌, ◌++◌, Option, Some, None, Ok, Err, map, length, reverse, refl, ap, sym, ◌∙◌, arith, append-nil, append_assoc, length-append, add-one, slice_get, is_some, nat_eq, filter, Result, MatchResult, if◌then◌else◌, eqb-true, eqb-false, slice_get_past, filter-append, map-append, length-map, reverse-append, Refusal, is_vacant, Poll, Told, Ready, DriverState, result_at, change, with_result, Line, Log, is_ready, waits, was_refused, line_of, Drives, ResultsStay, NoneForgotten, numbers, events_of, has_refused, got_by, got_or, Keeps, Settles, SettlesOne}
 use Rattle.async_cell_driver.specs.declared.event.Told.TheVariants as told
 use Rattle.async_cell_driver.proofs.JoinedLogs.{drives_more}
 use Rattle.async_cell_driver.proofs.ReadyNow.{ready_now, started_now}
@@ -33,7 +33,8 @@ module _ {T : Type 0} where
   so_far_nil is_clone from drives = record { drives = drives; events = refl; none_refused = refl; counts = refl; keeps = λ i. refl }
 
   -- a task that is not ready is not polled
-  pub so_far_skip : (is_clone : T → T → Type 0) (from at : DriverState T) (i polls : ℕ) (log : Log T) → SoFar is_clone from i polls log at → is_ready from [] i ≡ false → SoFar is_clone from (i + 1) polls log at
+  pub so_far_skip : (is_clone : T → T → Type 0) (from at : DriverState T) (i polls : ℕ) (log : Log T) → SoFar is_clone from i polls log at → is_ready from [] i ≡ false
+      → SoFar is_clone from (i + 1) polls log at
   so_far_skip is_clone from at i polls log here not_ready = grind (arith, numbers_more, append-nil)
 
   events-more : (line : Line T) (log : Log T) → events_of (line ∷ log) ≡ events_of log ++ line.event ∷ []
@@ -55,7 +56,8 @@ module _ {T : Type 0} where
       }
 
   -- where a poll was refused
-  pub settles_refused : (is_clone : T → T → Type 0) (from at to : DriverState T) (i polls : ℕ) (log : Log T) (answer : Told T) (why : Refusal) → SoFar is_clone from i polls log at → is_ready from [] i ≡ true → i < length from.tasks
+  pub settles_refused : (is_clone : T → T → Type 0) (from at to : DriverState T) (i polls : ℕ) (log : Log T) (answer : Told T) (why : Refusal)
+      → SoFar is_clone from i polls log at → is_ready from [] i ≡ true → i < length from.tasks
       → SettlesOne is_clone at i (Err why) answer to → Settles is_clone from (Err why) (line_of at (Poll i) answer ∷ log) to
   settles_refused is_clone from at to i polls log answer why here ready within one =
       let more = with_ready from i ready in
@@ -85,7 +87,7 @@ module _ {T : Type 0} where
   keeps_one from at i value ready kinds stay j = grind (arith, started_now, append-nil, keeps_over, stay)
 
   size_same : (from at : DriverState T) → map (λ task. task.kind) at.tasks ≡ map (λ task. task.kind) from.tasks ++ [] → length at.tasks ≡ length from.tasks
-  size_same from at kinds = sym (length-map at.tasks (λ task. task.kind)) ∙ (ap length (kinds ∙ append-nil _) ∙ length-map from.tasks (λ task. task.kind))
+  size_same from at kinds = grind (arith, length-map, append-nil)
 
   -- a poll that gets nothing
   settles_quiet : (is_clone : T → T → Type 0) (from at : DriverState T) (i : ℕ) (result : Result (Unit {0}) Refusal) (answer : Told T) → got_by answer ≡ None
@@ -98,13 +100,8 @@ module _ {T : Type 0} where
       → Drives is_clone from (line_of from (Poll i) (told.Refused why) ∷ []) at → SettlesOne is_clone from i (Err why) (told.Refused why) at
   one_refused is_clone from at i why stay drives = settles_quiet is_clone from at i (Err why) (told.Refused why) refl refl stay drives
 
-  -- where it is not ready
-  pub one_pending : (is_clone : T → T → Type 0) (from at : DriverState T) (i : ℕ) (answer : Polled T) → ((value : Option T) → answer ≡ Ready value → ⊥) → ResultsStay from at
-      → Drives is_clone from (line_of from (Poll i) (told.Polled answer) ∷ []) at
-      → SettlesOne is_clone from i (Ok tt) (told.Polled answer) at × (length at.tasks ≡ length from.tasks)
-  one_pending is_clone from at i answer not_ready stay drives = grind (arith, settles_quiet, size_same, not_ready, stay)
-
-  pub size_kept : (from at : DriverState T) (i : ℕ) (result : Option (Option T)) → map (λ task. task.kind) at.tasks ≡ map (λ task. task.kind) from.tasks ++ [] → length (change (with_result result) i at.tasks) ≡ length from.tasks
+  pub size_kept : (from at : DriverState T) (i : ℕ) (result : Option (Option T)) → map (λ task. task.kind) at.tasks ≡ map (λ task. task.kind) from.tasks ++ []
+      → length (change (with_result result) i at.tasks) ≡ length from.tasks
   size_kept from at i result kinds = grind (arith, length-change, size_same)
 
   -- where no task was left out, none is ready

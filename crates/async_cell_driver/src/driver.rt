@@ -79,6 +79,7 @@ impl<T: Clone> Driver<T> {
     /// Polls a task that is ready. Returns `NotReady`, without a poll, for a task that is done, not
     /// ready or not there. Fails with `Memory` if there is no memory for the waker's place or for a
     /// clone of the value. The task is then still ready.
+    #[tactic(auto, using(crate::proofs::PolledTask::poll_steps))]
     pub fn poll(&mut self, i: usize) -> Result<Polled<T>, Refusal>
         ensures drives { Happens T.is_clone self.old (Event.Poll i) (told_of result) self.new }
 

@@ -102,7 +102,7 @@ impl<T: Drop> Tasks<T> {
     }
 
     /// Takes out what was stored for a task.
-    #[tactic(auto, using(crate::proofs::ChangedTask::change_past))]
+    #[tactic(auto, using(crate::proofs::ChangedTask::change_past, crate::proofs::ChangedTask::result_within))]
     pub fn take_result(&mut self, i: usize) -> Option<Option<T>>
         ensures gives { result ≡ result_at self.old i }
         ensures once { self.new ≡ change (with_result None) i self.old }

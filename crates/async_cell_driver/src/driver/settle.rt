@@ -14,6 +14,7 @@ use async_cell_core::Refusal;
 impl<T: Clone> Driver<T> {
     /// Takes out what `settle` got for a task: `Some(Some(v))`, or `Some(None)` from a closed cell.
     /// Returns `None` if there is nothing, or if it was taken out already.
+    #[tactic(auto, using(crate::proofs::KeptResult::result_steps))]
     pub fn result(&mut self, i: usize) -> Option<Option<T>>
         ensures gives { result ≡ result_at self.old.tasks i }
         ensures once { result_at self.new.tasks i ≡ None }
@@ -28,6 +29,7 @@ impl<T: Clone> Driver<T> {
     /// polls. Stores what a poll is ready with for `result`. A refused poll stops it: that task and
     /// those after it are still ready. It visits every task that was ever started; a done task
     /// stays in the list.
+    #[tactic(auto, using(crate::proofs::PolledTask::poll_steps))]
     pub fn settle(&mut self) -> Result<usize, Refusal>
         ensures settles { (log : Log T) × Settles T.is_clone self.old result log self.new }
         ensures none_ready { OnOk result ((i : ℕ) → is_ready self.new [] i ≡ false) }
@@ -50,6 +52,7 @@ impl<T: Clone> Driver<T> {
     }
 
     /// Polls a task that is ready, and stores what the poll is ready with.
+    #[tactic(auto, using(crate::proofs::PolledTask::poll_steps))]
     fn poll_and_keep(&mut self, i: usize) -> Result<(), Refusal>
         requires { is_ready self.old [] i ≡ true }
         ensures settles { (answer : Answer T)

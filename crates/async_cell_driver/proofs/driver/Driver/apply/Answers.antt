@@ -19,7 +19,7 @@ loop-event-preserved g c =
       made = rw length-append (omega (arith, here.made, c.push_reserved.ensures.len));
       left = rw (append_assoc, ← step.0) here.left;
       space = omega (arith, here.space, step.1, c.push_reserved.ensures.len, c.push_reserved.ensures.capacity);
-      drives = rw c.push_reserved.ensures.items (happen_more g.E.Edit.edit g.T.Clone.is_clone g.T.Clone.is_infallible c.args.self.now c.loop-event.self c.happen.new.self c.loop-event.yielded c.loop-event.told.items c.in-Some.event c.happen.result
+      drives = rw c.push_reserved.ensures.items (happen_more g.E.Edit.edit g.T.Clone.is_clone g.T.Clone.is_infallible _ _ _ c.loop-event.yielded c.loop-event.told.items c.in-Some.event c.happen.result
           (omega (arith, here.made, c.loop-event.told.ok.0)) here.drives c.happen.ensures.drives c.happen.ensures.spared);
       results = λ i. c.happen.ensures.results_stay i ∙ here.results i;
     }

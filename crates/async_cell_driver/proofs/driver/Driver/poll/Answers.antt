@@ -1,7 +1,7 @@
-use Rattle.async_cell_driver.proofs.Words.{◌≡◌, [], true, false, refl, sym, ap, ◌∙◌, model_up_to, same_name, is_ready_mark, DriverState, mark_at, is_ready, polled_of}
+use Rattle.async_cell_driver.proofs.Words.{◌≡◌, true, false, sym, ◌∙◌, model_up_to, same_name, is_ready_mark, DriverState, mark_at}
 use Rattle.async_cell_driver.proofs.ReadyNow.{ready_now}
 use Rattle.async_cell_driver.proofs.Lines.{not_polled}
-use Rattle.async_cell_driver.proofs.PolledTask.{covered_polled, poll_drives_as, results-marked, ready_no_more, others_stay, sure_anyway, sure_polled, ok_as_polled, ready_as_polled}
+use Rattle.async_cell_driver.proofs.PolledTask.{covered_polled, poll_drives_as, ready_no_more, others_stay}
 use Rattle.async_cell_driver.proofs.driver.Driver.poll.Goals as goal
 
 pub returns-in_default-clause-drives : goal.returns-in_default-clause-drives
@@ -9,12 +9,6 @@ returns-in_default-clause-drives g c =
     let at : DriverState g.row.T.Denot = record { core = c.self.inside.core; tasks = c.self.inside.tasks } in
     let not_ready : is_ready_mark (mark_at at.tasks c.args.i) ≡ false = rw c.in_default.is at c.ready.ensures.not_ready in
     rw (← c.self.view_is) (not_polled at c.args.i g.T.Clone.is_clone c.soundness.ensures c.self.invariant (ready_now at c.args.i ∙ not_ready))
-
-pub returns-in_default-clause-not_ready : goal.returns-in_default-clause-not_ready
-returns-in_default-clause-not_ready g c =
-    let at : DriverState g.row.T.Denot = record { core = c.self.inside.core; tasks = c.self.inside.tasks } in
-    let not_ready : is_ready_mark (mark_at at.tasks c.args.i) ≡ false = rw c.in_default.is at c.ready.ensures.not_ready in
-    rw (← c.self.view_is) ((λ same. ready_now at c.args.i ∙ not_ready), (λ not. refl))
 
 pub invariant_of-self : goal.invariant_of-self
 invariant_of-self g c =
@@ -31,9 +25,6 @@ returns-clause-drives g c =
     c.soundness-2.ensures c.self.invariant ready.0 ready.1
     (model_up_to E same_name true _ _ _ _ _ asked.model) asked.refused asked.waiting (rw c.mark_of.ensures at c.set_mark.ensures) c.polled.ensures
 
-pub returns-clause-results_stay : goal.returns-clause-results_stay
-returns-clause-results_stay g c j = rw (← c.self.view_is, c.set_mark.ensures) (results-marked c.mark_of.result c.args.i j c.self.inside.tasks)
-
 pub returns-clause-ready_no_more : goal.returns-clause-ready_no_more
 returns-clause-ready_no_more g c =
     let ready = rw c.in-Some.is at c.ready.ensures.kind in
@@ -41,38 +32,5 @@ returns-clause-ready_no_more g c =
 
 pub returns-clause-others_stay : goal.returns-clause-others_stay
 returns-clause-others_stay g c j other =
-    rw (c.set_mark.ensures, ← c.self.view_is) (others_stay c.ask-asked.new.core (record { core = c.self.inside.core; tasks = c.self.inside.tasks }) c.mark_of.result c.args.i j (λ same. other (sym same)))
-
-pub returns-in_default-clause-if_infallible : goal.returns-in_default-clause-if_infallible
-returns-in_default-clause-if_infallible g c not_vacant = sure_anyway _ _ _ refl
-
-pub returns-clause-if_infallible : goal.returns-clause-if_infallible
-returns-clause-if_infallible g c = rw (← c.self.view_is, c.polled.ensures) (λ not_vacant. sure_polled _ _ c.ask-asked.result (c.ask-asked.ensures.if_infallible not_vacant))
-
-pub returns-in_default-clause-taker : goal.returns-in_default-clause-taker
-returns-in_default-clause-taker g c =
     let at : DriverState g.row.T.Denot = record { core = c.self.inside.core; tasks = c.self.inside.tasks } in
-    let not_ready : is_ready at [] c.args.i ≡ false = ready_now at c.args.i ∙ (rw c.in_default.is at c.ready.ensures.not_ready) in
-    rw (← c.self.view_is) (λ is_kind ready. cc)
-
-pub returns-in_default-clause-getter : goal.returns-in_default-clause-getter
-returns-in_default-clause-getter g c =
-    let at : DriverState g.row.T.Denot = record { core = c.self.inside.core; tasks = c.self.inside.tasks } in
-    let not_ready : is_ready at [] c.args.i ≡ false = ready_now at c.args.i ∙ (rw c.in_default.is at c.ready.ensures.not_ready) in
-    rw (← c.self.view_is) (λ is_kind ready. cc)
-
-pub returns-clause-taker : goal.returns-clause-taker
-returns-clause-taker g c =
-    let ready = rw c.in-Some.is at c.ready.ensures.kind in
-    rw (← c.self.view_is) (λ is_taker is_ready. record {
-      takes = λ not_vacant. c.polled.ensures ∙ ap polled_of (c.ask-asked.ensures.taker_takes (cc (ready.0)) not_vacant);
-      leaves_none = rw c.polled.ensures (ok_as_polled c.ask-asked.result _ (c.ask-asked.ensures.taker_leaves_none (cc (ready.0))));
-    })
-
-pub returns-clause-getter : goal.returns-clause-getter
-returns-clause-getter g c =
-    let ready = rw c.in-Some.is at c.ready.ensures.kind in
-    rw (← c.self.view_is) (λ is_getter is_ready. record {
-      clones = λ not_vacant. rw c.polled.ensures (ready_as_polled c.ask-asked.result _ (c.ask-asked.ensures.getter_clones (cc (ready.0)) not_vacant));
-      leaves = λ not_vacant. c.ask-asked.ensures.getter_leaves (cc (ready.0)) not_vacant;
-    })
+    rw (c.set_mark.ensures, ← c.self.view_is) (others_stay c.ask-asked.new.core at c.mark_of.result c.args.i j (λ same. other (sym same)))

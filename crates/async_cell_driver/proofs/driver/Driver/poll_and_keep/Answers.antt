@@ -1,8 +1,7 @@
 use Rattle.async_cell_driver.proofs.Words.{[], ◌∷◌, Some, map, refl, ap, sym, subst, ◌∙◌, err_from_is_err_and, DriverState, result_at, is_ready, line_of, Drives, Poll, Ready}
 use Rattle.async_cell_driver.specs.declared.event.Told.TheVariants as told
 use Rattle.async_cell_driver.proofs.KeptResult.{covered_keeping, ready-keeping, drives_keeping}
-use Rattle.async_cell_driver.proofs.PolledTask.{sure_anyway}
-use Rattle.async_cell_driver.proofs.Settled.{keeps_one, size_kept, one_refused, one_pending}
+use Rattle.async_cell_driver.proofs.Settled.{keeps_one, size_kept, one_refused}
 use Rattle.async_cell_driver.proofs.driver.Driver.poll_and_keep.Goals as goal
 
 pub invariant_of-self : goal.invariant_of-self
@@ -22,14 +21,21 @@ returns-in-Ready-clause-settles g c =
       record {
         drives = rw c.keep.ensures (drives_keeping E c.args.i (Some c.in-Ready.content) c.args.self.now at _ polled);
         told = refl;
-        keeps = rw c.keep.ensures (keeps_one c.args.self.now at c.args.i c.in-Ready.content c.requires polled.kinds_are (λ j. ap (λ (s : DriverState g.row.T.Denot). result_at s.tasks j) c.self.view_is ∙ c.in_ok-content.ensures.results_stay j));
+        keeps = rw c.keep.ensures (keeps_one c.args.self.now at c.args.i c.in-Ready.content c.requires polled.kinds_are
+            (λ j. ap (λ (s : DriverState g.row.T.Denot). result_at s.tasks j) c.self.view_is ∙ c.in_ok-content.ensures.results_stay j));
       },
     )
+
+pub returns-in_err-content-clause-settles : goal.returns-in_err-content-clause-settles
+returns-in_err-content-clause-settles g c =
+    let p = err_from_is_err_and c.from_residual.result c.from_residual.ensures.1 in
+    let why = c.in_err-content.field-0.0 in
+    rw (p.1, p.2) (told.Refused why, one_refused g.T.Clone.is_clone c.args.self.now c.poll.new.self c.args.i why c.in_err-content.ensures.results_stay c.in_err-content.ensures.drives)
 
 pub returns-in-Ready-clause-ready_no_more : goal.returns-in-Ready-clause-ready_no_more
 returns-in-Ready-clause-ready_no_more g c =
     let at : DriverState g.row.T.Denot = record { core = c.self.inside.core; tasks = c.self.inside.tasks } in
-    rw c.keep.ensures (ready-keeping c.args.i c.args.i (Some c.in-Ready.content) at ∙ (ap (λ (s : DriverState g.row.T.Denot). is_ready s [] c.args.i) c.self.view_is ∙ c.in_ok-content.ensures.ready_no_more))
+    rw c.keep.ensures (ready-keeping c.args.i c.args.i (Some c.in-Ready.content) at ∙ (ap (λ s. is_ready s [] c.args.i) c.self.view_is ∙ c.in_ok-content.ensures.ready_no_more))
 
 pub returns-in-Ready-clause-others_stay : goal.returns-in-Ready-clause-others_stay
 returns-in-Ready-clause-others_stay g c j other =
@@ -39,24 +45,5 @@ returns-in-Ready-clause-others_stay g c j other =
 pub returns-in-Ready-clause-size : goal.returns-in-Ready-clause-size
 returns-in-Ready-clause-size g c =
     let at : DriverState g.row.T.Denot = record { core = c.self.inside.core; tasks = c.self.inside.tasks } in
-    rw c.keep.ensures (size_kept c.args.self.now at c.args.i (Some c.in-Ready.content) (ap (λ (s : DriverState g.row.T.Denot). map (λ task. task.kind) s.tasks) c.self.view_is ∙ c.in_ok-content.ensures.drives.kinds_are))
-
-pub returns-in_err-content-clause-settles : goal.returns-in_err-content-clause-settles
-returns-in_err-content-clause-settles g c =
-    let p = err_from_is_err_and c.from_residual.result c.from_residual.ensures.1 in
-    let why = c.in_err-content.field-0.0 in
-    rw (p.1, p.2) (told.Refused why, one_refused g.T.Clone.is_clone c.args.self.now c.poll.new.self c.args.i why c.in_err-content.ensures.results_stay c.in_err-content.ensures.drives)
-
-pub returns-in_default : goal.returns-in_default
-returns-in_default g c =
-    let asked = c.in_ok-content.ensures in
-    let one = one_pending g.T.Clone.is_clone c.args.self.now c.poll.new.self c.args.i c.in_ok-content.field-0 c.in_default.not-Ready asked.results_stay asked.drives in
-    record { settles = (told.Polled c.in_ok-content.field-0, one.0); ready_no_more = asked.ready_no_more; others_stay = asked.others_stay; size = one.1; if_infallible = λ not_vacant. sure_anyway _ _ _ refl }
-
-pub returns-in-Ready-clause-if_infallible : goal.returns-in-Ready-clause-if_infallible
-returns-in-Ready-clause-if_infallible g c not_vacant = sure_anyway _ _ _ refl
-
-pub returns-in_err-content-clause-if_infallible : goal.returns-in_err-content-clause-if_infallible
-returns-in_err-content-clause-if_infallible g c =
-    let p = err_from_is_err_and c.from_residual.result c.from_residual.ensures.1 in
-    rw (p.1, c.in_err-content.ensures.refused.1) c.in_err-content.ensures.if_infallible
+    rw c.keep.ensures (size_kept c.args.self.now at c.args.i (Some c.in-Ready.content)
+    (ap (λ (s : DriverState g.row.T.Denot). map (λ task. task.kind) s.tasks) c.self.view_is ∙ c.in_ok-content.ensures.drives.kinds_are))

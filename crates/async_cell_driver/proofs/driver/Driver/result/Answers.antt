@@ -1,18 +1,12 @@
-use Rattle.async_cell_driver.proofs.Words.{None, sym, [], DriverState}
+use Rattle.async_cell_driver.proofs.Words.{None, [], DriverState}
 use Rattle.async_cell_driver.proofs.JoinedLogs.{drives_nil}
-use Rattle.async_cell_driver.proofs.KeptResult.{covered_keeping, drives_keeping, result-forgotten, result-keeping_other}
+use Rattle.async_cell_driver.proofs.KeptResult.{covered_keeping, drives_keeping}
 use Rattle.async_cell_driver.proofs.driver.Driver.result.Goals as goal
 
 pub invariant_of-self : goal.invariant_of-self
 invariant_of-self g c =
     let at : DriverState g.row.T.Denot = record { core = c.self.inside.core; tasks = c.self.inside.tasks } in
     rw c.take_result.ensures.once (covered_keeping c.args.i None at c.self.invariant)
-
-pub returns-clause-once : goal.returns-clause-once
-returns-clause-once g c = rw c.take_result.ensures.once (result-forgotten c.args.i c.self.inside.tasks)
-
-pub returns-clause-others : goal.returns-clause-others
-returns-clause-others g c j other = rw (c.take_result.ensures.once, ← c.self.view_is) (result-keeping_other c.args.i j None c.self.inside.tasks (λ same. other (sym same)))
 
 pub returns-clause-nothing_else : goal.returns-clause-nothing_else
 returns-clause-nothing_else g c =

@@ -1,7 +1,6 @@
 use Rattle.async_cell_driver.proofs.Words.{◌≡◌, [], true, false, arith, rules, refl, sym, ◌∙◌, below_more, err_from_is_err_and, DriverState, is_ready}
 use Rattle.async_cell_driver.proofs.JoinedLogs.{drives_nil}
-use Rattle.async_cell_driver.proofs.PolledTask.{sure_anyway}
-use Rattle.async_cell_driver.proofs.Settled.{so_far_nil, so_far_skip, so_far_more, settles_refused, none_ready, none_waits}
+use Rattle.async_cell_driver.proofs.Settled.{so_far_nil, so_far_skip, so_far_more, settles_refused}
 use Rattle.async_cell_driver.proofs.driver.Driver.settle.Goals as goal
 
 pub loop-i-init : goal.loop-i-init
@@ -22,7 +21,7 @@ loop-i-preserved-then-not-is_ready g c =
       within = omega (arith, here.within);
       ends = here.ends;
       size = here.size;
-      settled = (here.settled.0, so_far_skip g.T.Clone.is_clone c.args.self.now c.loop-i.self c.loop-i.i c.loop-i.polls here.settled.0 here.settled.1 (sym (here.left c.loop-i.i (omega arith)) ∙ not_ready));
+      settled = (here.settled.0, so_far_skip _ c.args.self.now c.loop-i.self c.loop-i.i c.loop-i.polls here.settled.0 here.settled.1 (sym (here.left c.loop-i.i (omega arith)) ∙ not_ready));
       passed = below_more _ _ here.passed not_ready;
       left = λ j above. here.left j (omega arith);
     }
@@ -33,7 +32,7 @@ returns-in_err-poll_and_keep-clause-settles g c =
     let p = err_from_is_err_and c.from_residual.result c.from_residual.ensures.1 in
     let ready : is_ready c.args.self.now [] c.loop-i.i ≡ true = sym (here.left c.loop-i.i (omega arith)) ∙ sym c.if-not-is_ready.ensures in
     let one = c.in_err-poll_and_keep.ensures.settles in
-    rw (p.1, p.2) (_, settles_refused g.T.Clone.is_clone c.args.self.now c.loop-i.self c.poll_and_keep.new.self c.loop-i.i c.loop-i.polls here.settled.0 one.0 _ here.settled.1 ready (omega (arith, here.ends)) one.1)
+    rw (p.1, p.2) (_, settles_refused _ c.args.self.now c.loop-i.self _ c.loop-i.i c.loop-i.polls here.settled.0 one.0 _ here.settled.1 ready (omega (arith, here.ends)) one.1)
 
 pub loop-i-preserved : goal.loop-i-preserved
 loop-i-preserved g c =
@@ -47,21 +46,3 @@ loop-i-preserved g c =
       passed = below_more _ _ (λ j below. one.others_stay j (omega arith) ∙ here.passed j below) one.ready_no_more;
       left = λ j above. one.others_stay j (omega arith) ∙ here.left j (omega arith);
     }
-
-pub returns-clause-none_ready : goal.returns-clause-none_ready
-returns-clause-none_ready g c =
-    let here = c.loop-i.invariant in
-    none_ready c.loop-i.self c.loop-i.i (omega (arith, here.size, here.ends)) here.passed
-
-pub returns-clause-none_waits : goal.returns-clause-none_waits
-returns-clause-none_waits g c =
-    let here = c.loop-i.invariant in
-    none_waits c.loop-i.self here.settled.1.drives.none_forgotten (none_ready c.loop-i.self c.loop-i.i (omega (arith, here.size, here.ends)) here.passed)
-
-pub returns-in_err-poll_and_keep-clause-if_infallible : goal.returns-in_err-poll_and_keep-clause-if_infallible
-returns-in_err-poll_and_keep-clause-if_infallible g c =
-    let p = err_from_is_err_and c.from_residual.result c.from_residual.ensures.1 in
-    rw p.1 c.in_err-poll_and_keep.ensures.if_infallible
-
-pub returns-clause-if_infallible : goal.returns-clause-if_infallible
-returns-clause-if_infallible g c not_vacant = sure_anyway _ _ _ refl

@@ -1,11 +1,6 @@
-use Rattle.async_cell_driver.proofs.Words.{rules, None, ap, ◌∙◌, change, with_result, result_at}
-use Rattle.async_cell_driver.proofs.ChangedTask.{change_within, result_within}
+use Rattle.async_cell_driver.proofs.Words.{rules, None, ap, ◌∙◌, change, with_result}
+use Rattle.async_cell_driver.proofs.ChangedTask.{change_within}
 use Rattle.async_cell_driver.proofs.tasks.Tasks.take_result.Goals as goal
-
-pub returns-clause-gives : goal.returns-clause-gives
-returns-clause-gives g c =
-    c.take.ensures.value ∙ (result_within c.args.i c.self.inside.tasks.items c.index_mut-task.result.now (search rules) c.index_mut-task.ensures.value
-    ∙ ap (λ tasks. result_at tasks c.args.i) c.self.view_is)
 
 pub returns-clause-once : goal.returns-clause-once
 returns-clause-once g c =
