@@ -6,4 +6,4 @@ pub mod LastShown
 pub mod NewerVersions
 pub mod SoundAfter
 pub mod Versions
-pub mod WaitingPoll
+pub mod Words

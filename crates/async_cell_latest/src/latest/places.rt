@@ -14,7 +14,7 @@ impl<T: Drop, W: Wakes> Latest<T, W> {
     /// and the waker of a type of which none would wake another, so it is never skipped. If there
     /// is no memory to grow the list, fails and returns the waker in the error.
     #[doc(hidden)]
-    #[tactic(auto, using(async_cell_model::proofs::OneMoreWaker::keep_added, async_cell_model::proofs::OneMoreWaker::never_skipped))]
+    #[tactic(auto, using(async_cell_model::proofs::OneMoreWaker::keep_added, async_cell_model::proofs::OneMoreWaker::never_skipped, crate::proofs::Added::added))]
     pub fn add(&mut self, waker: W) -> Result<(), W>
         requires open { is_closed self.old ≡ false }
         requires none_alike { (a b : W) → W.will_wake a b ≡ false }
@@ -76,7 +76,7 @@ impl<T: Drop> Latest<T, TaskWaker> {
     /// it is dropped. If there is no memory to grow the list, the waker is returned in the error.
     #[doc(hidden)]
     #[inline(always)]
-    #[tactic(auto, using(async_cell_model::proofs::OneMoreWaker::keep_added, async_cell_model::proofs::OneMoreWaker::never_skipped))]
+    #[tactic(auto, using(async_cell_model::proofs::OneMoreWaker::keep_added, async_cell_model::proofs::OneMoreWaker::never_skipped, crate::proofs::Added::added))]
     pub fn store(
         &mut self,
         place: &mut Place,
