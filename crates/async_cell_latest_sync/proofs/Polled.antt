@@ -1,15 +1,9 @@
 -- Clauses of a poll that its trait wants, at each answer.
-use Rattle.std.proofs.Common.{List, [], ◌∷◌, Option, Some, None, IfSome, OnSome}
-use Rattle.std.specs.Prelude.{⊤}
-use Rattle.std.specs.List.{AllByRecursion}
-use Rattle.futures.specs.declared.task.Poll.{Poll}
-use Rattle.futures.specs.declared.task.Poll.TheVariants.{Ready, Pending}
-use Rattle.futures.specs.Poll.{IfReady, OnPending}
+use Rattle.async_cell_latest_sync.proofs.Words.{IfReady, OnPending, Poll, List, [], ◌∷◌, Option, IfSome, OnSome, arith, AllByRecursion, ⊤}
 
 -- what holds anyway holds where a poll is pending
 pub on_pending : {A P : Type 0} (polled : Poll A) → P → OnPending polled P
-on_pending (Ready answer) holds = tt
-on_pending Pending holds = holds
+on_pending polled holds = grind arith
 
 module _ {A : Type 0} (P : A → Type 0) where
   abbrev Items : List A → Option A → Type 0
@@ -17,17 +11,12 @@ module _ {A : Type 0} (P : A → Type 0) where
 
   pub value_of : (polled : Poll (Option A)) → IfReady polled (λ item. IfSome item P)
       → IfReady polled (Items [])
-  value_of (Ready item) holds = (tt, holds)
-  value_of Pending holds = tt
+  value_of polled holds = grind arith
 
   pub rest_of : (polled : Poll (Option A)) → IfReady polled (λ item. IfSome item P)
       → IfReady polled (λ item. IfSome item (λ it. (items : List A) → (last : Option A)
       → Items items last → Items (it ∷ items) last))
-  rest_of (Ready (Some it)) holds = λ items last rest. ((holds, rest.0), rest.1)
-  rest_of (Ready None) holds = tt
-  rest_of Pending holds = tt
+  rest_of polled holds = grind arith
 
 pub goes_on : {A : Type 0} (polled : Poll (Option A)) → IfReady polled (λ item. OnSome item ⊤)
-goes_on (Ready (Some it)) = tt
-goes_on (Ready None) = tt
-goes_on Pending = tt
+goes_on polled = grind arith

@@ -5,4 +5,5 @@ use Rattle.async_cell_latest_sync.proofs.history.witness.Witness.agrees.Goals as
 pub returns : goal.returns
 returns g c =
     let longer = c.longer-longer in
-    rw (← c.self.view_is, ← c.other.view_is) (one_goes_on c.self.inside.seen.list c.other.inside.seen.list longer.result.list longer.ensures.one_of_both longer.ensures.begins longer.ensures.other_begins)
+    rw (← c.self.view_is, ← c.other.view_is)
+    (one_goes_on c.self.inside.seen.list c.other.inside.seen.list longer.result.list longer.ensures.one_of_both longer.ensures.begins longer.ensures.other_begins)
