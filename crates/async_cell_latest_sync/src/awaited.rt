@@ -1,5 +1,5 @@
 //! The futures and the stream of a follower.
-ghost use Rattle.std.specs.Prelude.{◌≡◌, ◌≢◌, ◌⊎◌, true, false, Err, IfOk, IfNone, IfSome, OnOk, OnErr};
+ghost use Rattle.std.specs.Prelude.{◌≡◌, ◌≢◌, ◌↔◌, ◌⊎◌, true, false, Err, IfOk, IfNone, IfSome, OnOk, OnErr};
 ghost use Rattle.std.specs.Fn.{CalledAt};
 ghost use Rattle.std.specs.List.{AllByRecursion};
 ghost use Rattle.futures.specs.Poll.{IfReady, OnPending};
@@ -8,16 +8,55 @@ ghost use Rattle.async_cell_model.specs.Refusal.{FailsWithMemoryOrClosed};
 ghost use Rattle.async_cell_latest_sync.specs.Found.{IsFound, IsItem};
 ghost use Rattle.async_cell_latest_sync.specs.Names.{cell_followed, sources};
 
-use crate::cell::{Unseen, UnseenState};
+use crate::cell::{LatestCore, Unseen, UnseenState};
 use crate::follower::Follower;
 use crate::history::{Protocol, Unruled};
 use async_cell_latest::{Place, Refusal};
-use async_cell_waiting::poll;
+use async_cell_waiting::{Query, poll};
 use futures::future::Future;
 use futures::stream::Stream;
 use futures::task::{Context, Poll};
 use std::mem;
 use std::sync::Wait;
+
+impl<T: Drop, R: Wait + Drop, N: Protocol<T>> Follower<T, R, N> {
+    /// Asks the state, for a future of this follower that has this place.
+    #[inline(always)]
+    fn poll<Q: Query<LatestCore<T, N>>>(
+        &self,
+        asked: Q,
+        place: &mut Place,
+        cx: &mut Context<'_>,
+    ) -> Poll<Result<Q::Answer, Refusal>>
+        requires asks { Q.asks asked }
+        ensures gives { IfReady result (λ answer. IfOk answer (λ given. Q.gives asked given)) }
+        ensures registered { OnPending result (Covers cx.new (sources self.now)) }
+        ensures kept { Keeps cx.old cx.new }
+        ensures refused { IfReady result FailsWithMemoryOrClosed }
+    {
+        let cell = self.cell.as_ref();
+        poll(&cell.core, &cell.source, asked, Some(place), cx, &self.rt)
+    }
+
+    /// Waits for another version than this one, which the next poll is to look at.
+    fn poll_later<A>(
+        &self,
+        seen: u64,
+        place: &mut Place,
+        cx: &mut Context<'_>,
+    ) -> Poll<Result<A, Refusal>>
+        ensures nothing { IfReady result (λ answer. OnOk answer ⊥) }
+        ensures registered { OnPending result (Covers cx.new (sources self.now)) }
+        ensures kept { Keeps cx.old cx.new }
+        ensures refused { IfReady result FailsWithMemoryOrClosed }
+    {
+        match self.poll(Unseen(seen), place, cx) {
+            Poll::Ready(Err(why)) => Poll::Ready(Err(why)),
+            Poll::Ready(Ok(_)) => cx.yield_now(), // It was written meanwhile.
+            Poll::Pending => Poll::Pending,
+        }
+    }
+}
 
 /// The future of `Follower::changed`.
 ///
@@ -71,17 +110,8 @@ impl<T: Drop, R: Wait + Drop, N: Protocol<T>> Future for Changed<'_, T, R, N> {
         ensures registered { OnPending result (Covers cx.new (sources self.new.follower.now)) }
         ensures kept { Keeps cx.old cx.new }
     {
-        let follower = &*self.follower;
-        let cell = follower.cell.as_ref();
-        let asked = Unseen(follower.seen);
-        match poll(
-            &cell.core,
-            &cell.source,
-            asked,
-            Some(&mut self.place),
-            cx,
-            &follower.rt,
-        ) {
+        let asked = Unseen(self.follower.seen);
+        match self.follower.poll(asked, &mut self.place, cx) {
             Poll::Ready(Ok(given)) => {
                 self.follower.seen = given;
                 Poll::Ready(Ok(()))
@@ -170,19 +200,7 @@ impl<T: Clone, R: Wait + Drop, F: FnMut(&T) -> bool + Drop, N: Protocol<T>> Futu
         let follower = &*self.follower;
         let (cell, rt) = (follower.cell.as_ref(), &follower.rt);
         let Some((version, tested)) = cell.test(self.looked_at, &mut self.predicate, rt) else {
-            let asked = Unseen(self.looked_at);
-            return match poll(
-                &cell.core,
-                &cell.source,
-                asked,
-                Some(&mut self.place),
-                cx,
-                rt,
-            ) {
-                Poll::Ready(Err(why)) => Poll::Ready(Err(why)),
-                Poll::Ready(Ok(_)) => cx.yield_now(), // It was written meanwhile.
-                Poll::Pending => Poll::Pending,
-            };
+            return follower.poll_later(self.looked_at, &mut self.place, cx);
         };
         let found = match tested {
             Ok(found) => found,
@@ -194,29 +212,24 @@ impl<T: Clone, R: Wait + Drop, F: FnMut(&T) -> bool + Drop, N: Protocol<T>> Futu
             self.follower.seen = version;
             return Poll::Ready(Ok(copy));
         }
-        let asked = Unseen(version);
-        let polled = match poll(
-            &cell.core,
-            &cell.source,
-            asked,
-            Some(&mut self.place),
-            cx,
-            rt,
-        ) {
-            Poll::Ready(Err(Refusal::Memory)) => {
-                // Nothing is marked, so the next poll looks at this state again.
-                let place = mem::replace(&mut self.place, Place::new());
-                cell.core.vacate(place, rt);
-                return Poll::Ready(Err(Refusal::Memory));
-            }
-            Poll::Ready(Err(why)) => Poll::Ready(Err(why)),
-            Poll::Ready(Ok(_)) => cx.yield_now(), // It was written meanwhile.
-            Poll::Pending => Poll::Pending,
-        };
+        let polled = follower.poll_later(version, &mut self.place, cx);
+        if lacks_memory(&polled) {
+            // Nothing is marked, so the next poll looks at this state again.
+            let place = mem::replace(&mut self.place, Place::new());
+            cell.core.vacate(place, rt);
+            return polled;
+        }
         self.looked_at = version;
         self.follower.seen = version;
         polled
     }
+}
+
+/// Returns whether a poll failed, as there was no memory.
+fn lacks_memory<A>(polled: &Poll<Result<A, Refusal>>) -> bool
+    ensures { (result ≡ true) ↔ (polled.now ≡ Poll.Ready (Err Refusal.Memory)) }
+{
+    matches!(polled, Poll::Ready(Err(Refusal::Memory)))
 }
 
 /// The states that a follower is in time for, as a stream of clones: each is one that it has not
@@ -253,6 +266,7 @@ impl<T: Drop, R: Wait + Drop, N: Protocol<T>> Drop for States<T, R, N> {
     }
 }
 
+#[tactic(auto, using(crate::proofs::Polled::on_pending, crate::proofs::Polled::value_of, crate::proofs::Polled::rest_of, crate::proofs::Polled::goes_on))]
 impl<T: Clone, R: Wait + Drop, N: Protocol<T>> Stream for States<T, R, N> {
     type Item = Result<T, Refusal>;
 
@@ -274,17 +288,8 @@ impl<T: Clone, R: Wait + Drop, N: Protocol<T>> Stream for States<T, R, N> {
         ensures registered { OnPending result (Covers cx.new (sources self.new.follower)) }
         ensures kept { Keeps cx.old cx.new }
     {
-        let follower = &self.follower;
-        let cell = follower.cell.as_ref();
-        let asked = UnseenState(follower.seen);
-        match poll(
-            &cell.core,
-            &cell.source,
-            asked,
-            Some(&mut self.place),
-            cx,
-            &follower.rt,
-        ) {
+        let asked = UnseenState(self.follower.seen);
+        match self.follower.poll(asked, &mut self.place, cx) {
             Poll::Ready(Ok((shown, value))) => {
                 self.follower.seen = shown;
                 Poll::Ready(Some(Ok(value)))
