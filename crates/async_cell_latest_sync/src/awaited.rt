@@ -124,8 +124,7 @@ impl<T: Drop, R: Wait + Drop, N: Protocol<T>> Future for Changed<'_, T, R, N> {
 
 /// The future of `Follower::wait_for`.
 ///
-/// While it waits it holds one place in the wait list, as `Changed` does. **Dropping it may wait
-/// for the lock**, and wakes nobody.
+/// It waits, and may be dropped, as `Changed`: **its drop may wait for the lock**.
 #[derive_where(Debug)]
 pub struct WaitFor<'a, T: Drop, R: Wait + Drop, F: Drop, N: Protocol<T> = Unruled> {
     #[derive_where(skip)]
@@ -239,8 +238,7 @@ fn lacks_memory<A>(polled: &Poll<Result<A, Refusal>>) -> bool
 /// An item is an error (`Memory`) if a poll was refused; the stream may be polled on, and misses
 /// nothing by it.
 ///
-/// While it waits it holds one place in the wait list, as `Changed` does. **Dropping it may wait
-/// for the lock**, and wakes nobody.
+/// It waits, and may be dropped, as `Changed`: **its drop may wait for the lock**.
 #[derive_where(Debug)]
 pub struct States<T: Drop, R: Wait + Drop, N: Protocol<T> = Unruled> {
     #[derive_where(skip)]
