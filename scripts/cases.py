@@ -19,23 +19,10 @@ import tempfile
 import random_cases
 import read_cases
 import try_kit
-from lay_out import READ, TOP, lay_crate, read, texts_below, write
+from lay_out import READ, TOP, lay_crate, read, texts_below, without_lock, write
 
 PLAYER = f"{TOP}/tests/player"
 SECONDS = "600"
-# What stands otherwise in the text of cells that one thread has: no right to wait for a lock is
-# taken, and owners end by their drop.
-WITHOUT_LOCK = [
-    (r"_sync\b", "_unsync"),
-    (r"use std::sync::Arc;\n", ""),
-    (r"\bArc::try_clone\(pointer\)", "pointer.clone()"),
-    (r"\bArc\b", "Rc"),
-    (r"\bowner\.end\(&world\.rt\)", "drop(owner)"),
-    (r", R>", ">"),
-    (r" as Request<R>>", " as Request<_>>"),
-    (r", R, ", ", "),
-    (r"(, )?&?world\.rt\)", ")"),
-]
 
 
 def lay_player(folder):
@@ -44,10 +31,7 @@ def lay_player(folder):
     lay_crate(folder, "player", PLAYER, texts_below(PLAYER))
     kinds = f"{folder}/crates/player/src/kinds"
     os.rename(f"{kinds}/cells.rt", f"{kinds}/sync.rt")
-    text = read(f"{kinds}/sync.rt")
-    for old, new in WITHOUT_LOCK:
-        text = re.sub(old, new, text)
-    write(f"{kinds}/unsync.rt", text)
+    write(f"{kinds}/unsync.rt", without_lock(read(f"{kinds}/sync.rt")))
 
 
 def cases(chosen):
@@ -62,34 +46,20 @@ def cases(chosen):
     return found, faults
 
 
-def play(project, inputs, random_texts):
-    """Builds the player, and runs it for each file of the folder `inputs`. Prints its lines, each
-    random case once that came out otherwise, and returns what each run counted."""
+def play(project, inputs, random_text):
+    """Builds the player, and runs it for each file of the folder `inputs`. Prints what it says, and
+    the random cases that came out otherwise, and returns what each run counted."""
     refuses = try_kit.compiled(f"{TOP}/scripts/refuse.c", f"{inputs}.o", "-DPLAYER")
     words = ["--steps", "1", "--seconds", SECONDS, "--cases", inputs]
     words = try_kit.command(project, "player", [refuses], words)
     how = {**READ, "env": {**os.environ, "TMPDIR": os.path.dirname(inputs)}}
-    counts, told, random_text = [], set(), ""
-    with subprocess.Popen(words, **how) as ran:
-        for line in ran.stdout:
-            found = re.match(r"(\d+) passed, (\d+) failed$", line)
-            if found:
-                counts.append((int(found[1]), int(found[2])))
-            random_text = random_texts.get(line, random_text)  # (a run begins with its name)
-            case = shown(line, random_text)
-            print(line, end="" if not case or case in told else f"\n{case}\n", flush=True)
-            told.add(case)
-    return counts
-
-
-def shown(line, random_text):
-    """Returns the random case of which this line tells that something differs, or nothing."""
-    found = re.match(r"random:(\d+) on ", line)
-    if not found:
-        return ""
-    lines = random_text.split("\n")
-    begin = max(it for it in range(int(found[1])) if lines[it].startswith("#"))
-    return "\n".join(lines[begin : lines.index("", begin)]) + "\n"
+    said = subprocess.run(words, check=False, **how).stdout
+    print(said, end="")
+    lines, differ = random_text.split("\n"), re.findall(r"(?m)^random:(\d+) on ", said)
+    begins = {max(at for at in range(int(it)) if lines[at].startswith("#")) for it in differ}
+    for begin in sorted(begins):
+        print("\n".join(lines[begin : lines.index("", begin) + 1]))
+    return [map(int, it) for it in re.findall(r"(?m)^(\d+) passed, (\d+) failed$", said)]
 
 
 def of_commit():
@@ -107,18 +77,16 @@ def main(words):
     asked = reader.parse_args(words)
     by_hand, faults = cases(asked.files)
     made = "" if asked.files else random_cases.cases(asked.random, asked.seed)
-    few = random_cases.cases(-(-asked.random // 10), asked.seed) if made else ""
-    (random, wrong), (refused, _) = (read_cases.cases_of("random", it) for it in (made, few))
+    random, wrong = read_cases.cases_of("random", made)
     unused = read_cases.unused(by_hand + random) if made else []
     wrong += [f"no case has the word `{it}`" for it in unused]
     print("".join(f"{it}\n" for it in faults + wrong), end="", flush=True)
     with tempfile.TemporaryDirectory(prefix="cases-") as folder:
         lay_player(f"{folder}/project")
         write(f"{folder}/inputs/plain", read_cases.played(by_hand + random))
-        refusing = read_cases.played(by_hand + refused)
+        refusing = read_cases.played(by_hand + random[: -(-len(random) // 10)])
         write(f"{folder}/inputs/refusing", f"refuse\n{refusing}")
-        random_texts = {"== plain\n": made, "== refusing\n": few}
-        counts = play(f"{folder}/project", f"{folder}/inputs", random_texts)
+        counts = play(f"{folder}/project", f"{folder}/inputs", made)
     passed, failed = (sum(it) for it in zip((0, len(faults + wrong)), *counts))
     failed += 2 - len(counts)
     print(f"{passed} passed, {failed} failed")

@@ -6,8 +6,8 @@
 
 The texts of tests/code are no .rt files, so that no check of the repository reads them: they are
 tried and not proved. In the project they are the modules of one crate, `tests`, beside copies of
-the crates that they test: all modules, if none is named. `rt try --test` in FOLDER/crates/tests
-then runs them.
+the crates that they test: all modules, if none is named. Those of BOTH are laid out once more, as
+`cells_unsync`. `rt try --test` in FOLDER/crates/tests then runs them.
 """
 import os
 import re
@@ -18,6 +18,23 @@ import tempfile
 
 TOP = os.path.dirname(os.path.dirname(os.path.abspath(__file__)))
 CODE = f"{TOP}/tests/code"
+# The modules whose text is of the cells that threads share, and of those of one thread as well.
+BOTH = ("cells", "replies")
+# What stands otherwise in a text of cells that one thread has: no right to wait for a lock is taken,
+# and owners end by their drop. What follows such a comment, up to an empty line, is left out.
+WITHOUT_LOCK = [
+    (r"(?m)^ *// Of what threads share\.\n(?:.+\n)+\n?", ""),
+    (r"    let right = rt;\n", ""),
+    (r"_sync\b", "_unsync"),
+    (r"(use std::rc::Rc;\n)?use std::sync::Arc;", "use std::rc::Rc;"),
+    (r"\bArc::try_clone\(pointer\)", "pointer.clone()"),
+    (r"\bArc\b", "Rc"),
+    (r"\bowner\.end\(&world\.rt\)", "drop(owner)"),
+    (r", (?:R|HostRuntime)>", ">"),
+    (r" as Request<R>>", " as Request<_>>"),
+    (r", R, ", ", "),
+    (r"(, )?&?(world\.rt|\$?right(:ident)?)\)", ")"),
+]
 # How a program is run of which all that it says is read.
 READ = {"stdin": subprocess.DEVNULL, "stdout": subprocess.PIPE, "stderr": subprocess.STDOUT}
 READ["text"] = True
@@ -51,6 +68,13 @@ def lay_crate(folder, name, source, texts):
         write(f"{folder}/crates/{name}/src/{it.removesuffix('.txt')}", read(f"{source}/{it}"))
 
 
+def without_lock(text):
+    """Returns what a text of cells that threads share is of those that one thread has."""
+    for old, new in WITHOUT_LOCK:
+        text = re.sub(old, new, text)
+    return text
+
+
 def texts_of(module):
     """The texts of a module of the tests, from tests/code on."""
     return [it for it in texts_below(CODE) if re.match(rf"{module}(/|\.rt\.txt$)", it)]
@@ -72,8 +96,12 @@ def lay_out(folder, modules=None):
     every = {it.split("/")[0].removesuffix(".rt.txt") for it in texts_below(CODE)}
     chosen = with_used(modules or every)
     lay_crate(folder, "tests", CODE, [text for it in chosen for text in texts_of(it)])
-    declared = "".join(f"#[cfg(test)]\nmod {it};\n" for it in chosen)
-    write(f"{folder}/crates/tests/src/lib.rt", f"//! Tests.\n#![tactic(auto)]\n\n{declared}")
+    source, both = f"{folder}/crates/tests/src", [it for it in chosen if it in BOTH]
+    for it in both:
+        write(f"{source}/{it}_unsync.rt", without_lock(read(f"{source}/{it}.rt")))
+    laid = [*chosen, *(f"{it}_unsync" for it in both)]
+    declared = "".join(f"#[cfg(test)]\nmod {it};\n" for it in laid)
+    write(f"{source}/lib.rt", f"//! Tests.\n#![tactic(auto)]\n\n{declared}")
 
 
 def formatted():

@@ -326,9 +326,9 @@ class States(Maker):
 
 
 def cases(count, first=0):
-    """Returns the text of so many cases of each sort."""
+    """Returns the text of so many cases of each sort, one of each after the other."""
     seeds = range(first, first + count)
-    made = [sort(seed) for sort in (Cells, Owners, States) for seed in seeds]
+    made = [sort(seed) for seed in seeds for sort in (Cells, Owners, States)]
     for it in made:
         for _ in range(LENGTH):
             it.step()
