@@ -8,8 +8,7 @@ that is not there, or older than a source, is built by `rt run`), and counts the
 operation by callgrind. It prints each figure that has risen or fallen by more than 2 per cent. The
 status is 0 if none has risen by more than 5 per cent, and the figures are those of the table.
 
---write writes the table anew, and what bench/tables.py makes of it. JOBS says how many runs go side
-by side.
+--write writes the table anew, and what bench/tables.py makes of it.
 """
 import glob
 import os
@@ -84,8 +83,8 @@ def instructions(program, row, operation, waiters):
     return round((twice - once) / few / waiters)
 
 
-def counted(jobs):
-    """Counts each figure of the table."""
+def counted():
+    """Counts each figure of the table, as many side by side as there are processors."""
     programs = {name: built(name) for name in dict.fromkeys(it for it, _ in ROWS.values())}
     fields = [
         (row, title, operation, waiters)
@@ -93,7 +92,7 @@ def counted(jobs):
         for title, operation, waiters in COLUMNS
         if operation in operations
     ]
-    with ThreadPoolExecutor(jobs) as pool:
+    with ThreadPoolExecutor(len(os.sched_getaffinity(0))) as pool:
         ran = pool.map(lambda it: instructions(programs[ROWS[it[0]][0]], it[0], *it[2:]), fields)
         made = {row: {} for row in ROWS}
         for (row, title, *_), figure in zip(fields, ran):
@@ -112,7 +111,7 @@ def main(words):
         sys.exit(__doc__)
     if not shutil.which("valgrind"):
         sys.exit("count: there is no valgrind, which counts the instructions")
-    now = counted(int(os.environ.get("JOBS") or len(os.sched_getaffinity(0))))
+    now = counted()
     said, before = tables.read(tables.COUNTS) if os.path.isfile(tables.COUNTS) else ("", {})
     if said != conditions():
         print(f"the table is of {said or 'nothing'}, and this is {conditions()}")

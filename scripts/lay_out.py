@@ -1,13 +1,9 @@
-"""Lays the tests out as a crate of a project of its own.
-
-    python3 scripts/lay_out.py FOLDER [MODULE..]   makes the project in a new folder, with these
-                                                   modules of the tests, and what they use
-    python3 scripts/lay_out.py --format            formats the texts of tests/ as `rt fmt` does
+"""Lays the tests out as a crate of a project of its own, for scripts/tests.py.
 
 The texts of tests/code are no .rt files, so that no check of the repository reads them: they are
 tried and not proved. In the project they are the modules of one crate, `tests`, beside copies of
-the crates that they test: all modules, if none is named. Those of BOTH are laid out once more, as
-`cells_unsync`. `rt try --test` in FOLDER/crates/tests then runs them.
+the crates that they test. Those of BOTH are laid out once more, as `cells_unsync`.
+`python3 scripts/lay_out.py --format` formats the texts of tests/ as `rt fmt` does.
 """
 import os
 import re
@@ -119,15 +115,11 @@ def formatted():
 
 
 def main(words):
-    if words == ["--format"]:
-        for it, text in formatted().items():
-            write(f"{TOP}/tests/{it}", text)
-            print(f"formatted tests/{it}")
-    elif not words or words[0].startswith("-") or os.path.exists(words[0]):
+    if words != ["--format"]:
         sys.exit(__doc__)
-    else:
-        lay_out(words[0], words[1:])
-        print(f"laid out: cd {words[0]}/crates/tests && rt try --test")
+    for it, text in formatted().items():
+        write(f"{TOP}/tests/{it}", text)
+        print(f"formatted tests/{it}")
 
 
 if __name__ == "__main__":

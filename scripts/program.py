@@ -1,6 +1,5 @@
 #!/usr/bin/env python3
-"""Runs the built `cellrun`: program.py [PROGRAM]. Without an argument it takes the program in
-crates/cellrun/out, and has it proved and built first if a source is newer.
+"""Runs the built `cellrun`, and has it proved and built first if a source is newer.
 
 Plays the scripts of program.txt and the calls of its usage, gives it arguments, and has it read and
 write streams that are closed, full, interrupted, fail, or come by parts: what the proof of `script`
@@ -26,7 +25,7 @@ import try_kit
 
 FOLDER = os.path.dirname(os.path.abspath(__file__))
 CRATES = f"{FOLDER}/../crates"
-PROGRAM = sys.argv[1] if sys.argv[1:] else f"{CRATES}/cellrun/out/cellrun"
+PROGRAM = f"{CRATES}/cellrun/out/cellrun"
 # How long the cases of one kind may take.
 SECONDS = 30
 # Answers that are longer together than the pipes and sockets below hold.
@@ -296,8 +295,7 @@ def main():
     """Runs all, each in turn: one that does not end has failed, and the others go on."""
     signal.signal(signal.SIGPIPE, signal.SIG_IGN)
     signal.signal(signal.SIGALRM, late)
-    if not sys.argv[1:]:
-        build()
+    build()
     for check in (
         scripts, usage, failing_streams, readers_that_leave, interrupted_streams, writes_that_fail,
         reads_by_parts, memory, no_memory,
