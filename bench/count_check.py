@@ -1,6 +1,6 @@
 #!/usr/bin/env python3
-"""Shows that count.py tells a rise, on falsified tables of two figures, and that the page is made of
-the table. The last line is 'N passed, M failed'."""
+"""Shows that count.py tells a rise, on falsified tables of two figures, and that the page is made
+of the table. The last line is 'N passed, M failed'."""
 import sys
 
 import tables

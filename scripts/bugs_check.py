@@ -78,7 +78,7 @@ returns-clause-is_same c =
     c.same-kept.ensures
 """,
 }
-# What is changed, what comes in its place, and what is to be said of it. A third line names a clause.
+# What is changed, what comes in its place, and what is to be said of it. A third line has a clause.
 PLANTED = {
     "a wrong body": ("    x + STEP", "    x", "refused: note: src/lib.rt:8"),
     "a wrong body below a harmless one": ("{ x } else", "{ 1 } else", "refused: note: src/lib.rt"),

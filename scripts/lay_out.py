@@ -16,8 +16,8 @@ TOP = os.path.dirname(os.path.dirname(os.path.abspath(__file__)))
 CODE = f"{TOP}/tests/code"
 # The modules whose text is of the cells that threads share, and of those of one thread as well.
 BOTH = ("cells", "replies")
-# What stands otherwise in a text of cells that one thread has: no right to wait for a lock is taken,
-# and owners end by their drop. What follows such a comment, up to an empty line, is left out.
+# What stands otherwise in a text of cells of one thread: no right to wait for a lock is taken, and
+# owners end by their drop. What follows such a comment, up to an empty line, is left out.
 WITHOUT_LOCK = [
     (r"(?m)^ *// Of what threads share\.\n(?:.+\n)+\n?", ""),
     (r"    let right = rt;\n", ""),
