@@ -11,8 +11,9 @@ use crate::owner::Owner;
 use crate::shared::Shared;
 use async_cell_core::{Refusal, TaskWaker, Wakes};
 use async_cell_model::{Kept, Reply};
-use async_cell_waiting::ops::{IsSet, OrSet, Replace, Set, TryGet, TryTake, Update, UpdateSome};
-use async_cell_waiting::{Anyone, Protocol, Witness};
+use async_cell_waiting::{
+    Anyone, IsSet, OrSet, Protocol, Replace, Set, TryGet, TryTake, Update, UpdateSome, Witness,
+};
 use std::sync::{Arc, Wait};
 
 impl<T: Drop, N: Protocol<T, TaskWaker>> AsyncCell<T, N> {

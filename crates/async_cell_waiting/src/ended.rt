@@ -1,6 +1,6 @@
 //! The end of a step, and what comes out of a core meanwhile. The core is released, then wakers are
 //! woken, and then the caller gets what it may drop. What is held is let go by an end alone.
-ghost use Rattle.std.specs.Prelude.{◌≡◌, ⊤, Ok, Err, None, Some, IfOk, IfErr, IsSome, IsTrue, OnErr};
+ghost use Rattle.std.specs.Prelude.{◌≡◌, ⊤, List, Ok, Err, None, Some, IfOk, IfErr, IsSome, IsTrue, OnErr};
 ghost use Rattle.async_cell_model.specs.Refusal.{FailsWithClosed, FailsWithMemory, FailsWithMemoryOrClosed};
 ghost use Rattle.async_cell_waiting.specs.Held.{answer_of};
 
@@ -20,8 +20,6 @@ pub struct Held<X, K = ()> {
 
 /// What a call leaves for after its step: whom to wake, and what to drop.
 pub trait After<W> {
-    ghost use Rattle.std.specs.Prelude.{List};
-
     /// The wakers.
     ghost wakes: { Self → List W };
 

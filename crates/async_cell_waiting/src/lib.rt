@@ -8,7 +8,7 @@ mod ended;
 mod history;
 pub mod laws;
 mod op;
-pub mod ops;
+mod ops;
 mod places;
 mod polls;
 mod query;
@@ -23,6 +23,9 @@ pub use history::{
     Takeable, Unruled, Unwitnessed, Witness,
 };
 pub use op::Op;
+pub use ops::{
+    IsSet, OrSet, PollGet, PollTake, PutBack, Replace, Set, TryGet, TryTake, Update, UpdateSome,
+};
 pub use polls::poll;
 pub use query::Query;
 pub use room::Room;

@@ -1,5 +1,7 @@
 //! Calls as values: one function makes any of them in one step, plainly or for a witness.
 ghost use Rattle.std.specs.Prelude.{◌≡◌, ⊤, false, None, IfOk, IfSome, OnErr, IfErr, IsTrue};
+ghost use Rattle.async_cell_model.specs.declared.entry.Kept.{Kept};
+ghost use Rattle.async_cell_model.specs.declared.reply.Reply.{Reply};
 ghost use Rattle.async_cell_model.specs.Machine.{State, Does, content, is_closed};
 ghost use Rattle.async_cell_waiting.specs.History.{Desk, IsAllowed, is_of_owners, start_of};
 
@@ -13,10 +15,6 @@ use std::marker::PhantomData;
 /// A call of a cell, as a value. Which call of the model it is only contracts read: from the states
 /// before and after it, and from its answer.
 pub trait Op<T: Drop, W: Wakes, N: Protocol<T, W>>: Sized {
-    ghost use Rattle.async_cell_model.specs.declared.entry.Kept.{Kept};
-    ghost use Rattle.async_cell_model.specs.declared.reply.Reply.{Reply};
-    ghost use Rattle.async_cell_model.specs.Machine.{State};
-
     /// What it returns.
     type Answer;
 

@@ -10,10 +10,6 @@ use async_cell_core::Wakes;
 
 /// Who is told of a call: a witness, or nobody.
 pub trait Sees<T: Drop, W: Wakes, N: Protocol<T, W>> {
-    ghost use Rattle.async_cell_model.specs.declared.entry.Kept.{Kept};
-    ghost use Rattle.async_cell_model.specs.declared.reply.Reply.{Reply};
-    ghost use Rattle.async_cell_waiting.specs.History.{Desk};
-
     /// The first has seen what led to this core, as the second knows.
     ghost ready: { Self → Self → Desk T W → Type 0 };
 
