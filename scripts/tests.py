@@ -99,7 +99,8 @@ def complaint_of(program, test, way):
 def build(told, room, words):
     """Lays the tests out, those of one module if the words name it, and compiles them. Returns the
     words by which the program is called, or None, and what the compiler said."""
-    named = [it for it in (word.split("::")[0] for word in words) if lay_out.texts_of(it)]
+    modules = {word.split("::")[0].removesuffix("_unsync") for word in words}
+    named = [it for it in modules if lay_out.texts_of(it)]
     lay_out.lay_out(f"{room}/project", [*named, "checks"] if named else None)
     told.say("compiling, some two minutes")
     refuses = try_kit.compiled(f"{TOP}/scripts/refuse.c", f"{room}/refuse.o")
