@@ -19,7 +19,8 @@ import tempfile
 import random_cases
 import read_cases
 import try_kit
-from lay_out import READ, TOP, lay_crate, read, texts_below, without_lock, write
+from lay_out import READ, TOP, lay_crate, read, texts_below, write
+from one_thread import without_lock
 
 PLAYER = f"{TOP}/tests/player"
 SECONDS = "600"

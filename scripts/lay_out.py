@@ -1,9 +1,13 @@
-"""Lays the tests out as a crate of a project of its own, for scripts/tests.py.
+"""Lays the tests out as a crate of a project of its own.
+
+    python3 scripts/lay_out.py FOLDER [MODULE..]   makes the project in a new folder, with these
+                                                   modules of the tests, and what they use
+    python3 scripts/lay_out.py --format            formats the texts of tests/ as `rt fmt` does
 
 The texts of tests/code are no .rt files, so that no check of the repository reads them: they are
 tried and not proved. In the project they are the modules of one crate, `tests`, beside copies of
-the crates that they test. Those of BOTH are laid out once more, as `cells_unsync`.
-`python3 scripts/lay_out.py --format` formats the texts of tests/ as `rt fmt` does.
+the crates that they test: all modules, if none is named. `rt try --test` in FOLDER/crates/tests
+then runs them.
 """
 import os
 import re
@@ -14,23 +18,6 @@ import tempfile
 
 TOP = os.path.dirname(os.path.dirname(os.path.abspath(__file__)))
 CODE = f"{TOP}/tests/code"
-# The modules whose text is of the cells that threads share, and of those of one thread as well.
-BOTH = ("cells", "replies")
-# What stands otherwise in a text of cells of one thread: no right to wait for a lock is taken, and
-# owners end by their drop. What follows such a comment, up to an empty line, is left out.
-WITHOUT_LOCK = [
-    (r"(?m)^ *// Of what threads share\.\n(?:.+\n)+\n?", ""),
-    (r"    let right = rt;\n", ""),
-    (r"_sync\b", "_unsync"),
-    (r"(use std::rc::Rc;\n)?use std::sync::Arc;", "use std::rc::Rc;"),
-    (r"\bArc::try_clone\(pointer\)", "pointer.clone()"),
-    (r"\bArc\b", "Rc"),
-    (r"\bowner\.end\(&world\.rt\)", "drop(owner)"),
-    (r", (?:R|HostRuntime)>", ">"),
-    (r" as Request<R>>", " as Request<_>>"),
-    (r", R, ", ", "),
-    (r"(, )?&?(world\.rt|\$?right(:ident)?)\)", ")"),
-]
 # How a program is run of which all that it says is read.
 READ = {"stdin": subprocess.DEVNULL, "stdout": subprocess.PIPE, "stderr": subprocess.STDOUT}
 READ["text"] = True
@@ -64,13 +51,6 @@ def lay_crate(folder, name, source, texts):
         write(f"{folder}/crates/{name}/src/{it.removesuffix('.txt')}", read(f"{source}/{it}"))
 
 
-def without_lock(text):
-    """Returns what a text of cells that threads share is of those that one thread has."""
-    for old, new in WITHOUT_LOCK:
-        text = re.sub(old, new, text)
-    return text
-
-
 def texts_of(module):
     """The texts of a module of the tests, from tests/code on."""
     return [it for it in texts_below(CODE) if re.match(rf"{module}(/|\.rt\.txt$)", it)]
@@ -92,12 +72,8 @@ def lay_out(folder, modules=None):
     every = {it.split("/")[0].removesuffix(".rt.txt") for it in texts_below(CODE)}
     chosen = with_used(modules or every)
     lay_crate(folder, "tests", CODE, [text for it in chosen for text in texts_of(it)])
-    source, both = f"{folder}/crates/tests/src", [it for it in chosen if it in BOTH]
-    for it in both:
-        write(f"{source}/{it}_unsync.rt", without_lock(read(f"{source}/{it}.rt")))
-    laid = [*chosen, *(f"{it}_unsync" for it in both)]
-    declared = "".join(f"#[cfg(test)]\nmod {it};\n" for it in laid)
-    write(f"{source}/lib.rt", f"//! Tests.\n#![tactic(auto)]\n\n{declared}")
+    declared = "".join(f"#[cfg(test)]\nmod {it};\n" for it in chosen)
+    write(f"{folder}/crates/tests/src/lib.rt", f"//! Tests.\n#![tactic(auto)]\n\n{declared}")
 
 
 def formatted():
@@ -115,11 +91,15 @@ def formatted():
 
 
 def main(words):
-    if words != ["--format"]:
+    if words == ["--format"]:
+        for it, text in formatted().items():
+            write(f"{TOP}/tests/{it}", text)
+            print(f"formatted tests/{it}")
+    elif not words or words[0].startswith("-") or os.path.exists(words[0]):
         sys.exit(__doc__)
-    for it, text in formatted().items():
-        write(f"{TOP}/tests/{it}", text)
-        print(f"formatted tests/{it}")
+    else:
+        lay_out(words[0], words[1:])
+        print(f"laid out: cd {words[0]}/crates/tests && rt try --test")
 
 
 if __name__ == "__main__":

@@ -17,6 +17,7 @@ import time
 from concurrent.futures import ThreadPoolExecutor
 
 import lay_out
+import one_thread
 import try_kit
 from lay_out import TOP
 
@@ -101,7 +102,7 @@ def build(told, room, words):
     words by which the program is called, or None, and what the compiler said."""
     modules = {word.split("::")[0].removesuffix("_unsync") for word in words}
     named = [it for it in modules if lay_out.texts_of(it)]
-    lay_out.lay_out(f"{room}/project", [*named, "checks"] if named else None)
+    one_thread.lay_both(f"{room}/project", [*named, "checks"] if named else None)
     told.say("compiling, some two minutes")
     refuses = try_kit.compiled(f"{TOP}/scripts/refuse.c", f"{room}/refuse.o")
     return try_kit.built(f"{room}/project", "tests", [refuses], f"{room}/built")
