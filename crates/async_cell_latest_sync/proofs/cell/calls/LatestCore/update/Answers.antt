@@ -5,4 +5,4 @@ pub add-requires-clause-may : goal.add-requires-clause-may
 add-requires-clause-may g c = let may = rw (← c.self.view_is) at c.requires.may in may c.update.new.self.value c.self.invariant.rule c.in-Ok.ensures.called
 
 pub returns-in-Ok-clause-makes : goal.returns-in-Ok-clause-makes
-returns-in-Ok-clause-makes g c = rw (c.waking.ensures, ← c.self.view_is) c.in-Ok.ensures.called
+returns-in-Ok-clause-makes g c = rw (c.waking.ensures.answers, ← c.self.view_is) c.in-Ok.ensures.called
