@@ -172,6 +172,18 @@ pub fn open_holding<'a, M: Stores, X: Drop, R: Opens<'a, M>>(
     Some((step, Held::of(held)))
 }
 
+impl<X, W: Wakes> Held<X, All<W>> {
+    /// Holds the same: nothing is to be dropped.
+    #[inline(always)]
+    pub(crate) fn waking_all(self) -> Held<X, Option<Wakers<W>>>
+        ensures { result.answer ≡ self.answer }
+    {
+        let Held { answer, woken } = self;
+        let All { woken, dropped: () } = woken;
+        Held::waking(answer, woken)
+    }
+}
+
 impl<X> Held<X> {
     /// Holds this until the step ends.
     #[inline(always)]

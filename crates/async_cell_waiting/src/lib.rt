@@ -23,9 +23,7 @@ pub use history::{
     Takeable, Unruled, Unwitnessed, Witness,
 };
 pub use op::Op;
-pub use ops::{
-    IsSet, OrSet, PollGet, PollTake, PutBack, Replace, Set, TryGet, TryTake, Update, UpdateSome,
-};
+pub use ops::{IsSet, OrSet, PollGet, PollTake, Replace, Set, TryGet, TryTake, Update, UpdateSome};
 pub use polls::poll;
 pub use query::Query;
 pub use room::Room;

@@ -2,7 +2,6 @@
 mod looks;
 mod or_set;
 mod polls;
-mod put_back;
 mod replace;
 mod set;
 mod updates;
@@ -10,7 +9,6 @@ mod updates;
 pub use looks::{IsSet, TryGet, TryTake};
 pub use or_set::OrSet;
 pub use polls::{PollGet, PollTake};
-pub use put_back::PutBack;
 pub use replace::Replace;
 pub use set::Set;
 pub use updates::{Update, UpdateSome};

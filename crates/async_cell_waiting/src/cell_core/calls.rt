@@ -7,9 +7,10 @@ ghost use Rattle.async_cell_waiting.specs.History.{Fits, Leads, Made, permits_of
 ghost use mathlib.Core.List.{IsPrefix};
 ghost use Rattle.async_cell_model.specs.Refusal.{FailsWithClosed, FailsWithMemory};
 
-use crate::ended::Held;
+use crate::ended::{Held, Writes};
 use crate::history::*;
 use crate::op::{Makes, MakesFast, Op};
+use crate::ops;
 use crate::room::Room;
 use async_cell_core::{Core, Place, Refusal, TaskWaker, Wakers, Wakes};
 use async_cell_model::{Kept, Reply};
@@ -177,6 +178,11 @@ impl<T: Drop, W: Wakes, N: Protocol<T, W>> CellCore<T, W, N> {
     }
 
     #[inline(always)]
+    pub(crate) fn is_set(&self) -> bool {
+        self.inner.is_set()
+    }
+
+    #[inline(always)]
     pub(crate) fn is_closed(&self) -> bool
         ensures { result ≡ is_closed self.now.inner.cell }
     {
@@ -223,6 +229,50 @@ impl<T: Drop, W: Wakes, N: Protocol<T, W>> CellCore<T, W, N> {
         match format!(in alloc; "{:?}", &self.inner) {
             Ok(text) => Held::of(Ok(text)),
             Err(why) => Held::of(Err(why.into())),
+        }
+    }
+
+    #[inline(always)]
+    pub(crate) fn overwrite(&mut self, value: T) -> Held<Result<T, T>>
+        requires may { N.may (Kept.Replace value) }
+        ensures rule { IfOk result.answer N.holds }
+        ensures comes_back { IfErr result.answer (λ back. back ≡ value) }
+    {
+        let asked = Asked::of(&self.inner, &value);
+        let written = self.inner.overwrite(value);
+        if let Ok(old) = &written {
+            asked.enter(&mut self.past, &Overwrites, old, &self.inner);
+        }
+        Held::of(written)
+    }
+
+    #[inline(always)]
+    pub(crate) fn fill_first(&mut self, value: T) -> Result<Held<(), Option<W>>, Held<T>>
+        requires may { N.may (Kept.Replace value) }
+        ensures comes_back { IfErr result (λ back. back.answer ≡ value) }
+    {
+        let asked = Asked::of(&self.inner, &value);
+        match self.inner.fill_first(value) {
+            Ok(first) => {
+                asked.enter(&mut self.past, &FillsFirst, &first, &self.inner);
+                Ok(Held::waking((), first))
+            }
+            Err(value) => Err(Held::of(value)),
+        }
+    }
+
+    #[inline(always)]
+    pub(crate) fn put_quiet(&mut self, value: T) -> Result<(), Held<T>>
+        requires may { N.may (Kept.Replace value) }
+        ensures comes_back { IfErr result (λ back. back.answer ≡ value) }
+    {
+        let asked = Asked::of(&self.inner, &value);
+        match self.inner.put_quiet(value) {
+            Ok(()) => {
+                asked.enter(&mut self.past, &PutsQuietly, &(), &self.inner);
+                Ok(())
+            }
+            Err(value) => Err(Held::of(value)),
         }
     }
 
@@ -320,6 +370,23 @@ impl<T: Drop, W: Wakes, N: Protocol<T, W>> CellCore<T, W, N> {
             }
             Err(why) => Held::waking(Err((why, permit)), None),
         }
+    }
+}
+
+impl<T: Drop, W: Wakes, N: Protocol<T, W>> Writes<T> for CellCore<T, W, N> {
+    ghost use Rattle.async_cell_model.specs.declared.entry.Kept.TheVariants.{Replace};
+
+    type Old = Option<T>;
+
+    type Waker = W;
+
+    ghost may = { λ value. N.may (Replace value) };
+
+    ghost gives = { λ old. IfSome old N.holds };
+
+    #[inline(always)]
+    fn write(&mut self, value: T) -> Held<Result<Option<T>, T>, Option<Wakers<W>>> {
+        self.make(ops::Replace(value)).waking_all()
     }
 }
 

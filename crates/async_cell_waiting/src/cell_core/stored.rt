@@ -5,9 +5,9 @@ ghost use Rattle.async_cell_model.specs.Refusal.{FailsWithClosed, FailsWithMemor
 ghost use Rattle.async_cell_waiting.specs.History.{done_reply};
 
 use super::CellCore;
-use crate::ended::{Held, end, end_and_wake, end_and_wake_one};
+use crate::ended::{Held, end, end_and_wake, end_and_wake_one, put_held, write_held};
 use crate::history::{Anyone, Blank, Caller, Nobody, OwnerPermit, Protocol, Sees, Witness};
-use crate::ops::{OrSet, PollGet, PollTake, PutBack, Replace, TryTake, Update, UpdateSome};
+use crate::ops::{OrSet, PollGet, PollTake, TryTake, Update, UpdateSome};
 use crate::store::{Opens, Step, StoredCore, Stores, opened};
 use async_cell_core::{Core, Poll, Refusal, Wakes};
 use async_cell_model::Kept;
@@ -44,7 +44,16 @@ impl<M: Stores<Core = CellCore<T, W, N>>, T: Drop, W: Wakes, N: Protocol<T, W>> 
     pub fn put<'a, R: Opens<'a, M>>(&'a self, value: T, rt: &R)
         requires may { N.may (Kept.Replace value) }
     {
-        let _ = self.make(Replace(value), &Anyone, &mut Nobody, rt);
+        let mut step = opened!(rt, self, else return);
+        if step.shown().is_set() {
+            let old = step.lend().overwrite(value); // Nobody waits on a full cell.
+            let _ = end(step, old);
+            return;
+        }
+        match step.lend().fill_first(value) {
+            Ok(filled) => end_and_wake_one(step, filled),
+            Err(value) => put_held(step, value),
+        }
     }
 
     /// Sets the value, wakes all waiters, returns the old one. A closed cell gives the value back.
@@ -54,7 +63,18 @@ impl<M: Stores<Core = CellCore<T, W, N>>, T: Drop, W: Wakes, N: Protocol<T, W>> 
         ensures rule { IfOk result (λ old. IfSome old N.holds) }
         ensures comes_back { IfErr result (λ back. back ≡ value) }
     {
-        self.make(Replace(value), &Anyone, &mut Nobody, rt)
+        let mut step = opened!(rt, self, else return Err(value));
+        if step.shown().is_set() {
+            let old = step.lend().overwrite(value); // Nobody waits on a full cell.
+            return Ok(Some(end(step, old)?));
+        }
+        match step.lend().fill_first(value) {
+            Ok(filled) => {
+                end_and_wake_one(step, filled);
+                Ok(None)
+            }
+            Err(value) => write_held(step, value),
+        }
     }
 
     /// Sets the value and wakes all waiters, if the cell holds no value. Drops `value` otherwise.
@@ -113,7 +133,11 @@ impl<M: Stores<Core = CellCore<T, W, N>>, T: Drop, W: Wakes, N: Protocol<T, W>> 
     pub fn put_back<'a, R: Opens<'a, M>>(&'a self, value: T, rt: &R)
         requires may { N.may (Kept.Replace value) }
     {
-        let _ = self.make(PutBack(value), &Anyone, &mut Nobody, rt);
+        let mut step = opened!(rt, self, else return);
+        match step.lend().put_quiet(value) {
+            Ok(()) => end(step, Held::of(())),
+            Err(value) => put_held(step, value),
+        }
     }
 
     /// Takes the value, if there is one. The waiters stay registered.

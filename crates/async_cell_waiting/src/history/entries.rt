@@ -77,3 +77,43 @@ impl<T, W> Enters<(), Result<(Option<T>, Wakers<W>), Refusal>, T, W> for TakesIn
 
     ghost answer = { λ _ taken. end_answer taken };
 }
+
+/// The entry of a `replace` of a full cell.
+pub(crate) struct Overwrites;
+
+impl<T, W> Enters<T, T, T, W> for Overwrites {
+    ghost use Rattle.std.specs.Prelude.{[], Some, Ok};
+    ghost use Rattle.async_cell_model.specs.declared.entry.Kept.TheVariants as kept;
+    ghost use Rattle.async_cell_core.specs.IsStep.{replace_answer};
+
+    ghost call = { λ _ value _. kept.Replace value };
+
+    ghost answer = { λ _ old. replace_answer (Ok (Some old, [])) };
+}
+
+/// The entry of a `replace` that wakes one waker at most.
+pub(crate) struct FillsFirst;
+
+impl<T, W> Enters<T, Option<W>, T, W> for FillsFirst {
+    ghost use Rattle.std.specs.Prelude.{[], None, Ok};
+    ghost use Rattle.async_cell_model.specs.declared.entry.Kept.TheVariants as kept;
+    ghost use Rattle.async_cell_wakers.specs.WaitList.{first_then};
+    ghost use Rattle.async_cell_core.specs.IsStep.{replace_answer};
+
+    ghost call = { λ _ value _. kept.Replace value };
+
+    ghost answer = { λ _ first. replace_answer (Ok (None, first_then first [])) };
+}
+
+/// The entry of a `replace` that wakes nobody.
+pub(crate) struct PutsQuietly;
+
+impl<T, W> Enters<T, (), T, W> for PutsQuietly {
+    ghost use Rattle.std.specs.Prelude.{[], None, Ok};
+    ghost use Rattle.async_cell_model.specs.declared.entry.Kept.TheVariants as kept;
+    ghost use Rattle.async_cell_core.specs.IsStep.{replace_answer};
+
+    ghost call = { λ _ value _. kept.Replace value };
+
+    ghost answer = { λ _ _. replace_answer (Ok (None, [])) };
+}
