@@ -14,8 +14,8 @@ use futures::task::Waker;
 /// all that a call handed out (`None` if it handed out none). It is not `Drop` and must be
 /// consumed: by the end of its kind, which wakes them and returns the answer.
 pub struct Held<X, K = ()> {
-    pub(crate) answer: X,
-    pub(crate) woken: K,
+    answer: X,
+    woken: K,
 }
 
 /// What a call leaves for after its step: whom to wake, and what to drop.
@@ -29,14 +29,14 @@ pub trait After<W> {
 
 /// At most one waker, and what to drop.
 pub struct One<W, X = ()> {
-    pub(crate) woken: Option<W>,
-    pub(crate) dropped: X,
+    woken: Option<W>,
+    dropped: X,
 }
 
 /// All wakers that a call handed out (`None` if it handed out none), and what to drop.
 pub struct All<W: Wakes, X = ()> {
-    pub(crate) woken: Option<Wakers<W>>,
-    pub(crate) dropped: X,
+    woken: Option<Wakers<W>>,
+    dropped: X,
 }
 
 impl<W, X> One<W, X> {
