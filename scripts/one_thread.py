@@ -19,7 +19,6 @@ WITHOUT_LOCK = [
     (r"\bowner\.end\(&world\.rt\)", "drop(owner)"),
     (r", (?:R|HostRuntime)>", ">"),
     (r" as Request<R>>", " as Request<_>>"),
-    (r", R, ", ", "),
     (r"(, )?&?(world\.rt|\$?right(:ident)?)\)", ")"),
 ]
 

@@ -7,10 +7,10 @@ import re
 from collections import namedtuple
 
 KINDS = ["locked", "sync", "unsync", "sync_owner", "unsync_owner", "shared"]
-KINDS += ["sync_closed", "unsync_closed", "states"]
+KINDS += ["owner_as", "cell_as", "sync_closed", "unsync_closed", "states"]
 GROUPS = {
     "cells": ("sync", "unsync"),
-    "owners": ("sync_owner", "unsync_owner"),
+    "owners": ("sync_owner", "unsync_owner", "owner_as", "cell_as"),
     "closed": ("sync_closed", "unsync_closed"),
 }
 REPLIES = "ok pending ready some back old item inner none true false memory closed full"
@@ -26,10 +26,10 @@ is_closed NAME?; waiting NAME?; purge NAME?; debug NAME?; prints NAME; into_inne
 take MADE? ON? BY?; get MADE? ON? BY?; take_shared MADE ON? BY?; get_shared MADE ON? BY?;
 take_weak MADE ON? BY?; get_weak MADE ON? BY?; poll NAME BY; cancel NAME; own MADE ON?; end NAME?;
 into_owner MADE ON?; weak MADE ON?; clone NAME MADE; upgrade NAME MADE; values MADE ON?;
-next NAME BY; guard MADE VALUE ON?; guarded VALUE HOW MORE? ON?; release NAME; reserve VALUE;
-owners; add_owner; end_owner; take_inner; read NAME?; peek NAME?; follow MADE ON?; states MADE ON;
-changed MADE? ON BY?; wait_for VALUE MADE ON BY?; has_changed NAME; mark_changed NAME;
-mark_unchanged NAME; read_and_update NAME; peek_and_update NAME
+next NAME BY; guard MADE VALUE ON?; guarded VALUE HOW MORE? ON?; release NAME;
+into_guard MADE VALUE ON?; reserve VALUE; owners; add_owner; end_owner; take_inner; read NAME?;
+peek NAME?; follow MADE ON?; states MADE ON; changed MADE? ON BY?; wait_for VALUE MADE ON BY?;
+has_changed NAME; mark_changed NAME; mark_unchanged NAME; read_and_update NAME; peek_and_update NAME
 """
 CALLS = {it.split()[0]: it.strip() for it in CALLS.split(";")}
 FORMS = {

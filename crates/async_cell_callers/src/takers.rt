@@ -4,7 +4,7 @@ ghost use Rattle.std.specs.List.{count_by};
 ghost use Rattle.async_cell_model.specs.declared.entry.Kept.{Kept as Called};
 ghost use Rattle.async_cell_model.specs.Machine.{content};
 ghost use Rattle.async_cell_model.specs.Taken.{IsDistinct, has_update, put_in};
-ghost use Rattle.async_cell_waiting.specs.History.{PutsWhatSetsMay, come_out, dropped, gone_in, start_of};
+ghost use Rattle.async_cell_history.specs.History.{PutsWhatSetsMay, come_out, dropped, gone_in, start_of};
 ghost use Rattle.async_cell_sync.specs.declared.TaskWaker.{TaskWaker as Waker};
 
 use crate::Host;

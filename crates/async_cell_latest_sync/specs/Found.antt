@@ -5,7 +5,7 @@ use Rattle.std.specs.Borrow.{Bor}
 use Rattle.std.specs.Fn.{Mut, CalledAt}
 use Rattle.async_cell_model.specs.declared.refusal.Refusal.{Refusal}
 use Rattle.async_cell_model.specs.Refusal.{FailsWithMemory, FailsWithMemoryOrClosed}
-use Rattle.async_cell_waiting.specs.History.{IsCloneOfOne}
+use Rattle.async_cell_step.specs.Rule.{IsCloneOfOne}
 
 -- an item of a stream: a clone of a value that keeps the rule, or there was no memory for one
 abbrev pub IsItem : {T : Type 0} → (T → T → Type 0) → (T → Type 0) → Result T Refusal → Type 0

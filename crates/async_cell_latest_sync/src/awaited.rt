@@ -12,7 +12,7 @@ use crate::cell::{LatestCore, Unseen, UnseenState};
 use crate::follower::Follower;
 use crate::history::{Protocol, Unruled};
 use async_cell_latest::{Place, Refusal};
-use async_cell_waiting::{Query, poll};
+use async_cell_step::{Query, poll};
 use futures::future::Future;
 use futures::stream::Stream;
 use futures::task::{Context, Poll};

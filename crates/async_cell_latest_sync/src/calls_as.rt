@@ -2,7 +2,7 @@
 ghost use Rattle.std.specs.Prelude.{◌≡◌, List, [], ◌∷◌, ◌++◌, IsOk, IfOk, IfErr, OnOk, OnErr, false};
 ghost use Rattle.std.specs.Fn.{FnOnceReturnsAt};
 ghost use Rattle.async_cell_model.specs.Refusal.{FailsWithMemory};
-ghost use Rattle.async_cell_waiting.specs.History.{IsCloneOfOne};
+ghost use Rattle.async_cell_step.specs.Rule.{IsCloneOfOne};
 ghost use Rattle.async_cell_latest_sync.specs.Life.{GoesOn, IsShown, IsUpdated, IsWritten, MayUpdate, MayWrite, TakesNoMore};
 ghost use Rattle.async_cell_latest_sync.specs.Names.{cell_followed};
 
@@ -10,7 +10,7 @@ use crate::follower::Follower;
 use crate::history::{Protocol, Witness};
 use crate::owner::Owner;
 use async_cell_latest::Refusal;
-use async_cell_waiting::{Step, end, end_and_wake};
+use async_cell_step::{Step, end, end_and_wake};
 use std::sync::Wait;
 
 impl<T: Drop, R: Wait + Drop, N: Protocol<T>> Owner<T, R, N> {

@@ -5,7 +5,7 @@ mod waits;
 mod writes;
 
 use crate::history::{Protocol, Unruled};
-use async_cell_waiting::Lock;
+use async_cell_step::Lock;
 pub use calls::LatestCore;
 use futures::task::Source;
 pub use waits::{Unseen, UnseenState};

@@ -10,7 +10,7 @@ mod next_as;
 mod owner;
 
 pub use async_cell_latest::{Refusal, TaskWaker};
-pub use async_cell_waiting::{Rule, Ruled, With};
+pub use async_cell_step::{Rule, Ruled, With};
 pub use awaited::{Changed, States, WaitFor};
 pub use follower::Follower;
 pub use history::{Blank, Protocol, Unruled, Witness};

@@ -9,7 +9,7 @@ use crate::cell::{LatestCell, LatestCore};
 use crate::follower::Follower;
 use crate::history::{Protocol, Witness};
 use async_cell_latest::{Place, Refusal};
-use async_cell_waiting::{At, Held, Places, Polled, Query, Request, With, poll};
+use async_cell_step::{At, Deferred, Places, Polled, Query, Request, With, poll};
 use futures::task::{Context, Poll};
 use std::sync::Wait;
 
@@ -31,7 +31,7 @@ impl<T: Clone, N: Protocol<T>> Query<LatestCore<T, N>> for Next<T, N> {
     fn answer(
         self,
         core: &mut LatestCore<T, N>,
-    ) -> Held<Result<(Option<T>, Witness<T, N>), Refusal>> {
+    ) -> Deferred<Result<(Option<T>, Witness<T, N>), Refusal>> {
         let Next(seen) = self;
         core.next(seen)
     }

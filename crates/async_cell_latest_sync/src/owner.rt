@@ -1,7 +1,7 @@
 ghost use Rattle.std.specs.Prelude.{◌≡◌, [], ◌∷◌, false, Some, IsOk, IfOk};
 ghost use Rattle.std.specs.Fn.{FnOnceReturnsAt};
 ghost use Rattle.async_cell_model.specs.Refusal.{FailsWithMemory};
-ghost use Rattle.async_cell_waiting.specs.History.{IsCloneOfOne};
+ghost use Rattle.async_cell_step.specs.Rule.{IsCloneOfOne};
 ghost use Rattle.async_cell_latest_sync.specs.Life.{GoesOn};
 ghost use Rattle.async_cell_latest_sync.specs.Names.{cell_followed, cell_owned};
 
@@ -9,7 +9,7 @@ use crate::cell::{LatestCell, LatestCore};
 use crate::follower::Follower;
 use crate::history::{Blank, Protocol, Unruled, Witness};
 use async_cell_latest::Refusal;
-use async_cell_waiting::{Rule, Ruled, Step, end_and_wake};
+use async_cell_step::{Rule, Ruled, Step, end_and_wake};
 use std::alloc::{AllocFailed, Global};
 use std::sync::{Arc, Wait};
 

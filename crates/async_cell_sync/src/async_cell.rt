@@ -9,8 +9,9 @@ use crate::locked_core::LockedCore;
 use crate::shared::Shared;
 use crate::take::Take;
 use async_cell_core::{Core, Place, Refusal, TaskWaker};
+use async_cell_history::{Protocol, Unruled};
 use async_cell_model::Kept;
-use async_cell_waiting::{Places, Protocol, Rule, Ruled, Unruled};
+use async_cell_step::{Places, Rule, Ruled};
 use futures::task::Source;
 use std::alloc::Global;
 use std::sync::Wait;
@@ -172,10 +173,10 @@ impl AsyncCell<()> {
 impl<T: Drop, N: Protocol<T, TaskWaker>, R: Wait> Places<R> for AsyncCell<T, N> {
     #[inline(always)]
     fn vacate(&self, place: Place, rt: &R) {
-        self.core.vacate(place, rt);
+        self.core.store.vacate(place, rt);
     }
 
     fn cancel(&self, place: Place, rt: &R) {
-        self.core.cancel(place, rt);
+        self.core.store.cancel(place, rt);
     }
 }

@@ -2,14 +2,14 @@
 ghost use Rattle.std.specs.Prelude.{◌≡◌, Option, Some, None, IsOk, IfErr, IfOk, IfSome};
 ghost use Rattle.std.specs.Fn.{FnOnceReturnsAt};
 ghost use Rattle.async_cell_model.specs.Refusal.{FailsWithMemory};
-ghost use Rattle.async_cell_waiting.specs.History.{IsCloneOfOne};
+ghost use Rattle.async_cell_step.specs.Rule.{IsCloneOfOne};
 ghost use Rattle.async_cell_sync.specs.Owned.{cell_owned};
 
 use crate::async_cell::AsyncCell;
 use crate::owner::Owner;
 use async_cell_core::{Refusal, TaskWaker};
+use async_cell_history::Protocol;
 use async_cell_model::Kept;
-use async_cell_waiting::Protocol;
 use std::fmt;
 use std::sync::Wait;
 
@@ -122,7 +122,7 @@ impl<T: Drop, N: Protocol<T, TaskWaker>> AsyncCell<T, N> {
     /// A dropped future leaves its waker in the cell, and a waker keeps what its executor needs.
     /// Call this where many waits end early and the cell lives on. It locks once for each place.
     pub fn purge<R: Wait>(&self, rt: &R) {
-        self.core.purge(rt);
+        self.core.store.purge(rt);
     }
 }
 
@@ -216,7 +216,7 @@ impl<T: Drop, R: Wait + Drop, N: Protocol<T, TaskWaker>> Owner<T, R, N> {
         requires may { N.may Kept.TryTake }
         ensures rule { IfSome result N.holds }
     {
-        self.shared.cell.try_take(&self.rt)
+        self.shared.cell.core.try_take(&self.rt)
     }
 
     /// Returns a clone of the value, if there is one. Fails with `Memory` if the clone fails.
@@ -227,7 +227,7 @@ impl<T: Drop, R: Wait + Drop, N: Protocol<T, TaskWaker>> Owner<T, R, N> {
         ensures if_infallible { ((value : T) → T.is_infallible value) → IsOk result }
         ensures refused { FailsWithMemory result }
     {
-        self.shared.cell.try_get(&self.rt)
+        self.shared.cell.core.try_get(&self.rt)
     }
 
     /// Calls the closure on the value, if there is one, and returns what it returns. The closure

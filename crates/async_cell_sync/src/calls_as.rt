@@ -3,17 +3,18 @@
 ghost use Rattle.std.specs.Prelude.{◌≡◌, Option, Some, None, IfErr, IfOk, IfSome, IsOk, IsSomeAnd, OnErr, OnOk};
 ghost use mathlib.Core.List.{IsPrefix};
 ghost use Rattle.async_cell_model.specs.Refusal.{FailsWithClosed, FailsWithMemory, IsOwnerRefusal};
-ghost use Rattle.async_cell_waiting.specs.History.{IsCloneOfOne, IsSigned, IsLinearized, IsSeenClosed, IsLinearizedUpTo, set_reply, write_reply, end_reply};
+ghost use Rattle.async_cell_history.specs.History.{IsSigned, IsLinearized, IsSeenClosed, IsLinearizedUpTo, set_reply, write_reply, end_reply};
+ghost use Rattle.async_cell_step.specs.Rule.{IsCloneOfOne};
 ghost use Rattle.async_cell_sync.specs.Owned.{cell_owned};
 
 use crate::async_cell::AsyncCell;
 use crate::owner::Owner;
 use crate::shared::Shared;
 use async_cell_core::{Refusal, TaskWaker, Wakes};
-use async_cell_model::{Kept, Reply};
-use async_cell_waiting::{
+use async_cell_history::{
     Anyone, IsSet, OrSet, Protocol, Replace, Set, TryGet, TryTake, Update, UpdateSome, Witness,
 };
+use async_cell_model::{Kept, Reply};
 use std::sync::{Arc, Wait};
 
 impl<T: Drop, N: Protocol<T, TaskWaker>> AsyncCell<T, N> {
@@ -162,7 +163,7 @@ impl<T: Drop, R: Wait + Drop, N: Protocol<T, TaskWaker>> Owner<T, R, N> {
         ensures comes_back { IfErr result (λ back. back ≡ value) }
     {
         let Shared { cell, permit } = &self.shared;
-        seen.counted();
+        seen.lawful();
         cell.core.make(Set(value), permit, seen, &self.rt)
     }
 
@@ -177,7 +178,7 @@ impl<T: Drop, R: Wait + Drop, N: Protocol<T, TaskWaker>> Owner<T, R, N> {
         ensures comes_back { IfErr result (λ back. back ≡ value) }
     {
         let Shared { cell, permit } = &self.shared;
-        seen.counted();
+        seen.lawful();
         cell.core.make(Replace(value), permit, seen, &self.rt)
     }
 
@@ -191,7 +192,7 @@ impl<T: Drop, R: Wait + Drop, N: Protocol<T, TaskWaker>> Owner<T, R, N> {
         ensures comes_back { IfErr result (λ back. back ≡ value) }
     {
         let Shared { cell, permit } = &self.shared;
-        seen.counted();
+        seen.lawful();
         cell.core.make(OrSet(value), permit, seen, &self.rt)
     }
 
@@ -203,7 +204,7 @@ impl<T: Drop, R: Wait + Drop, N: Protocol<T, TaskWaker>> Owner<T, R, N> {
         ensures signed { IsSigned seen.old seen.new }
         ensures rule { IfSome result N.holds }
     {
-        self.shared.cell.try_take_as(seen, &self.rt)
+        self.shared.cell.core.make(TryTake, &Anyone, seen, &self.rt)
     }
 
     /// Returns a clone of the value, if there is one. Fails with `Memory` if the clone fails.
@@ -216,7 +217,7 @@ impl<T: Drop, R: Wait + Drop, N: Protocol<T, TaskWaker>> Owner<T, R, N> {
         ensures rule { IfOk result (λ found. IfSome found (IsCloneOfOne T.is_clone N.holds)) }
         ensures refused { FailsWithMemory result }
     {
-        self.shared.cell.try_get_as(seen, &self.rt)
+        self.shared.cell.core.make(TryGet, &Anyone, seen, &self.rt)
     }
 
     /// Returns whether the cell holds a value.
@@ -249,7 +250,7 @@ impl<T: Drop, R: Wait + Drop, N: Protocol<T, TaskWaker>> Owner<T, R, N> {
         ensures refused { FailsWithClosed result }
     {
         let Shared { cell, permit } = &self.shared;
-        seen.counted();
+        seen.lawful();
         cell.core.make(Update(change), permit, seen, &self.rt)
     }
 
@@ -275,7 +276,7 @@ impl<T: Drop, R: Wait + Drop, N: Protocol<T, TaskWaker>> Owner<T, R, N> {
         ensures refused { FailsWithClosed result }
     {
         let Shared { cell, permit } = &self.shared;
-        seen.counted();
+        seen.lawful();
         cell.core.make(UpdateSome(change), permit, seen, &self.rt)
     }
 }
@@ -295,7 +296,7 @@ impl<T: Drop, R: Wait + Copy, N: Protocol<T, TaskWaker>> Owner<T, R, N> {
         ensures open { IfErr result (λ why. ¬ (why ≡ Refusal.Closed)) }
         ensures refused { IfErr result IsOwnerRefusal }
     {
-        seen.counted();
+        seen.lawful();
         let cell = Arc::try_clone(&self.shared.cell)?;
         let permit = cell.core.add_counted(&self.shared.permit, seen, &self.rt)?;
         Ok(Shared { cell, permit }.with(self.rt))

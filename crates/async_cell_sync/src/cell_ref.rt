@@ -1,13 +1,13 @@
 ghost use Rattle.std.specs.Prelude.{◌≡◌, ℕ};
 ghost use Rattle.async_cell_model.specs.declared.entry.Kept.{Kept};
-ghost use Rattle.async_cell_waiting.specs.History.{IsTake};
+ghost use Rattle.async_cell_history.specs.History.{IsTake};
 ghost use Rattle.async_cell_wakers.specs.declared.task_waker.TaskWaker.{TaskWaker as Waker};
 ghost use Rattle.async_cell_sync.specs.Source.{source_of};
 
 use crate::async_cell::AsyncCell;
 use crate::shared::Shared;
 use async_cell_core::TaskWaker;
-use async_cell_waiting::{Protocol, Takeable};
+use async_cell_history::{Protocol, Takeable};
 use std::sync::{Arc, Wait};
 
 /// A pointer to a cell. `Take`, `Get` and guards work over any.

@@ -2,12 +2,13 @@ ghost use Rattle.std.specs.Prelude.{◌≡◌, IfOk};
 ghost use Rattle.futures.specs.Poll.{IfReady, OnPending};
 ghost use Rattle.futures.specs.Task.{Covers, Keeps};
 ghost use Rattle.async_cell_model.specs.Refusal.{FailsWithMemoryOrClosed};
-ghost use Rattle.async_cell_waiting.specs.History.{IsCloneOfOne};
+ghost use Rattle.async_cell_step.specs.Rule.{IsCloneOfOne};
 
 use crate::async_cell::AsyncCell;
 use crate::cell_ref::CellRef;
+use async_cell_calls::Cloning;
 use async_cell_core::Refusal;
-use async_cell_waiting::{At, Cloning, Polled, Request, With, poll};
+use async_cell_step::{At, Polled, Request, With, poll};
 use futures::task::{Context, Poll};
 use std::sync::Wait;
 
@@ -35,7 +36,7 @@ impl<C: CellRef<Value: Clone>> Get<C> {
         ensures refused { IfReady result FailsWithMemoryOrClosed }
     {
         let cell = self.0.cell();
-        poll(&cell.core, &cell.source, Cloning, None, cx, rt)
+        poll(&cell.core.store, &cell.source, Cloning, None, cx, rt)
     }
 }
 
@@ -68,6 +69,6 @@ impl<C: CellRef<Value: Clone> + Drop, R: Wait> Polled<R> for Get<C> {
     #[inline(always)]
     fn poll_at(&self, at: At<'_>, cx: &mut Context<'_>, rt: &R) -> Poll<Self::Output> {
         let cell = self.0.cell();
-        poll(&cell.core, &cell.source, Cloning, at, cx, rt)
+        poll(&cell.core.store, &cell.source, Cloning, at, cx, rt)
     }
 }

@@ -4,8 +4,8 @@ ghost use Rattle.async_cell_sync.specs.Source.{source_of};
 use crate::async_cell::AsyncCell;
 use crate::cell_ref::CellRef;
 use crate::guard::Guard;
+use async_cell_calls::Cancel;
 use async_cell_model::Kept;
-use async_cell_waiting::Cancel;
 use std::sync::Wait;
 
 /// A guard of a cell. It must be consumed: by `cancel`, which sets its cancel value if the cell

@@ -23,12 +23,16 @@ mod weak_owner;
 mod witnessed;
 
 pub use async_cell::AsyncCell;
+pub use async_cell_calls::CellStore;
 pub use async_cell_core::{Core, Poll, Refusal, TaskWaker, Wakers, Wakes};
-#[doc(hidden)]
-pub use async_cell_waiting::Request;
-pub use async_cell_waiting::{
-    Author, Blank, Free, Protocol, Rule, Ruled, Takeable, Unruled, Unwitnessed, With, Witness, laws,
+pub use async_cell_history::{
+    Anyone, Author, Blank, Free, IsSet, Nobody, OrSet, PollGet, PollTake, Protocol, Replace, Set,
+    Takeable, TryGet, TryTake, Unruled, Unwitnessed, Update, UpdateSome, Witness, laws,
 };
+pub use async_cell_model::{Entry, Kept, Reply as CallReply};
+#[doc(hidden)]
+pub use async_cell_step::Request;
+pub use async_cell_step::{Rule, Ruled, With};
 pub use cell_ref::{CellRef, TakeRef};
 pub use get::Get;
 pub use guard::Guard;

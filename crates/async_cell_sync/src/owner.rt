@@ -14,8 +14,9 @@ use crate::take::Take;
 use crate::weak::{GetWeak, TakeWeak};
 use crate::weak_owner::WeakOwner;
 use async_cell_core::{Refusal, TaskWaker};
+use async_cell_history::{Anyone, Nobody, Protocol, Takeable, Unruled};
 use async_cell_model::Kept;
-use async_cell_waiting::{Anyone, Nobody, Protocol, Rule, Ruled, Takeable, Unruled, With};
+use async_cell_step::{Rule, Ruled, With};
 use std::alloc::Global;
 use std::sync::{Arc, Wait};
 

@@ -8,9 +8,11 @@ ghost use Rattle.async_cell_model.specs.declared.refusal.Refusal.TheVariants.{Cl
 ghost use Rattle.async_cell_sync.specs.Source.{source_of};
 
 use crate::async_cell::AsyncCell;
+use async_cell_calls::Taking;
 use async_cell_core::{Core, Place, Refusal, TaskWaker};
+use async_cell_history::{Unruled, Unwitnessed};
 use async_cell_model::Kept;
-use async_cell_waiting::{Rule, Ruled, Taking, Unruled, Unwitnessed, poll};
+use async_cell_step::{Rule, Ruled, poll};
 use futures::future::Future;
 use futures::task::{Context, Poll};
 use std::alloc::Global;
@@ -212,7 +214,7 @@ impl<T: Drop, R: Wait + Drop, N: Unwitnessed<T, TaskWaker>> Future for Reply<T, 
             return Poll::Ready(Err(Refusal::Closed));
         };
         let place = Some(&mut self.place);
-        let polled = poll(&cell.core, &cell.source, Taking, place, cx, &self.rt);
+        let polled = poll(&cell.core.store, &cell.source, Taking, place, cx, &self.rt);
         match polled {
             Poll::Pending | Poll::Ready(Err(Refusal::Memory)) => {}
             Poll::Ready(_) => self.cell = None,

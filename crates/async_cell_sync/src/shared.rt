@@ -10,8 +10,8 @@ use crate::owner::Owner;
 use crate::take::Take;
 use crate::weak::{GetWeak, TakeWeak, Weak};
 use async_cell_core::{Refusal, TaskWaker};
+use async_cell_history::{Anyone, Nobody, OwnerPermit, Protocol, Unruled};
 use async_cell_model::Kept;
-use async_cell_waiting::{Anyone, Nobody, OwnerPermit, Protocol, Unruled};
 use std::alloc::{AllocFailed, Global};
 use std::sync::{Arc, Wait};
 

@@ -5,8 +5,9 @@ ghost use Rattle.async_cell_model.specs.Refusal.{FailsWithMemoryOrClosed};
 
 use crate::async_cell::AsyncCell;
 use crate::cell_ref::{CellRef, TakeRef};
+use async_cell_calls::Taking;
 use async_cell_core::Refusal;
-use async_cell_waiting::{At, Polled, Request, Taking, With, poll};
+use async_cell_step::{At, Polled, Request, With, poll};
 use futures::task::{Context, Poll};
 use std::sync::Wait;
 
@@ -33,7 +34,7 @@ impl<C: TakeRef> Take<C> {
         ensures refused { IfReady result FailsWithMemoryOrClosed }
     {
         let cell = self.0.cell();
-        poll(&cell.core, &cell.source, Taking, None, cx, rt)
+        poll(&cell.core.store, &cell.source, Taking, None, cx, rt)
     }
 }
 
@@ -71,6 +72,6 @@ impl<C: TakeRef + Drop, R: Wait> Polled<R> for Take<C> {
     #[inline(always)]
     fn poll_at(&self, at: At<'_>, cx: &mut Context<'_>, rt: &R) -> Poll<Self::Output> {
         let cell = self.0.cell();
-        poll(&cell.core, &cell.source, Taking, at, cx, rt)
+        poll(&cell.core.store, &cell.source, Taking, at, cx, rt)
     }
 }

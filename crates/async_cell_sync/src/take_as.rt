@@ -3,16 +3,17 @@ ghost use Rattle.std.specs.Prelude.{◌≡◌, Some, IfOk};
 ghost use Rattle.async_cell_model.specs.Refusal.{FailsWithMemory};
 ghost use Rattle.async_cell_model.specs.declared.entry.Kept.TheVariants.{TryTake, TryGet};
 ghost use Rattle.async_cell_model.specs.declared.reply.Reply.TheVariants.{Value};
-ghost use Rattle.async_cell_waiting.specs.History.{IsCloneOfOne, IsSigned, IsLinearized, IsLinearizedUpTo};
+ghost use Rattle.async_cell_history.specs.History.{IsSigned, IsLinearized, IsLinearizedUpTo};
+ghost use Rattle.async_cell_step.specs.Rule.{IsCloneOfOne};
 ghost use Rattle.async_cell_sync.specs.Source.{source_of};
 ghost use Rattle.async_cell_sync.specs.Owned.{cell_owned};
 
 use crate::async_cell::AsyncCell;
 use crate::owner::Owner;
+use async_cell_calls::{By, CloningAs, TakingAs};
 use async_cell_core::{Refusal, TaskWaker, Wakes};
-use async_cell_waiting::{
-    At, By, CloningAs, Polled, Protocol, Request, TakingAs, With, Witness, poll,
-};
+use async_cell_history::{Protocol, Witness};
+use async_cell_step::{At, Polled, Request, With, poll};
 use futures::task::{Context, Poll};
 use std::marker::Model;
 use std::sync::Wait;
@@ -25,7 +26,7 @@ pub(crate) struct Taker<T, N: Protocol<T, TaskWaker>> {
 
 impl<T, N: Protocol<T, TaskWaker>> Model for Taker<T, N> {
     ghost use Rattle.async_cell_model.specs.declared.entry.Kept.TheVariants.{TryTake};
-    ghost use Rattle.async_cell_waiting.specs.History.{Seen};
+    ghost use Rattle.async_cell_history.specs.History.{Seen};
     ghost use Rattle.async_cell_wakers.specs.declared.task_waker.TaskWaker.{TaskWaker};
 
     ghost Value = { Seen T TaskWaker };
@@ -51,7 +52,7 @@ impl<T, N: Protocol<T, TaskWaker>> Taker<T, N> {
         ensures may { N.may TryTake }
         ensures seen { result.0 ≡ self.now }
     {
-        self.seen.counted();
+        self.seen.lawful();
         TakingAs(self.seen.again())
     }
 }
@@ -87,7 +88,14 @@ impl<T: Drop, R: Wait + Drop, N: Protocol<T, TaskWaker>> Polled<R> for TakeAs<'_
     fn poll_at(&self, at: At<'_>, cx: &mut Context<'_>, rt: &R) -> Poll<Self::Output> {
         let shared = &self.owner.shared;
         let query = By::new(&shared.permit, self.seen.query());
-        poll(&shared.cell.core, &shared.cell.source, query, at, cx, rt)
+        poll(
+            &shared.cell.core.store,
+            &shared.cell.source,
+            query,
+            at,
+            cx,
+            rt,
+        )
     }
 }
 
@@ -121,9 +129,16 @@ impl<T: Clone, R: Wait + Drop, N: Protocol<T, TaskWaker>> Polled<R> for GetAs<'_
     #[inline(always)]
     fn poll_at(&self, at: At<'_>, cx: &mut Context<'_>, rt: &R) -> Poll<Self::Output> {
         let shared = &self.owner.shared;
-        self.seen.counted();
+        self.seen.lawful();
         let query = By::new(&shared.permit, CloningAs(self.seen.again()));
-        poll(&shared.cell.core, &shared.cell.source, query, at, cx, rt)
+        poll(
+            &shared.cell.core.store,
+            &shared.cell.source,
+            query,
+            at,
+            cx,
+            rt,
+        )
     }
 }
 

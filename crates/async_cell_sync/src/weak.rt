@@ -3,8 +3,8 @@ ghost use Rattle.std.specs.Arc.{arc_value};
 ghost use Rattle.futures.specs.Poll.{IfReady, OnPending};
 ghost use Rattle.futures.specs.Task.{Covers, Keeps};
 ghost use Rattle.async_cell_model.specs.Refusal.{FailsWithMemory};
-ghost use Rattle.async_cell_waiting.specs.History.{IsCloneOfOne};
-ghost use Rattle.async_cell_waiting.specs.Upgrade.{FailsToUpgrade};
+ghost use Rattle.async_cell_step.specs.Rule.{IsCloneOfOne};
+ghost use Rattle.async_cell_step.specs.Upgrade.{FailsToUpgrade};
 ghost use Rattle.async_cell_sync.specs.Names.{IsLost, NameAtMostTheSame, Names, NamesAtMost};
 ghost use Rattle.async_cell_sync.specs.Names.{NameTheSame, OwnsNamed};
 ghost use Rattle.async_cell_sync.specs.Owned.{cell_owned};
@@ -17,11 +17,10 @@ use crate::owner::Owner;
 use crate::shared::Shared;
 use crate::take::Take;
 use crate::weak_owner::WeakOwner;
+use async_cell_calls::{Cloning, Taking};
 use async_cell_core::{Refusal, TaskWaker};
-use async_cell_waiting::{
-    At, Cloning, Polled, Protocol, Request, Takeable, Takes, Taking, Unruled, Upgrade, With, poll,
-    weakly,
-};
+use async_cell_history::{Protocol, Takeable, Unruled};
+use async_cell_step::{At, Polled, Request, Takes, Upgrade, With, poll, weakly};
 use futures::task::{Context, Poll};
 use std::alloc::AllocError;
 use std::sync::{Arc, Wait};
@@ -38,7 +37,7 @@ use std::sync::{Arc, Wait};
 /// drop(states);
 /// println!(rt; "{:?}", block_on(&rt, values.next())?)?; // prints None
 /// ```
-pub type Values<T, R, N = Unruled> = async_cell_waiting::Values<TakeWeak<T, N>, R>;
+pub type Values<T, R, N = Unruled> = async_cell_step::Values<TakeWeak<T, N>, R>;
 
 /// A weak pointer to a cell, which does not count as an owner. `Shared::downgrade` makes one.
 /// `TakeWeak` and `GetWeak` make a future of it, `with` a `WeakOwner`, whose calls take no `rt`.
@@ -181,7 +180,7 @@ impl<T: Drop, R: Wait, N: Takeable<T, TaskWaker>> Polled<R> for TakeWeak<T, N> {
 
     fn poll_at(&self, at: At<'_>, cx: &mut Context<'_>, rt: &R) -> Poll<Self::Output> {
         match self.0.cell() {
-            Ok(cell) => weakly(poll(&cell.core, &cell.source, Taking, at, cx, rt)),
+            Ok(cell) => weakly(poll(&cell.core.store, &cell.source, Taking, at, cx, rt)),
             Err(why) => Poll::Ready(Err(why)),
         }
     }
@@ -271,7 +270,7 @@ impl<T: Clone, R: Wait, N: Protocol<T, TaskWaker>> Polled<R> for GetWeak<T, N> {
 
     fn poll_at(&self, at: At<'_>, cx: &mut Context<'_>, rt: &R) -> Poll<Self::Output> {
         match self.0.cell() {
-            Ok(cell) => weakly(poll(&cell.core, &cell.source, Cloning, at, cx, rt)),
+            Ok(cell) => weakly(poll(&cell.core.store, &cell.source, Cloning, at, cx, rt)),
             Err(why) => Poll::Ready(Err(why)),
         }
     }

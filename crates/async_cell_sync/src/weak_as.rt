@@ -1,9 +1,11 @@
 //! Futures that extend a witness and are no owners.
-ghost use Rattle.std.specs.Prelude.{◌≡◌, Some, IfOk, IfSome};
+ghost use Rattle.std.specs.Prelude.{◌≡◌, Some, Err, IfOk, IfSome};
 ghost use Rattle.async_cell_model.specs.Refusal.{FailsWithMemory};
 ghost use Rattle.async_cell_model.specs.declared.entry.Kept.TheVariants.{TryTake, TryGet};
+ghost use Rattle.async_cell_model.specs.declared.refusal.Refusal.TheVariants.{Memory};
 ghost use Rattle.async_cell_model.specs.declared.reply.Reply.TheVariants.{Value};
-ghost use Rattle.async_cell_waiting.specs.History.{IsCloneOfOne, IsSigned, IsLinearized, IsLinearizedUpTo};
+ghost use Rattle.async_cell_history.specs.History.{IsSigned, IsLinearized, IsLinearizedUpTo};
+ghost use Rattle.async_cell_step.specs.Rule.{IsCloneOfOne};
 ghost use Rattle.async_cell_sync.specs.Names.{IsLost, NameAtMostTheSame};
 ghost use Rattle.async_cell_sync.specs.Source.{IsSourceOf};
 
@@ -11,10 +13,10 @@ use crate::async_cell::AsyncCell;
 use crate::take_as::Taker;
 use crate::weak::Weak;
 use crate::weak_owner::WeakOwner;
+use async_cell_calls::CloningAs;
 use async_cell_core::{Refusal, TaskWaker, Wakes};
-use async_cell_waiting::{
-    At, CloningAs, Polled, Protocol, Request, Takes, With, Witness, poll, weakly,
-};
+use async_cell_history::{Protocol, Witness};
+use async_cell_step::{At, Polled, Request, Takes, With, poll, weakly};
 use futures::task::{Context, Poll};
 use std::sync::Wait;
 
@@ -43,14 +45,16 @@ impl<T: Drop, R: Wait, N: Protocol<T, TaskWaker>> Polled<R> for TakeWeakAs<T, N>
     ghost waits_for = { λ asked. IsSourceOf asked.weak };
 
     ghost may_give = { λ asked given. FailsWithMemory given
+        × (IsLost asked.weak → given ≡ Err Memory)
         × IfOk given (λ found. IfSome found (λ both. N.holds both.0))
         × IfOk given (λ found. IfSome found (λ both.
         IsLinearized ⟦<TaskWaker as Wakes>⟧ N.named asked.seen.calls
         TryTake (Value (Some both.0)) both.1.calls × IsSigned asked.seen both.1)) };
 
     fn poll_at(&self, at: At<'_>, cx: &mut Context<'_>, rt: &R) -> Poll<Self::Output> {
+        let taking = self.seen.query();
         match self.weak.cell() {
-            Ok(cell) => weakly(poll(&cell.core, &cell.source, self.seen.query(), at, cx, rt)),
+            Ok(cell) => weakly(poll(&cell.core.store, &cell.source, taking, at, cx, rt)),
             Err(why) => Poll::Ready(Err(why)),
         }
     }
@@ -63,7 +67,7 @@ impl<T: Drop, R: Wait, N: Protocol<T, TaskWaker>> Takes<R> for TakeWeakAs<T, N> 
 
     ghost lacks_memory = { λ _ _ given. given.0 };
 
-    ghost gives_held = { λ _ _ given. given.1 };
+    ghost gives_held = { λ _ _ given. given.2 };
 }
 
 /// Clones the value of a cell and extends a witness, which it gives back, and is no owner: it is
@@ -90,6 +94,7 @@ impl<T: Clone, R: Wait, N: Protocol<T, TaskWaker>> Polled<R> for GetWeakAs<T, N>
     ghost waits_for = { λ asked. IsSourceOf asked.weak };
 
     ghost may_give = { λ asked given. FailsWithMemory given
+        × (IsLost asked.weak → given ≡ Err Memory)
         × IfOk given (λ found. IfSome found (λ both. IsCloneOfOne T.is_clone N.holds both.0
         × IsLinearizedUpTo T.is_clone ⟦<TaskWaker as Wakes>⟧ N.named asked.seen.calls
         TryGet (Value (Some both.0)) both.1.calls × IsSigned asked.seen both.1)) };
@@ -97,7 +102,7 @@ impl<T: Clone, R: Wait, N: Protocol<T, TaskWaker>> Polled<R> for GetWeakAs<T, N>
     fn poll_at(&self, at: At<'_>, cx: &mut Context<'_>, rt: &R) -> Poll<Self::Output> {
         let query = CloningAs(self.seen.again());
         match self.weak.cell() {
-            Ok(cell) => weakly(poll(&cell.core, &cell.source, query, at, cx, rt)),
+            Ok(cell) => weakly(poll(&cell.core.store, &cell.source, query, at, cx, rt)),
             Err(why) => Poll::Ready(Err(why)),
         }
     }

@@ -1,13 +1,14 @@
 ghost use Rattle.std.specs.Prelude.{◌≡◌, Err, IfOk, IfSome};
 ghost use Rattle.async_cell_model.specs.Refusal.{FailsWithMemory};
-ghost use Rattle.async_cell_waiting.specs.Upgrade.{FailsToUpgrade};
+ghost use Rattle.async_cell_step.specs.Upgrade.{FailsToUpgrade};
 ghost use Rattle.async_cell_sync.specs.Names.{IsLost, NameAtMostTheSame, Names, NameTheSame};
 ghost use Rattle.async_cell_sync.specs.Owned.{cell_owned};
 
 use crate::owner::Owner;
 use crate::weak::{GetWeak, TakeWeak, Weak};
 use async_cell_core::{Refusal, TaskWaker};
-use async_cell_waiting::{Protocol, Unruled, With};
+use async_cell_history::{Protocol, Unruled};
+use async_cell_step::With;
 use std::alloc::AllocError;
 use std::sync::Wait;
 

@@ -8,7 +8,7 @@ use crate::locked_core::LockedCore;
 use crate::owner::Owner;
 use crate::shared::Shared;
 use async_cell_core::{Refusal, TaskWaker};
-use async_cell_waiting::{Blank, Protocol, Witness};
+use async_cell_history::{Blank, Protocol, Witness};
 use futures::task::Source;
 use std::alloc::{AllocFailed, Global};
 use std::sync::{Arc, Wait};

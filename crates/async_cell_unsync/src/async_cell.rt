@@ -2,17 +2,20 @@ ghost use Rattle.std.specs.Prelude.{◌≡◌, Option, IsOk, IfOk, IfErr, IfSome
 ghost use Rattle.std.specs.Fn.{FnOnceReturnsAt};
 ghost use Rattle.async_cell_model.specs.Machine.{content, IsSound};
 ghost use Rattle.async_cell_model.specs.Refusal.{FailsWithMemory};
-ghost use Rattle.async_cell_waiting.specs.History.{IsCloneOfOne};
+ghost use Rattle.async_cell_step.specs.Rule.{IsCloneOfOne};
 ghost use Rattle.async_cell_unsync.specs.Names.{cell_of};
 
 use crate::get::Get;
 use crate::guarded_cell::GuardedCell;
 use crate::shared::Shared;
 use crate::take::Take;
+use async_cell_calls::CellStore;
 use async_cell_core::{Core, Place, Refusal, TaskWaker, Wakes};
-use async_cell_waiting::{CellCore, Free, Lender, OneThread, Places, Rule, Ruled, Unruled};
+use async_cell_history::{CellCore, Free, Unruled};
+use async_cell_step::{OneThread, Places, Rule, Ruled};
 use futures::task::Source;
 use std::alloc::Global;
+use std::cell::RefCell;
 use std::fmt;
 
 /// A cell of one thread. It holds an optional value, and futures wait on it for a value.
@@ -31,7 +34,7 @@ use std::fmt;
 ///
 /// `N` says what is known of the values (see `Rule`).
 pub struct AsyncCell<T, N: Free<T, TaskWaker> = Unruled> {
-    pub(crate) core: Lender<CellCore<T, TaskWaker, N>>,
+    pub(crate) core: CellStore<RefCell<CellCore<T, TaskWaker, N>>>,
     /// The source that waiting tasks register with.
     pub(crate) source: Source,
     pub(crate) alloc: Global,
@@ -57,7 +60,7 @@ impl<T: Drop, N: Free<T, TaskWaker>> AsyncCell<T, N> {
         requires rule { IfSome (content core.cell) N.holds }
     {
         AsyncCell {
-            core: Lender::nameless(core),
+            core: CellStore::nameless(core),
             source: Source::new(),
             alloc,
         }
@@ -230,7 +233,7 @@ impl<T: Drop, N: Free<T, TaskWaker>> AsyncCell<T, N> {
     /// A waker keeps what its executor needs: call this where many waits end early and the cell
     /// lives on. It needs no memory. The waker of a poll without a place stays (see `AsyncCell`).
     pub fn purge(&self) {
-        self.core.purge(&OneThread);
+        self.core.store.purge(&OneThread);
     }
 
     /// Returns the number of places in the wait list.
@@ -334,11 +337,11 @@ impl AsyncCell<()> {
 impl<T: Drop, N: Free<T, TaskWaker>> Places<OneThread> for AsyncCell<T, N> {
     #[inline(always)]
     fn vacate(&self, place: Place, rt: &OneThread) {
-        self.core.vacate(place, rt);
+        self.core.store.vacate(place, rt);
     }
 
     fn cancel(&self, place: Place, rt: &OneThread) {
-        self.core.cancel(place, rt);
+        self.core.store.cancel(place, rt);
     }
 }
 

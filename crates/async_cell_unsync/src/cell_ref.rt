@@ -4,7 +4,7 @@ ghost use Rattle.async_cell_unsync.specs.Source.{source_of};
 use crate::async_cell::AsyncCell;
 use crate::shared::Shared;
 use async_cell_core::TaskWaker;
-use async_cell_waiting::Free;
+use async_cell_history::Free;
 use std::rc::Rc;
 
 /// A pointer to a cell. `Take`, `Get` and guards work over any.

@@ -2,13 +2,14 @@ ghost use Rattle.std.specs.Prelude.{◌≡◌, IfOk};
 ghost use Rattle.futures.specs.Poll.{IfReady, OnPending};
 ghost use Rattle.futures.specs.Task.{Covers, Keeps};
 ghost use Rattle.async_cell_model.specs.Refusal.{FailsWithMemoryOrClosed};
-ghost use Rattle.async_cell_waiting.specs.History.{IsCloneOfOne};
+ghost use Rattle.async_cell_step.specs.Rule.{IsCloneOfOne};
 
 use crate::async_cell::AsyncCell;
 use crate::cell_ref::CellRef;
 use crate::with::With;
+use async_cell_calls::Taking;
 use async_cell_core::Refusal;
-use async_cell_waiting::{At, OneThread, Polled, Request, Taking, poll};
+use async_cell_step::{At, OneThread, Polled, Request, poll};
 use futures::future::Future;
 use futures::task::{Context, Poll};
 
@@ -35,7 +36,7 @@ impl<C: CellRef> Get<C> {
         ensures refused { IfReady result FailsWithMemoryOrClosed }
     {
         let cell = self.0.cell();
-        match poll(&cell.core, &cell.source, Taking, None, cx, &OneThread) {
+        match poll(&cell.core.store, &cell.source, Taking, None, cx, &OneThread) {
             Poll::Ready(Ok(value)) => Poll::Ready(cell.copy_back(value)),
             Poll::Ready(Err(why)) => Poll::Ready(Err(why)),
             Poll::Pending => Poll::Pending,
@@ -69,7 +70,7 @@ impl<C: CellRef<Value: Clone>> Polled<OneThread> for Get<C> {
     #[inline(always)]
     fn poll_at(&self, at: At<'_>, cx: &mut Context<'_>, rt: &OneThread) -> Poll<Self::Output> {
         let cell = self.0.cell();
-        match poll(&cell.core, &cell.source, Taking, at, cx, rt) {
+        match poll(&cell.core.store, &cell.source, Taking, at, cx, rt) {
             Poll::Ready(Ok(value)) => Poll::Ready(cell.copy_back(value)),
             Poll::Ready(Err(why)) => Poll::Ready(Err(why)),
             Poll::Pending => Poll::Pending,

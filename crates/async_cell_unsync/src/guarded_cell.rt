@@ -3,7 +3,8 @@ ghost use Rattle.async_cell_unsync.specs.Source.{source_of};
 
 use crate::async_cell::AsyncCell;
 use crate::cell_ref::CellRef;
-use async_cell_waiting::{Cancel, OneThread};
+use async_cell_calls::Cancel;
+use async_cell_step::OneThread;
 
 /// A guard of a cell. Its drop sets its cancel value if the cell holds no value, unless the guard
 /// was released, and then drops its pointer: a guard that is an owner ends its owner.

@@ -18,9 +18,11 @@ mod with;
 
 pub use async_cell::AsyncCell;
 pub use async_cell_core::{Refusal, TaskWaker};
+pub use async_cell_history::{Free, Protocol, Unruled, Unwitnessed};
+pub use async_cell_model::Kept;
 #[doc(hidden)]
-pub use async_cell_waiting::Request;
-pub use async_cell_waiting::{Free, Protocol, Rule, Ruled, Unruled, Unwitnessed};
+pub use async_cell_step::Request;
+pub use async_cell_step::{Rule, Ruled};
 pub use cell_ref::CellRef;
 #[doc(hidden)]
 pub use cell_ref::CellRef as TakeRef; // Of a cell of one thread each value may be taken.

@@ -14,7 +14,8 @@ use crate::weak::{GetWeak, TakeWeak};
 use crate::weak_owner::WeakOwner;
 use crate::with::With;
 use async_cell_core::{Refusal, TaskWaker};
-use async_cell_waiting::{Free, Rule, Ruled, Unruled};
+use async_cell_history::{Free, Unruled};
+use async_cell_step::{Rule, Ruled};
 use std::alloc::Global;
 use std::ops::Deref;
 

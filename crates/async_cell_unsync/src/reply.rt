@@ -8,8 +8,10 @@ ghost use Rattle.async_cell_model.specs.declared.refusal.Refusal.TheVariants.{Cl
 ghost use Rattle.async_cell_unsync.specs.Source.{source_of};
 
 use crate::async_cell::AsyncCell;
+use async_cell_calls::Taking;
 use async_cell_core::{Core, Place, Refusal, TaskWaker};
-use async_cell_waiting::{OneThread, Rule, Ruled, Taking, Unruled, Unwitnessed, poll};
+use async_cell_history::{Unruled, Unwitnessed};
+use async_cell_step::{OneThread, Rule, Ruled, poll};
 use futures::future::Future;
 use futures::task::{Context, Poll};
 use std::alloc::Global;
@@ -197,7 +199,14 @@ impl<T: Drop, N: Unwitnessed<T, TaskWaker>> Future for Reply<T, N> {
             return Poll::Ready(Err(Refusal::Closed));
         };
         let place = Some(&mut self.place);
-        let polled = poll(&cell.core, &cell.source, Taking, place, cx, &OneThread);
+        let polled = poll(
+            &cell.core.store,
+            &cell.source,
+            Taking,
+            place,
+            cx,
+            &OneThread,
+        );
         match polled {
             Poll::Pending | Poll::Ready(Err(Refusal::Memory)) => {}
             Poll::Ready(_) => self.cell = None,

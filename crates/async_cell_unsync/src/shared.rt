@@ -10,7 +10,8 @@ use crate::owner::Owner;
 use crate::take::Take;
 use crate::weak::{GetWeak, TakeWeak, Weak};
 use async_cell_core::{Refusal, TaskWaker};
-use async_cell_waiting::{Anyone, Free, Nobody, OneThread, OwnerPermit, Unruled};
+use async_cell_history::{Anyone, Free, Nobody, OwnerPermit, Unruled};
+use async_cell_step::OneThread;
 use std::alloc::{AllocFailed, Global};
 use std::rc::Rc;
 

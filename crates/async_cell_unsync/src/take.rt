@@ -6,8 +6,9 @@ ghost use Rattle.async_cell_model.specs.Refusal.{FailsWithMemoryOrClosed};
 use crate::async_cell::AsyncCell;
 use crate::cell_ref::CellRef;
 use crate::with::With;
+use async_cell_calls::Taking;
 use async_cell_core::Refusal;
-use async_cell_waiting::{At, OneThread, Polled, Request, Taking, poll};
+use async_cell_step::{At, OneThread, Polled, Request, poll};
 use futures::future::Future;
 use futures::task::{Context, Poll};
 
@@ -30,7 +31,7 @@ impl<C: CellRef> Take<C> {
         ensures refused { IfReady result FailsWithMemoryOrClosed }
     {
         let cell = self.0.cell();
-        poll(&cell.core, &cell.source, Taking, None, cx, &OneThread)
+        poll(&cell.core.store, &cell.source, Taking, None, cx, &OneThread)
     }
 
     /// Returns the future that holds one place in the wait list while it waits.
@@ -60,7 +61,7 @@ impl<C: CellRef> Polled<OneThread> for Take<C> {
     #[inline(always)]
     fn poll_at(&self, at: At<'_>, cx: &mut Context<'_>, rt: &OneThread) -> Poll<Self::Output> {
         let cell = self.0.cell();
-        poll(&cell.core, &cell.source, Taking, at, cx, rt)
+        poll(&cell.core.store, &cell.source, Taking, at, cx, rt)
     }
 }
 

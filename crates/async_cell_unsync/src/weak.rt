@@ -8,8 +8,8 @@ ghost use Rattle.async_cell_unsync.specs.Names.{NameTheSame, OwnsNamed};
 ghost use Rattle.async_cell_unsync.specs.Owned.{cell_owned};
 ghost use Rattle.async_cell_unsync.specs.Refused.{GivesWeakly};
 ghost use Rattle.async_cell_unsync.specs.Source.{source_of, IsSourceOf};
-ghost use Rattle.async_cell_waiting.specs.History.{IsCloneOfOne};
-ghost use Rattle.async_cell_waiting.specs.Upgrade.{FailsToUpgrade};
+ghost use Rattle.async_cell_step.specs.Rule.{IsCloneOfOne};
+ghost use Rattle.async_cell_step.specs.Upgrade.{FailsToUpgrade};
 
 use crate::async_cell::AsyncCell;
 use crate::get::Get;
@@ -18,10 +18,10 @@ use crate::shared::Shared;
 use crate::take::Take;
 use crate::weak_owner::WeakOwner;
 use crate::with::With;
+use async_cell_calls::Taking;
 use async_cell_core::{Refusal, TaskWaker};
-use async_cell_waiting::{
-    At, Free, OneThread, Polled, Request, Takes, Taking, Unruled, Upgrade, poll, weakly,
-};
+use async_cell_history::{Free, Unruled};
+use async_cell_step::{At, OneThread, Polled, Request, Takes, Upgrade, poll, weakly};
 use futures::future::Future;
 use futures::task::{Context, Poll};
 use std::alloc::AllocError;
@@ -160,7 +160,7 @@ impl<T: Drop, N: Free<T, TaskWaker>> Polled<OneThread> for TakeWeak<T, N> {
 
     fn poll_at(&self, at: At<'_>, cx: &mut Context<'_>, rt: &OneThread) -> Poll<Self::Output> {
         match self.0.cell() {
-            Ok(cell) => weakly(poll(&cell.core, &cell.source, Taking, at, cx, rt)),
+            Ok(cell) => weakly(poll(&cell.core.store, &cell.source, Taking, at, cx, rt)),
             Err(why) => Poll::Ready(Err(why)),
         }
     }

@@ -2,13 +2,13 @@ ghost use Rattle.std.specs.Prelude.{◌≡◌, Err, IfOk, IfSome};
 ghost use Rattle.async_cell_unsync.specs.Names.{IsLost, NameAtMostTheSame, Names, NameTheSame};
 ghost use Rattle.async_cell_unsync.specs.Owned.{cell_owned};
 ghost use Rattle.async_cell_model.specs.Refusal.{FailsWithMemory};
-ghost use Rattle.async_cell_waiting.specs.Upgrade.{FailsToUpgrade};
+ghost use Rattle.async_cell_step.specs.Upgrade.{FailsToUpgrade};
 
 use crate::owner::Owner;
 use crate::weak::{GetWeak, TakeWeak, Weak};
 use crate::with::With;
 use async_cell_core::{Refusal, TaskWaker};
-use async_cell_waiting::{Free, Unruled};
+use async_cell_history::{Free, Unruled};
 use std::alloc::AllocError;
 
 /// A weak pointer to a cell, which makes owners and futures. It does not count as an owner, and

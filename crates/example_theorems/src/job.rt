@@ -1,10 +1,9 @@
 //! One job and two takers. Both ask for it at once, and one of them at most gets it.
 ghost use Rattle.std.specs.Prelude.{◌≡◌, Some, IfOk, IfSome};
 ghost use Rattle.async_cell_model.specs.Machine.{content};
-ghost use Rattle.async_cell_waiting.specs.History.{IsTake, OnlyMakes, Took};
+ghost use Rattle.async_cell_history.specs.History.{IsTake, OnlyMakes, Took};
 
-use async_cell_model::{Kept, Refusal};
-use async_cell_sync::{Author, Blank, Owner, Protocol, TaskWaker, Witness, laws};
+use async_cell_sync::{Author, Blank, Kept, Owner, Protocol, Refusal, TaskWaker, Witness, laws};
 use std::alloc::AllocGlobal;
 use std::marker::Brand;
 use std::random::RandomSource;

@@ -2,11 +2,11 @@
 ghost use Rattle.std.specs.Prelude.{◌≡◌, ⊤, Some, IfSome, OnOk};
 ghost use Rattle.async_cell_model.specs.Machine.{content};
 ghost use Rattle.async_cell_model.specs.History.{IsCovered};
-ghost use Rattle.async_cell_waiting.specs.History.{IsLinearized, StillWaits, start_of};
+ghost use Rattle.async_cell_history.specs.History.{IsLinearized, StillWaits, start_of};
 ghost use Rattle.async_cell_sync.specs.declared.TaskWaker.{TaskWaker as Waker};
 
-use async_cell_model::{Kept, Refusal, Reply};
-use async_cell_sync::{Blank, Owner, Protocol, TaskWaker, Wakes, Witness, laws};
+use async_cell_model::Reply;
+use async_cell_sync::{Blank, Kept, Owner, Protocol, Refusal, TaskWaker, Wakes, Witness, laws};
 use futures::executor::block_on;
 use std::alloc::AllocGlobal;
 use std::io;

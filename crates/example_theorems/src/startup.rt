@@ -3,10 +3,9 @@ ghost use Rattle.std.specs.Prelude.{◌≡◌, ℕ, Some, IfOk, IfSome};
 ghost use Rattle.async_cell_model.specs.Machine.{content};
 ghost use Rattle.async_cell_model.specs.declared.entry.Kept.TheVariants.{TryGet};
 ghost use Rattle.async_cell_model.specs.declared.reply.Reply.TheVariants.{Value};
-ghost use Rattle.async_cell_waiting.specs.History.{HasEntry, IsOrSet, OnlyMakes};
+ghost use Rattle.async_cell_history.specs.History.{HasEntry, IsOrSet, OnlyMakes};
 
-use async_cell_model::{Kept, Refusal};
-use async_cell_sync::{Blank, Owner, Protocol, TaskWaker, Witness, laws};
+use async_cell_sync::{Blank, Kept, Owner, Protocol, Refusal, TaskWaker, Witness, laws};
 use futures::executor::block_on;
 use std::alloc::AllocGlobal;
 use std::io;

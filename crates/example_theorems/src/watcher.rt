@@ -1,10 +1,9 @@
 //! A watcher. One thread raises a level, and the other looks at it twice: it never sees it fall.
 ghost use Rattle.std.specs.Prelude.{◌≡◌, ◌≤◌, ℕ, true, nat_le, Option, None, Some, IfOk, IfSome};
 ghost use Rattle.async_cell_model.specs.Machine.{content};
-ghost use Rattle.async_cell_waiting.specs.History.{GoesOn, OnlyMakes};
+ghost use Rattle.async_cell_history.specs.History.{GoesOn, OnlyMakes};
 
-use async_cell_model::{Kept, Refusal};
-use async_cell_sync::{Blank, Owner, Protocol, TaskWaker, Witness, laws};
+use async_cell_sync::{Blank, Kept, Owner, Protocol, Refusal, TaskWaker, Witness, laws};
 use futures::executor::block_on;
 use std::alloc::AllocGlobal;
 use std::io;

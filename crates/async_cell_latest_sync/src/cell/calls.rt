@@ -3,13 +3,13 @@
 ghost use Rattle.std.specs.Prelude.{◌≡◌, ◌≢◌, ◌↔◌, [], ◌∷◌, ◌++◌, Bool, true, false, None, IsOk, IfOk, IfErr, IsSome, OnOk, OnErr};
 ghost use Rattle.std.specs.Fn.{FnOnceReturnsAt, FnOnceReturnsAtMut};
 ghost use Rattle.async_cell_model.specs.Refusal.{FailsWithClosed, FailsWithMemory, FailsWithMemoryOrClosed, IsOwnerRefusal};
-ghost use Rattle.async_cell_waiting.specs.History.{IsCloneOfOne};
+ghost use Rattle.async_cell_step.specs.Rule.{IsCloneOfOne};
 ghost use Rattle.async_cell_latest.specs.State.{is_closed};
 ghost use Rattle.async_cell_latest_sync.specs.Life.{Fits, GoesOn, IsNext, IsOf, TakesNoMore};
 
 use crate::history::{Protocol, Unruled, Values, Witness};
 use async_cell_latest::{Latest, Place, Refusal, TaskWaker, Wakers};
-use async_cell_waiting::{Held, Room, Writes};
+use async_cell_step::{Deferred, Room, Writes};
 use futures::task::Waker;
 use ghost_log::Log;
 use std::alloc::Global;
@@ -62,7 +62,7 @@ impl<T: Drop, N: Protocol<T>> LatestCore<T, N> {
     pub(crate) fn next(
         &self,
         seen: Witness<T, N>,
-    ) -> Held<Result<(Option<T>, Witness<T, N>), Refusal>>
+    ) -> Deferred<Result<(Option<T>, Witness<T, N>), Refusal>>
     where
         T: Clone,
         ensures next { IfOk result.answer (λ both. IsNext T.is_clone seen both.0 both.1) }
@@ -73,14 +73,14 @@ impl<T: Drop, N: Protocol<T>> LatestCore<T, N> {
         if self.state.is_unseen(seen.version()) {
             let (_, value) = match self.state.get() {
                 Ok(shown) => shown,
-                Err(why) => return Held::of(Err(why)),
+                Err(why) => return Deferred::of(Err(why)),
             };
-            return Held::of(Ok((Some(value), now)));
+            return Deferred::of(Ok((Some(value), now)));
         }
         if self.state.is_closed() {
-            return Held::of(Ok((None, now)));
+            return Deferred::of(Ok((None, now)));
         }
-        Held::of(Err(Refusal::Closed))
+        Deferred::of(Err(Refusal::Closed))
     }
 
     /// Makes a witness of the whole life.
@@ -133,7 +133,7 @@ impl<T: Drop, N: Protocol<T>> LatestCore<T, N> {
     }
 
     #[inline(always)]
-    pub(crate) fn get(&self) -> Held<Result<(u64, T), Refusal>>
+    pub(crate) fn get(&self) -> Deferred<Result<(u64, T), Refusal>>
     where
         T: Clone,
         ensures version { IfOk result.answer (λ shown. shown.0 ≡ self.now.state.version) }
@@ -142,27 +142,30 @@ impl<T: Drop, N: Protocol<T>> LatestCore<T, N> {
         ensures if_infallible { ((value : T) → T.is_infallible value) → IsOk result.answer }
         ensures refused { FailsWithMemory result.answer }
     {
-        Held::of(self.state.get())
+        Deferred::of(self.state.get())
     }
 
     #[inline(always)]
     #[tactic(auto, using(crate::proofs::Keeping::of_written, crate::proofs::Keeping::open_life))]
-    pub(crate) fn write_first(&mut self, value: T) -> Result<Held<T, Option<TaskWaker>>, Held<T>>
+    pub(crate) fn write_first(
+        &mut self,
+        value: T,
+    ) -> Result<Deferred<T, Option<TaskWaker>>, Deferred<T>>
         requires may { N.may self.old.life.values value }
         ensures comes_back { IfErr result (λ held. held.answer ≡ value) }
     {
         match self.state.write_first(value) {
             Ok((old, first)) => {
                 self.values.add(&self.state);
-                Ok(Held::waking(old, first))
+                Ok(Deferred::waking(old, first))
             }
-            Err(value) => Err(Held::of(value)),
+            Err(value) => Err(Deferred::of(value)),
         }
     }
 
     #[inline(always)]
     #[tactic(auto, using(crate::proofs::Keeping::of_written, crate::proofs::Keeping::open_life, crate::proofs::Keeping::full_life))]
-    pub(crate) fn replace(&mut self, value: T) -> Held<Result<T, T>, Option<Wakers<TaskWaker>>>
+    pub(crate) fn replace(&mut self, value: T) -> Deferred<Result<T, T>, Option<Wakers<TaskWaker>>>
         requires may { N.may self.old.life.values value }
         ensures entered { OnOk result.answer (self.new.life ≡ record
             { values = self.old.life.values ++ value ∷ []; closed = false }) }
@@ -175,9 +178,9 @@ impl<T: Drop, N: Protocol<T>> LatestCore<T, N> {
         match self.state.write(value) {
             Ok((old, woken)) => {
                 self.values.add(&self.state);
-                Held::waking(Ok(old), Some(woken))
+                Deferred::waking(Ok(old), Some(woken))
             }
-            Err(value) => Held::waking(Err(value), None),
+            Err(value) => Deferred::waking(Err(value), None),
         }
     }
 
@@ -185,7 +188,7 @@ impl<T: Drop, N: Protocol<T>> LatestCore<T, N> {
     pub(crate) fn update<F: FnOnce(&T) -> T>(
         &mut self,
         change: F,
-    ) -> Held<Result<T, T>, Option<Wakers<TaskWaker>>>
+    ) -> Deferred<Result<T, T>, Option<Wakers<TaskWaker>>>
         requires callable { F.IsAlwaysCallable change }
         requires may { (new : T) → N.holds self.old.state.value
             → FnOnceReturnsAt F.FnOnce change self.old.state.value new
@@ -202,9 +205,9 @@ impl<T: Drop, N: Protocol<T>> LatestCore<T, N> {
         match self.state.update(change) {
             Ok((old, woken)) => {
                 self.values.add(&self.state);
-                Held::waking(Ok(old), Some(woken))
+                Deferred::waking(Ok(old), Some(woken))
             }
-            Err(unused) => Held::waking(Err(unused), None),
+            Err(unused) => Deferred::waking(Err(unused), None),
         }
     }
 
@@ -212,7 +215,7 @@ impl<T: Drop, N: Protocol<T>> LatestCore<T, N> {
     pub(crate) fn modify<A, F: FnOnce(&mut T) -> A + Drop>(
         &mut self,
         change: F,
-    ) -> Held<Result<A, Refusal>, Option<Wakers<TaskWaker>>>
+    ) -> Deferred<Result<A, Refusal>, Option<Wakers<TaskWaker>>>
         requires callable { F.IsAlwaysCallable change }
         requires may { (answer : A) (new : T) → N.holds self.old.state.value
             → FnOnceReturnsAtMut F.FnOnce change self.old.state.value answer new
@@ -224,9 +227,9 @@ impl<T: Drop, N: Protocol<T>> LatestCore<T, N> {
         match self.state.modify(change) {
             Ok((answer, woken)) => {
                 self.values.add(&self.state);
-                Held::waking(Ok(answer), Some(woken))
+                Deferred::waking(Ok(answer), Some(woken))
             }
-            Err(why) => Held::waking(Err(why), None),
+            Err(why) => Deferred::waking(Err(why), None),
         }
     }
 
@@ -235,7 +238,7 @@ impl<T: Drop, N: Protocol<T>> LatestCore<T, N> {
     pub(crate) fn modify_if<F: FnOnce(&mut T) -> bool + Drop>(
         &mut self,
         change: F,
-    ) -> Held<Result<bool, Refusal>, Option<Wakers<TaskWaker>>>
+    ) -> Deferred<Result<bool, Refusal>, Option<Wakers<TaskWaker>>>
         requires callable { F.IsAlwaysCallable change }
         requires unnamed { N.named ≡ None }
         requires may { (changed : Bool) (new : T) → N.holds self.old.state.value
@@ -248,27 +251,27 @@ impl<T: Drop, N: Protocol<T>> LatestCore<T, N> {
         match self.state.modify_if(change) {
             Ok(Some(woken)) => {
                 self.values.add(&self.state);
-                Held::waking(Ok(true), Some(woken))
+                Deferred::waking(Ok(true), Some(woken))
             }
-            Ok(None) => Held::waking(Ok(false), None),
-            Err(why) => Held::waking(Err(why), None),
+            Ok(None) => Deferred::waking(Ok(false), None),
+            Err(why) => Deferred::waking(Err(why), None),
         }
     }
 
     #[tactic(auto, using(crate::proofs::Keeping::of_added))]
-    pub(crate) fn add_writer(&mut self) -> Held<Result<(), Refusal>>
+    pub(crate) fn add_writer(&mut self) -> Deferred<Result<(), Refusal>>
         ensures refused { IfErr result.answer IsOwnerRefusal }
     {
-        Held::of(self.state.add_writer())
+        Deferred::of(self.state.add_writer())
     }
 
     #[tactic(auto, using(crate::proofs::Keeping::of_ended, crate::proofs::Keeping::of_closed))]
-    pub(crate) fn end_writer(&mut self) -> Held<(), Option<Wakers<TaskWaker>>> {
+    pub(crate) fn end_writer(&mut self) -> Deferred<(), Option<Wakers<TaskWaker>>> {
         let ended = self.state.end_writer();
         if self.state.is_closed() {
             self.values.close();
         }
-        Held::waking((), ended.ok())
+        Deferred::waking((), ended.ok())
     }
 }
 
@@ -284,7 +287,7 @@ impl<T: Drop, N: Protocol<T>> Writes<T> for LatestCore<T, N> {
     ghost gives = { N.holds };
 
     #[inline(always)]
-    fn write(&mut self, value: T) -> Held<Result<T, T>, Option<Wakers<TaskWaker>>> {
+    fn write(&mut self, value: T) -> Deferred<Result<T, T>, Option<Wakers<TaskWaker>>> {
         self.replace(value)
     }
 }
@@ -301,8 +304,8 @@ impl<T: Drop, N: Protocol<T>> Room for LatestCore<T, N> {
 
     #[inline(always)]
     #[tactic(auto, using(crate::proofs::Keeping::of_stays))]
-    fn add(&mut self, waker: TaskWaker) -> Held<Result<(), TaskWaker>> {
-        Held::of(self.state.add(waker))
+    fn add(&mut self, waker: TaskWaker) -> Deferred<Result<(), TaskWaker>> {
+        Deferred::of(self.state.add(waker))
     }
 
     #[inline(always)]
@@ -312,13 +315,17 @@ impl<T: Drop, N: Protocol<T>> Room for LatestCore<T, N> {
 
     #[inline(always)]
     #[tactic(auto, using(crate::proofs::Keeping::of_stays))]
-    fn store_new(&mut self, place: &mut Place, waker: TaskWaker) -> Held<Result<(), TaskWaker>> {
-        Held::of(self.state.store_new(place, waker))
+    fn store_new(
+        &mut self,
+        place: &mut Place,
+        waker: TaskWaker,
+    ) -> Deferred<Result<(), TaskWaker>> {
+        Deferred::of(self.state.store_new(place, waker))
     }
 
     #[inline(always)]
-    fn take_back(&mut self, place: &mut Place) -> Held<Option<Waker>> {
-        Held::of(self.state.take_back(place))
+    fn take_back(&mut self, place: &mut Place) -> Deferred<Option<Waker>> {
+        Deferred::of(self.state.take_back(place))
     }
 
     #[inline(always)]
@@ -327,8 +334,8 @@ impl<T: Drop, N: Protocol<T>> Room for LatestCore<T, N> {
         &mut self,
         place: &mut Place,
         waker: TaskWaker,
-    ) -> Held<Result<Option<TaskWaker>, TaskWaker>> {
-        Held::of(self.state.store(place, waker))
+    ) -> Deferred<Result<Option<TaskWaker>, TaskWaker>> {
+        Deferred::of(self.state.store(place, waker))
     }
 
     #[inline(always)]
@@ -337,8 +344,8 @@ impl<T: Drop, N: Protocol<T>> Room for LatestCore<T, N> {
     }
 
     #[inline(always)]
-    fn take_left(&mut self, index: usize) -> Held<Option<Waker>> {
-        Held::of(self.state.take_left(index))
+    fn take_left(&mut self, index: usize) -> Deferred<Option<Waker>> {
+        Deferred::of(self.state.take_left(index))
     }
 
     #[inline(always)]

@@ -2,13 +2,13 @@
 ghost use Rattle.std.specs.Prelude.{◌≡◌, ◌≢◌, IsOk, IfOk, IfSome, IfNone};
 ghost use Rattle.std.specs.Fn.{FnOnceReturnsAt};
 ghost use Rattle.async_cell_model.specs.Refusal.{FailsWithMemory};
-ghost use Rattle.async_cell_waiting.specs.History.{IsCloneOfOne};
+ghost use Rattle.async_cell_step.specs.Rule.{IsCloneOfOne};
 ghost use Rattle.async_cell_latest_sync.specs.Found.{IsTested};
 
 use super::LatestCell;
 use crate::history::Protocol;
 use async_cell_latest::Refusal;
-use async_cell_waiting::{Held, Step, end};
+use async_cell_step::{Deferred, Step, end};
 use std::alloc::AllocError;
 use std::sync::Wait;
 
@@ -21,7 +21,7 @@ impl<T: Drop, N: Protocol<T>> LatestCell<T, N> {
         let step = self.core.lock(rt);
         let (version, value) = step.shown().read();
         let answer = look(value);
-        end(step, Held::of(()));
+        end(step, Deferred::of(()));
         (version, answer)
     }
 
@@ -60,11 +60,11 @@ impl<T: Drop, N: Protocol<T>> LatestCell<T, N> {
         let step = self.core.lock(rt);
         let (version, value) = step.shown().read();
         if version == seen {
-            end(step, Held::of(()));
+            end(step, Deferred::of(()));
             return None;
         }
         let found = find(value, predicate);
-        Some(end(step, Held::of((version, found))))
+        Some(end(step, Deferred::of((version, found))))
     }
 
     /// Returns the version.
@@ -76,7 +76,7 @@ impl<T: Drop, N: Protocol<T>> LatestCell<T, N> {
     pub(crate) fn is_closed<R: Wait>(&self, rt: &R) -> bool {
         let step = self.core.lock(rt);
         let is_closed = step.shown().is_closed();
-        end(step, Held::of(is_closed))
+        end(step, Deferred::of(is_closed))
     }
 }
 

@@ -2,7 +2,7 @@
 use super::LatestCore;
 use crate::history::Protocol;
 use async_cell_latest::Refusal;
-use async_cell_waiting::{Held, Query};
+use async_cell_step::{Deferred, Query};
 
 /// Asks a state for its version, if it is another one than this.
 #[derive(Clone, Copy, Drop)]
@@ -25,17 +25,17 @@ impl<T: Drop, N: Protocol<T>> Query<LatestCore<T, N>> for Unseen {
     }
 
     #[inline(always)]
-    fn answer(self, core: &mut LatestCore<T, N>) -> Held<Result<u64, Refusal>> {
+    fn answer(self, core: &mut LatestCore<T, N>) -> Deferred<Result<u64, Refusal>> {
         match core.is_unseen(self.0) {
-            true => Held::of(Ok(core.version())),
-            false => Held::of(Err(Refusal::Closed)),
+            true => Deferred::of(Ok(core.version())),
+            false => Deferred::of(Err(Refusal::Closed)),
         }
     }
 }
 
 impl<T: Clone, N: Protocol<T>> Query<LatestCore<T, N>> for UnseenState {
     ghost use Rattle.std.specs.Prelude.{◌≢◌};
-    ghost use Rattle.async_cell_waiting.specs.History.{IsCloneOfOne};
+    ghost use Rattle.async_cell_step.specs.Rule.{IsCloneOfOne};
 
     type Answer = (u64, T);
 
@@ -48,10 +48,10 @@ impl<T: Clone, N: Protocol<T>> Query<LatestCore<T, N>> for UnseenState {
     }
 
     #[inline(always)]
-    fn answer(self, core: &mut LatestCore<T, N>) -> Held<Result<(u64, T), Refusal>> {
+    fn answer(self, core: &mut LatestCore<T, N>) -> Deferred<Result<(u64, T), Refusal>> {
         match core.is_unseen(self.0) {
             true => core.get(),
-            false => Held::of(Err(Refusal::Closed)),
+            false => Deferred::of(Err(Refusal::Closed)),
         }
     }
 }

@@ -9,7 +9,7 @@ use super::LatestCell;
 use crate::history::Protocol;
 use crate::owner::Owner;
 use async_cell_latest::Refusal;
-use async_cell_waiting::{Opens, Step, Writes, end, end_and_wake, end_and_wake_one, put_held};
+use async_cell_step::{Opens, Step, Writes, end, end_and_wake, end_and_wake_one, put_held};
 use std::sync::{Arc, Wait};
 
 impl<T: Drop, R: Wait + Drop, N: Protocol<T>> Owner<T, R, N> {

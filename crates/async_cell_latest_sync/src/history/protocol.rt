@@ -1,6 +1,6 @@
 ghost use Rattle.std.specs.Prelude.{ℕ, List, Option, None, ⊤};
 
-use async_cell_waiting::{Rule, Ruled};
+use async_cell_step::{Rule, Ruled};
 use std::marker::Brand;
 
 /// Which state it is, which values may be written to it, and what is known of each. Only contracts

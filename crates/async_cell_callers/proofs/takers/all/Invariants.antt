@@ -1,5 +1,5 @@
 use Rattle.std.specs.Prelude.{Some, ⊤}
-use Rattle.async_cell_waiting.specs.History.{puts_any}
+use Rattle.async_cell_history.specs.History.{puts_any}
 use Rattle.async_cell_callers.proofs.takers.all.Given as goal
 
 -- the cell is that of this blank, of which any call may be made

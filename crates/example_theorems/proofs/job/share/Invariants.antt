@@ -1,5 +1,5 @@
 use Rattle.std.specs.Prelude.{Some, ⊤}
-use Rattle.async_cell_waiting.specs.History.{IsTake, puts_any}
+use Rattle.async_cell_history.specs.History.{IsTake, puts_any}
 use Rattle.example_theorems.proofs.job.share.Given as goal
 
 -- the cell is that of this job, of which takes alone may be made

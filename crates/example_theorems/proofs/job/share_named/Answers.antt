@@ -1,5 +1,5 @@
 use Rattle.std.proofs.Common.{Some, None, IfSome, ℕ, Option, arith}
-use Rattle.async_cell_waiting.specs.History.{Seen, Took}
+use Rattle.async_cell_history.specs.History.{Seen, Took}
 use Rattle.example_theorems.proofs.job.share_named.Goals as goal
 
 -- if all takes are by one author, the first and the second did not both take

@@ -1,5 +1,5 @@
 use Rattle.std.specs.Prelude.{Some, ⊤}
-use Rattle.async_cell_waiting.specs.History.{puts_any}
+use Rattle.async_cell_history.specs.History.{puts_any}
 use Rattle.example_theorems.proofs.shutdown.run.Given as goal
 
 -- the cell is that of this server, of which any call may be made

@@ -1,5 +1,5 @@
 use Rattle.std.specs.Prelude.{Some, ⊤}
-use Rattle.async_cell_waiting.specs.History.{IsOrSet, puts_any}
+use Rattle.async_cell_history.specs.History.{IsOrSet, puts_any}
 use Rattle.example_theorems.proofs.startup.start.Given as goal
 
 -- the cell is that of this value, which is set where there is none, and in no other way

@@ -2,7 +2,7 @@ use Rattle.std.proofs.Common.{◌≡◌, Some, IfOk, ℕ, Result, Ok, Err}
 use Rattle.async_cell_model.specs.declared.entry.Kept.TheVariants.{TryGet}
 use Rattle.async_cell_model.specs.declared.reply.Reply.TheVariants.{Value}
 use Rattle.async_cell_model.specs.History.{History}
-use Rattle.async_cell_waiting.specs.History.{HasEntry}
+use Rattle.async_cell_history.specs.History.{HasEntry}
 use Rattle.example_theorems.proofs.startup.start_named.Goals as goal
 
 -- two results are alike if the values that were got in a history are

@@ -1,5 +1,5 @@
 use Rattle.std.specs.Prelude.{◌≡◌, true, nat_le, Some, ⊤}
-use Rattle.async_cell_waiting.specs.History.{GoesOn, puts_any}
+use Rattle.async_cell_history.specs.History.{GoesOn, puts_any}
 use Rattle.example_theorems.proofs.watcher.watch.Given as goal
 
 -- the cell is that of this level, which rises and is never taken out

@@ -1,0 +1,139 @@
+//! The calls of owners: each that ends one takes its permit, and each that adds one gives it.
+ghost use Rattle.std.specs.Prelude.{◌≡◌, ◌⊎◌, None, IfErr, IfOk, IfSome, IsTrue};
+ghost use Rattle.async_cell_model.specs.Refusal.{FailsWithClosed};
+ghost use Rattle.async_cell_history.specs.History.{done_reply};
+
+use crate::cell_store::CellStore;
+use async_cell_core::{Refusal, Wakes};
+use async_cell_history::{Anyone, Caller, CellCore, Nobody, OwnerPermit, Protocol, Sees};
+use async_cell_model::Kept;
+use async_cell_step::{Deferred, Opens, Step, Stores, end, end_and_wake, end_and_wake_one, opened};
+
+impl<M: Stores<Core = CellCore<T, W, N>>, T: Drop, W: Wakes, N: Protocol<T, W>> CellStore<M> {
+    /// Lets go the permit of the last owner. The cell, which nobody else can call, is to end next,
+    /// by its drop.
+    #[inline(always)]
+    pub fn rest(&mut self, permit: OwnerPermit<T, W, N>) {
+        permit.rest(&mut self.store);
+    }
+
+    /// Adds an owner. Fails with `Closed`, and with `OwnersFull` beyond 4,294,967,295 owners.
+    pub fn add_owner<'a, R: Opens<'a, M>>(&'a self, rt: &R) -> Result<(), Refusal>
+        requires nameless { N.named ≡ None }
+        ensures refused { IfErr result (λ why.
+            (why ≡ Refusal.Closed) ⊎ (why ≡ Refusal.OwnersFull)) }
+    {
+        self.add_counted(&Anyone, &mut Nobody, rt)?.let_go();
+        Ok(())
+    }
+
+    /// Ends one owner. The last one closes the cell, drops its value and wakes all waiters. Fails
+    /// with `Closed` on a closed cell.
+    pub fn end_owner<'a, R: Opens<'a, M>>(&'a self, rt: &R) -> Result<(), Refusal>
+        requires nameless { N.named ≡ None }
+        ensures refused { FailsWithClosed result }
+    {
+        self.end_counted(OwnerPermit::blind(), rt)
+    }
+
+    /// Closes the cell, wakes all waiters and returns the value, if there is one owner. Fails with
+    /// `Closed` on a closed cell, and with `StillShared` if there are other owners.
+    pub fn take_inner<'a, R: Opens<'a, M>>(&'a self, rt: &R) -> Result<Option<T>, Refusal>
+        requires nameless { N.named ≡ None }
+        requires may { N.may Kept.TakeInner }
+        ensures rule { IfOk result (λ content. IfSome content N.holds) }
+        ensures refused { IfErr result (λ why.
+            (why ≡ Refusal.Closed) ⊎ (why ≡ Refusal.StillShared)) }
+    {
+        match self.take_counted(OwnerPermit::blind(), rt) {
+            Ok(content) => Ok(content),
+            Err((why, permit)) => {
+                permit.let_go();
+                Err(why)
+            }
+        }
+    }
+
+    /// `add_owner`, which gives the permit of the new owner. The permit of an owner shows that the
+    /// cell is open.
+    pub fn add_counted<'a, K: Caller<T, W, N>, S: Sees<T, W, N>, R: Opens<'a, M>>(
+        &'a self,
+        by: &K,
+        seen: &mut S,
+        rt: &R,
+    ) -> Result<OwnerPermit<T, W, N>, Refusal>
+        ensures refused { IfErr result (λ why.
+            (why ≡ Refusal.Closed) ⊎ (why ≡ Refusal.OwnersFull)) }
+        ensures open { IsTrue R.always → K.owns
+            → IfErr result (λ why. why ≡ Refusal.OwnersFull) }
+        ensures sees { IsTrue R.always
+            → S.sees seen.old Kept.AddOwner (done_reply result) seen.new }
+    {
+        let mut step = opened!(rt, &self.store, else return Err(Refusal::Closed));
+        let core = step.lend();
+        by.shows(core);
+        seen.catch_up(core);
+        let added = core.add_owner(&*seen);
+        seen.see(core);
+        end(step, added)
+    }
+
+    /// `end_owner`, which takes the permit of the owner.
+    pub fn end_counted<'a, R: Opens<'a, M>>(
+        &'a self,
+        permit: OwnerPermit<T, W, N>,
+        rt: &R,
+    ) -> Result<(), Refusal>
+        ensures refused { FailsWithClosed result }
+    {
+        let mut step = opened!(rt, &self.store, else {
+            permit.lose::<M, R>(rt);
+            return Err(Refusal::Closed);
+        });
+        let permit = match step.lend().end_other(permit) {
+            Ok(()) => {
+                end(step, Deferred::of(()));
+                return Ok(());
+            }
+            Err(permit) => permit,
+        };
+        match step.lend().close_first(permit) {
+            Ok(closed) => {
+                drop(end_and_wake_one(step, closed));
+                Ok(())
+            }
+            Err(permit) => end_last(step, permit),
+        }
+    }
+
+    /// `take_inner`, which takes the permit of the owner. It comes back in the error.
+    pub fn take_counted<'a, R: Opens<'a, M>>(
+        &'a self,
+        permit: OwnerPermit<T, W, N>,
+        rt: &R,
+    ) -> Result<Option<T>, (Refusal, OwnerPermit<T, W, N>)>
+        requires may { N.may Kept.TakeInner }
+        ensures rule { IfOk result (λ content. IfSome content N.holds) }
+        ensures refused { IfErr result (λ back.
+            (back.0 ≡ Refusal.Closed) ⊎ (back.0 ≡ Refusal.StillShared)) }
+    {
+        let Some(mut step) = rt.open(&self.store) else {
+            return Err((Refusal::Closed, permit));
+        };
+        let closed = step.lend().take_inner(permit);
+        end_and_wake(step, closed)
+    }
+}
+
+/// Ends the last owner, of a core that is lent.
+#[inline(never)]
+fn end_last<G: Step<Core = CellCore<T, W, N>>, T: Drop, W: Wakes, N: Protocol<T, W>>(
+    mut step: G,
+    permit: OwnerPermit<T, W, N>,
+) -> Result<(), Refusal>
+    ensures refused { FailsWithClosed result }
+{
+    let ended = step.lend().end_owner(permit);
+    drop(end_and_wake(step, ended)?);
+    Ok(())
+}

@@ -1,0 +1,200 @@
+//! What polls ask the core of a cell.
+ghost use Rattle.std.specs.Prelude.{◌≡◌};
+
+use async_cell_core::{Refusal, TaskWaker, Wakes};
+use async_cell_history::{Caller, CellCore, Nobody, Protocol, Sees, TryGet, TryTake, Witness};
+use async_cell_step::{Deferred, Query};
+
+/// Takes the value of a cell.
+#[derive(Clone, Copy, Drop)]
+pub struct Taking;
+
+/// Clones the value of a cell, during the step.
+#[derive(Clone, Copy, Drop)]
+pub struct Cloning;
+
+impl<T: Drop, N: Protocol<T, TaskWaker>> Query<CellCore<T, TaskWaker, N>> for Taking {
+    ghost use Rattle.std.specs.Prelude.{◌≡◌, true, false};
+    ghost use Rattle.async_cell_model.specs.Machine.{is_closed, is_vacant};
+    ghost use Rattle.async_cell_model.specs.declared.entry.Kept.TheVariants.{TryTake};
+
+    type Answer = T;
+
+    ghost asks = { λ _. N.may TryTake };
+
+    ghost gives = { λ _ value. N.holds value };
+
+    ghost ready = { λ core. is_vacant core.inner.cell ≡ false };
+
+    ghost closed = { λ core. is_closed core.inner.cell ≡ true };
+
+    #[inline(always)]
+    fn must_wait(&self, core: &CellCore<T, TaskWaker, N>) -> bool {
+        core.is_vacant()
+    }
+
+    #[inline(always)]
+    #[tactic(auto, using(async_cell_history::proofs::Found::closed_if_none))]
+    fn answer(self, core: &mut CellCore<T, TaskWaker, N>) -> Deferred<Result<T, Refusal>> {
+        core.make(TryTake, &Nobody).or_closed()
+    }
+}
+
+impl<T: Clone, N: Protocol<T, TaskWaker>> Query<CellCore<T, TaskWaker, N>> for Cloning {
+    ghost use Rattle.std.specs.Prelude.{◌≡◌, true, false};
+    ghost use Rattle.async_cell_model.specs.Machine.{is_closed, is_vacant};
+    ghost use Rattle.async_cell_step.specs.Rule.{IsCloneOfOne};
+
+    type Answer = T;
+
+    ghost gives = { λ _ value. IsCloneOfOne T.is_clone N.holds value };
+
+    ghost ready = { λ core. is_vacant core.inner.cell ≡ false };
+
+    ghost closed = { λ core. is_closed core.inner.cell ≡ true };
+
+    #[inline(always)]
+    fn must_wait(&self, core: &CellCore<T, TaskWaker, N>) -> bool {
+        Taking.must_wait(core)
+    }
+
+    #[inline(always)]
+    #[tactic(auto, using(async_cell_history::proofs::Found::closed_if_no_clone))]
+    fn answer(self, core: &mut CellCore<T, TaskWaker, N>) -> Deferred<Result<T, Refusal>> {
+        core.make(TryGet, &Nobody).or_closed()
+    }
+}
+
+/// A query by a caller: an owner never gets `Closed`.
+#[derive(Drop)]
+pub struct By<'a, K, Q> {
+    caller: &'a K,
+    query: Q,
+}
+
+impl<'a, K, Q> By<'a, K, Q> {
+    /// The query, by this caller.
+    #[inline(always)]
+    pub fn new(caller: &'a K, query: Q) -> Self
+        ensures { result.query ≡ query }
+    {
+        By { caller, query }
+    }
+}
+
+impl<T, N, K, Q> Query<CellCore<T, TaskWaker, N>> for By<'_, K, Q>
+where
+    T: Drop,
+    N: Protocol<T, TaskWaker>,
+    K: Caller<T, TaskWaker, N>,
+    Q: Query<CellCore<T, TaskWaker, N>>,
+{
+    ghost use Rattle.std.specs.Prelude.{◌≡◌, false};
+    ghost use Rattle.async_cell_model.specs.Machine.{is_closed};
+
+    type Answer = Q::Answer;
+
+    ghost asks = { λ asked. Q.asks asked.query };
+
+    ghost gives = { λ asked answer. Q.gives asked.query answer };
+
+    ghost ready = { Q.ready };
+
+    ghost closed = { λ core. Q.closed core × (K.owns → is_closed core.inner.cell ≡ false) };
+
+    #[inline(always)]
+    fn must_wait(&self, core: &CellCore<T, TaskWaker, N>) -> bool {
+        self.query.must_wait(core)
+    }
+
+    #[inline(always)]
+    fn answer(self, core: &mut CellCore<T, TaskWaker, N>) -> Deferred<Result<Q::Answer, Refusal>> {
+        let By { caller, query } = self;
+        caller.shows(core);
+        query.answer(core)
+    }
+}
+
+/// `Taking`, which this witness sees.
+#[derive(Drop)]
+pub struct TakingAs<T, N: Protocol<T, TaskWaker>>(pub Witness<T, TaskWaker, N>);
+
+/// `Cloning`, which this witness sees.
+#[derive(Drop)]
+pub struct CloningAs<T, N: Protocol<T, TaskWaker>>(pub Witness<T, TaskWaker, N>);
+
+/// Gives the witness back, which has seen that the value was taken.
+impl<T: Drop, N: Protocol<T, TaskWaker>> Query<CellCore<T, TaskWaker, N>> for TakingAs<T, N> {
+    ghost use Rattle.std.specs.Prelude.{◌≡◌, true, false, Some};
+    ghost use Rattle.async_cell_model.specs.Machine.{is_closed, is_vacant};
+    ghost use Rattle.async_cell_model.specs.declared.entry.Kept.TheVariants.{TryTake};
+    ghost use Rattle.async_cell_model.specs.declared.reply.Reply.TheVariants.{Value};
+    ghost use Rattle.async_cell_history.specs.History.{IsSigned, IsLinearized};
+
+    type Answer = (T, Witness<T, TaskWaker, N>);
+
+    ghost asks = { λ _. N.may TryTake };
+
+    ghost gives = { λ asked given. N.holds given.0 × IsLinearized ⟦<TaskWaker as Wakes>⟧ N.named
+        asked.0.calls TryTake (Value (Some given.0)) given.1.calls × IsSigned asked.0 given.1 };
+
+    ghost ready = { λ core. is_vacant core.inner.cell ≡ false };
+
+    ghost closed = { λ core. is_closed core.inner.cell ≡ true };
+
+    #[inline(always)]
+    fn must_wait(&self, core: &CellCore<T, TaskWaker, N>) -> bool {
+        core.is_vacant()
+    }
+
+    #[inline(always)]
+    #[tactic(auto, using(async_cell_history::proofs::Found::closed_if_none))]
+    fn answer(
+        self,
+        core: &mut CellCore<T, TaskWaker, N>,
+    ) -> Deferred<Result<(T, Witness<T, TaskWaker, N>), Refusal>> {
+        let TakingAs(mut seen) = self;
+        seen.catch_up(core);
+        let taken = core.make(TryTake, &seen);
+        seen.see(core);
+        taken.or_closed().beside(seen)
+    }
+}
+
+/// Gives the witness back, which has seen that the value was cloned.
+impl<T: Clone, N: Protocol<T, TaskWaker>> Query<CellCore<T, TaskWaker, N>> for CloningAs<T, N> {
+    ghost use Rattle.std.specs.Prelude.{◌≡◌, true, false, Some};
+    ghost use Rattle.async_cell_model.specs.Machine.{is_closed, is_vacant};
+    ghost use Rattle.async_cell_model.specs.declared.entry.Kept.TheVariants.{TryGet};
+    ghost use Rattle.async_cell_model.specs.declared.reply.Reply.TheVariants.{Value};
+    ghost use Rattle.async_cell_history.specs.History.{IsSigned, IsLinearizedUpTo};
+    ghost use Rattle.async_cell_step.specs.Rule.{IsCloneOfOne};
+
+    type Answer = (T, Witness<T, TaskWaker, N>);
+
+    ghost gives = { λ asked given. IsCloneOfOne T.is_clone N.holds given.0
+        × IsLinearizedUpTo T.is_clone ⟦<TaskWaker as Wakes>⟧ N.named
+        asked.0.calls TryGet (Value (Some given.0)) given.1.calls × IsSigned asked.0 given.1 };
+
+    ghost ready = { λ core. is_vacant core.inner.cell ≡ false };
+
+    ghost closed = { λ core. is_closed core.inner.cell ≡ true };
+
+    #[inline(always)]
+    fn must_wait(&self, core: &CellCore<T, TaskWaker, N>) -> bool {
+        core.is_vacant()
+    }
+
+    #[inline(always)]
+    #[tactic(auto, using(async_cell_history::proofs::Found::closed_if_no_clone))]
+    fn answer(
+        self,
+        core: &mut CellCore<T, TaskWaker, N>,
+    ) -> Deferred<Result<(T, Witness<T, TaskWaker, N>), Refusal>> {
+        let CloningAs(mut seen) = self;
+        seen.catch_up(core);
+        let copied = core.make(TryGet, &seen);
+        seen.see(core);
+        copied.or_closed().beside(seen)
+    }
+}

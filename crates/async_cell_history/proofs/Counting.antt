@@ -1,0 +1,68 @@
+-- As many values come out, are dropped or are left as were there and went in.
+use Rattle.std.proofs.Common.{◌≡◌, inl, inr, ◌+◌, ℕ, Bool, true, List, [], ◌∷◌, ◌++◌, Option, Some, None, refl, ap, sym, subst, ◌∙◌, arith}
+use Rattle.std.specs.Prelude.{cond, option_to_list}
+use Rattle.std.specs.List.{count_by, cons_option}
+use Rattle.std.proofs.lemmas.List.Sums.{sum_by-append}
+use Rattle.std.specs.List.{All}
+use Rattle.std.proofs.lemmas.List.Elements.{All-head, All-tail}
+use Rattle.async_cell_model.specs.declared.cell.Cell.{Cell}
+use Rattle.async_cell_model.specs.declared.cell.Cell.TheVariants.{Closed, Open}
+use Rattle.async_cell_model.specs.declared.entry.Entry.{Entry}
+use Rattle.async_cell_model.specs.declared.entry.Kept.{Kept}
+use Rattle.async_cell_model.specs.declared.entry.Kept.TheVariants.{Set}
+use Rattle.async_cell_model.specs.declared.refusal.Refusal.TheVariants as why
+use Rattle.async_cell_model.specs.declared.reply.Reply.{Reply}
+use Rattle.async_cell_model.specs.declared.reply.Reply.TheVariants.{Refused}
+use Rattle.async_cell_model.specs.Machine.{State, Exactly, FitsUpdate, content, may_refuse, next, reply}
+use Rattle.async_cell_model.specs.History.{History, cell_after}
+use Rattle.async_cell_model.specs.Legal.{IsLegalAfterBy, MayFollowBy}
+use Rattle.async_cell_model.proofs.JoinedHistory.{cell_after-append}
+use Rattle.async_cell_history.specs.History.{IsAllowed, IsNoSet, come_out, comes_out, dropped, dropped_by, goes_in, gone_in}
+
+module _ {T : Type 0} (test : T → Bool) where
+  abbrev count : Option T → ℕ
+  count o = count_by test (option_to_list o)
+
+  count_more : (o : Option T) (xs : List T) → count_by test (cons_option o xs) ≡ count o + count_by test xs
+  count_more None xs = omega arith
+  count_more (Some x) xs = sum_by-append _ (x ∷ []) xs
+
+module _ {T W : Type 0} (test : T → Bool) where
+  -- what comes out of a cell, is dropped or is left, is what was there or goes in
+  abbrev Balances : Cell T → Kept T W → Reply T → Cell T → Type 0
+  Balances c call answer after = count test (comes_out call answer) + count_by test (dropped_by c call) + count test (content after) ≡ count test (content c) + count test (goes_in call)
+
+  replied : (c : Cell T) (call : Kept T W) → FitsUpdate c call → Balances c call (reply c call) (next c (record { call = call; reply = reply c call }))
+  replied c call fits = grind arith
+
+  stays : (c : Cell T) (call : Kept T W) → content (next c (record { call = call; reply = Refused why.Memory None })) ≡ content c
+  stays Closed call = refl
+  stays (Open value n) call = refl
+
+  module _ (will_wake : W → W → Bool) (sure : Bool) where
+    refused : (at : State T W) (call : Kept T W) → may_refuse will_wake sure at call ≡ true → Balances at.cell call (Refused why.Memory None) (next at.cell (record { call = call; reply = Refused why.Memory None }))
+    refused at call may = rw (stays at.cell call) (grind arith)
+
+    step : (at : State T W) (e : Entry T W) → MayFollowBy Exactly will_wake sure at e → Balances at.cell e.call e.reply (next at.cell e)
+    step at e may = elim may.replied [
+      | inl same ↦ subst (λ (r : Reply T). Balances at.cell e.call r (next at.cell (record { call = e.call; reply = r }))) (sym same) (replied at.cell e.call may.updated)
+      | inr memory ↦ subst (λ (r : Reply T). Balances at.cell e.call r (next at.cell (record { call = e.call; reply = r }))) (sym memory.0) (refused at e.call memory.1)
+    ]
+
+    pub balance : (b : State T W) (g h : History T W) (c : Cell T) → cell_after b.cell g ≡ c → IsLegalAfterBy Exactly will_wake sure b g h
+        → count_by test (come_out h) + count_by test (dropped c h) + count test (content (cell_after c h)) ≡ count test (content c) + count_by test (gone_in h)
+    balance b g [] c is legal = omega arith
+    balance b g (e ∷ h) c is legal =
+        let here = subst (λ (k : Cell T). Balances k e.call e.reply (next k e)) is (step _ e legal.0) in
+        let rest = balance b (g ++ e ∷ []) h (next c e) (cell_after-append b.cell g (e ∷ []) ∙ ap (λ k. next k e) is) legal.1 in
+        omega (arith, here, rest, count_more test (comes_out e.call e.reply) (come_out h), count_more test (goes_in e.call) (gone_in h), sum_by-append (λ x. cond (test x) 1 0) (dropped_by c e.call) (dropped (next c e) h))
+
+module _ {T W : Type 0} where
+  drops_none : (c : Cell T) (call : Kept T W) → IsAllowed IsNoSet call → dropped_by c call ≡ []
+  drops_none c (Set x) may = absurd (may refl)
+  drops_none c call may = refl
+
+  -- without a `set` none is dropped
+  pub none_dropped : (c : Cell T) (h : History T W) → All (λ e. IsAllowed IsNoSet e.call) h → dropped c h ≡ []
+  none_dropped c [] all = refl
+  none_dropped c (e ∷ h) all = rw (drops_none c e.call (All-head (λ (x : Entry T W). IsAllowed IsNoSet x.call) e h all)) (none_dropped (next c e) h (All-tail (λ (x : Entry T W). IsAllowed IsNoSet x.call) e h all))

@@ -1,0 +1,148 @@
+-- Two takes that two authors signed are two places of the history, so they give two of the values put in.
+use Rattle.std.proofs.Common.{◌≡◌, ◌≢◌, ◌⊎◌, inl, inr, ◌≤◌, ℕ, suc, Bool, false, List, [], ◌∷◌, ◌++◌, length, Option, Some, None, refl, ap, sym, subst, ◌∙◌, arith, append-nil, append_assoc}
+use Rattle.std.specs.Prelude.{option_to_list, AllPairs}
+use Rattle.std.specs.List.{All}
+use mathlib.Core.List.{IsPrefix}
+use Rattle.std.proofs.lemmas.List.{length-append}
+use Rattle.std.proofs.lemmas.List.Elements.{All-head, All-tail, filter_map-append}
+use Rattle.async_cell_model.specs.declared.entry.Entry.{Entry}
+use Rattle.async_cell_model.specs.declared.entry.Kept.{Kept}
+use Rattle.async_cell_model.specs.declared.entry.Kept.TheVariants.{TryTake}
+use Rattle.async_cell_model.specs.declared.reply.Reply.TheVariants.{Value}
+use Rattle.async_cell_model.specs.Machine.{State, content}
+use Rattle.async_cell_model.specs.History.{History}
+use Rattle.async_cell_model.specs.Taken.{IsDistinct, IsSubsequence, has_update, is_update, put_by, put_in, taken_by, taken_out}
+use Rattle.async_cell_model.proofs.Exact.{NoClone, legal_of_exact}
+use Rattle.async_cell_model.proofs.Once.{IsSubsequence-same, IsSubsequence-nil, IsSubsequence-trans, IsSubsequence-append, pairs_of_subsequence, given_in_order}
+use Rattle.async_cell_core.specs.IsStep.{WakerRules}
+use Rattle.async_cell_history.specs.History.{Begun, Seen, IsAllowed, IsLawful, IsTake, OnlyMakes, IsLinearized, IsSigned, Took}
+use Rattle.async_cell_history.proofs.Leading.{all_such}
+use Rattle.ghost_log.proofs.Steps.{shorter_begins}
+
+module _ {A : Type 0} where
+  trans : (xs ys zs : List A) → IsPrefix xs ys → IsPrefix ys zs → IsPrefix xs zs
+  trans xs ys zs (s, is) (t, there) = (s ++ t, sym (append_assoc xs s t) ∙ ap (λ l. l ++ t) is ∙ there)
+
+  same : (xs : List A) → IsPrefix xs xs
+  same xs = ([], append-nil xs)
+
+  -- what comes before an element begins all
+  before : (xs : List A) (x : A) → IsPrefix xs (xs ++ x ∷ [])
+  before xs x = (x ∷ [], refl)
+
+  -- at one place stands one element
+  one_place : (xs ys zs : List A) (x y : A) → IsPrefix (xs ++ x ∷ []) zs → IsPrefix (ys ++ y ∷ []) zs → length xs ≡ length ys → x ≡ y
+  one_place xs ys [] x y p q len = absurd (omega (arith, ap length (p.1), length-append (xs ++ x ∷ []) (p.0), length-append xs (x ∷ [])))
+  one_place [] [] (z ∷ zs) x y p q len = cc (p.1, q.1)
+  one_place [] (b ∷ ys) (z ∷ zs) x y p q len = absurd (omega (arith, len))
+  one_place (a ∷ xs) [] (z ∷ zs) x y p q len = absurd (omega (arith, len))
+  one_place (a ∷ xs) (b ∷ ys) (z ∷ zs) x y p q len = one_place xs ys zs x y (p.0, cc (p.1)) (q.0, cc (q.1)) (omega (arith, len))
+
+  -- an element at an earlier place of a list stands before one at a later place
+  earlier : (xs ys zs : List A) (x y : A) → IsPrefix (xs ++ x ∷ []) zs → IsPrefix (ys ++ y ∷ []) zs → suc (length xs) ≤ length ys → IsPrefix (xs ++ x ∷ []) ys
+  earlier xs ys zs x y p q le =
+      shorter_begins (xs ++ x ∷ []) ys zs p (trans ys (ys ++ y ∷ []) zs (before ys y) q) (omega (arith, le, length-append xs (x ∷ [])))
+
+  longer_has : (xs ys : List A) → IsSubsequence xs (xs ++ ys)
+  longer_has xs ys = subst (λ (l : List A). IsSubsequence l (xs ++ ys)) (append-nil xs) (IsSubsequence-append xs xs [] ys (IsSubsequence-same xs) (IsSubsequence-nil ys))
+
+  -- two values that stand at two places of a list without equals differ
+  apart : (v w : A) (vs : List A) → IsDistinct vs → IsSubsequence (v ∷ w ∷ []) vs → v ≢ w
+  apart v w vs distinct sub = pairs_of_subsequence (λ x y. x ≢ y) (v ∷ w ∷ []) vs sub distinct 0 1 v (omega arith) (omega arith)
+
+order : (m n : ℕ) → (m ≡ n) ⊎ ((suc m ≤ n) ⊎ (suc n ≤ m))
+order m n = grind arith
+
+module _ {T W : Type 0} where
+  abbrev take : T → Entry T W
+  take v = record { call = TryTake; reply = Value (Some v) }
+
+  -- what was taken of a part was taken of all
+  of_part : (g h : History T W) → IsPrefix g h → IsSubsequence (taken_out g) (taken_out h)
+  of_part g h (rest, is) = subst (λ (l : History T W). IsSubsequence (taken_out g) (taken_out l)) is (rw (filter_map-append (λ (e : Entry T W). taken_by e.call e.reply) g rest) (longer_has (taken_out g) (taken_out rest)))
+
+  -- one more was taken
+  one_more : (vs : List T) (h : History T W) (w : T) → IsSubsequence vs (taken_out h) → IsSubsequence (vs ++ w ∷ []) (taken_out (h ++ take w ∷ []))
+  one_more vs h w sub = rw (filter_map-append (λ (e : Entry T W). taken_by e.call e.reply) h (take w ∷ [])) (IsSubsequence-append vs (taken_out h) (w ∷ []) (w ∷ []) sub (IsSubsequence-same (w ∷ [])))
+
+  -- of two takes, the first of which was made before the second
+  both_taken : (g h all : History T W) (v w : T) → IsPrefix (g ++ take v ∷ []) h → IsPrefix (h ++ take w ∷ []) all → IsSubsequence (v ∷ w ∷ []) (taken_out all)
+  both_taken g h all v w first second =
+      let one = IsSubsequence-trans (of_part (g ++ take v ∷ []) h first) (v ∷ []) (one_more [] g v (IsSubsequence-nil (taken_out g))) in
+      IsSubsequence-trans (of_part (h ++ take w ∷ []) all second) (v ∷ w ∷ []) (one_more (v ∷ []) h w one)
+
+  -- two authors took, so the one took before the other
+  pub two_taken : (all : Seen T W) (m n : ℕ) (v w : T) → Took m v all → Took n w all → m ≢ n → IsSubsequence (v ∷ w ∷ []) (taken_out all.calls) ⊎ IsSubsequence (w ∷ v ∷ []) (taken_out all.calls)
+  two_taken all m n v w one other differ = elim (order (length one.before) (length other.before)) [
+    | inl is ↦ absurd (differ (one_place one.authors_before other.authors_before all.authors m n one.authors other.authors (one.as_many ∙ is ∙ sym other.as_many)))
+    | inr order ↦ elim order [
+      | inl less ↦ inl (both_taken one.before other.before all.calls v w (earlier one.before other.before all.calls (take v) (take w) one.calls other.calls less) other.calls)
+      | inr more ↦ inr (both_taken other.before one.before all.calls w v (earlier other.before one.before all.calls (take w) (take v) other.calls one.calls more) one.calls)
+    ]
+  ]
+
+  -- they took two of the values that were there or put in
+  pub two_put : (will_wake : W → W → Bool) (sure : Bool) (may : Kept T W → Type 0) (start : State T W) (all : Seen T W) (m n : ℕ) (v w : T) → IsLawful will_wake sure may start all.calls → has_update all.calls ≡ false → Took m v all → Took n w all → m ≢ n
+      → IsSubsequence (v ∷ w ∷ []) (option_to_list (content start.cell) ++ put_in all.calls) ⊎ IsSubsequence (w ∷ v ∷ []) (option_to_list (content start.cell) ++ put_in all.calls)
+  two_put will_wake sure may start all m n v w lawful plain one other differ =
+      let given = given_in_order NoClone will_wake sure start [] all.calls plain (legal_of_exact will_wake sure start all.calls lawful.legal) in
+      elim (two_taken all m n v w one other differ) [ inl sub ↦ inl (IsSubsequence-trans given (v ∷ w ∷ []) sub) | inr sub ↦ inr (IsSubsequence-trans given (w ∷ v ∷ []) sub) ]
+
+  -- which differ, if all of those differ
+  pub two_differ : (will_wake : W → W → Bool) (sure : Bool) (may : Kept T W → Type 0) (start : State T W) (all : Seen T W) (m n : ℕ) (v w : T) → IsLawful will_wake sure may start all.calls → has_update all.calls ≡ false → IsDistinct (option_to_list (content start.cell) ++ put_in all.calls) → Took m v all → Took n w all → m ≢ n → v ≢ w
+  two_differ will_wake sure may start all m n v w lawful plain distinct one other differ is =
+      elim (two_put will_wake sure may start all m n v w lawful plain one other differ) [
+        | inl sub ↦ apart v w _ distinct sub is
+        | inr sub ↦ apart w v _ distinct sub (sym is)
+      ]
+
+-- no two values stand in a list of one
+no_pairs : {T : Type 0} (o : Option T) → AllPairs (λ x y. ⊥) (option_to_list o ++ [])
+no_pairs o i j d less more = grind arith
+
+one_alone : {T : Type 0} (o : Option T) (v w : T) → IsSubsequence (v ∷ w ∷ []) (option_to_list o ++ []) → ⊥
+one_alone o v w sub = pairs_of_subsequence (λ x y. ⊥) (v ∷ w ∷ []) (option_to_list o ++ []) sub (no_pairs o) 0 1 v (omega arith) (omega arith)
+
+module _ {T W : Type 0} where
+  -- a take puts nothing in
+  puts_none : (call : Kept T W) → IsAllowed IsTake call → (put_by call ≡ None) × (is_update call ≡ false)
+  puts_none call may = grind arith
+
+  none_put : (h : History T W) → All (λ e. IsAllowed IsTake e.call) h → (put_in h ≡ []) × (has_update h ≡ false)
+  none_put [] all = (refl, refl)
+  none_put (e ∷ h) all =
+      let here = puts_none e.call (All-head (λ (x : Entry T W). IsAllowed IsTake x.call) e h all) in
+      let rest = none_put h (All-tail (λ (x : Entry T W). IsAllowed IsTake x.call) e h all) in
+      (rw here.0 (rest.0), rw here.1 (rest.1))
+
+  -- where all only take, one at most takes a value
+  pub one_takes : (will_wake : W → W → Bool) (sure : Bool) (may : Kept T W → Type 0) (start : State T W) (all : Seen T W) (m n : ℕ) (v w : T) → OnlyMakes may IsTake → IsLawful will_wake sure may start all.calls → Took m v all → Took n w all → m ≡ n
+  one_takes will_wake sure may start all m n v w only lawful one other =
+      let none = none_put all.calls (all_such may IsTake only all.calls lawful.allowed) in
+      let alone : (x y : T) → IsSubsequence (x ∷ y ∷ []) (option_to_list (content start.cell) ++ put_in all.calls) → ⊥ =
+      λ x y sub. one_alone (content start.cell) x y (subst (λ (l : List T). IsSubsequence (x ∷ y ∷ []) (option_to_list (content start.cell) ++ l)) none.0 sub) in
+      let two : (m ≢ n) → ⊥ = λ differ. elim (two_put will_wake sure may start all m n v w lawful none.1 one other differ) [ inl sub ↦ alone v w sub | inr sub ↦ alone w v sub ] in
+      elim (order m n) [
+        | inl is ↦ is
+        | inr less ↦ absurd (two (λ is. elim less [ inl below ↦ omega (arith, below, is) | inr above ↦ omega (arith, above, is) ]))
+      ]
+
+-- who was told of a take took
+pub took : {T W : Type 0} (rules : WakerRules W) (named : Option (Begun T W)) (seen now : Seen T W) (v : T) → IsLinearized rules named seen.calls TryTake (Value (Some v)) now.calls → IsSigned seen now → length now.authors ≡ length now.calls → Took seen.author v now
+took {T} {W} rules named seen now v told signed many = record {
+  before = told.before;
+  authors_before = signed.before;
+  as_many = omega (arith, many, ap length told.ends, ap length signed.ends, length-append told.before (take v ∷ []), length-append signed.before (seen.author ∷ []));
+  calls = subst (λ (h : History T W). IsPrefix h now.calls) told.ends (same now.calls);
+  authors = subst (λ (l : List ℕ). IsPrefix l now.authors) signed.ends (same now.authors);
+}
+
+-- and took whatever comes after
+pub still_took : {T W : Type 0} (seen all : Seen T W) (n : ℕ) (v : T) → Took n v seen → IsPrefix seen.calls all.calls → IsPrefix seen.authors all.authors → Took n v all
+still_took seen all n v took calls authors = record {
+  before = took.before;
+  authors_before = took.authors_before;
+  as_many = took.as_many;
+  calls = trans _ _ _ took.calls calls;
+  authors = trans _ _ _ took.authors authors;
+}

@@ -1,0 +1,343 @@
+-- The history of a cell: which cell it is, the calls on it, and what a call adds to it.
+use Rattle.std.specs.Prelude.{◌≡◌, ◌+◌, ℕ, Bool, true, false, List, [], ◌∷◌, ◌++◌, Contains, length, filter_map, option_to_list, ⊤, Option, Some, None, IfSome, IsSome, IsSomeAnd, Result, Ok, Err}
+use Rattle.std.specs.List.{All}
+use mathlib.Core.List.{IsPrefix}
+use Rattle.async_cell_model.specs.declared.cell.Cell.{Cell}
+use Rattle.async_cell_model.specs.declared.cell.Cell.TheVariants.{Closed}
+use Rattle.async_cell_model.specs.declared.entry.Entry.{Entry}
+use Rattle.async_cell_model.specs.declared.entry.Kept.{Kept}
+use Rattle.async_cell_model.specs.declared.entry.Kept.TheVariants.{Set, OrSet, Replace, Update, UpdateSome, TryTake, TryGet, IsSet, PollTake, PollGet, AddOwner, EndOwner, TakeInner}
+use Rattle.async_cell_model.specs.declared.refusal.Refusal.{Refusal}
+use Rattle.async_cell_model.specs.declared.refusal.Refusal.TheVariants as why
+use Rattle.async_cell_model.specs.declared.reply.Reply.{Reply}
+use Rattle.async_cell_model.specs.declared.reply.Reply.TheVariants as reply
+use Rattle.async_cell_model.specs.Machine.{State, Does, UpToClones, content, is_closed, next, pending_waker}
+use Rattle.async_cell_model.specs.History.{History, after, cell_after, has_fill_or_close}
+use Rattle.async_cell_model.specs.Legal.{IsLegal, Runs, wakes_after}
+use Rattle.async_cell_model.specs.Taken.{put_by}
+use Rattle.async_cell_core.specs.declared.call.Answer.{Answer}
+use Rattle.async_cell_core.specs.IsStep.{WakerRules}
+use Rattle.futures.specs.declared.task.Poll.{Poll}
+use Rattle.futures.specs.declared.task.Poll.TheVariants as poll
+
+-- how a named cell began: the name of its list of calls, that of the count of its owners, if they
+-- are counted, and its first state
+pub record Begun (T W : Type 0) : Type 0 where
+  pub name : ℕ
+  pub permits : Option ℕ
+  pub start : State T W
+
+-- how a cell began, the calls on it so far, and the number of who made each: 0 is nobody
+pub record Past (T W : Type 0) : Type 0 where
+  pub begun : Begun T W
+  pub calls : History T W
+  pub authors : List ℕ
+  -- how many permits of owners are out
+  pub out : ℕ
+
+-- the calls that one witness has seen, the number of who made each, and its own; and how many calls
+-- were made with it
+pub record Seen (T W : Type 0) : Type 0 where
+  pub calls : History T W
+  pub authors : List ℕ
+  pub author : ℕ
+  pub own : ℕ
+
+-- a core, beside its past
+pub record Logged (T W : Type 0) : Type 0 where
+  pub inner : State T W
+  pub past : Past T W
+
+-- the first of these numbers: 0 if there is none
+abbrev pub first_number : List ℕ → ℕ
+first_number [] = 0
+first_number (first ∷ rest) = first
+
+module _ {T W : Type 0} where
+  -- a cell without a name can have begun anyhow
+  abbrev pub Fits : Option (Begun T W) → Begun T W → Type 0
+  Fits None begun = ⊤
+  Fits (Some named) begun = begun ≡ named
+
+  -- the first of these states
+  abbrev pub first_of : List (State T W) → State T W
+  first_of [] = record { cell = Closed; waiting = []; room = 0 }
+  first_of (first ∷ rest) = first
+
+  -- the first state of a named cell
+  abbrev pub start_of : Option (Begun T W) → State T W
+  start_of None = record { cell = Closed; waiting = []; room = 0 }
+  start_of (Some named) = named.start
+
+  -- the name of the count of a cell's owners
+  abbrev pub permits_of : Option (Begun T W) → Option ℕ
+  permits_of None = None
+  permits_of (Some named) = named.permits
+
+  -- whether the call adds an owner or ends one
+  abbrev pub is_of_owners : Kept T W → Bool
+  is_of_owners AddOwner = true
+  is_of_owners EndOwner = true
+  is_of_owners TakeInner = true
+  is_of_owners _ = false
+
+  -- a call and the reply to it
+  abbrev pub entry_of : Kept T W → Answer T W → Entry T W
+  entry_of call answer = record { call = call; reply = answer.reply }
+
+  -- the answer of a `set`, made of what `replace` returned
+  abbrev pub set_answer : Result (Option T × List W) T → Answer T W
+  set_answer (Ok (old, woken)) = record { reply = reply.Done; woken = woken }
+  set_answer (Err back) = record { reply = reply.Refused why.Closed (Some back); woken = [] }
+
+  -- whether the call may change the content: the writes and the takes do
+  abbrev pub is_change : Kept T W → Bool
+  is_change TryGet = false
+  is_change IsSet = false
+  is_change (PollGet w) = false
+  is_change AddOwner = false
+  is_change EndOwner = false
+  is_change _ = true
+
+  -- a change is one that may be made; any other call is
+  abbrev pub IsAllowed : (Kept T W → Type 0) → Kept T W → Type 0
+  IsAllowed may call = is_change call ≡ true → may call
+
+module _ {T W : Type 0} (will_wake : W → W → Bool) (sure_wakers : Bool) where
+  -- the calls are legal, and lead from the first state to this one, where a value satisfies `holds`
+  abbrev pub Leads : (T → Type 0) → Past T W → State T W → Type 0
+  Leads holds past at = Runs will_wake sure_wakers past.begun.start past.calls
+      (wakes_after will_wake past.begun.start [] past.calls) at × IfSome (content at.cell) holds
+
+  -- from this state the calls are legal, and the changes among them are allowed
+  pub record IsLawful (may : Kept T W → Type 0) (start : State T W) (calls : History T W)
+      : Type 0 where
+    pub legal : IsLegal will_wake sure_wakers start calls
+    pub allowed : All (λ e. IsAllowed may e.call) calls
+
+  -- these calls were seen of the cell with this name, whose list has this name, and whose owners
+  -- are counted
+  pub record IsSeen (may : Kept T W → Type 0) (named : Option (Begun T W)) (name : ℕ)
+      (calls : History T W) : Type 0 where
+    pub of_this : named
+        ≡ Some (record { name = name; permits = permits_of named; start = start_of named })
+    pub counted : IsSome (permits_of named)
+    pub lawful : IsLawful may (start_of named) calls
+
+  -- the core made this call and handed out these wakers, and its past has it now at the end, signed
+  -- with this number
+  pub record Made (old : Logged T W) (call : Kept T W) (reply : Reply T) (woken : List W) (by : ℕ)
+      (new : Logged T W) : Type 0 where
+    pub does : Does will_wake sure_wakers old.inner
+        (record { call = call; reply = reply }) woken new.inner
+    pub begun : new.past.begun ≡ old.past.begun
+    pub entered : new.past.calls ≡ old.past.calls ++ record { call = call; reply = reply } ∷ []
+    pub signed : new.past.authors ≡ old.past.authors ++ by ∷ []
+
+-- The calls that were seen have gone on, and end with this call and its reply. There it is a step
+-- of the machine: on the state after all calls before it.
+pub record IsLinearized {T W : Type 0} (rules : WakerRules W) (named : Option (Begun T W))
+    (seen : History T W) (call : Kept T W) (reply : Reply T) (now : History T W) : Type 0 where
+  pub before : History T W
+  pub goes_on : IsPrefix seen before
+  pub ends : now ≡ before ++ record { call = call; reply = reply } ∷ []
+  pub woken : List W
+  pub does : Does rules.will_wake rules.SURE_CLONE (after rules.will_wake (start_of named) before)
+      (record { call = call; reply = reply }) woken (after rules.will_wake (start_of named) now)
+
+-- The authors that were seen have gone on, and end with the thread's own number, which stays. The
+-- witness counts one call more that was made with it.
+pub record IsSigned {T W : Type 0} (seen now : Seen T W) : Type 0 where
+  pub before : List ℕ
+  pub goes_on : IsPrefix seen.authors before
+  pub ends : now.authors ≡ before ++ seen.author ∷ []
+  pub stays : now.author ≡ seen.author
+  pub one_more : now.own ≡ seen.own + 1
+
+-- The first has seen what begins the past of this core. The second has seen all of it, and signs as
+-- the first does.
+pub record IsReady {T W : Type 0} (will_wake : W → W → Bool) (sure_wakers : Bool)
+    (holds : T → Type 0) (named : Option (Begun T W)) (seen now : Seen T W) (core : Logged T W)
+    : Type 0 where
+  pub led : Leads will_wake sure_wakers holds core.past core.inner
+  pub begun : core.past.begun.start ≡ start_of named
+  pub calls : IsPrefix seen.calls core.past.calls
+  pub authors : IsPrefix seen.authors core.past.authors
+  pub whole : now.calls ≡ core.past.calls
+  pub whole_authors : now.authors ≡ core.past.authors
+  pub stays : now.author ≡ seen.author
+  pub none_made : now.own ≡ seen.own
+
+-- What was seen has gone on, and the cell is closed after it.
+pub record IsSeenClosed {T W : Type 0} (named : Option (Begun T W)) (seen now : Seen T W)
+    : Type 0 where
+  pub goes_on : IsPrefix seen.calls now.calls
+  pub authors_go_on : IsPrefix seen.authors now.authors
+  pub stays : now.author ≡ seen.author
+  pub closed : is_closed (cell_after (start_of named).cell now.calls) ≡ true
+
+-- In all that was seen, a `try_take` that this author signed took this value, at some place.
+pub record Took {T W : Type 0} (author : ℕ) (value : T) (seen : Seen T W) : Type 0 where
+  pub before : History T W
+  pub authors_before : List ℕ
+  pub as_many : length authors_before ≡ length before
+  pub calls : IsPrefix
+      (before ++ record { call = TryTake; reply = reply.Value (Some value) } ∷ []) seen.calls
+  pub authors : IsPrefix (authors_before ++ author ∷ []) seen.authors
+
+-- `IsLinearized` up to clones: where the machine gives a value, a get may return a clone of it
+abbrev pub IsLinearizedUpTo : {T W : Type 0} → (T → T → Type 0) → WakerRules W → Option (Begun T W)
+    → History T W → Kept T W → Reply T → History T W → Type 0
+IsLinearizedUpTo {T} is_clone rules named seen call reply now = (own : Reply T)
+    × IsLinearized rules named seen call own now × UpToClones is_clone call own reply
+
+-- The reply that stands for what a call returned.
+module _ {T : Type 0} where
+  -- of `set`
+  abbrev pub set_reply : {A : Type 0} → Result A T → Reply T
+  set_reply (Ok _) = reply.Done
+  set_reply (Err back) = reply.Refused why.Closed (Some back)
+
+  -- of `replace` and `or_set`
+  abbrev pub write_reply : Result (Option T) T → Reply T
+  write_reply (Ok old) = reply.Value old
+  write_reply (Err back) = reply.Refused why.Closed (Some back)
+
+  -- of `update`, `update_some` and `add_owner`
+  abbrev pub done_reply : {A : Type 0} → Result A Refusal → Reply T
+  done_reply (Ok _) = reply.Done
+  done_reply (Err why) = reply.Refused why None
+
+  -- of `end_owner`, and of a get up to clones
+  abbrev pub end_reply : Result (Option T) Refusal → Reply T
+  end_reply (Ok value) = reply.Value value
+  end_reply (Err why) = reply.Refused why None
+
+  -- of `take_inner`, where the permit of the owner comes back
+  abbrev pub take_reply : {P : Type 0} → Result (Option T) (Refusal × P) → Reply T
+  take_reply (Ok value) = reply.Value value
+  take_reply (Err back) = reply.Refused back.0 None
+
+  -- of a get: the machine's own reply, where the cell held this content
+  abbrev pub get_reply : {A : Type 0} → Option T → Result A Refusal → Reply T
+  get_reply held (Ok _) = reply.Value held
+  get_reply held (Err why) = reply.Refused why None
+
+  -- of `poll_get`: the machine's own reply, where the cell held this content
+  abbrev pub own_poll : Option T → Result (Poll (Option T)) Refusal → Reply T
+  own_poll held (Ok (poll.Ready _)) = reply.Ready held
+  own_poll held (Ok poll.Pending) = reply.Pending
+  own_poll held (Err why) = reply.Refused why None
+
+-- The values of a cell.
+module _ {T W : Type 0} where
+  -- the values that the call puts in satisfy `P`
+  abbrev pub Puts : (T → Type 0) → Kept T W → Type 0
+  Puts P (Set x) = P x
+  Puts P (OrSet x) = P x
+  Puts P (Replace x) = P x
+  Puts P (Update saw put) = IfSome put P
+  Puts P (UpdateSome saw put) = IfSome put P
+  Puts P _ = ⊤
+
+  -- without a rule, each call puts in what keeps it
+  abbrev pub puts_any : (call : Kept T W) → Puts (λ _. ⊤) call
+  puts_any (Set x) = tt
+  puts_any (OrSet x) = tt
+  puts_any (Replace x) = tt
+  puts_any (Update saw None) = tt
+  puts_any (Update saw (Some x)) = tt
+  puts_any (UpdateSome saw None) = tt
+  puts_any (UpdateSome saw (Some x)) = tt
+  puts_any TryTake = tt
+  puts_any TryGet = tt
+  puts_any IsSet = tt
+  puts_any (PollTake w) = tt
+  puts_any (PollGet w) = tt
+  puts_any AddOwner = tt
+  puts_any EndOwner = tt
+  puts_any TakeInner = tt
+
+  -- each value that a change may put in, a `set` may put in too
+  abbrev pub PutsWhatSetsMay : (Kept T W → Type 0) → Type 0
+  PutsWhatSetsMay may = (call : Kept T W) → may call → Puts (λ v. may (Set v)) call
+
+  -- the value that goes in: passed to a write, or returned by the closure of an update
+  abbrev pub goes_in : Kept T W → Option T
+  goes_in (Update saw put) = put
+  goes_in (UpdateSome saw put) = put
+  goes_in call = put_by call
+
+  -- the value that comes out: moved to the closure of an update, or by the reply, also where it was
+  -- not used or the call was refused. A get only copies it.
+  abbrev pub comes_out : Kept T W → Reply T → Option T
+  comes_out (Update saw put) reply = saw
+  comes_out (UpdateSome saw put) reply = saw
+  comes_out TryGet reply = None
+  comes_out (PollGet w) reply = None
+  comes_out call (reply.Value v) = v
+  comes_out call (reply.Ready v) = v
+  comes_out call (reply.Refused why back) = back
+  comes_out call reply = None
+
+  -- what the call drops: a `set` the value that it replaces
+  abbrev pub dropped_by : Cell T → Kept T W → List T
+  dropped_by c (Set x) = option_to_list (content c)
+  dropped_by c call = []
+
+  -- all values that these calls put in
+  abbrev pub gone_in : History T W → List T
+  gone_in h = filter_map (λ e. goes_in e.call) h
+
+  -- all values that came out at these calls
+  abbrev pub come_out : History T W → List T
+  come_out h = filter_map (λ e. comes_out e.call e.reply) h
+
+  -- the values that the `set`s among these calls replaced: each was dropped
+  abbrev pub dropped : Cell T → History T W → List T
+  dropped c [] = []
+  dropped c (e ∷ h) = dropped_by c e.call ++ dropped (next c e) h
+
+  -- among these calls is this one, with this reply
+  pub record HasEntry (calls : History T W) (call : Kept T W) (reply : Reply T) : Type 0 where
+    pub there : Contains calls (record { call = call; reply = reply })
+
+  -- the call is an `or_set`
+  abbrev pub IsOrSet : Kept T W → Type 0
+  IsOrSet (OrSet x) = ⊤
+  IsOrSet call = ⊥
+
+  -- the call is no `set`
+  abbrev pub IsNoSet : Kept T W → Type 0
+  IsNoSet (Set x) = ⊥
+  IsNoSet call = ⊤
+
+  -- the call takes the value
+  abbrev pub IsTake : Kept T W → Type 0
+  IsTake TryTake = ⊤
+  IsTake (PollTake w) = ⊤
+  IsTake TakeInner = ⊤
+  IsTake call = ⊥
+
+  -- of a full cell, the call makes one with a value that follows the one that was there
+  abbrev pub GoesOn : (T → T → Type 0) → Kept T W → Type 0
+  GoesOn Follows (OrSet x) = ⊤
+  GoesOn Follows (Update (Some old) put) = IsSomeAnd put (Follows old)
+  GoesOn Follows (Update None put) = ⊤
+  GoesOn Follows (UpdateSome (Some old) put) = IsSomeAnd put (Follows old)
+  GoesOn Follows (UpdateSome None put) = ⊤
+  GoesOn Follows call = ⊥
+
+  -- the changes that may be made are such calls
+  abbrev pub OnlyMakes : (Kept T W → Type 0) → (Kept T W → Type 0) → Type 0
+  OnlyMakes may Such = (call : Kept T W) → may call → IsAllowed Such call
+
+-- Who waits. A poll with this waker has returned `Pending`, and nothing filled or closed the cell
+-- since.
+pub record StillWaits {T W : Type 0} (start : Cell T) (w : W) (calls : History T W) : Type 0 where
+  pub before : History T W
+  pub poll : Entry T W
+  pub later : History T W
+  pub split : calls ≡ before ++ poll ∷ later
+  pub pending : pending_waker poll ≡ Some w
+  pub none : has_fill_or_close (cell_after start (before ++ poll ∷ [])) later ≡ false

@@ -1,0 +1,225 @@
+//! The calls that a step may make of a core. This module and `ops` alone see the core: each function
+//! makes one call of it, and holds what comes out, which the end of a step alone lets go.
+ghost use Rattle.std.specs.Prelude.{◌≡◌, [], false, Some, None, IfErr, IfOk, IfSome, IsSome, IsSomeAnd};
+ghost use Rattle.std.specs.Fn.{FnOnceReturnsAt};
+ghost use Rattle.async_cell_model.specs.Machine.{content, is_closed, is_vacant, IsSound};
+ghost use Rattle.async_cell_history.specs.History.{Fits, Leads, Made, permits_of};
+ghost use Rattle.async_cell_model.specs.Refusal.{FailsWithMemory};
+
+mod owners;
+mod room;
+mod writes;
+
+use crate::op::{Makes, MakesFast};
+use crate::{Before, Blank, Op, Opened, OwnerPermit, Past, Protocol, Signs, Unruled, Witness};
+use async_cell_core::{Core, Refusal, Wakes};
+use async_cell_step::Deferred;
+use std::alloc::Global;
+use std::fmt;
+use std::marker::{Model, PhantomData};
+
+/// The core of a cell, whose own calls it hides: what they return would be woken or dropped during
+/// a step. Its own hold what comes out.
+#[derive(Drop)]
+pub struct CellCore<T, W: Wakes, N: Protocol<T, W> = Unruled> {
+    inner: Core<T, W>,
+    pub(crate) past: Past<T, W, N>,
+}
+
+/// Contracts see the state of the core, and its past, which leads to it. Its value keeps the rule.
+impl<T, W: Wakes, N: Protocol<T, W>> Model for CellCore<T, W, N> {
+    ghost use Rattle.std.specs.Prelude.{◌≡◌};
+    ghost use Rattle.async_cell_model.specs.Machine.{owners_of};
+    ghost use Rattle.async_cell_history.specs.History.{Logged, Leads};
+
+    ghost Value = { Logged T W };
+
+    ghost view = { λ c. record { inner = c.inner; past = c.past } };
+
+    ghost invariant = { λ c. Leads W.will_wake W.SURE_CLONE N.holds c.past c.inner
+        × (c.past.out ≡ owners_of c.inner.cell) };
+}
+
+impl<T: Drop, W: Wakes, N: Protocol<T, W>> CellCore<T, W, N> {
+    /// Wraps the core of a cell without a name, whatever its state.
+    pub fn of(core: Core<T, W>) -> Self
+        requires nameless { N.named ≡ None }
+        requires rule { IfSome (content core.cell) N.holds }
+    {
+        let opened = Opened::of(&core);
+        CellCore::begin(core, opened)
+    }
+
+    /// Wraps the core, which begins its history.
+    #[inline(always)]
+    pub(crate) fn begin(core: Core<T, W>, opened: Opened<T, W>) -> Self
+        requires named { Fits N.named opened }
+        requires counted { opened.permits ≡ permits_of N.named }
+        requires begins { opened.start ≡ core }
+        requires rule { IfSome (content core.cell) N.holds }
+        ensures begun { result.past.begun ≡ opened }
+        ensures empty { result.past.calls ≡ [] }
+    {
+        core.soundness();
+        CellCore {
+            inner: core,
+            past: Past::of(opened),
+        }
+    }
+
+    /// Wraps the core of a blank, and makes the first witness of its history, and the permit of its
+    /// owner.
+    pub fn of_blank(blank: Blank<T, W>) -> (Self, Witness<T, W, N>, OwnerPermit<T, W, N>)
+        requires named { N.named ≡ Some blank }
+        requires rule { IfSome (content blank.start.cell) N.holds }
+        ensures new { result.1.calls ≡ [] }
+        ensures nobody { result.1.author ≡ 0 }
+    {
+        let (core, opened, permit) = blank.into_parts();
+        let core = CellCore::begin(core, opened);
+        let witness = Witness::of(&core.past);
+        (core, witness, OwnerPermit::of(permit))
+    }
+
+    /// Returns the core. Ensures what holds of every core.
+    pub fn into_core(self) -> Core<T, W>
+        ensures sound { IsSound W.will_wake result }
+        ensures rule { IfSome (content result.cell) N.holds }
+    {
+        let CellCore { inner, past: _ } = self;
+        inner.soundness();
+        inner
+    }
+
+    /// Does nothing. Its contract states what holds of every core: its state is sound.
+    #[inline(always)]
+    pub fn soundness(&self)
+        ensures { IsSound W.will_wake self.now.inner }
+    {
+        self.inner.soundness();
+    }
+
+    /// Does nothing. Its contract states that a cell is open while an owner that is counted has its
+    /// permit.
+    #[inline(always)]
+    #[tactic(auto, using(crate::proofs::Owning::open_if_owned))]
+    pub(crate) fn owned(&mut self, permit: &OwnerPermit<T, W, N>)
+        ensures stays { self.new ≡ self.old }
+        ensures open { IsSome (permits_of N.named) → is_closed self.old.inner.cell ≡ false }
+    {
+        self.past.shows(permit);
+    }
+
+    /// Makes a call, which is entered, and signed so.
+    #[inline(always)]
+    pub fn make<O: Op<T, W, N>, B: Signs>(&mut self, op: O, by: &B) -> Deferred<O::Answer, O::After>
+        requires can { O.can op }
+        ensures made { Made W.will_wake W.SURE_CLONE self.old
+            (O.call self.old.inner op self.new.inner) (O.reply self.old.inner result.answer)
+            (O.After.wakes result.woken) (B.number by.now) self.new }
+        ensures gives { O.gives self.old.inner op result.answer self.new.inner }
+        ensures leaves { O.leaves self.old.inner op result.woken }
+    {
+        let before = Before::of(&self.inner, &op);
+        let held = op.make(&mut self.inner);
+        before.enter(
+            &mut self.past,
+            &Makes::<N, O>(PhantomData),
+            &held,
+            &self.inner,
+            by,
+        );
+        held
+    }
+
+    /// `make`, on the fast path of the call, if it has one and can take it.
+    #[inline(always)]
+    pub fn fast<O: Op<T, W, N>, B: Signs>(
+        &mut self,
+        op: O,
+        by: &B,
+    ) -> Result<Deferred<O::Answer, O::Few>, O>
+        requires can { O.can op }
+        ensures made { IfOk result (λ held. Made W.will_wake W.SURE_CLONE self.old
+            (O.call self.old.inner op self.new.inner) (O.reply self.old.inner held.answer)
+            (O.Few.wakes held.woken) (B.number by.now) self.new) }
+        ensures gives { IfOk result (λ held.
+            O.gives self.old.inner op held.answer self.new.inner) }
+        ensures leaves { IfOk result (λ held. O.leaves_few self.old.inner op held.woken) }
+        ensures comes_back { IfErr result (λ back. back ≡ op) }
+    {
+        let before = Before::of(&self.inner, &op);
+        let held = op.fast(&mut self.inner)?;
+        before.enter(
+            &mut self.past,
+            &MakesFast::<N, O>(PhantomData),
+            &held,
+            &self.inner,
+            by,
+        );
+        Ok(held)
+    }
+
+    /// Returns whether there is a value.
+    #[inline(always)]
+    pub fn is_set(&self) -> bool {
+        self.inner.is_set()
+    }
+
+    /// Returns whether the cell is open and has no value: whether a poll waits.
+    #[inline(always)]
+    pub fn is_vacant(&self) -> bool
+        ensures { result ≡ is_vacant self.now.inner.cell }
+    {
+        self.inner.is_vacant()
+    }
+
+    /// Returns the number of owners: 0 of a closed cell.
+    #[inline(always)]
+    pub fn owners(&self) -> u32 {
+        self.inner.owners()
+    }
+
+    /// Returns how many wakers wait.
+    #[inline(always)]
+    pub fn waiting(&self) -> usize {
+        self.inner.waiting()
+    }
+
+    /// Returns whether no waker waits.
+    #[inline(always)]
+    pub fn wakes_nobody(&self) -> bool {
+        self.inner.wakes_nobody()
+    }
+
+    /// Calls the closure on the value, if there is one. It comes back otherwise.
+    #[inline(always)]
+    pub fn peek<A, F: FnOnce(&T) -> A>(&self, look: F) -> Deferred<Result<A, F>>
+        requires { F.IsAlwaysCallable look }
+        ensures called { IfOk result.answer (λ answer. IsSomeAnd (content self.now.inner.cell)
+            (λ seen. FnOnceReturnsAt F.FnOnce look seen answer)) }
+        ensures rule { IfSome (content self.now.inner.cell) N.holds }
+    {
+        Deferred::of(self.inner.peek(look))
+    }
+
+    /// Prints the core. Fails with `Memory`.
+    pub fn debug_text(&self, alloc: Global) -> Deferred<Result<String, Refusal>>
+    where
+        T: fmt::Debug,
+        ensures refused { FailsWithMemory result.answer }
+    {
+        match format!(in alloc; "{:?}", &self.inner) {
+            Ok(text) => Deferred::of(Ok(text)),
+            Err(why) => Deferred::of(Err(why.into())),
+        }
+    }
+
+    /// Makes room for more wakers. Fails with `Memory`.
+    #[inline(always)]
+    pub fn reserve(&mut self, additional: usize) -> Deferred<Result<(), Refusal>>
+        ensures refused { FailsWithMemory result.answer }
+    {
+        Deferred::of(self.inner.reserve(additional))
+    }
+}

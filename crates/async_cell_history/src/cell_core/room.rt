@@ -1,0 +1,80 @@
+//! The places of futures that wait. One that begins to wait is entered, as a poll that takes
+//! nothing.
+use super::CellCore;
+use crate::entries::Waits;
+use crate::{Before, Nobody, Protocol};
+use async_cell_core::{Place, TaskWaker};
+use async_cell_step::{Deferred, Room};
+use futures::task::Waker;
+
+impl<T: Drop, N: Protocol<T, TaskWaker>> Room for CellCore<T, TaskWaker, N> {
+    ghost use Rattle.std.specs.Prelude.{◌≡◌, true};
+    ghost use Rattle.async_cell_model.specs.Machine.{is_vacant};
+
+    ghost vacant = { λ cell. is_vacant cell.inner.cell ≡ true };
+
+    ghost waiting = { λ cell. cell.inner.waiting };
+
+    ghost room = { λ cell. cell.inner.room };
+
+    #[inline(always)]
+    fn add(&mut self, waker: TaskWaker) -> Deferred<Result<(), TaskWaker>> {
+        let before = Before::of(&self.inner, &waker);
+        let added = self.inner.add(waker);
+        if added.is_ok() {
+            before.enter(&mut self.past, &Waits, &(), &self.inner, &Nobody);
+        }
+        Deferred::of(added)
+    }
+
+    #[inline(always)]
+    fn is_new(&self, place: &Place) -> bool {
+        self.inner.is_new(place)
+    }
+
+    #[inline(always)]
+    fn store_new(
+        &mut self,
+        place: &mut Place,
+        waker: TaskWaker,
+    ) -> Deferred<Result<(), TaskWaker>> {
+        let before = Before::of(&self.inner, &waker);
+        let stored = self.inner.store_new(place, waker);
+        if stored.is_ok() {
+            before.enter(&mut self.past, &Waits, &(), &self.inner, &Nobody);
+        }
+        Deferred::of(stored)
+    }
+
+    #[inline(always)]
+    fn take_back(&mut self, place: &mut Place) -> Deferred<Option<Waker>> {
+        Deferred::of(self.inner.take_back(place))
+    }
+
+    #[inline(always)]
+    fn store(
+        &mut self,
+        place: &mut Place,
+        waker: TaskWaker,
+    ) -> Deferred<Result<Option<TaskWaker>, TaskWaker>> {
+        let before = Before::of(&self.inner, &waker);
+        let stored = self.inner.store(place, waker);
+        before.enter_stored(&mut self.past, &Waits, &stored, &self.inner);
+        Deferred::of(stored)
+    }
+
+    #[inline(always)]
+    fn vacate(&mut self, place: Place) -> Option<usize> {
+        self.inner.vacate(place)
+    }
+
+    #[inline(always)]
+    fn take_left(&mut self, index: usize) -> Deferred<Option<Waker>> {
+        Deferred::of(self.inner.take_left(index))
+    }
+
+    #[inline(always)]
+    fn places(&self) -> usize {
+        self.inner.waiting()
+    }
+}

@@ -1,0 +1,142 @@
+//! Laws of the history of a cell. Each is the contract of a function that does nothing.
+ghost use Rattle.std.specs.Prelude.{◌≡◌, ◌≢◌, ◌+◌, ◌⊎◌, ◌++◌, ◌∷◌, [], ℕ, Bool, true, false, length, Some, IfSome, option_to_list};
+ghost use Rattle.std.specs.List.{count_by};
+ghost use mathlib.Core.List.{IsPrefix};
+ghost use Rattle.async_cell_model.specs.declared.reply.Reply.{Reply as Replied};
+ghost use Rattle.async_cell_model.specs.declared.entry.Kept.{Kept as Called};
+ghost use Rattle.async_cell_model.specs.Machine.{content, ends_waiting};
+ghost use Rattle.async_cell_model.specs.Legal.{IsExact};
+ghost use Rattle.async_cell_model.specs.History.{History, IsCovered, cell_after};
+ghost use Rattle.async_cell_model.specs.Taken.{IsDistinct, IsSubsequence, has_update, put_in};
+ghost use Rattle.async_cell_history.specs.History.{GoesOn, HasEntry, IsLawful, IsNoSet, IsOrSet, IsSigned, IsTake, IsLinearized, IsLinearizedUpTo, OnlyMakes, PutsWhatSetsMay, Seen, StillWaits, Took, come_out, dropped, gone_in, start_of};
+
+use crate::Protocol;
+use async_cell_core::Wakes;
+use async_cell_model::{Kept, Reply};
+
+/// A value that is taken or got is one that a `set` may put in, if all other changes put in such
+/// values alone, and the first state has none or such a one.
+pub fn a_value_is_one_that_may_be_set<T, W: Wakes, N: Protocol<T, W>>()
+    ensures taken { PutsWhatSetsMay N.may
+        → IfSome (content (start_of N.named).cell) (λ v. N.may (Kept.Set v))
+        → (seen now : History T W) (v : T)
+        → IsLawful W.will_wake W.SURE_CLONE N.may (start_of N.named) now
+        → IsLinearized W.Wakes N.named seen Kept.TryTake (Reply.Value (Some v)) now
+        → N.may (Kept.Set v) }
+    ensures got { PutsWhatSetsMay N.may
+        → IfSome (content (start_of N.named).cell) (λ v. N.may (Kept.Set v))
+        → (seen now : History T W) (v : T)
+        → IsLawful W.will_wake W.SURE_CLONE N.may (start_of N.named) now
+        → IsLinearized W.Wakes N.named seen Kept.TryGet (Reply.Value (Some v)) now
+        → N.may (Kept.Set v) }
+{}
+
+/// A call that fills or closes a cell wakes each waker that still waits there, or one that would
+/// wake it.
+pub fn a_fill_or_close_wakes_who_waits<T, W: Wakes, N: Protocol<T, W>>()
+    ensures { (seen now : History T W) (call : Called T W) (reply : Replied T) (w : W)
+        (made : IsLinearized W.Wakes N.named seen call reply now)
+        → IsLawful W.will_wake W.SURE_CLONE N.may (start_of N.named) now
+        → StillWaits (start_of N.named).cell w made.before
+        → ends_waiting (cell_after (start_of N.named).cell made.before)
+        (cell_after (start_of N.named).cell now) ≡ true
+        → IsCovered W.will_wake made.woken w }
+{}
+
+/// A `set` that was done wakes each waker that still waits there, or one that would wake it.
+pub fn a_set_wakes_who_waits<T, W: Wakes, N: Protocol<T, W>>()
+    ensures { (seen now : History T W) (v : T) (w : W)
+        (made : IsLinearized W.Wakes N.named seen (Kept.Set v) Reply.Done now)
+        → IsLawful W.will_wake W.SURE_CLONE N.may (start_of N.named) now
+        → StillWaits (start_of N.named).cell w made.before → IsCovered W.will_wake made.woken w }
+{}
+
+/// A call that was linearized is in the history, and stays there.
+pub fn what_was_seen_stays<T, W: Wakes, N: Protocol<T, W>>()
+    ensures linearized { (seen now : History T W) (call : Called T W) (reply : Replied T)
+        → IsLinearized W.Wakes N.named seen call reply now → HasEntry now call reply }
+    ensures stays { (seen now : History T W) (call : Called T W) (reply : Replied T)
+        → IsPrefix seen now → HasEntry seen call reply → HasEntry now call reply }
+{}
+
+/// Where clones are exact, what was got is what the cell held.
+pub fn an_exact_get_is_linearized<T: Clone, W: Wakes, N: Protocol<T, W>>()
+    ensures { IsExact T.is_clone → (seen now : History T W) (v : T)
+        → IsLinearizedUpTo T.is_clone W.Wakes N.named seen Kept.TryGet (Reply.Value (Some v)) now
+        → IsLinearized W.Wakes N.named seen Kept.TryGet (Reply.Value (Some v)) now }
+{}
+
+/// If an `or_set` is the only change that may be made, each `try_get` of a value finds the same.
+/// What it returned is that value or a clone of it.
+pub fn what_is_set_once_all_get<T, W: Wakes, N: Protocol<T, W>>()
+    ensures { (now : History T W) (v w : T)
+        → OnlyMakes N.may IsOrSet
+        → IsLawful W.will_wake W.SURE_CLONE N.may (start_of N.named) now
+        → HasEntry now Kept.TryGet (Reply.Value (Some v))
+        → HasEntry now Kept.TryGet (Reply.Value (Some w)) → v ≡ w }
+{}
+
+/// What is got never goes back, if only an `or_set` may be made, and an update that leaves in a
+/// full cell a value which follows the one there, by a reflexive and transitive test. What a
+/// `try_get` finds follows what one that it has seen found: each returned that, or a clone of it.
+pub fn what_is_got_never_goes_back<T, W: Wakes, N: Protocol<T, W>>()
+    ensures { (follows : T → T → Bool) (seen first later now : History T W) (v w : T)
+        → ((a : T) → follows a a ≡ true)
+        → ((a b c : T) → follows a b ≡ true → follows b c ≡ true → follows a c ≡ true)
+        → OnlyMakes N.may (GoesOn (λ a b. follows a b ≡ true))
+        → IsLawful W.will_wake W.SURE_CLONE N.may (start_of N.named) now
+        → IsLinearized W.Wakes N.named seen Kept.TryGet (Reply.Value (Some v)) first
+        → IsPrefix first later
+        → IsLinearized W.Wakes N.named later Kept.TryGet (Reply.Value (Some w)) now
+        → follows v w ≡ true }
+{}
+
+/// A take that an author signed is one of its own, for ever: also in all that was seen later.
+pub fn a_seen_take_is_of_its_author<T, W: Wakes, N: Protocol<T, W>>()
+    ensures linearized { (seen now : Seen T W) (v : T)
+        → IsLinearized W.Wakes N.named seen.calls Kept.TryTake (Reply.Value (Some v)) now.calls
+        → IsSigned seen now → length now.authors ≡ length now.calls → Took seen.author v now }
+    ensures later { (seen all : Seen T W) (n : ℕ) (v : T) → Took n v seen
+        → IsPrefix seen.calls all.calls → IsPrefix seen.authors all.authors → Took n v all }
+{}
+
+/// Two authors take two values. In a history without updates, what they took are two of the values
+/// that the cell held at the start and that were passed to the writes, in the one order or the
+/// other. So if all of those differ, the two values do.
+pub fn two_takers_take_two_values<T, W: Wakes, N: Protocol<T, W>>()
+    ensures two_put { (all : Seen T W) (m n : ℕ) (v w : T)
+        → IsLawful W.will_wake W.SURE_CLONE N.may (start_of N.named) all.calls
+        → has_update all.calls ≡ false → Took m v all → Took n w all → m ≢ n
+        → IsSubsequence (v ∷ w ∷ [])
+        (option_to_list (content (start_of N.named).cell) ++ put_in all.calls)
+        ⊎ IsSubsequence (w ∷ v ∷ [])
+        (option_to_list (content (start_of N.named).cell) ++ put_in all.calls) }
+    ensures differ { (all : Seen T W) (m n : ℕ) (v w : T)
+        → IsLawful W.will_wake W.SURE_CLONE N.may (start_of N.named) all.calls
+        → has_update all.calls ≡ false
+        → IsDistinct (option_to_list (content (start_of N.named).cell) ++ put_in all.calls)
+        → Took m v all → Took n w all → m ≢ n → v ≢ w }
+{}
+
+/// Of takers alone one gets a value. If takes are the only changes that may be made, all takes of a
+/// value are signed by one author.
+pub fn of_takers_alone_one_gets<T, W: Wakes, N: Protocol<T, W>>()
+    ensures { (all : Seen T W) (m n : ℕ) (v w : T) → OnlyMakes N.may IsTake
+        → IsLawful W.will_wake W.SURE_CLONE N.may (start_of N.named) all.calls
+        → Took m v all → Took n w all → m ≡ n }
+{}
+
+/// What goes in comes out. Of whatever values are counted, as many as were there at the start and
+/// went in have come out, were dropped by a `set`, or are left. Without a `set` none is dropped.
+pub fn as_many_come_out_or_are_left_as_went_in<T, W: Wakes, N: Protocol<T, W>>()
+    ensures as_many { (is_counted : T → Bool) (now : History T W)
+        → IsLawful W.will_wake W.SURE_CLONE N.may (start_of N.named) now
+        → count_by is_counted (come_out now)
+        + count_by is_counted (dropped (start_of N.named).cell now)
+        + count_by is_counted (option_to_list (content (cell_after (start_of N.named).cell now)))
+        ≡ count_by is_counted (option_to_list (content (start_of N.named).cell))
+        + count_by is_counted (gone_in now) }
+    ensures none_dropped { OnlyMakes N.may IsNoSet → (now : History T W)
+        → IsLawful W.will_wake W.SURE_CLONE N.may (start_of N.named) now
+        → dropped (start_of N.named).cell now ≡ [] }
+{}

@@ -1,0 +1,31 @@
+//! The core of a cell beside its history, which exists in the proofs alone. Its calls, each a value,
+//! who makes and who sees them, and laws. Internal, but for what the crates of the cells re-export:
+//! it may change without notice.
+#![tactic(auto)]
+
+mod blank;
+mod cell_core;
+mod entries;
+pub mod laws;
+mod number;
+mod op;
+mod ops;
+mod past;
+mod permit;
+mod protocol;
+mod sees;
+mod start;
+mod witness;
+
+pub use blank::Blank;
+pub use cell_core::CellCore;
+pub use number::Author;
+use number::{Number, Signed};
+pub use op::Op;
+pub use ops::{IsSet, OrSet, PollGet, PollTake, Replace, Set, TryGet, TryTake, Update, UpdateSome};
+use past::{Before, Enters, Opened, Past};
+pub use permit::{Anyone, Caller, OwnerPermit};
+pub use protocol::{Free, Protocol, Takeable, Unruled, Unwitnessed};
+pub use sees::{Nobody, Sees, Signs};
+use start::Start;
+pub use witness::Witness;

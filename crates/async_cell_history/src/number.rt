@@ -1,0 +1,89 @@
+//! Numbers in the proofs alone: who makes the calls of a history, and how many.
+ghost use Rattle.std.specs.Prelude.{◌≡◌, ◌+◌, ℕ};
+
+use async_cell_model::Entry;
+use ghost_log::{Log, Makes};
+use std::marker::{Model, PhantomData};
+
+/// A number that calls are signed with. Only contracts read it; 0 is nobody.
+pub trait Author {
+    /// The number.
+    ghost number: { ℕ };
+}
+
+/// A call of a history, and the number of who made it.
+pub(crate) struct Signed<T, W> {
+    pub(crate) who: u64,
+    pub(crate) entry: Entry<T, W>,
+}
+
+/// A number: of an author, or of calls. It has no bytes.
+#[derive(Drop)]
+pub(crate) struct Number {
+    log: Log<u64>,
+}
+
+/// Contracts see the number.
+impl Model for Number {
+    ghost use Rattle.std.specs.Prelude.{ℕ};
+    ghost use Rattle.async_cell_history.specs.History.{first_number};
+
+    ghost Value = { ℕ };
+
+    ghost view = { λ n. first_number n.log.list };
+}
+
+impl Number {
+    /// The number of this author.
+    #[inline(always)]
+    pub(crate) fn of<A: Author>() -> Self
+        ensures { result ≡ A.number }
+    {
+        let mut log = Log::open();
+        log.push::<_, By<A>>(&());
+        Number { log }
+    }
+
+    /// The number after it.
+    #[inline(always)]
+    pub(crate) fn next(&self) -> Self
+        ensures { result ≡ self.now + 1 }
+    {
+        let mut log = Log::open();
+        log.push::<_, Next>(self);
+        Number { log }
+    }
+
+    /// The same number.
+    #[inline(always)]
+    pub(crate) fn again(&self) -> Self
+        ensures { result ≡ self.now }
+    {
+        let mut log = Log::open();
+        log.push::<_, Itself>(self);
+        Number { log }
+    }
+}
+
+/// The entry is the number of the author.
+struct By<A>(PhantomData<A>);
+
+impl<A: Author> Makes<(), u64> for By<A> {
+    ghost entry = { λ _. A.number };
+}
+
+/// The entry is the number itself.
+struct Itself;
+
+impl Makes<Number, u64> for Itself {
+    ghost entry = { λ number. number };
+}
+
+/// The entry is the number after it.
+struct Next;
+
+impl Makes<Number, u64> for Next {
+    ghost use Rattle.std.specs.Prelude.{◌+◌};
+
+    ghost entry = { λ number. number + 1 };
+}

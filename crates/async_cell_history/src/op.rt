@@ -1,0 +1,113 @@
+//! Calls as values: one function makes any of them in one step, plainly or for a witness.
+ghost use Rattle.std.specs.Prelude.{◌≡◌, ⊤, false, None, IfOk, IfSome, OnErr, IfErr};
+ghost use Rattle.async_cell_model.specs.declared.entry.Kept.{Kept};
+ghost use Rattle.async_cell_model.specs.declared.reply.Reply.{Reply};
+ghost use Rattle.async_cell_model.specs.Machine.{State, Does, content};
+ghost use Rattle.async_cell_history.specs.History.{IsAllowed, is_of_owners, start_of};
+
+use crate::{Enters, Protocol};
+use async_cell_core::{Core, Wakes};
+use async_cell_step::{After, Deferred};
+use std::marker::PhantomData;
+
+/// A call of a cell, as a value. Which call of the model it is only contracts read: from the states
+/// before and after it, and from its answer.
+pub trait Op<T: Drop, W: Wakes, N: Protocol<T, W>>: Sized {
+    /// What it returns.
+    type Answer;
+
+    /// What it leaves for after the step.
+    type After: After<W>;
+
+    /// What it leaves on its fast path.
+    type Few: After<W>;
+
+    /// It has a fast path.
+    const IS_FAST: bool = false;
+
+    /// What has to be known for it to be made.
+    ghost can: { Self → Type 0 } = { λ _. ⊤ };
+
+    /// The call of the model.
+    ghost call: { State T W → Self → State T W → Kept T W };
+
+    /// The reply of the model.
+    ghost reply: { State T W → Self.Answer → Reply T };
+
+    /// What is known of the answer.
+    ghost gives: { State T W → Self → Self.Answer → State T W → Type 0 } = { λ _ _ _ _. ⊤ };
+
+    /// What it leaves for after the step.
+    ghost leaves: { State T W → Self → Self.After → Type 0 } = { λ _ _ _. ⊤ };
+
+    /// What it leaves on its fast path.
+    ghost leaves_few: { State T W → Self → Self.Few → Type 0 } = { λ _ _ _. ⊤ };
+
+    /// Makes it.
+    fn make(self, core: &mut Core<T, W>) -> Deferred<Self::Answer, Self::After>
+        requires can { can self }
+        requires rule { IfSome (content core.old.cell) N.holds }
+        ensures made { Does W.will_wake W.SURE_CLONE core.old
+            (record { call = call core.old self core.new; reply = reply core.old result.answer })
+            (Self.After.wakes result.woken) core.new }
+        ensures allowed { IsAllowed N.may (call core.old self core.new) }
+        ensures of_content { is_of_owners (call core.old self core.new) ≡ false }
+        ensures gives { gives core.old self result.answer core.new }
+        ensures leaves { leaves core.old self result.woken };
+
+    /// Makes it, if it wakes no more than one waker and has a fast path. It comes back otherwise.
+    #[inline(always)]
+    fn fast(self, core: &mut Core<T, W>) -> Result<Deferred<Self::Answer, Self::Few>, Self>
+        requires can { can self }
+        requires rule { IfSome (content core.old.cell) N.holds }
+        ensures made { IfOk result (λ held. Does W.will_wake W.SURE_CLONE core.old
+            (record { call = call core.old self core.new; reply = reply core.old held.answer })
+            (Self.Few.wakes held.woken) core.new) }
+        ensures allowed { IfOk result (λ _. IsAllowed N.may (call core.old self core.new)) }
+        ensures of_content { IfOk result (λ _.
+            is_of_owners (call core.old self core.new) ≡ false) }
+        ensures gives { IfOk result (λ held. gives core.old self held.answer core.new) }
+        ensures leaves { IfOk result (λ held. leaves_few core.old self held.woken) }
+        ensures comes_back { IfErr result (λ back. back ≡ self) }
+        ensures unchanged { OnErr result (core.new ≡ core.old) }
+    {
+        let _ = core;
+        Err(self)
+    }
+
+    /// What it returns where no core is lent: as of a closed cell.
+    fn unlent(self) -> Self::Answer
+        ensures gives { gives (start_of None) self result (start_of None) };
+}
+
+/// The entry of a call that was made.
+pub(crate) struct Makes<N, O>(pub(crate) PhantomData<(N, O)>);
+
+impl<T, W, N, O> Enters<O, Deferred<O::Answer, O::After>, T, W> for Makes<N, O>
+where
+    T: Drop,
+    W: Wakes,
+    N: Protocol<T, W>,
+    O: Op<T, W, N>,
+{
+    ghost call = { O.call };
+
+    ghost answer = { λ from held. record
+        { reply = O.reply from held.answer; woken = O.After.wakes held.woken } };
+}
+
+/// The entry of a call that was made on its fast path.
+pub(crate) struct MakesFast<N, O>(pub(crate) PhantomData<(N, O)>);
+
+impl<T, W, N, O> Enters<O, Deferred<O::Answer, O::Few>, T, W> for MakesFast<N, O>
+where
+    T: Drop,
+    W: Wakes,
+    N: Protocol<T, W>,
+    O: Op<T, W, N>,
+{
+    ghost call = { O.call };
+
+    ghost answer = { λ from held. record
+        { reply = O.reply from held.answer; woken = O.Few.wakes held.woken } };
+}

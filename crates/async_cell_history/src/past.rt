@@ -1,0 +1,242 @@
+ghost use Rattle.std.specs.Prelude.{◌≡◌, [], ◌∷◌, ◌++◌, None, false, IsSome, IfOk, IfSome, OnErr, MatchOption};
+ghost use Rattle.async_cell_core.specs.IsStep.{IsStep};
+ghost use Rattle.async_cell_model.specs.Machine.{owners_of};
+ghost use Rattle.async_cell_history.specs.History.{Fits, IsAllowed, Leads, entry_of, is_of_owners, permits_of};
+
+use crate::{Nobody, Protocol, Signed, Signs, Start};
+use async_cell_core::{Core, Wakes};
+use ghost_count::{Count, Permit};
+use ghost_log::{Log, Makes};
+use std::marker::{Model, PhantomData};
+use std::snapshot::Snapshot;
+
+/// Says which call of the model it is, by the states before and after it and by what was passed to
+/// it, and how it was answered, by what it returned. Only contracts read it.
+pub(crate) trait Enters<C, A, T, W> {
+    ghost use Rattle.async_cell_model.specs.declared.entry.Kept.{Kept};
+    ghost use Rattle.async_cell_model.specs.Machine.{State};
+    ghost use Rattle.async_cell_core.specs.declared.call.Answer.{Answer};
+
+    ghost call: { State T W → C → State T W → Kept T W };
+
+    ghost answer: { State T W → A → Answer T W };
+}
+
+/// A core that begins a history, which no type names yet.
+#[derive(Drop)]
+pub struct Opened<T, W: Wakes> {
+    log: Log<Signed<T, W>>,
+    start: Start<T, W>,
+    count: Count,
+}
+
+/// Contracts see how it begins.
+impl<T, W: Wakes> Model for Opened<T, W> {
+    ghost use Rattle.std.specs.Prelude.{◌≡◌, []};
+    ghost use Rattle.async_cell_model.specs.Machine.{owners_of};
+    ghost use Rattle.async_cell_history.specs.History.{Begun};
+
+    ghost Value = { Begun T W };
+
+    ghost view = { λ o. record { name = o.log.name; permits = o.count.name; start = o.start } };
+
+    ghost invariant = { λ o. (o.log.list ≡ []) × (o.count.out ≡ owners_of o.start.cell) };
+}
+
+impl<T: Drop, W: Wakes> Opened<T, W> {
+    /// Begins a history with this core, whose owners are not counted.
+    #[inline(always)]
+    pub fn of(core: &Core<T, W>) -> Self
+        ensures start { result.start ≡ core.now }
+        ensures blind { result.permits ≡ None }
+    {
+        Opened {
+            log: Log::open(),
+            start: Start::of(core),
+            count: Count::blind(core.owners()),
+        }
+    }
+
+    /// Begins a history with this core, and gives the permit of its one owner.
+    #[inline(always)]
+    pub fn counted(core: &Core<T, W>) -> (Self, Permit)
+        requires sole { owners_of core.now.cell ≡ 1 }
+        ensures start { result.0.start ≡ core.now }
+        ensures counted { IsSome result.0.permits }
+        ensures permit { result.1.name ≡ result.0.permits }
+    {
+        let mut count = Count::open();
+        let permit = count.give();
+        let opened = Opened {
+            log: Log::open(),
+            start: Start::of(core),
+            count,
+        };
+        (opened, permit)
+    }
+}
+
+/// The whole history of a cell, and the right to make it longer: it lies beside the core. It has no
+/// bytes.
+#[derive(Drop)]
+pub struct Past<T, W: Wakes, N: Protocol<T, W>> {
+    pub(crate) log: Log<Signed<T, W>>,
+    of: PhantomData<N>,
+    start: Start<T, W>,
+    pub(crate) count: Count,
+}
+
+/// Contracts see how the cell began, its calls so far, and who made each.
+impl<T, W: Wakes, N: Protocol<T, W>> Model for Past<T, W, N> {
+    ghost use Rattle.std.specs.Prelude.{◌≡◌, map};
+    ghost use Rattle.async_cell_history.specs.History.{Fits, IsLawful, Past as PastCalls, permits_of};
+
+    ghost Value = { PastCalls T W };
+
+    ghost view = { λ p. record {
+      begun = record { name = p.log.name; permits = p.count.name; start = p.start };
+      calls = map (λ s. s.entry) p.log.list;
+      authors = map (λ s. s.who) p.log.list;
+      out = p.count.out;
+    } };
+
+    ghost invariant = { λ p.
+        Fits N.named (record { name = p.log.name; permits = p.count.name; start = p.start })
+        × IsLawful W.will_wake W.SURE_CLONE N.may p.start (map (λ s. s.entry) p.log.list)
+        × (p.count.name ≡ permits_of N.named) };
+}
+
+impl<T, W: Wakes, N: Protocol<T, W>> Past<T, W, N> {
+    /// Begins with this core, and no calls.
+    pub(crate) fn of(opened: Opened<T, W>) -> Self
+        requires named { Fits N.named opened }
+        requires counted { opened.permits ≡ permits_of N.named }
+        ensures begun { result.begun ≡ opened }
+        ensures empty { result.calls ≡ [] }
+        ensures counted { result.out ≡ owners_of opened.start.cell }
+    {
+        let Opened { log, start, count } = opened;
+        Past {
+            log,
+            of: PhantomData,
+            start,
+            count,
+        }
+    }
+}
+
+/// A call that is made of a core: the core before it, and what is passed to it. It has no bytes.
+#[derive(Drop)]
+pub(crate) struct Before<C, T, W: Wakes> {
+    from: Snapshot<Core<T, W>>,
+    passed: Snapshot<C>,
+}
+
+impl<C, T, W: Wakes> Before<C, T, W> {
+    /// A call of this core, to which this is passed.
+    #[inline(always)]
+    pub(crate) fn of(core: &Core<T, W>, passed: &C) -> Self
+        ensures from { result.from.value ≡ core.now }
+        ensures passed { result.passed.value ≡ passed.now }
+    {
+        Before {
+            from: Snapshot::of(core),
+            passed: Snapshot::of(passed),
+        }
+    }
+
+    /// Adds the call at the end of the past, as `M` enters it: it returned this, left this core, and
+    /// is signed so.
+    #[inline(always)]
+    #[tactic(auto, using(crate::proofs::Owning::owners_stay))]
+    pub(crate) fn enter<N: Protocol<T, W>, M: Enters<C, A, T, W>, A, B: Signs>(
+        &self,
+        past: &mut Past<T, W, N>,
+        _: &M,
+        returned: &A,
+        to: &Core<T, W>,
+        by: &B,
+    )
+        requires led { Leads W.will_wake W.SURE_CLONE N.holds past.old self.now.from.value }
+        requires step { IsStep W.Wakes self.now.from.value
+            (M.call self.now.from.value self.now.passed.value to.now)
+            (M.answer self.now.from.value returned.now) to.now }
+        requires allowed { IsAllowed N.may
+            (M.call self.now.from.value self.now.passed.value to.now) }
+        ensures leads { Leads W.will_wake W.SURE_CLONE N.holds past.new to.now }
+        ensures begun { past.new.begun ≡ past.old.begun }
+        ensures entered { past.new.calls ≡ past.old.calls ++ entry_of
+            (M.call self.now.from.value self.now.passed.value to.now)
+            (M.answer self.now.from.value returned.now) ∷ [] }
+        ensures signed { past.new.authors ≡ past.old.authors ++ B.number by.now ∷ [] }
+        ensures out { past.new.out ≡ past.old.out }
+        ensures owners { is_of_owners
+            (M.call self.now.from.value self.now.passed.value to.now) ≡ false
+            → owners_of to.now.cell ≡ owners_of self.now.from.value.cell }
+    {
+        past.log.push::<_, By<M>>(&Made {
+            before: self,
+            returned,
+            to,
+            by,
+        });
+    }
+
+    /// `enter`, of a call that stores a waker, if none stood in its place: where one did, its
+    /// future waited already. It is not inlined always, so the compiler finds it empty before it
+    /// inlines it: in its caller the branch would cost an instruction.
+    pub(crate) fn enter_stored<N: Protocol<T, W>, M: Enters<C, (), T, W>>(
+        &self,
+        past: &mut Past<T, W, N>,
+        waits: &M,
+        stored: &Result<Option<W>, W>,
+        to: &Core<T, W>,
+    )
+        requires led { Leads W.will_wake W.SURE_CLONE N.holds past.old self.now.from.value }
+        requires step { IfOk stored.now (λ before. MatchOption before
+            (IsStep W.Wakes self.now.from.value
+            (M.call self.now.from.value self.now.passed.value to.now)
+            (M.answer self.now.from.value tt) to.now)
+            (λ _. to.now ≡ self.now.from.value)) }
+        requires allowed { IsAllowed N.may
+            (M.call self.now.from.value self.now.passed.value to.now) }
+        requires unchanged { OnErr stored.now (to.now ≡ self.now.from.value) }
+        ensures leads { Leads W.will_wake W.SURE_CLONE N.holds past.new to.now }
+        ensures stands { IfOk stored.now (λ before. IfSome before (λ _. past.new ≡ past.old)) }
+        ensures unchanged { OnErr stored.now (past.new ≡ past.old) }
+        ensures out { past.new.out ≡ past.old.out }
+        ensures owners { is_of_owners
+            (M.call self.now.from.value self.now.passed.value to.now) ≡ false
+            → owners_of to.now.cell ≡ owners_of self.now.from.value.cell }
+    {
+        if let Ok(None) = stored {
+            self.enter(past, waits, &(), to, &Nobody);
+        }
+    }
+}
+
+/// A call that was made: what it returned, the core that it left, and who made it.
+#[derive(Drop)]
+struct Made<'a, 'b, 'c, 'd, C, A, T, W: Wakes, B> {
+    before: &'a Before<C, T, W>,
+    returned: &'b A,
+    to: &'c Core<T, W>,
+    by: &'d B,
+}
+
+/// The entry that `M` makes of a call.
+struct By<M>(PhantomData<M>);
+
+impl<'a, 'b, 'c, 'd, C, A, T, W: Wakes, B: Signs, M: Enters<C, A, T, W>> Makes<
+    Made<'a, 'b, 'c, 'd, C, A, T, W, B>,
+    Signed<T, W>,
+> for By<M> {
+    ghost use Rattle.async_cell_history.specs.History.{entry_of};
+
+    ghost entry = { λ made. record {
+      who = B.number made.by.now;
+      entry = entry_of
+          (M.call made.before.now.from.value made.before.now.passed.value made.to.now)
+          (M.answer made.before.now.from.value made.returned.now);
+    } };
+}

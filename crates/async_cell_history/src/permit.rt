@@ -1,0 +1,149 @@
+//! The permits of a cell's owners: as many are out as its core counts owners.
+ghost use Rattle.std.specs.Prelude.{◌≡◌, ◌+◌, ◌-◌, ◌<◌, false, None, IsSome, IsTrue};
+ghost use Rattle.async_cell_model.specs.Machine.{is_closed};
+ghost use Rattle.async_cell_history.specs.History.{permits_of};
+
+use crate::{CellCore, Past, Protocol};
+use async_cell_core::Wakes;
+use async_cell_step::{Opens, StoredCore, Stores};
+use ghost_count::Permit;
+use ghost_log::Log;
+use std::marker::{Model, PhantomData};
+
+/// The permit of one owner of a cell, in the proofs alone. It is not `Drop`: the end of its owner
+/// takes it. It has no bytes.
+pub struct OwnerPermit<T, W, N: Protocol<T, W>> {
+    permit: Permit,
+    of: PhantomData<Log<(T, W, N)>>, // As a log, it may be sent and shared with any `T`.
+}
+
+/// It is of the count of the cell that `N` names.
+impl<T, W, N: Protocol<T, W>> Model for OwnerPermit<T, W, N> {
+    ghost use Rattle.std.specs.Prelude.{◌≡◌};
+    ghost use Rattle.async_cell_history.specs.History.{permits_of};
+
+    ghost Value = { Unit {0} };
+
+    ghost view = { λ _. tt };
+
+    ghost invariant = { λ p. p.permit.name ≡ permits_of N.named };
+}
+
+impl<T, W, N: Protocol<T, W>> OwnerPermit<T, W, N> {
+    /// The first permit of the cell that `N` names.
+    #[inline(always)]
+    pub(crate) fn of(permit: Permit) -> Self
+        requires of_this { permit.name ≡ permits_of N.named }
+    {
+        OwnerPermit {
+            permit,
+            of: PhantomData,
+        }
+    }
+
+    /// A permit of a cell whose owners are not counted.
+    #[inline(always)]
+    pub fn blind() -> Self
+        requires nameless { N.named ≡ None }
+    {
+        OwnerPermit {
+            permit: Permit::blind(),
+            of: PhantomData,
+        }
+    }
+
+    /// Lets go a permit of a cell whose owners are not counted.
+    #[inline(always)]
+    pub fn let_go(self)
+        requires nameless { N.named ≡ None }
+    {
+        let OwnerPermit { permit, of: _ } = self;
+        permit.lose();
+    }
+
+    /// Lets go the permit of the last owner of a cell that ends next: nobody else can call it.
+    #[inline(always)]
+    pub fn rest<M: Stores<Core = CellCore<T, W, N>>>(self, _: &mut StoredCore<M>)
+    where
+        W: Wakes,
+    {
+        let OwnerPermit { permit, of: _ } = self;
+        permit.lose();
+    }
+
+    /// Loses the permit where no step could be lent: nobody closes the cell then.
+    #[inline(always)]
+    pub fn lose<'a, M: Stores, R: Opens<'a, M>>(self, _: &R)
+        requires unlent { IsTrue R.always → ⊥ }
+    {
+        let OwnerPermit { permit, of: _ } = self;
+        permit.lose();
+    }
+}
+
+impl<T, W: Wakes, N: Protocol<T, W>> Past<T, W, N> {
+    /// Gives the permit of one more owner.
+    #[inline(always)]
+    pub(crate) fn give(&mut self) -> OwnerPermit<T, W, N>
+        ensures begun { self.new.begun ≡ self.old.begun }
+        ensures calls { self.new.calls ≡ self.old.calls }
+        ensures authors { self.new.authors ≡ self.old.authors }
+        ensures out { self.new.out ≡ self.old.out + 1 }
+    {
+        OwnerPermit::of(self.count.give())
+    }
+
+    /// Takes the permit of an owner that ends.
+    #[inline(always)]
+    pub(crate) fn take(&mut self, permit: OwnerPermit<T, W, N>)
+        ensures begun { self.new.begun ≡ self.old.begun }
+        ensures calls { self.new.calls ≡ self.old.calls }
+        ensures authors { self.new.authors ≡ self.old.authors }
+        ensures out { self.new.out ≡ self.old.out - 1 }
+    {
+        let OwnerPermit { permit, of: _ } = permit;
+        self.count.take(permit);
+    }
+
+    /// Does nothing. Its contract states that an owner is counted, since its permit is here.
+    #[inline(always)]
+    pub(crate) fn shows(&mut self, permit: &OwnerPermit<T, W, N>)
+        ensures stays { self.new ≡ self.old }
+        ensures out { IsSome (permits_of N.named) → 0 < self.old.out }
+    {
+        self.count.shows(&permit.permit);
+    }
+}
+
+/// Who makes a call: an owner, whose cell is open, or anyone.
+pub trait Caller<T, W: Wakes, N: Protocol<T, W>> {
+    /// It is an owner that is counted.
+    ghost owns: { Type 0 };
+
+    /// Does nothing. Its contract states that the cell of an owner is open.
+    fn shows(&self, core: &mut CellCore<T, W, N>)
+        ensures stays { core.new ≡ core.old }
+        ensures open { owns → is_closed core.old.inner.cell ≡ false };
+}
+
+/// Who calls may be no owner.
+pub struct Anyone;
+
+impl<T: Drop, W: Wakes, N: Protocol<T, W>> Caller<T, W, N> for Anyone {
+    ghost owns = { ⊥ };
+
+    #[inline(always)]
+    fn shows(&self, _: &mut CellCore<T, W, N>) {}
+}
+
+impl<T: Drop, W: Wakes, N: Protocol<T, W>> Caller<T, W, N> for OwnerPermit<T, W, N> {
+    ghost use Rattle.std.specs.Prelude.{IsSome};
+    ghost use Rattle.async_cell_history.specs.History.{permits_of};
+
+    ghost owns = { IsSome (permits_of N.named) };
+
+    #[inline(always)]
+    fn shows(&self, core: &mut CellCore<T, W, N>) {
+        core.owned(self);
+    }
+}

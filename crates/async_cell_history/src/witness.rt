@@ -1,0 +1,134 @@
+ghost use Rattle.std.specs.Prelude.{◌≡◌, ◌⊎◌, ◌+◌, IsSome, length};
+ghost use mathlib.Core.List.{IsPrefix};
+ghost use Rattle.async_cell_history.specs.History.{IsLawful, permits_of, start_of};
+
+use crate::{Author, Nobody, Number, Past, Protocol, Signed};
+use async_cell_core::Wakes;
+use ghost_log::Seen;
+use std::marker::{Model, PhantomData};
+
+/// What one thread has seen of the history of the cell that `N` names, the number that its own
+/// calls are signed with, and how many it has made. It has no bytes.
+#[derive(Drop)]
+pub struct Witness<T, W: Wakes, N: Protocol<T, W>> {
+    seen: Seen<Signed<T, W>>,
+    author: Number,
+    own: Number,
+    of: PhantomData<N>,
+}
+
+/// Contracts see the calls that were seen, who made each, who the thread is, and how many were made
+/// with it.
+impl<T, W: Wakes, N: Protocol<T, W>> Model for Witness<T, W, N> {
+    ghost use Rattle.std.specs.Prelude.{map};
+    ghost use Rattle.async_cell_history.specs.History.{IsSeen, Seen as SeenCalls};
+
+    ghost Value = { SeenCalls T W };
+
+    ghost view = { λ w. record {
+      calls = map (λ s. s.entry) w.seen.list;
+      authors = map (λ s. s.who) w.seen.list;
+      author = w.author;
+      own = w.own;
+    } };
+
+    ghost invariant = { λ w. IsSeen W.will_wake W.SURE_CLONE N.may N.named w.seen.name
+        (map (λ s. s.entry) w.seen.list) };
+}
+
+impl<T, W: Wakes, N: Protocol<T, W>> Witness<T, W, N> {
+    /// Makes a witness that has seen the whole history. It signs as nobody.
+    pub(crate) fn of(past: &Past<T, W, N>) -> Self
+        requires named { IsSome N.named }
+        requires counted { IsSome (permits_of N.named) }
+        ensures calls { result.calls ≡ past.now.calls }
+        ensures authors { result.authors ≡ past.now.authors }
+        ensures nobody { result.author ≡ 0 }
+    {
+        Witness {
+            seen: past.log.seen(),
+            author: Number::of::<Nobody>(),
+            own: Number::of::<Nobody>(),
+            of: PhantomData,
+        }
+    }
+
+    /// Sees the whole history. What was seen before begins it.
+    #[inline(always)]
+    pub(crate) fn learn(&mut self, past: &Past<T, W, N>)
+        ensures calls { self.new.calls ≡ past.now.calls }
+        ensures authors { self.new.authors ≡ past.now.authors }
+        ensures author { self.new.author ≡ self.old.author }
+        ensures own { self.new.own ≡ self.old.own }
+        ensures goes_on { IsPrefix self.old.calls past.now.calls }
+        ensures authors_go_on { IsPrefix self.old.authors past.now.authors }
+        ensures begun { past.now.begun.start ≡ start_of N.named }
+    {
+        self.seen.learn(&past.log);
+    }
+
+    /// `learn`, of a history that ends with a call that was made with this.
+    #[inline(always)]
+    pub(crate) fn learn_own(&mut self, past: &Past<T, W, N>)
+        ensures calls { self.new.calls ≡ past.now.calls }
+        ensures authors { self.new.authors ≡ past.now.authors }
+        ensures author { self.new.author ≡ self.old.author }
+        ensures own { self.new.own ≡ self.old.own + 1 }
+    {
+        self.learn(past);
+        self.own = self.own.next();
+    }
+
+    /// Ensures what holds of all that was seen: its calls are legal, its changes may be made, each
+    /// call has one author, and the owners of the cell are counted.
+    #[inline(always)]
+    pub fn lawful(&self)
+        ensures lawful { IsLawful W.will_wake W.SURE_CLONE N.may (start_of N.named) self.now.calls }
+        ensures as_many { length self.now.authors ≡ length self.now.calls }
+        ensures counted { IsSome (permits_of N.named) }
+    {
+        let _ = &self.seen;
+    }
+
+    /// Signs the calls from now on with this number.
+    #[inline(always)]
+    pub fn sign_as<A: Author>(&mut self)
+        ensures calls { self.new.calls ≡ self.old.calls }
+        ensures authors { self.new.authors ≡ self.old.authors }
+        ensures author { self.new.author ≡ A.number }
+        ensures own { self.new.own ≡ self.old.own }
+    {
+        self.author = Number::of::<A>();
+    }
+
+    /// Returns a copy.
+    pub fn again(&self) -> Self
+        ensures { result ≡ self.now }
+    {
+        Witness {
+            seen: self.seen.again(),
+            author: self.author.again(),
+            own: self.own.again(),
+            of: PhantomData,
+        }
+    }
+
+    /// Returns a witness of what the one of two has seen that has seen more. What the other one has
+    /// seen begins it. It signs as the first does, and has made as many calls.
+    pub fn longer(&self, other: &Self) -> Self
+        ensures one_of_both { (result.calls ≡ self.now.calls) ⊎ (result.calls ≡ other.now.calls) }
+        ensures begins { IsPrefix self.now.calls result.calls }
+        ensures other_begins { IsPrefix other.now.calls result.calls }
+        ensures authors_begin { IsPrefix self.now.authors result.authors }
+        ensures others_begin { IsPrefix other.now.authors result.authors }
+        ensures author { result.author ≡ self.now.author }
+        ensures own { result.own ≡ self.now.own }
+    {
+        Witness {
+            seen: self.seen.longer(&other.seen),
+            author: self.author.again(),
+            own: self.own.again(),
+            of: PhantomData,
+        }
+    }
+}

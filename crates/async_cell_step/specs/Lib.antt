@@ -1,0 +1,3 @@
+pub mod Deferred
+pub mod Rule
+pub mod Upgrade

@@ -1,0 +1,24 @@
+//! What lends a core for one step at a time, how a step ends, and the polls and futures that are
+//! made of steps: the one text for waiting, for the core of a cell or of a latest state. Internal,
+//! but for what the crates of the cells re-export: it may change without notice.
+#![tactic(auto)]
+
+mod ended;
+mod places;
+mod polls;
+mod query;
+mod room;
+mod rule;
+mod store;
+mod with;
+
+pub use ended::{
+    After, All, Deferred, One, Writes, end, end_and_wake, end_and_wake_one, finish, open_holding,
+    put_held, write_held,
+};
+pub use polls::poll;
+pub use query::Query;
+pub use room::Room;
+pub use rule::{Rule, Ruled};
+pub use store::{Lender, Lent, Lock, Locked, OneThread, Opens, Step, StoredCore, Stores};
+pub use with::{At, Places, Polled, Request, Takes, Upgrade, Values, With, weakly};

@@ -1,0 +1,159 @@
+//! Polls, over any store: each finds what need not be waited for, or registers the task and adds
+//! its waker to the wait list, in the place of its future if it keeps one.
+ghost use Rattle.std.specs.Prelude.{◌≡◌, Err, IfErr, IfOk};
+ghost use Rattle.futures.specs.Poll.{IfReady, OnPending};
+ghost use Rattle.futures.specs.Task.{Hears, IsArmed, Keeps};
+ghost use Rattle.async_cell_model.specs.Refusal.{FailsWithMemory, FailsWithMemoryOrClosed};
+
+use crate::ended::{Deferred, end, open_holding};
+use crate::opened;
+use crate::query::Query;
+use crate::room::Room;
+use crate::store::{Opens, Step, StoredCore, Stores};
+use crate::with::At;
+use async_cell_model::Refusal;
+use async_cell_wakers::{Place, TaskWaker};
+use futures::task::{Context, Poll, Source};
+
+/// Answers the query, or waits, in the place if any. Fails with `Memory` if there is no memory for
+/// the task's waker or for the growth of the list. Asks to be polled again if the core is not lent.
+#[inline(always)]
+pub fn poll<'a, C: Room, M: Stores<Core = C>, Q: Query<C>, R: Opens<'a, M>>(
+    store: &'a StoredCore<M>,
+    source: &Source,
+    query: Q,
+    place: At<'_>,
+    cx: &mut Context<'_>,
+    rt: &R,
+) -> Poll<Result<Q::Answer, Refusal>>
+    requires asks { Q.asks query }
+    ensures gives { IfReady result (λ answer. IfOk answer (λ given. Q.gives query given)) }
+    ensures closed { IfReady result (λ answer. IfErr answer (λ why. why ≡ Refusal.Closed
+        → (core : C) × Q.closed core)) }
+    ensures armed { OnPending result (IsArmed cx.new) }
+    ensures heard { OnPending result (Hears cx.new source.now.id) }
+    ensures kept { Keeps cx.old cx.new }
+    ensures refused { IfReady result FailsWithMemoryOrClosed }
+{
+    let mut step = opened!(rt, store, else return cx.yield_now());
+    if !query.must_wait(step.shown()) {
+        if let Some(place) = place {
+            place.forget();
+        }
+        let answer = query.answer(step.lend());
+        return Poll::Ready(end(step, answer));
+    }
+    let Some(place) = place else {
+        return waits(add(step, source, cx));
+    };
+    if step.shown().is_new(place) {
+        return waits(add_at(step, source, place, cx));
+    }
+    renew(store, step, source, query, place, cx, rt)
+}
+
+/// Registers the task, and adds its waker as the last. It is a new one: nothing is dropped, and
+/// nobody woken, during the step. Fails with `Memory`.
+fn add<C: Room, G: Step<Core = C>>(
+    mut step: G,
+    source: &Source,
+    cx: &mut Context<'_>,
+) -> Result<(), Refusal>
+    requires { C.vacant (G.shows step) }
+    ensures armed { IsArmed cx.new }
+    ensures heard { Hears cx.new source.now.id }
+    ensures kept { Keeps cx.old cx.new }
+    ensures refused { FailsWithMemory result }
+{
+    let mut new = None;
+    let _ = cx.register::<()>(source, &mut new);
+    let Some(waker) = new else {
+        return end(step, Deferred::of(Err(Refusal::Memory)));
+    };
+    let added = step.lend().add(TaskWaker::of(waker));
+    match end(step, added) {
+        Ok(()) => Ok(()),
+        Err(_unused) => Err(Refusal::Memory),
+    }
+}
+
+/// `add`, at a new place: that of the waker from then on.
+fn add_at<C: Room, G: Step<Core = C>>(
+    mut step: G,
+    source: &Source,
+    place: &mut Place,
+    cx: &mut Context<'_>,
+) -> Result<(), Refusal>
+    requires { C.vacant (G.shows step) }
+    ensures armed { IsArmed cx.new }
+    ensures heard { Hears cx.new source.now.id }
+    ensures kept { Keeps cx.old cx.new }
+    ensures refused { FailsWithMemory result }
+{
+    let mut made = None;
+    let _ = cx.register::<()>(source, &mut made);
+    let Some(waker) = made else {
+        return end(step, Deferred::of(Err(Refusal::Memory)));
+    };
+    let stored = step.lend().store_new(place, TaskWaker::of(waker));
+    match end(step, stored) {
+        Ok(()) => Ok(()),
+        Err(_unused) => Err(Refusal::Memory),
+    }
+}
+
+/// Registers the task with the waker that was taken out of its place, and stores it again. One of
+/// another task is dropped, which wakes that task: so no step runs meanwhile.
+#[inline(never)]
+fn renew<'a, C: Room, M: Stores<Core = C>, Q: Query<C>, R: Opens<'a, M>>(
+    store: &'a StoredCore<M>,
+    mut step: R::Open,
+    source: &Source,
+    query: Q,
+    place: &mut Place,
+    cx: &mut Context<'_>,
+    rt: &R,
+) -> Poll<Result<Q::Answer, Refusal>>
+    requires asks { Q.asks query }
+    ensures gives { IfReady result (λ answer. IfOk answer (λ given. Q.gives query given)) }
+    ensures closed { IfReady result (λ answer. IfErr answer (λ why. why ≡ Refusal.Closed
+        → (core : C) × Q.closed core)) }
+    ensures armed { OnPending result (IsArmed cx.new) }
+    ensures heard { OnPending result (Hears cx.new source.now.id) }
+    ensures kept { Keeps cx.old cx.new }
+    ensures refused { IfReady result FailsWithMemoryOrClosed }
+{
+    let waker = step.lend().take_back(place);
+    let mut slot = end(step, waker);
+    let _ = cx.register::<()>(source, &mut slot);
+    let Some(waker) = slot else {
+        return Poll::Ready(Err(Refusal::Memory));
+    };
+    let Some((mut step, waker)) = open_holding(store, waker, rt) else {
+        return cx.yield_now();
+    };
+    // Between the two steps the core may have been written to, or closed.
+    if !query.must_wait(step.shown()) {
+        place.forget();
+        let answer = query.answer(step.lend());
+        let (answer, _unused) = end(step, answer.and(waker));
+        return Poll::Ready(answer);
+    }
+    let stored = waker.store_in(step.lend(), place);
+    match end(step, stored) {
+        Ok(_before) => Poll::Pending,
+        Err(_unused) => Poll::Ready(Err(Refusal::Memory)),
+    }
+}
+
+/// The answer of a poll that has to wait.
+#[inline(always)]
+fn waits<A>(added: Result<(), Refusal>) -> Poll<Result<A, Refusal>>
+    requires { FailsWithMemory added }
+    ensures refused { IfReady result (λ answer. answer ≡ Err Refusal.Memory) }
+{
+    match added {
+        Ok(()) => Poll::Pending,
+        Err(why) => Poll::Ready(Err(why)),
+    }
+}

@@ -1,0 +1,71 @@
+ghost use Rattle.std.specs.Prelude.{◌≡◌, ◌<◌, ◌≤◌, ◌-◌, ℕ, List, [], ◌∷◌, ◌++◌, IsOk, IfOk, OnOk, OnErr, MatchOption};
+ghost use Rattle.async_cell_wakers.specs.declared.task_waker.TaskWaker.{TaskWaker};
+
+use crate::ended::Deferred;
+use async_cell_wakers::{Place, TaskWaker};
+use futures::task::Waker;
+
+/// The calls of a core for futures that wait. A waker that is dropped wakes its task, so each that
+/// is not stored is held until the step ends.
+pub trait Room {
+    /// A waker can be stored: a poll has to wait.
+    ghost vacant: { Self → Type 0 };
+
+    /// The wakers that wait, in order.
+    ghost waiting: { Self → List TaskWaker };
+
+    /// How many more can be added without memory.
+    ghost room: { Self → ℕ };
+
+    /// Adds a waker as the last. If there is no memory to grow the list, it comes back.
+    fn add(&mut self, waker: TaskWaker) -> Deferred<Result<(), TaskWaker>>
+        requires { vacant self.old }
+        ensures first_waits { waiting self.old ≡ [] → IsOk result.answer }
+        ensures room_suffices { 0 < room self.old → IsOk result.answer }
+        ensures unchanged { OnErr result.answer (self.new ≡ self.old) };
+
+    /// Returns whether a future with this place has to be added: it has none, and none is free.
+    fn is_new(&self, place: &Place) -> bool;
+
+    /// `add`, at a place: that of the waker from then on.
+    fn store_new(&mut self, place: &mut Place, waker: TaskWaker) -> Deferred<Result<(), TaskWaker>>
+        requires { vacant self.old }
+        ensures stored { OnOk result.answer
+            (waiting self.new ≡ waiting self.old ++ waker ∷ []) }
+        ensures takes_room { OnOk result.answer (room self.old - 1 ≤ room self.new) }
+        ensures first_waits { waiting self.old ≡ [] → IsOk result.answer }
+        ensures room_suffices { 0 < room self.old → IsOk result.answer }
+        ensures place_stays { OnErr result.answer (place.new ≡ place.old) }
+        ensures unchanged { OnErr result.answer (self.new ≡ self.old) };
+
+    /// Takes the waker out of the place, or out of a free place that is taken over. Holds `None` if
+    /// there is neither. The waker may be another task's.
+    fn take_back(&mut self, place: &mut Place) -> Deferred<Option<Waker>>
+        ensures unchanged { self.new ≡ self.old };
+
+    /// Stores a waker in the place, in a free place that is taken over, or as the last. Returns the
+    /// one that was there, if any. If there is no memory to grow the list, the waker comes back.
+    fn store(
+        &mut self,
+        place: &mut Place,
+        waker: TaskWaker,
+    ) -> Deferred<Result<Option<TaskWaker>, TaskWaker>>
+        requires { vacant self.old }
+        ensures stored { IfOk result.answer (λ before. MatchOption before
+            (waiting self.new ≡ waiting self.old ++ waker ∷ [])
+            (λ _. (self.new ≡ self.old) × (waiting self.old ≡ [] → ⊥))) }
+        ensures takes_room { OnOk result.answer (room self.old - 1 ≤ room self.new) }
+        ensures first_waits { waiting self.old ≡ [] → IsOk result.answer }
+        ensures room_suffices { 0 < room self.old → IsOk result.answer }
+        ensures place_stays { OnErr result.answer (place.new ≡ place.old) }
+        ensures unchanged { OnErr result.answer (self.new ≡ self.old) };
+
+    /// Leaves the place free, with its waker. Returns its index, unless the place was given up.
+    fn vacate(&mut self, place: Place) -> Option<usize>;
+
+    /// Takes the waker out of the place at `index`, if that place is free.
+    fn take_left(&mut self, index: usize) -> Deferred<Option<Waker>>;
+
+    /// Returns the number of places in the wait list.
+    fn places(&self) -> usize;
+}

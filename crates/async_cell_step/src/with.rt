@@ -1,0 +1,172 @@
+ghost use Rattle.std.specs.Prelude.{◌≡◌, ℕ, Ok, Err, IfOk, IfSome};
+ghost use Rattle.futures.specs.Poll.{IfReady, OnPending};
+ghost use Rattle.futures.specs.Task.{Covers, Keeps};
+ghost use Rattle.async_cell_model.specs.Refusal.{FailsWithMemory, FailsWithMemoryOrClosed};
+ghost use Rattle.async_cell_step.specs.Upgrade.{FailsToUpgrade};
+
+mod values;
+
+use async_cell_model::Refusal;
+use async_cell_wakers::Place;
+use futures::future::Future;
+use futures::task::{Context, Poll};
+pub use values::{Takes, Values};
+
+/// The place that a poll may wait in.
+pub type At<'a> = Option<&'a mut Place>;
+
+/// A cell in which futures hold places. `R` is the right that a step on it needs.
+pub trait Places<R> {
+    /// Leaves the place of a future that is dropped.
+    fn vacate(&self, place: Place, rt: &R);
+
+    /// Leaves the place of a future that is cancelled, and lets go of its waker.
+    fn cancel(&self, place: Place, rt: &R);
+}
+
+/// A `Take`, a `Get`, a `TakeWeak` or a `GetWeak`: what `With` makes a future of.
+pub trait Request<R>: Drop {
+    /// The type of the cell.
+    type Cell: Places<R>;
+
+    /// The request points to no cell.
+    ghost is_lost: { Self → Type 0 } = { λ _. ⊥ };
+
+    /// Returns the cell, unless there is no pointer to it.
+    fn cell(&self) -> Option<&Self::Cell>;
+}
+
+/// A request that can be polled: a `Get` and a `GetWeak` if their value can be cloned.
+pub trait Polled<R>: Request<R> {
+    /// What the future returns.
+    type Output;
+
+    /// The sources that a pending future has registered with.
+    ghost waits_for: { Self → ℕ → Type 0 };
+
+    /// What the future may return.
+    ghost may_give: { Self → Self.Output → Type 0 };
+
+    /// Polls, and waits in the place, if any.
+    fn poll_at(&self, at: At<'_>, cx: &mut Context<'_>, rt: &R) -> Poll<Self::Output>
+        ensures lost { Self.is_lost self.now → OnPending result ⊥ }
+        ensures gives { IfReady result (may_give self.now) }
+        ensures registered { OnPending result (Covers cx.new (waits_for self.now)) }
+        ensures kept { Keeps cx.old cx.new };
+}
+
+/// A request that is no owner of its cell, and can become one.
+pub trait Upgrade<R>: Request<R> {
+    /// The same request by an owner.
+    type Owning: Request<R>;
+
+    /// The owner is of the cell that the request points to.
+    ghost owned_by: { Self → Self.Owning → Type 0 };
+
+    /// Makes the request of a new owner. Fails, and returns `None`, as `With::upgrade` does.
+    fn owning(&self, rt: &R) -> Result<Option<Self::Owning>, Refusal>
+        ensures of_this { IfOk result (λ found. IfSome found (owned_by self.now)) }
+        ensures lost { Self.is_lost self.now → result ≡ Err Refusal.Memory }
+        ensures refused { FailsToUpgrade result };
+}
+
+/// The future of a `Take`, a `Get`, a `TakeWeak` or a `GetWeak`, with the right that a step needs.
+/// Their `with` makes it, as do the calls of an `Owner` and a `WeakOwner`.
+///
+/// While it waits it holds one place in the cell's wait list, and each poll renews the waker there:
+/// the task that polled it last is woken. **Dropping it may wait for the lock**, and wakes nobody.
+/// The place is then free for the next such future, and the task that polled the dropped one may be
+/// woken once more. **So keep a future and poll it again.** Two tasks that each make a new one for
+/// every poll wake each other forever.
+#[derive_where(Debug)]
+pub struct With<P: Request<R>, R> {
+    #[derive_where(skip)]
+    polled: P,
+    #[derive_where(skip)]
+    rt: R,
+    #[derive_where(skip)]
+    place: Place,
+}
+
+impl<P: Request<R>, R> With<P, R> {
+    /// The future of this request, without a place yet.
+    #[doc(hidden)]
+    pub fn new(polled: P, rt: R) -> Self
+        ensures polls { result.polled ≡ polled }
+    {
+        With {
+            polled,
+            rt,
+            place: Place::new(),
+        }
+    }
+}
+
+impl<P: Request<R>, R: Drop> With<P, R> {
+    /// Drops the future, and the waker that it left in the cell: the task that polled it last is
+    /// polled once more. A waker keeps what its executor needs to wake the task, so cancel a wait
+    /// that came to nothing on a cell that lives on, as when its time is up. May wait for the lock.
+    pub fn cancel(self) {
+        let With { polled, rt, place } = self;
+        if let Some(cell) = polled.cell() {
+            cell.cancel(place, &rt);
+        }
+    }
+}
+
+impl<P: Upgrade<R>, R: Copy> With<P, R> {
+    /// Makes a future of the same request that is a new owner; `Ok(None)` if the cell is closed.
+    /// This future stays as it is. Fails with `Memory` (checked first) or `OwnersFull`.
+    pub fn upgrade(&self) -> Result<Option<With<P::Owning, R>>, Refusal>
+        ensures of_this { IfOk result (λ found. IfSome found (λ future.
+            P.owned_by self.now.polled future.polled)) }
+        ensures lost { P.is_lost self.now.polled → result ≡ Err Refusal.Memory }
+        ensures refused { FailsToUpgrade result }
+    {
+        match self.polled.owning(&self.rt)? {
+            Some(owning) => Ok(Some(With::new(owning, self.rt))),
+            None => Ok(None),
+        }
+    }
+}
+
+/// Leaves its place in the wait list free.
+impl<P: Request<R>, R: Drop> Drop for With<P, R> {
+    fn drop(self) {
+        let With { polled, rt, place } = self;
+        if place.was_held() {
+            if let Some(cell) = polled.cell() {
+                cell.vacate(place, &rt);
+            }
+        }
+    }
+}
+
+impl<P: Polled<R>, R: Drop> Future for With<P, R> {
+    type Output = P::Output;
+
+    ghost needs = { λ future. P.waits_for future.polled };
+
+    ghost gives = { λ future. P.may_give future.polled };
+
+    fn poll(&mut self, cx: &mut Context<'_>) -> Poll<P::Output> {
+        self.polled.poll_at(Some(&mut self.place), cx, &self.rt)
+    }
+}
+
+/// Makes the answer of a request that is no owner: a closed cell gives `None`.
+#[inline(always)]
+pub fn weakly<T>(polled: Poll<Result<T, Refusal>>) -> Poll<Result<Option<T>, Refusal>>
+    requires { IfReady polled FailsWithMemoryOrClosed }
+    ensures found { IfReady result (λ answer. IfOk answer (λ found. IfSome found (λ value.
+        polled ≡ Poll.Ready (Ok value)))) }
+    ensures pending { OnPending result (polled ≡ Poll.Pending) }
+    ensures refused { IfReady result FailsWithMemory }
+{
+    match polled {
+        Poll::Ready(Ok(value)) => Poll::Ready(Ok(Some(value))),
+        Poll::Ready(Err(Refusal::Closed)) => Poll::Ready(Ok(None)),
+        Poll::Ready(Err(why)) => Poll::Ready(Err(why)),
+        Poll::Pending => Poll::Pending,
+    }
+}

@@ -1,5 +1,0 @@
-use Rattle.async_cell_waiting.proofs.Waking.{set_wakes}
-use Rattle.async_cell_waiting.proofs.laws.a_set_wakes_who_waits.Goals as goal
-
-pub returns : goal.returns
-returns g c seen now v w told lawful waits = set_wakes _ g.N.Protocol.may g.N.Protocol.named seen now v w told lawful waits
