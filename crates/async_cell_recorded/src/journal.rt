@@ -10,10 +10,10 @@ ghost use Rattle.async_cell_recorded.specs.Counting.{new_shares, share_after, pi
 
 use crate::books;
 use crate::books::Books;
-use crate::entry::Entry;
+use crate::entry::{Entry, Plain};
 use crate::history::History;
 use crate::made::make;
-use crate::marker::{Blanks, Pick, ShareCount};
+use crate::marker::{Blanks, Marker, Pick, ShareCount};
 use crate::share::Share;
 use async_cell_core::{Call, Core, Edit, Named, Refusal, Wakers};
 use std::alloc::Global;
@@ -107,12 +107,7 @@ impl<T: Copy, M: Pick<T>> Journal<T, M> {
         }
         self.entries.reserve(1)?;
         let (made, woken) = make(&mut self.core, call)?;
-        let entry = Entry {
-            share: share.number(),
-            serial: share.count(),
-            call: made.call,
-            reply: made.reply,
-        };
+        let entry = entry_of(share, made);
         self.entries.push_reserved(entry);
         let answer = (entry, woken);
         books::count(&mut self.books, share, &answer);
@@ -140,5 +135,22 @@ impl<T: Copy, M: Pick<T>> Journal<T, M> {
             begin: count.get(),
             entries,
         }
+    }
+}
+
+/// Returns the entry of a call that is made with this share.
+fn entry_of<T: Copy, M: Marker>(share: &Share<M>, made: Plain<T>) -> Entry<T>
+    ensures { result ≡ record {
+      share = share.now.number;
+      serial = share.now.count;
+      call = made.call;
+      reply = made.reply;
+    } }
+{
+    Entry {
+        share: share.number(),
+        serial: share.count(),
+        call: made.call,
+        reply: made.reply,
     }
 }

@@ -1,9 +1,7 @@
-pub mod Digits
 pub mod LineFeed
 pub mod Names
 pub mod Operand
 pub mod OutputContents
-pub mod Places
 pub mod ReplyText
 pub mod Written
 pub mod Words

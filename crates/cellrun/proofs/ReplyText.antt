@@ -1,5 +1,6 @@
 -- What a call prints that is no `debug`, and the end of a line that names wakers.
-use Rattle.cellrun.proofs.Words.{owners_of, State, Does, Reply, same_name, Named, CallPrints, kept_call, reply_text, value_text, names_text, end_text, Command, Replace, OrSet, Own, End, Debug, ◌≡◌, ℤ, true, List, [], ◌∷◌, ◌++◌, codes, Option, refl, ℕ}
+use Rattle.cellrun.proofs.Words.{arith, owners_of, State, Does, Reply, same_name, Named, CallPrints, kept_call, reply_text, value_text, names_text, end_text, Command, Replace, OrSet, Own, End, Debug}
+use Rattle.cellrun.proofs.Words.{◌≡◌, ℤ, true, List, [], ◌++◌, codes, Option, refl, ℕ}
 use Rattle.async_cell_model.specs.declared.reply.Reply.TheVariants.{Done, Value}
 
 pub prints : (from to : State ℤ Named) (call : Command) (reply : Reply ℤ) (woken : List Named) (line : List ℕ) → (call ≡ Debug → ⊥)
@@ -8,16 +9,11 @@ prints from to Debug reply woken line other does is = absurd (other refl)
 prints from to call reply woken line other does is = (reply, woken, does, is)
 
 pub some_named : (woken : List Named) → (woken ≡ [] → ⊥) → end_text woken ≡ codes " woke" ++ names_text woken ++ codes "\n"
-some_named [] some = absurd (some refl)
-some_named (name ∷ names) some = refl
+some_named woken some = grind (arith, some)
 
 pub done_text : (call : Command) (owners : ℕ) → (call ≡ Own → ⊥) → reply_text Done call owners ≡ codes "done"
-done_text Own owners other = absurd (other refl)
-done_text call owners other = refl
+done_text call owners other = grind (arith, other)
 
 pub found_text : (call : Command) (owners : ℕ) (found : Option ℤ) → ((v : ℤ) → call ≡ Replace v → ⊥) → ((v : ℤ) → call ≡ OrSet v → ⊥) → (call ≡ End → ⊥)
     → reply_text (Value found) call owners ≡ value_text (codes "some ") (codes "none") found
-found_text (Replace v) owners found replace or_set end = absurd (replace v refl)
-found_text (OrSet v) owners found replace or_set end = absurd (or_set v refl)
-found_text End owners found replace or_set end = absurd (end refl)
-found_text call owners found replace or_set end = refl
+found_text call owners found replace or_set end = grind (arith, replace, or_set, end)

@@ -1,41 +1,23 @@
 -- The book's row and the share's row are set in one opening of the ledger's invariant, to an amount that contracts alone know.
-use mathlib.Core.Path.{refl, sym, subst}
-use mathlib.Core.List.{List, [], ◌∷◌}
-use Prim.Native.Nat.{ℕ, ◌+◌}
-use native.Mathlib.Omega.{arith}
+use Rattle.async_cell_recorded.proofs.Words.{refl, sym, subst, List, [], ◌∷◌, ℕ, ◌+◌, arith}
 use seplogic.Ra.Ura.{Ura}
-use mir.Syntax.{Fn, Dict, dcons, dnil, a_type}
-use mir.Val.{Val, vunit, vptr}
-use mir.MapTy.{inst_fn}
-use base.Logic.{SProp, ent, via, fst∗, snd∗}
-use base.Fml.{Fml, ftrue, flft}
-use prog.Wp.{WpFn}
-use prog.Model.{Model}
-use types.Logic.{Logic, sem}
-use contract.Monad.{fact_use}
-use contract.Running.{Running, MachineTables, tables, tables_of}
+use mir.{MapTy.inst_fn, Syntax.Fn, Syntax.Dict, Syntax.dcons, Syntax.dnil, Syntax.a_type, Val.Val, Val.vunit, Val.vptr}
+use base.{Fml.Fml, Fml.ftrue, Fml.flft, Logic.SProp, Logic.ent, Logic.via, Logic.fst∗, Logic.snd∗}
+use prog.{Model.Model, Wp.WpFn}
+use contract.{Monad.fact_use, Running.Running, Running.MachineTables, Running.tables, Running.tables_of}
 use sound.WpLaws.{WpFn-mono}
 use types.Kit.{‵, raw, ◌⊛◌, given, later, ◌$◌, ◌∵◌, !, qed, move, keep, drop, split, join, fsplit, fsplit3, fjoin, fjoin3, learn, suffices, frame, use2, await, feq_i}
-use types.Run.{unit_lit, of_opd, returns, enter}
-use types.ByLocal.{alloc_all, pass_all, free_all, look_at, sets}
-use denote.RattleType.{RattleType, owns}
-use denote.Laws.{Are, Ises, owns_show, showss}
-use denote.Signature.{types_at, plain}
-use denote.Steps.{nothing, opens, closes}
-use denote.Param.{param, bounded}
-use denote.Triple.Clauses.{Clauses, closing}
-use denote.Triple.Entry.{on_entry, alive}
-use denote.Triple.Spec.{Meets, triple_of}
-use denote.Triple.Table.{entered}
+use types.{ByLocal.alloc_all, ByLocal.pass_all, ByLocal.free_all, ByLocal.look_at, ByLocal.sets, Logic.Logic, Logic.sem, Run.unit_lit, Run.of_opd, Run.returns, Run.enter}
+use denote.{Laws.Are, Laws.Ises, Laws.owns_show, Laws.showss, Param.param, Param.bounded, RattleType.RattleType, RattleType.owns, Signature.types_at, Signature.plain}
+use denote.{Steps.nothing, Steps.opens, Steps.closes}
+use denote.Triple.{Clauses.Clauses, Clauses.closing, Entry.on_entry, Entry.alive, Spec.Meets, Spec.triple_of, Table.entered}
 use denote.Triple.Walked.{Stays, stay_ref, walk_of, ends_at, Goes-ref, walk_Meets}
 use contract.CodeStep
-use Rattle.core.specs.Sync.Ledger.{book_owns, share_owns}
-use Rattle.core.specs.declared.ledger.Ledger.{Ghosts}
+use Rattle.core.specs.{Sync.Ledger.book_owns, Sync.Ledger.share_owns, declared.ledger.Ledger.Ghosts}
 use Rattle.core.specs.contracts.ledger.Book as book
 use Rattle.core.specs.contracts.ledger.Share as share
-use Rattle.core.proofs.ledger.Sums.{Audited}
 use Rattle.core.proofs.ledger.Steps as steps
-use Rattle.core.proofs.ledger.Walks.{hears, hears_last, tells, tells_last}
+use Rattle.core.proofs.ledger.{Sums.Audited, Walks.hears, Walks.hears_last, Walks.tells, Walks.tells_last}
 use Rattle.async_cell_recorded.specs.contracts.ledger.add_unseen.{ended, clauses}
 use Rattle.async_cell_recorded.specs.contracts.ledger.add_unseen.Key.{name as #self}
 use Rattle.async_cell_recorded.proofs.ledger.add_unseen.Statement as stated
@@ -70,7 +52,9 @@ module _ (Y : RattleType) (g : Ghosts Y.Denot) (d : Dict) {M : Type 1} {𝓤 : U
     At vss = ((z.0.0, z.0.1, z.0.2, z.0.3, vss), z.1)
 
     abbrev Goes : Vss → Type 1
-    Goes vss = ent 𝓤 ((walk_of 𝓛 (ended Y g d) stayed held).pre (At vss)) (WpFn 𝓤 H 𝓣.C 𝓣.Λ function ((walk_of 𝓛 (ended Y g d) stayed held).args (At vss)) ((walk_of 𝓛 (ended Y g d) stayed held).post (At vss)))
+    Goes vss =
+        ent 𝓤 ((walk_of 𝓛 (ended Y g d) stayed held).pre (At vss))
+        (WpFn 𝓤 H 𝓣.C 𝓣.Λ function ((walk_of 𝓛 (ended Y g d) stayed held).args (At vss)) ((walk_of 𝓛 (ended Y g d) stayed held).post (At vss)))
 
     abbrev a : A.Denot
     a = z.0.3.0.now
@@ -99,16 +83,22 @@ module _ (Y : RattleType) (g : Ghosts Y.Denot) (d : Dict) {M : Type 1} {𝓤 : U
 
     walks : Goes passed
     walks =
-        let r = z.0.3.0 in let s = z.0.3.1.0 in let a' : A.Denot = record { marker = a.marker; total = a.total + n } in let b' : B.Denot = record { marker = b.marker; parts = b.parts; amount = b.amount + n } in
+        let r = z.0.3.0 in let s = z.0.3.1.0 in let a' : A.Denot = record { marker = a.marker; total = a.total + n } in
+        let b' : B.Denot = record { marker = b.marker; parts = b.parts; amount = b.amount + n } in
         qed 𝓛 (((‵ (flft z.0.0.0 z.0.1.0) ⊛ ‵ (flft z.0.0.1.0 z.0.1.1.0) ⊛ ‵ (flft z.0.0.1.1.0 z.0.1.1.1.0) ⊛ ‵ ftrue) ⊛ ‵ args) ∷ raw asked ∷ []) ∵
-        move ! (1 ∷ []) $ hears ! (λ _. hears_last ! (λ backed. split ! $ split ! $ move ! (1 ∷ []) $ split ! $ move ! (3 ∷ []) $ fsplit ! $ fsplit3 ! $ drop ! $ move ! (2 ∷ []) $ fsplit ! $ fsplit3 ! $ drop ! $
+        move ! (1 ∷ []) $ hears ! (λ _. hears_last ! (λ backed. split ! $ split ! $ move ! (1 ∷ []) $ split ! $ move ! (3 ∷ []) $ fsplit ! $ fsplit3 ! $ drop ! $
+        move ! (2 ∷ []) $ fsplit ! $ fsplit3 ! $ drop ! $
         keep ! (3 ∷ 4 ∷ 7 ∷ 0 ∷ 1 ∷ 5 ∷ 6 ∷ []) $ enter ! 𝓣.C 𝓣.Λ function (u ∷ v ∷ []) _ $ alloc_all ! (λ l. pass_all ! refl ((tt, tt), ((tt, tt), tt)) $
-        opens ! tt A r.ref_ptr.0 r.ref_ptr.1 (λ cs. move ! (5 ∷ 6 ∷ 7 ∷ []) $ opens ! tt B s.ref_ptr.0 s.ref_ptr.1 (λ ds. move ! (1 ∷ []) $ fsplit ! $ move ! (7 ∷ []) $ fsplit ! $ move ! (1 ∷ 3 ∷ []) $
-        use2 𝓛 (later (given (Audited g.parts a.total (b.parts, b.amount)) (‵ (book_owns g.name g.parts a'.total) ⊛ ‵ (share_owns g.name g.parts b'.parts b'.amount)))) (steps.records 𝓛 g.name g.parts a.total a'.total (b.parts, b.amount) (b'.parts, b'.amount) refl (λ was none. absurd (omega arith)) (λ within. omega arith)) $
+        opens ! tt A r.ref_ptr.0 r.ref_ptr.1 (λ cs. move ! (5 ∷ 6 ∷ 7 ∷ []) $ opens ! tt B s.ref_ptr.0 s.ref_ptr.1 (λ ds.
+        move ! (1 ∷ []) $ fsplit ! $ move ! (7 ∷ []) $ fsplit ! $ move ! (1 ∷ 3 ∷ []) $
+        use2 𝓛 (later (given (Audited g.parts a.total (b.parts, b.amount)) (‵ (book_owns g.name g.parts a'.total) ⊛ ‵ (share_owns g.name g.parts b'.parts b'.amount))))
+        (steps.records 𝓛 g.name g.parts a.total a'.total (b.parts, b.amount) (b'.parts, b'.amount) refl (λ was none. absurd (omega arith)) (λ within. omega arith)) $
         await ! tt $ learn ! (λ seen. split ! $ move ! (2 ∷ 0 ∷ []) $ fjoin ! $ move ! (2 ∷ 1 ∷ []) $ fjoin ! $
         move ! (2 ∷ 0 ∷ 3 ∷ 4 ∷ 5 ∷ []) $ closes ! tt B b' ds s.ref_ptr.0 s.ref_ptr.1 $ move ! (4 ∷ 3 ∷ 5 ∷ 6 ∷ 7 ∷ []) $ closes ! tt A a' cs r.ref_ptr.0 r.ref_ptr.1 $
-        sets ! (of_opd ! (unit_lit !)) refl (tt, tt) $ returns ! (look_at ! 0 refl) $ free_all ! refl $ suffices ! _ (ends_at 𝓛 (ended Y g d) stayed held (At passed) vunit tt (a', (b', tt)) (tt, (tt, tt))) $
-        feq_i ! (List Val) (u ∷ []) (u ∷ []) refl $ fjoin3 ! $ move ! (2 ∷ 3 ∷ []) $ feq_i ! (List Val) (v ∷ []) (v ∷ []) refl $ fjoin3 ! $ nothing ! $ move ! (1 ∷ 0 ∷ []) $ fjoin ! $ move ! (1 ∷ 0 ∷ []) $ fjoin ! $
+        sets ! (of_opd ! (unit_lit !)) refl (tt, tt) $ returns ! (look_at ! 0 refl) $ free_all ! refl $
+        suffices ! _ (ends_at 𝓛 (ended Y g d) stayed held (At passed) vunit tt (a', (b', tt)) (tt, (tt, tt))) $
+        feq_i ! (List Val) (u ∷ []) (u ∷ []) refl $ fjoin3 ! $ move ! (2 ∷ 3 ∷ []) $ feq_i ! (List Val) (v ∷ []) (v ∷ []) refl $ fjoin3 ! $
+        nothing ! $ move ! (1 ∷ 0 ∷ []) $ fjoin ! $ move ! (1 ∷ 0 ∷ []) $ fjoin ! $
         feq_i ! (List Val) (vunit ∷ []) (vunit ∷ []) refl $ move ! (1 ∷ 0 ∷ []) $ join ! $ move ! (2 ∷ 3 ∷ []) $ join ! $ move ! (2 ∷ 0 ∷ []) $ join ! $ join ! $ frame ! $
         tells ! refl $ tells ! refl $ tells_last ! refl))))))
 
@@ -117,8 +107,10 @@ module _ (Y : RattleType) (g : Ghosts Y.Denot) (d : Dict) {M : Type 1} {𝓤 : U
   meets =
       walk_Meets 𝓛 (ended Y g d) stayed (Goes-ref 𝓛 3 0 tt (plain (λ _. A)), (Goes-ref 𝓛 3 1 tt (plain (λ _. B)), tt)) held
       (WpFn 𝓤 H 𝓣.C 𝓣.Λ function) (WpFn-mono 𝓤 H 𝓛.laws (tables_of 𝓤 H 𝓜 𝓣) function)
-      (λ z. let a = z.0.3 in let vss = z.0.4 in let Rs : List RattleType = types_at (ended Y g d).signature.params z.0.0 in let On : SProp 𝓤 = on_entry 𝓛 (ended Y g d).signature z.0.0 z.0.1 a vss in
-      fact_use 𝓤 (Are Rs (Ises Rs) a vss) (via 𝓤 (sem 𝓛 (owns Rs a vss)) (via 𝓤 On (fst∗ 𝓤 On (asked z)) (snd∗ 𝓤 (alive 𝓛 (ended Y g d).signature z.0.0 z.0.1) (sem 𝓛 (owns Rs a vss)))) (owns_show 𝓛 Rs (Ises Rs) (showss 𝓛 Rs) a vss)) (λ are.
+      (λ z. let a = z.0.3 in let vss = z.0.4 in let Rs : List RattleType = types_at (ended Y g d).signature.params z.0.0 in
+      let On : SProp 𝓤 = on_entry 𝓛 (ended Y g d).signature z.0.0 z.0.1 a vss in
+      fact_use 𝓤 (Are Rs (Ises Rs) a vss) (via 𝓤 (sem 𝓛 (owns Rs a vss)) (via 𝓤 On (fst∗ 𝓤 On (asked z)) (snd∗ 𝓤 (alive 𝓛 (ended Y g d).signature z.0.0 z.0.1) (sem 𝓛 (owns Rs a vss))))
+      (owns_show 𝓛 Rs (Ises Rs) (showss 𝓛 Rs) a vss)) (λ are.
       subst (Goes z) (λ i. (sym are.0.0 i, (sym are.1.0.0 i, tt))) (walks z)))
 
 pub add_unseen_spec : {M : Type 1} → stated.statement M

@@ -4,8 +4,7 @@ use Rattle.cellrun.proofs.command.value_after.Goals as goal
 
 pub returns-in_err-text-clause-none : goal.returns-in_err-text-clause-none
 returns-in_err-text-clause-none c =
-    let other = strip_prefix_is Decides-eqb c.args.line.now c.args.words.now None c.in_err-text.ensures.cases in
-    rw c.from_residual.ensures (λ it ends. other (ends.0) (ends.1))
+    rw c.from_residual.ensures (λ it ends. strip_prefix_is Decides-eqb c.args.line.now c.args.words.now None c.in_err-text.ensures.cases (ends.0) (ends.1))
 
 pub returns-clause-some : goal.returns-clause-some
 returns-clause-some c =

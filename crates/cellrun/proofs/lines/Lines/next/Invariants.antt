@@ -1,5 +1,4 @@
-use Rattle.cellrun.proofs.Words.{bytes_left, output_contents, ◌-◌, Keeps}
-use Rattle.arrayvec.specs.ArrayVec.{array_vec_len}
+use Rattle.cellrun.proofs.Words.{bytes_left, output_contents, ◌-◌, Keeps, array_vec_len}
 use Rattle.cellrun.proofs.lines.Lines.next.Given as goal
 
 -- nothing is lost
