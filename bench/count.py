@@ -1,14 +1,14 @@
 #!/usr/bin/env python3
-"""Counts what the calls cost, and tells what has risen since bench/counts.tsv was written.
+"""Counts what the calls cost, and tells what has risen since the table of bench/README.md.
 
     count.py [--write]
 
-It takes the programs bench_* of crates/, proved and built as users' are (`rt ci` has built them; one
-that is not there, or older than a source, is built by `rt run`), and counts the instructions of each
+It takes the program crates/bench_cells, proved and built as users' are (`rt ci` has built it; if it
+is not there, or older than a source, `rt run` builds it), and counts the instructions of each
 operation by callgrind. It prints each figure that has risen or fallen by more than 2 per cent. The
 status is 0 if none has risen by more than 5 per cent, and the figures are those of the table.
 
---write writes the table anew, and what bench/tables.py makes of it.
+--write writes the table anew, and the picture that bench/tables.py draws of it.
 """
 import glob
 import os
@@ -22,19 +22,19 @@ from concurrent.futures import ThreadPoolExecutor
 import tables
 
 TOP = os.path.dirname(tables.FOLDER)
-# The rows: the program of each, and the operations that it has.
+# The rows: the program's word for the kind of each, and the operations that it has.
 ALL = ("reply", "watch", "fan", "again", "stream")
 ROWS = {
-    "unsync": ("cells", ALL[:4]),
+    "unsync": ("unsync", ALL[:4]),
     "unsync Owner": ("unsync_owner", ALL),
-    "sync": ("cells", ALL[:4]),
-    "sync Owner": ("owner", ALL),
-    "unsync pair": ("pair", ALL[:1]),
-    "sync pair": ("pair", ALL[:1]),
-    "calls of an Owner": ("as", ALL[:2]),
+    "sync": ("sync", ALL[:4]),
+    "sync Owner": ("sync_owner", ALL),
+    "unsync pair": ("unsync_pair", ALL[:1]),
+    "sync pair": ("sync_pair", ALL[:1]),
+    "calls of an Owner": ("calls", ALL[:2]),
     "as calls of an Owner": ("as", ALL[:2]),
     "latest_sync": ("latest", ("watch", "fan", "again")),
-    "oneshot of the kit": ("pair", ALL[:1]),
+    "oneshot of the kit": ("oneshot", ALL[:1]),
 }
 # The columns: title, operation, and how many wait at once.
 COLUMNS = [
@@ -43,7 +43,7 @@ COLUMNS = [
     ("fan-out 1", "fan", 1),
     ("fan-out 8", "fan", 8),
     ("fan-out 64", "fan", 64),
-    ("fan-out 1024", "fan", 1024),
+    ("fan-out 1,024", "fan", 1024),
     ("fan-out 100,000", "fan", 100_000),
     ("poll again", "again", 1),
     ("stream", "stream", 1),
@@ -51,15 +51,15 @@ COLUMNS = [
 POLLS = 4096
 
 
-def built(name):
-    """Returns the path of a program, which it builds if need be."""
-    folder = f"{TOP}/crates/bench_{name}"
-    program = f"{folder}/out/bench_{name}"
+def built():
+    """Returns the path of the program, which it builds if need be."""
+    folder = f"{TOP}/crates/bench_cells"
+    program = f"{folder}/out/bench_cells"
     sources = glob.glob(f"{TOP}/crates/*/src/**/*.rt", recursive=True)
     if not os.path.isfile(program) or max(map(os.path.getmtime, sources)) > os.path.getmtime(program):
         ran = subprocess.run(["rt", "run"], cwd=folder, capture_output=True, text=True, check=False)
         if ran.returncode:
-            sys.exit(f"count: bench_{name} was not built:\n{(ran.stdout + ran.stderr)[-3000:]}")
+            sys.exit(f"count: bench_cells was not built:\n{(ran.stdout + ran.stderr)[-3000:]}")
     return program
 
 
@@ -78,14 +78,14 @@ def collected(program, words, rounds, waiters):
 def instructions(program, row, operation, waiters):
     """Counts the instructions of one operation: those of twice as many rounds, less those of once."""
     few = max(POLLS // waiters, 2)
-    words = (row.split()[0], operation)
+    words = (ROWS[row][0], operation)
     once, twice = (collected(program, words, it * few, waiters) for it in (1, 2))
     return round((twice - once) / few / waiters)
 
 
 def counted():
     """Counts each figure of the table, as many side by side as there are processors."""
-    programs = {name: built(name) for name in dict.fromkeys(it for it, _ in ROWS.values())}
+    program = built()
     fields = [
         (row, title, operation, waiters)
         for row, (_, operations) in ROWS.items()
@@ -93,7 +93,7 @@ def counted():
         if operation in operations
     ]
     with ThreadPoolExecutor(len(os.sched_getaffinity(0))) as pool:
-        ran = pool.map(lambda it: instructions(programs[ROWS[it[0]][0]], it[0], *it[2:]), fields)
+        ran = pool.map(lambda it: instructions(program, it[0], *it[2:]), fields)
         made = {row: {} for row in ROWS}
         for (row, title, *_), figure in zip(fields, ran):
             made[row][title] = figure
@@ -112,15 +112,20 @@ def main(words):
     if not shutil.which("valgrind"):
         sys.exit("count: there is no valgrind, which counts the instructions")
     now = counted()
-    said, before = tables.read(tables.COUNTS) if os.path.isfile(tables.COUNTS) else ("", {})
+    page = tables.text_of(tables.PAGE)
+    said, table = tables.read(page)
+    others = {it: table.pop(it) for it in [*table] if it in tables.OTHERS}
     if said != conditions():
-        print(f"the table is of {said or 'nothing'}, and this is {conditions()}")
-    told, faults = tables.compared(before, now)
+        print(f"the table is of {said}, and this is {conditions()}")
+    told, faults = tables.compared(table, now)
     print("\n".join(told))
     if words:
-        tables.write(tables.COUNTS, tables.printed(conditions(), [it[0] for it in COLUMNS], now))
-        for path, text in tables.made().items():
-            tables.write(path, text)
+        columns, whole = [it[0] for it in COLUMNS], {**now, **others}
+        texts = {tables.PAGE: tables.written(page, conditions(), columns, whole)}
+        texts[tables.PICTURE] = tables.drawn(whole)
+        for path, text in texts.items():
+            with open(path, "w", encoding="utf-8") as file:
+                file.write(text)
     figures = sum(map(len, now.values()))
     print(f"count: {figures} counted, {faults} rose by more than {tables.FAILS} % or are not there")
     return 1 if faults and not words else 0

@@ -1,8 +1,9 @@
 #!/usr/bin/env python3
-"""Shows that count.py tells a rise, on falsified tables of two figures, and that the page is made
-of the table. The last line is 'N passed, M failed'."""
+"""Shows that count.py tells a rise, on falsified tables of two figures, and that the picture is of
+the table. The last line is 'N passed, M failed'."""
 import sys
 
+import count
 import tables
 
 # What a figure was and is (None: it is not there), what is told of it, and whether that is a fault.
@@ -28,12 +29,12 @@ def is_told(old, new, line, is_fault):
 
 def main():
     shown = {it: is_told(*it) for it in TOLD}
-    said, table = tables.read(tables.COUNTS)
-    columns = tables.text_of(tables.COUNTS).split("\n")[1].split("\t")[1:]
+    page = tables.text_of(tables.PAGE)
+    said, table = tables.read(page)
+    columns = [it[0] for it in count.COLUMNS]
     shown["a table is read as it was written"] = (
-        tables.printed(said, columns, table) == tables.text_of(tables.COUNTS))
-    shown["the page and the picture are those of the tables"] = all(
-        it == tables.text_of(path) for path, it in tables.made().items())
+        tables.written(page, said, columns, table) == page)
+    shown["the picture is of the table"] = tables.drawn(table) == tables.text_of(tables.PICTURE)
     wrong = [it for it, holds in shown.items() if not holds]
     print("".join(f"count_check: it does not hold: {it}\n" for it in wrong), end="")
     print(f"{len(shown) - len(wrong)} passed, {len(wrong)} failed")

@@ -1,19 +1,32 @@
-//! Runs a workload of the bench on a cell without owners, and prints what it counted.
+//! Runs a workload of the bench on what the first word names, and prints what it counted. It does
+//! so within one poll of a task, whose begin and end then hardly count. No part of the libraries.
 #![tactic(auto)]
 
+mod asked;
+mod calls;
+mod kind;
+mod latest;
+mod pair;
 mod sync;
 mod unsync;
+mod workloads;
 
-use bench_work::{Asked, run};
+use crate::asked::{Asked, Hidden};
+use crate::workloads::{run, run_slots};
 use std::io;
-use sync::Locked;
-use unsync::Lent;
 
 fn main(rt: HostRuntime) -> io::Result<()> {
     let asked = Asked::read(&rt)?;
     let counted = match asked.kind() {
-        "sync" => run::<Locked, HostRuntime>(&asked, &rt)?,
-        _ => run::<Lent, HostRuntime>(&asked, &rt)?,
+        "sync" => run::<sync::Locked, HostRuntime>(&asked, &rt)?,
+        "sync_owner" => run::<sync::Owned<HostRuntime>, HostRuntime>(&asked, &rt)?,
+        "unsync" => run::<unsync::Lent, HostRuntime>(&asked, &rt)?,
+        "unsync_owner" => run::<unsync::Owned, HostRuntime>(&asked, &rt)?,
+        "latest" => run::<latest::Followed<HostRuntime>, HostRuntime>(&asked, &rt)?,
+        "sync_pair" => run_slots::<pair::SyncPair, HostRuntime>(&asked, &rt)?,
+        "unsync_pair" => run_slots::<pair::UnsyncPair, HostRuntime>(&asked, &rt)?,
+        "oneshot" => run_slots::<pair::Oneshot, HostRuntime>(&asked, &rt)?,
+        _ => calls::count(&asked, Hidden::make(rt.alloc())?, rt),
     };
     println!(rt; "{counted}")
 }
