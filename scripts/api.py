@@ -28,12 +28,12 @@ LISTED = re.compile(r"^# (.*)|^(async_cell(?!\w*_callers:)\w*):", re.M)
 ITEM = (
     r"((?:^PAD(?:///|#\[)[^\n]*\n)*)^PAD((pub )?(?:const (?=fn|unsafe)|unsafe (?=fn|trait|impl))*"
     r"(fn|struct|enum|trait|type|mod|impl|use|const|static|ghost)\b ?(\w*).*?)"
-    r"(?:;|\{\}|\{\n(.*?)^PAD\};?)$"
+    r"(?:;|\{\}|\{\n(.*?)^PAD\};?)(?: //[^\n]*)?$"
 )
-# What ITEM does not know: a public item of another kind, or a macro.
+# What ITEM does not know: a public item of another kind, or a macro that is not hidden.
 UNKNOWN = re.compile(
     r"^ *pub (?!(?:const |unsafe )*(?:fn|struct|enum|trait|type|mod|use|const|static|ghost)\b)\w+ .*"
-    r"|^ *#\[macro_export\]",
+    r"|(?<!#\[doc\(hidden\)\]\n)^ *#\[macro_export\]",
     re.M,
 )
 # The generics of an impl, and a private field of a struct.
@@ -42,6 +42,7 @@ PRIVATE = re.compile(r"(?:^ *(?:///|#\[).*\n)*^    (?!pub |///|#\[)\S.*\n", re.M
 # A variant or a field without a docstring, also a field of a variant.
 BARE = re.compile(r"^(?! *(?:///|#\[)).*\n    (?:    )?(?:pub )?\w", re.M)
 USE = re.compile(r"pub use ([\w:]+?)(?:::\{(.*)\})?(?: as (\w+))?$", re.S)
+ALSO = re.compile(r"(\w+)(?: as (\w+))?")
 FRAME = """<!doctype html>
 <html lang="en"><meta charset="utf-8"><meta name="viewport" content="width=device-width">
 <title>{0}</title><style>
@@ -120,7 +121,8 @@ class Crate:
                 continue
             if it.kind == "use":
                 first, group, other = USE.match(it.head).groups()
-                for name in re.findall(r"\w+", group) if group else [first.split("::")[-1]]:
+                named = [(first.split("::")[-1], other)] if not group else ALSO.findall(group)
+                for name, other in named:
                     yield other or name, *self.find(first.split("::")[0], name)
             elif it.kind != "mod":
                 yield "::".join([it for it in path if it != "lib"] + [it.name]), self, it

@@ -5,8 +5,9 @@ A fact is a public item of the crates of README's table, a clause, a line of cra
 definition of specs/ or a type of a part that a clause names, also in turn. Prints what went (-) and
 came (+) since the last line of RELEASES, or COMMIT, and a fault for each that the first section of
 CHANGELOG does not name in backquotes: the call; of an impl, or of what went or came whole, the
-type; the definition or its file. So is a line of RELEASES that does not fit its commit. The last
-line is 'clauses: N facts, M changed, K faults'.
+type; the definition or its file. So is a line of RELEASES that does not fit its commit, and an item
+of the Rust crate that neither both cells have, nor DIFFERENCES names in backquotes. The last line
+is 'clauses: N facts, M changed, K faults'.
 """
 import pathlib
 import re
@@ -21,6 +22,17 @@ ITEM = re.compile(r"\w+::\w+")
 CLAUSE = r"(?m)^ *(?=(?:requires|ensures|ghost)\b)"
 MODULE = r"(?ms)^(?: *module _(?:(?!where$).)*where\s)?"
 SPEC = MODULE + r"\s*(?:abbrev )?pub (?!mod)(?:record |data )?(\S+)"
+CELLS = ("async_cell_sync", "async_cell_unsync")
+# The public types of the Rust crate, and what each has, but for futures and drops; other names.
+RUST = """AsyncCell Debug Default const new new_with into_inner shared into_shared set or_set replace
+ update update_some notify try_take try_get is_set take take_shared take_weak get get_shared
+ get_weak guard guard_shared wait wait_shared
+Take Clone Copy must_use repr
+Get Clone Copy must_use repr
+TakeWeak Clone upgrade
+GetWeak Clone upgrade
+GuardedCell Deref set or_set release
+AsyncCell TakeRef GetRef weakref parking_lot no_std"""
 
 
 def facts(path, *texts):
@@ -89,6 +101,18 @@ def unnamed(now, then, told):
             yield f"clauses: CHANGELOG does not name {path}"
 
 
+def missing():
+    """Yields each item of the Rust crate that neither both cells have, nor DIFFERENCES names."""
+    told = re.findall(r"`([^`]+)`", api.read(f"{HERE}/docs/DIFFERENCES.md"))
+    for of, *names in map(str.split, re.split(r"\n(?! )", RUST)):
+        for cell in map(api.crate, CELLS):
+            item = cell.named[of]
+            has = [it.name for _, it in api.functions(cell, item)] + [item.declaration]
+            has += [it.head for it in cell.impls(item) if it.is_of_trait]
+            for name in set(names) - set(re.findall(r"\w+", " ".join(told + has))):
+                yield f"clauses: DIFFERENCES does not name {name} of {of}"
+
+
 def main(since):
     git = ["git", "-C", HERE]
     for name, commit in re.findall(r"(?m)^([^# ]+) (\S+)", api.read(f"{HERE}/RELEASES")):
@@ -99,10 +123,11 @@ def main(since):
     with tempfile.TemporaryDirectory() as folder:
         whole = subprocess.check_output([*git, "archive", since or commit])
         subprocess.run(["tar", "-x", "-C", folder], input=whole, check=True)
-        now, then = all_facts(HERE), all_facts(folder)
+        now, lost = all_facts(HERE), {*missing()}
+        then = all_facts(folder)
     section = re.split(r"(?m)^## ", api.read(f"{HERE}/CHANGELOG.md"))[1]
     told = set(re.findall(r"\w+", " ".join(re.findall(r"`([^`]+)`", section))))
-    faults = sorted(set(unnamed(now, then, told)))
+    faults = sorted(lost | set(unnamed(now, then, told)))
     changes = sorted(f"{'+' if it in now else '-'} {it}" for it in now ^ then)
     total = f"clauses: {len(now)} facts, {len(changes)} changed, {len(faults)} faults"
     print(*changes, *faults, total, sep="\n")

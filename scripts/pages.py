@@ -8,8 +8,9 @@ or an option that its script does not know; a path of a machine, or the number o
 figure that is typed by hand in a section on instructions. On the pages NAMED each name that is
 written as code has to stand in the sources, and each label of CONTRIBUTING's table in a clause.
 Then it compares what stands around the libraries with their sources: the lines of tests, scripts,
-bench and misuse may be at most MOST times as many. Prints a line for each fault, and last how many
-pages it read, how many faults it found, and both sums; the status is 0 if there is no fault.
+bench and misuse may be at most MOST times as many. No crate has more functions than FUNCTIONS says.
+Prints a line for each fault, and last how many pages it read, how many faults it found, and both
+sums; the status is 0 if there is no fault.
 """
 import functools
 import glob
@@ -44,6 +45,10 @@ WITH_FIGURES = ("bench/README.md", "docs/DECISIONS.md", "CHANGELOG.md")
 MOST = 0.75
 AROUND = re.compile(r"(?:tests|scripts|bench|misuse|crates/bench_\w+)/")
 SOURCES = re.compile(r"crates/(?:async_cell(?!\w*_callers/)\w*|cellrun|ghost_log)/src/")
+# How many functions a crate may have: FEW, or what FUNCTIONS says. They only fall.
+FUNCTION = re.compile(r"^ *(?:pub(?:\([a-z]+\))? )?(?:const )?(?:unsafe )?fn [a-z]", re.M)
+FUNCTIONS = {"async_cell_sync": 182, "async_cell_unsync": 132}
+FEW = 110
 # What a page says of a project of its reader's.
 THEIRS = ("crates/my_program", "crates/railyarrow")
 
@@ -160,6 +165,14 @@ def sums():
     return [sum(n for it, n in lines.items() if of.match(it)) for of in (AROUND, SOURCES)]
 
 
+def crowded():
+    """Yields each crate that has too many functions."""
+    for crate in sorted(os.listdir("crates")):
+        has = sum(len(FUNCTION.findall(read(it))) for it in git_files(f"crates/{crate}/src/*"))
+        if has > FUNCTIONS.get(crate, FEW):
+            yield f"crates/{crate}: {has} functions, and at most {FUNCTIONS.get(crate, FEW)} may be"
+
+
 def faults_of(page):
     lines = prose_of(read(page))
     looks = [rows_without_header(lines), dead_links(page, lines), names_of_nothing(lines)]
@@ -173,8 +186,10 @@ def main(pages):
     faults = [(page, at + 1, why) for page in pages for at, why in faults_of(page)]
     for page, line, why in faults:
         print(f"{page}:{line}: {why}")
+    large = [*crowded()]
+    print(*large, sep="\n", end="\n" * bool(large))
     around, sources = sums()
-    failed = len(faults) + (around > sources * MOST)
+    failed = len(faults) + len(large) + (around > sources * MOST)
     said = f"{around} lines around the libraries, {sources} of their sources"
     print(f"pages: {len(pages)} read, {failed} faults; {said}")
     return 1 if failed or not pages else 0

@@ -84,15 +84,11 @@ def scripts():
     with open(f"{FOLDER}/program.txt", encoding="ascii") as file:
         text = re.sub(r"^#.*\n", "", file.read(), flags=re.MULTILINE).replace("\n  ", " ")
     for script, printed, bad in re.findall(r"^(.*)\n-> ?(.*?)(?: ?! (\d+))?$", text, re.MULTILINE):
-        given = lines(script).decode("unicode_escape").encode("latin-1")
+        given, wanted = ("".join(f"{it}\n" for it in said.split(" / ") if it).encode()
+                         for said in (script, printed))
         given = re.sub(rb"(^|\n)\$\n\Z", b"", given)
         told = f"bad line {bad}\n".encode() if bad else b""
-        same(script, run(given), (lines(printed), told, 2 if bad else 0))
-
-
-def lines(text):
-    """What a line of program.txt stands for."""
-    return "".join("\n" if it == "." else f"{it}\n" for it in text.split(" / ") if it).encode()
+        same(script, run(given), (wanted, told, 2 if bad else 0))
 
 
 def failing_streams():

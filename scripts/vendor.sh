@@ -59,7 +59,7 @@ lay_out() {
     local it to=$work/$1
     mkdir -p "$to/railyarrow"
     git cat-file -e "$2^{commit}" 2>/dev/null ||
-        refuse "the copy has commit $2, which $top has not: get it there by git fetch --unshallow"
+        refuse "the copy has commit $2, which $top has not: git fetch (--unshallow) gets it"
     git show "$2:crates.txt" >"$to.txt"
     lines_of "$to.txt" "${@:3}" >"$to.lines"
     while IFS=: read -r it _; do
@@ -241,7 +241,7 @@ pages=$now
 lay_out to "$target" "${names[@]}"
 for it in "${names[@]}"; do
     grep -q "^$it:" "$work/to.txt" || refuse "no crate $it in $(name_of "$target")" \
-        "$([ ! "$was" ] || echo "(see $version; --to takes another release)")"
+        "$([ ! "$was" ] || echo "(take it out of $version, or --to another release)")"
 done
 if [ "$option" = --program ]; then
     taken=$(cat "$work/to.txt" && echo railyarrow out std alloc)

@@ -1,7 +1,0 @@
-use Rattle.std.specs.Prelude.{Some, ⊤}
-use Rattle.async_cell_waiting.specs.History.{puts_any}
-use Rattle.bench_as.proofs.calls.count.Given as goal
-
--- the cell is that of this blank, of which any call may be made
-abbrev pub ghosts-count_named : goal.ghosts-count_named
-ghosts-count_named g a = record { named = Some a.blank; may = λ _. ⊤; holds = λ _. ⊤; keeps = λ call _. puts_any call }
