@@ -3,10 +3,11 @@
 
     count.py [--write]
 
-It takes the program crates/bench_cells, proved and built as users' are (`rt ci` has built it; if it
-is not there, or older than a source, `rt run` builds it), and counts the instructions of each
-operation by callgrind. It prints each figure that has risen or fallen by more than 2 per cent. The
-status is 0 if none has risen by more than 5 per cent, and the figures are those of the table.
+It takes the programs crates/bench_cells and bench_pair, proved and built as users' are (`rt ci` has
+built them; one that is not there, or older than a source, `rt run` builds), and counts the
+instructions of each operation by callgrind. It prints each figure that has risen or fallen by more
+than 2 per cent. The status is 0 if none has risen by more than 5 per cent, and the figures are
+those of the table.
 
 --write writes the table anew, and the picture that bench/tables.py draws of it.
 """
@@ -22,19 +23,19 @@ from concurrent.futures import ThreadPoolExecutor
 import tables
 
 TOP = os.path.dirname(tables.FOLDER)
-# The rows: the program's word for the kind of each, and the operations that it has.
+# The rows: the program of each, its word for it, and the operations that it has.
 ALL = ("reply", "watch", "fan", "again", "stream")
 ROWS = {
-    "unsync": ("unsync", ALL[:4]),
-    "unsync Owner": ("unsync_owner", ALL),
-    "sync": ("sync", ALL[:4]),
-    "sync Owner": ("sync_owner", ALL),
-    "unsync pair": ("unsync_pair", ALL[:1]),
-    "sync pair": ("sync_pair", ALL[:1]),
-    "calls of an Owner": ("calls", ALL[:2]),
-    "as calls of an Owner": ("as", ALL[:2]),
-    "latest_sync": ("latest", ("watch", "fan", "again")),
-    "oneshot of the kit": ("oneshot", ALL[:1]),
+    "unsync": ("cells unsync", ALL[:4]),
+    "unsync Owner": ("cells unsync_owner", ALL),
+    "sync": ("cells sync", ALL[:4]),
+    "sync Owner": ("cells sync_owner", ALL),
+    "unsync pair": ("pair unsync_pair", ALL[:1]),
+    "sync pair": ("pair sync_pair", ALL[:1]),
+    "calls of an Owner": ("cells calls", ALL[:2]),
+    "as calls of an Owner": ("cells as", ALL[:2]),
+    "latest_sync": ("cells latest", ("watch", "fan", "again")),
+    "oneshot of the kit": ("pair oneshot", ALL[:1]),
 }
 # The columns: title, operation, and how many wait at once.
 COLUMNS = [
@@ -51,15 +52,15 @@ COLUMNS = [
 POLLS = 4096
 
 
-def built():
-    """Returns the path of the program, which it builds if need be."""
-    folder = f"{TOP}/crates/bench_cells"
-    program = f"{folder}/out/bench_cells"
+def built(name):
+    """Returns the path of a program, which it builds if need be."""
+    folder = f"{TOP}/crates/bench_{name}"
+    program = f"{folder}/out/bench_{name}"
     sources = glob.glob(f"{TOP}/crates/*/src/**/*.rt", recursive=True)
     if not os.path.isfile(program) or max(map(os.path.getmtime, sources)) > os.path.getmtime(program):
         ran = subprocess.run(["rt", "run"], cwd=folder, capture_output=True, text=True, check=False)
         if ran.returncode:
-            sys.exit(f"count: bench_cells was not built:\n{(ran.stdout + ran.stderr)[-3000:]}")
+            sys.exit(f"count: bench_{name} was not built:\n{(ran.stdout + ran.stderr)[-3000:]}")
     return program
 
 
@@ -75,17 +76,18 @@ def collected(program, words, rounds, waiters):
     return int(re.search(r"Collected : (\d+)", ran.stderr)[1])
 
 
-def instructions(program, row, operation, waiters):
+def instructions(programs, row, operation, waiters):
     """Counts the instructions of one operation: those of twice as many rounds, less those of once."""
     few = max(POLLS // waiters, 2)
-    words = (ROWS[row][0], operation)
-    once, twice = (collected(program, words, it * few, waiters) for it in (1, 2))
+    name, word = ROWS[row][0].split()
+    once, twice = (
+        collected(programs[name], (word, operation), it * few, waiters) for it in (1, 2))
     return round((twice - once) / few / waiters)
 
 
 def counted():
     """Counts each figure of the table, as many side by side as there are processors."""
-    program = built()
+    programs = {it: built(it) for it in ("cells", "pair")}
     fields = [
         (row, title, operation, waiters)
         for row, (_, operations) in ROWS.items()
@@ -93,7 +95,7 @@ def counted():
         if operation in operations
     ]
     with ThreadPoolExecutor(len(os.sched_getaffinity(0))) as pool:
-        ran = pool.map(lambda it: instructions(program, it[0], *it[2:]), fields)
+        ran = pool.map(lambda it: instructions(programs, it[0], *it[2:]), fields)
         made = {row: {} for row in ROWS}
         for (row, title, *_), figure in zip(fields, ran):
             made[row][title] = figure

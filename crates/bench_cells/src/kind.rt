@@ -45,12 +45,6 @@ pub trait Kind<R: Wait>: Drop {
     }
 }
 
-/// A kind of reply slot that is no cell: a side that replies, and one that waits.
-pub trait Slot<R: Wait> {
-    /// Makes a slot, waits, replies by the value, and takes it. Both sides end.
-    fn reply(alloc: Global, cx: &mut Context<'_>, value: u64, rt: &R) -> Option<u64>;
-}
-
 /// Returns the value that a poll returned, if any.
 pub fn value_of(polled: Poll<Result<u64, Refusal>>) -> Option<u64> {
     match polled {

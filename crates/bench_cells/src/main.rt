@@ -6,13 +6,12 @@ mod asked;
 mod calls;
 mod kind;
 mod latest;
-mod pair;
 mod sync;
 mod unsync;
 mod workloads;
 
 use crate::asked::{Asked, Hidden};
-use crate::workloads::{run, run_slots};
+use crate::workloads::run;
 use std::io;
 
 fn main(rt: HostRuntime) -> io::Result<()> {
@@ -23,9 +22,6 @@ fn main(rt: HostRuntime) -> io::Result<()> {
         "unsync" => run::<unsync::Lent, HostRuntime>(&asked, &rt)?,
         "unsync_owner" => run::<unsync::Owned, HostRuntime>(&asked, &rt)?,
         "latest" => run::<latest::Followed<HostRuntime>, HostRuntime>(&asked, &rt)?,
-        "sync_pair" => run_slots::<pair::SyncPair, HostRuntime>(&asked, &rt)?,
-        "unsync_pair" => run_slots::<pair::UnsyncPair, HostRuntime>(&asked, &rt)?,
-        "oneshot" => run_slots::<pair::Oneshot, HostRuntime>(&asked, &rt)?,
         _ => calls::count(&asked, Hidden::make(rt.alloc())?, rt),
     };
     println!(rt; "{counted}")

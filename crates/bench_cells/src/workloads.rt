@@ -1,6 +1,6 @@
 //! The workloads. What each returns tells that it did its work.
 use crate::asked::{Asked, Hidden};
-use crate::kind::{Kind, Slot};
+use crate::kind::Kind;
 use futures::task::Context;
 use futures::test::MockTask;
 use std::alloc::{AllocGlobal, Global};
@@ -19,28 +19,6 @@ pub fn run<K: Kind<R>, R: Wait + RandomSource + AllocGlobal>(
     let (alloc, rounds, task) = (rt.alloc(), asked.rounds(), MockTask::new(rt)?);
     let hidden = Hidden::make(alloc)?;
     Ok(task.enter(|cx| run_in::<K, R>(asked, (alloc, rounds, cx, hidden, rt))))
-}
-
-/// Runs so many reply slots, and returns what it counted.
-pub fn run_slots<S: Slot<R>, R: Wait + RandomSource + AllocGlobal>(
-    asked: &Asked,
-    rt: &R,
-) -> io::Result<u64> {
-    let (alloc, rounds, task) = (rt.alloc(), asked.rounds(), MockTask::new(rt)?);
-    let hidden = Hidden::make(alloc)?;
-    Ok(task.enter(|cx| slots::<S, R>((alloc, rounds, cx, hidden, rt))))
-}
-
-/// Each slot waits, and takes the value that is replied.
-#[inline(never)]
-fn slots<S: Slot<R>, R: Wait>(given: Given<'_, '_, R>) -> u64 {
-    let (alloc, rounds, cx, hidden, rt) = given;
-    let mut sum = 0u64;
-    for i in 0..rounds {
-        let taken = S::reply(alloc, cx, hidden.number(i), rt);
-        sum = sum.wrapping_add(taken.unwrap_or(0));
-    }
-    sum
 }
 
 /// Runs the workload.
