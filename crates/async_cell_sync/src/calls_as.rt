@@ -51,7 +51,7 @@ impl<T: Drop, N: Protocol<T, TaskWaker>> AsyncCell<T, N> {
         self.core.make(Replace(value), &Anyone, seen, rt)
     }
 
-    /// Sets the value and wakes all waiters, if there is none. Returns an unused `value`.
+    /// If there is no value, sets this one and wakes all waiters. Returns an unused `value`.
     pub fn or_set_as<R: Wait>(
         &self,
         seen: &mut Witness<T, TaskWaker, N>,
@@ -182,7 +182,7 @@ impl<T: Drop, R: Wait + Drop, N: Protocol<T, TaskWaker>> Owner<T, R, N> {
         cell.core.make(Replace(value), permit, seen, &self.rt)
     }
 
-    /// Sets the value and wakes all waiters, if there is none. Returns an unused `value`.
+    /// If there is no value, sets this one and wakes all waiters. Returns an unused `value`.
     pub fn or_set_as(&self, seen: &mut Witness<T, TaskWaker, N>, value: T) -> Result<Option<T>, T>
         requires may { N.may (Kept.OrSet value) }
         ensures linearized { IsLinearized ⟦<TaskWaker as Wakes>⟧ N.named seen.old.calls

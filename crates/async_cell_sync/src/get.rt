@@ -41,7 +41,7 @@ impl<C: CellRef<Value: Clone>> Get<C> {
 }
 
 impl<C: CellRef + Drop> Get<C> {
-    /// Returns the future, which keeps `rt`: a poll of `futures` is passed no right to wait. A
+    /// Returns the future. It keeps `rt`, as `Future::poll` is passed no right to wait. A
     /// `Get` of a `Shared` must be consumed, so it has none: poll it by `poll_shared`.
     pub fn with<R: Wait>(self, rt: R) -> With<Self, R>
         ensures polls { result.polled ≡ self }

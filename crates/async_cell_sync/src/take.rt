@@ -39,7 +39,7 @@ impl<C: TakeRef> Take<C> {
 }
 
 impl<C: CellRef + Drop> Take<C> {
-    /// Returns the future, which keeps `rt`: a poll of `futures` is passed no right to wait. A
+    /// Returns the future. It keeps `rt`, as `Future::poll` is passed no right to wait. A
     /// `Take` of a `Shared` must be consumed, so it has none: poll it by `poll_shared`.
     ///
     /// ```rust

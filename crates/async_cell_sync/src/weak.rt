@@ -143,14 +143,14 @@ impl<T: Drop, N: Takeable<T, TaskWaker>> TakeWeak<T, N> {
 }
 
 impl<T: Drop, N: Protocol<T, TaskWaker>> TakeWeak<T, N> {
-    /// Returns the future, which keeps `rt`: a poll of `futures` is passed no right to wait.
+    /// Returns the future. It keeps `rt`, as `Future::poll` is passed no right to wait.
     pub fn with<R: Wait>(self, rt: R) -> With<Self, R>
         ensures polls { result.polled ≡ self }
     {
         With::new(self, rt)
     }
 
-    /// Makes a `Take` that is a new owner. Fails, and returns `None`, as `Weak::upgrade` does.
+    /// Makes a `Take` that is a new owner. Fails or returns `None` when `Weak::upgrade` does.
     pub fn upgrade<R: Wait>(&self, rt: &R) -> Result<Option<Take<Shared<T, N>>>, Refusal>
         ensures of_this { IfOk result (λ found. IfSome found (λ take.
             OwnsNamed self.now.0 take.0)) }
@@ -234,14 +234,14 @@ impl<T: Clone, N: Protocol<T, TaskWaker>> GetWeak<T, N> {
 }
 
 impl<T: Drop, N: Protocol<T, TaskWaker>> GetWeak<T, N> {
-    /// Returns the future, which keeps `rt`: a poll of `futures` is passed no right to wait.
+    /// Returns the future. It keeps `rt`, as `Future::poll` is passed no right to wait.
     pub fn with<R: Wait>(self, rt: R) -> With<Self, R>
         ensures polls { result.polled ≡ self }
     {
         With::new(self, rt)
     }
 
-    /// Makes a `Get` that is a new owner. Fails, and returns `None`, as `Weak::upgrade` does.
+    /// Makes a `Get` that is a new owner. Fails or returns `None` when `Weak::upgrade` does.
     pub fn upgrade<R: Wait>(&self, rt: &R) -> Result<Option<Get<Shared<T, N>>>, Refusal>
         ensures of_this { IfOk result (λ found. IfSome found (λ get. OwnsNamed self.now.0 get.0)) }
         ensures lost { IsLost self.now.0 → result ≡ Err Refusal.Memory }

@@ -28,7 +28,7 @@ use std::alloc::AllocError;
 use std::rc::Rc;
 
 /// A weak pointer to a cell. It does not count as an owner. `Shared::downgrade` makes one.
-/// `TakeWeak` and `GetWeak` make a future of it, and `with` a `WeakOwner`.
+/// `TakeWeak` and `GetWeak` make it a future, `with` makes it a `WeakOwner`.
 #[derive(Drop)]
 #[derive_where(Debug)]
 pub struct Weak<T, N: Free<T, TaskWaker> = Unruled> {
@@ -131,7 +131,7 @@ impl<T: Drop, N: Free<T, TaskWaker>> TakeWeak<T, N> {
         With::new(self, OneThread)
     }
 
-    /// Makes a `Take` that is a new owner. Fails, and returns `None`, as `Weak::upgrade` does.
+    /// Makes a `Take` that is a new owner. Fails or returns `None` when `Weak::upgrade` does.
     pub fn upgrade(&self) -> Result<Option<Take<Shared<T, N>>>, Refusal>
         ensures of_this { IfOk result (λ found. IfSome found (λ own. OwnsNamed self.now.0 own.0)) }
         ensures lost { IsLost self.now.0 → result ≡ Err Refusal.Memory }
@@ -228,7 +228,7 @@ impl<T: Drop, N: Free<T, TaskWaker>> GetWeak<T, N> {
         With::new(self, OneThread)
     }
 
-    /// Makes a `Get` that is a new owner. Fails, and returns `None`, as `Weak::upgrade` does.
+    /// Makes a `Get` that is a new owner. Fails or returns `None` when `Weak::upgrade` does.
     pub fn upgrade(&self) -> Result<Option<Get<Shared<T, N>>>, Refusal>
         ensures of_this { IfOk result (λ found. IfSome found (λ own. OwnsNamed self.now.0 own.0)) }
         ensures lost { IsLost self.now.0 → result ≡ Err Refusal.Memory }
