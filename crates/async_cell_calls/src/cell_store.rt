@@ -60,6 +60,7 @@ impl<M: Stores<Core = CellCore<T, W, N>>, T: Drop, W: Wakes, N: Protocol<T, W>> 
         requires rule { IfSome (content blank.start.cell) N.holds }
         ensures new { result.1.calls ≡ [] }
         ensures nobody { result.1.author ≡ 0 }
+        ensures none_made { result.1.own ≡ 0 }
     {
         let (core, witness, permit) = CellCore::of_blank(blank);
         let store = StoredCore::of(core);

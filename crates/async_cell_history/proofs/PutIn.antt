@@ -1,18 +1,14 @@
 -- What was put in satisfies a fact, so what is taken does.
-use Rattle.std.proofs.Common.{◌≡◌, ℕ, Bool, true, false, [], ◌∷◌, Option, Some, subst, IfSome, ◌⊎◌, inl, inr, rules, arith}
+use Rattle.std.proofs.Common.{◌≡◌, ℕ, Bool, true, false, Option, Some, IfSome, ◌⊎◌, rules, arith}
 use Rattle.std.specs.Prelude.{if◌then◌else◌}
-use Rattle.std.specs.List.{All}
-use Rattle.std.proofs.lemmas.List.Elements.{All-head, All-tail, All-pop}
 use Rattle.async_cell_model.specs.declared.cell.Cell.{Cell}
 use Rattle.async_cell_model.specs.declared.cell.Cell.TheVariants.{Closed, Open}
 use Rattle.async_cell_model.specs.declared.entry.Entry.{Entry}
 use Rattle.async_cell_model.specs.declared.entry.Kept.{Kept}
-use Rattle.async_cell_model.specs.declared.entry.Kept.TheVariants.{Set, EndOwner, TakeInner, TryTake, TryGet}
+use Rattle.async_cell_model.specs.declared.entry.Kept.TheVariants.{EndOwner, TakeInner, TryTake, TryGet}
 use Rattle.async_cell_model.specs.declared.reply.Reply.TheVariants.{Value}
 use Rattle.async_cell_model.specs.Machine.{content, next, next_open, reply, is_memory}
-use Rattle.async_cell_model.specs.History.{History, cell_after}
-use Rattle.async_cell_core.specs.IsStep.{WakerRules}
-use Rattle.async_cell_history.specs.History.{Begun, IsAllowed, IsLawful, IsLinearized, Puts, PutsWhatSetsMay, start_of}
+use Rattle.async_cell_history.specs.History.{IsAllowed, Puts}
 
 -- what holds of both holds of either
 pub either : {A : Type 0} (P : A → Type 0) (b : Bool) (x y : A) → P x → P y → P (if b then x else y)
@@ -36,26 +32,3 @@ module _ {T W : Type 0} (P : T → Type 0) where
 -- a call that is allowed puts in what each call that may be made puts in
 pub allowed_puts : {T W : Type 0} (may : Kept T W → Type 0) (P : T → Type 0) (keeps : (call : Kept T W) → may call → Puts P call) (call : Kept T W) → IsAllowed may call → Puts P call
 allowed_puts may P keeps call allowed = search rules
-
-module _ {T W : Type 0} (may : Kept T W → Type 0) (only : PutsWhatSetsMay may) where
-  abbrev MaySet : T → Type 0
-  MaySet v = may (Set v)
-
-  after_holds : (c : Cell T) (h : History T W) → IfSome (content c) MaySet → All (λ e. IsAllowed may e.call) h → IfSome (content (cell_after c h)) MaySet
-  after_holds c [] holds all = holds
-  after_holds c (e ∷ h) holds all = after_holds (next c e) h (step_holds MaySet c e holds (allowed_puts may MaySet only e.call (All-head (λ x. IsAllowed may x.call) e h all))) (All-tail (λ x. IsAllowed may x.call) e h all)
-
-  module _ (rules : WakerRules W) (named : Option (Begun T W)) (seen now : History T W) (v : T) (first : IfSome (content (start_of named).cell) MaySet) (lawful : IsLawful rules.will_wake rules.SURE_CLONE may (start_of named) now) where
-    found : (call : Kept T W) → ((c : Cell T) → Value (Some v) ≡ reply c call → content c ≡ Some v) → IsLinearized rules named seen call (Value (Some v)) now → MaySet v
-    found call full told = elim told.does.replied [
-      | inl is ↦ subst (λ o. IfSome o MaySet) (full _ is) (after_holds (start_of named).cell told.before first (All-pop (λ x. IsAllowed may x.call) now told.before (Some (record { call = call; reply = Value (Some v) })) told.ends lawful.allowed).0)
-      | inr refused ↦ absurd (cc refused.0)
-    ]
-
-    -- what a take was told is a value that a `set` may put in
-    pub taken : IsLinearized rules named seen TryTake (Value (Some v)) now → MaySet v
-    taken told = found TryTake (λ c is. full_at W c v (inl is)) told
-
-    -- and so is what a get was told
-    pub got : IsLinearized rules named seen TryGet (Value (Some v)) now → MaySet v
-    got told = found TryGet (λ c is. full_at W c v (inr is)) told

@@ -11,7 +11,7 @@ use Rattle.async_cell_model.specs.declared.entry.Kept.TheVariants.{TryTake}
 use Rattle.async_cell_model.specs.declared.reply.Reply.TheVariants.{Value}
 use Rattle.async_cell_model.specs.Machine.{State, content}
 use Rattle.async_cell_model.specs.History.{History}
-use Rattle.async_cell_model.specs.Taken.{IsDistinct, IsSubsequence, has_update, is_update, put_by, put_in, taken_by, taken_out}
+use Rattle.async_cell_model.specs.Taken.{IsSubsequence, has_update, is_update, put_by, put_in, taken_by, taken_out}
 use Rattle.async_cell_model.proofs.Exact.{NoClone, legal_of_exact}
 use Rattle.async_cell_model.proofs.Once.{IsSubsequence-same, IsSubsequence-nil, IsSubsequence-trans, IsSubsequence-append, pairs_of_subsequence, given_in_order}
 use Rattle.async_cell_core.specs.IsStep.{WakerRules}
@@ -46,10 +46,6 @@ module _ {A : Type 0} where
   longer_has : (xs ys : List A) → IsSubsequence xs (xs ++ ys)
   longer_has xs ys = subst (λ (l : List A). IsSubsequence l (xs ++ ys)) (append-nil xs) (IsSubsequence-append xs xs [] ys (IsSubsequence-same xs) (IsSubsequence-nil ys))
 
-  -- two values that stand at two places of a list without equals differ
-  apart : (v w : A) (vs : List A) → IsDistinct vs → IsSubsequence (v ∷ w ∷ []) vs → v ≢ w
-  apart v w vs distinct sub = pairs_of_subsequence (λ x y. x ≢ y) (v ∷ w ∷ []) vs sub distinct 0 1 v (omega arith) (omega arith)
-
 order : (m n : ℕ) → (m ≡ n) ⊎ ((suc m ≤ n) ⊎ (suc n ≤ m))
 order m n = grind arith
 
@@ -72,7 +68,7 @@ module _ {T W : Type 0} where
       IsSubsequence-trans (of_part (h ++ take w ∷ []) all second) (v ∷ w ∷ []) (one_more (v ∷ []) h w one)
 
   -- two authors took, so the one took before the other
-  pub two_taken : (all : Seen T W) (m n : ℕ) (v w : T) → Took m v all → Took n w all → m ≢ n → IsSubsequence (v ∷ w ∷ []) (taken_out all.calls) ⊎ IsSubsequence (w ∷ v ∷ []) (taken_out all.calls)
+  two_taken : (all : Seen T W) (m n : ℕ) (v w : T) → Took m v all → Took n w all → m ≢ n → IsSubsequence (v ∷ w ∷ []) (taken_out all.calls) ⊎ IsSubsequence (w ∷ v ∷ []) (taken_out all.calls)
   two_taken all m n v w one other differ = elim (order (length one.before) (length other.before)) [
     | inl is ↦ absurd (differ (one_place one.authors_before other.authors_before all.authors m n one.authors other.authors (one.as_many ∙ is ∙ sym other.as_many)))
     | inr order ↦ elim order [
@@ -82,19 +78,11 @@ module _ {T W : Type 0} where
   ]
 
   -- they took two of the values that were there or put in
-  pub two_put : (will_wake : W → W → Bool) (sure : Bool) (may : Kept T W → Type 0) (start : State T W) (all : Seen T W) (m n : ℕ) (v w : T) → IsLawful will_wake sure may start all.calls → has_update all.calls ≡ false → Took m v all → Took n w all → m ≢ n
+  two_put : (will_wake : W → W → Bool) (sure : Bool) (may : Kept T W → Type 0) (start : State T W) (all : Seen T W) (m n : ℕ) (v w : T) → IsLawful will_wake sure may start all.calls → has_update all.calls ≡ false → Took m v all → Took n w all → m ≢ n
       → IsSubsequence (v ∷ w ∷ []) (option_to_list (content start.cell) ++ put_in all.calls) ⊎ IsSubsequence (w ∷ v ∷ []) (option_to_list (content start.cell) ++ put_in all.calls)
   two_put will_wake sure may start all m n v w lawful plain one other differ =
       let given = given_in_order NoClone will_wake sure start [] all.calls plain (legal_of_exact will_wake sure start all.calls lawful.legal) in
       elim (two_taken all m n v w one other differ) [ inl sub ↦ inl (IsSubsequence-trans given (v ∷ w ∷ []) sub) | inr sub ↦ inr (IsSubsequence-trans given (w ∷ v ∷ []) sub) ]
-
-  -- which differ, if all of those differ
-  pub two_differ : (will_wake : W → W → Bool) (sure : Bool) (may : Kept T W → Type 0) (start : State T W) (all : Seen T W) (m n : ℕ) (v w : T) → IsLawful will_wake sure may start all.calls → has_update all.calls ≡ false → IsDistinct (option_to_list (content start.cell) ++ put_in all.calls) → Took m v all → Took n w all → m ≢ n → v ≢ w
-  two_differ will_wake sure may start all m n v w lawful plain distinct one other differ is =
-      elim (two_put will_wake sure may start all m n v w lawful plain one other differ) [
-        | inl sub ↦ apart v w _ distinct sub is
-        | inr sub ↦ apart w v _ distinct sub (sym is)
-      ]
 
 -- no two values stand in a list of one
 no_pairs : {T : Type 0} (o : Option T) → AllPairs (λ x y. ⊥) (option_to_list o ++ [])

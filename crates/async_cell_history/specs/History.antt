@@ -258,10 +258,6 @@ module _ {T W : Type 0} where
   puts_any EndOwner = tt
   puts_any TakeInner = tt
 
-  -- each value that a change may put in, a `set` may put in too
-  abbrev pub PutsWhatSetsMay : (Kept T W → Type 0) → Type 0
-  PutsWhatSetsMay may = (call : Kept T W) → may call → Puts (λ v. may (Set v)) call
-
   -- the value that goes in: passed to a write, or returned by the closure of an update
   abbrev pub goes_in : Kept T W → Option T
   goes_in (Update saw put) = put

@@ -74,6 +74,7 @@ impl<T: Drop, W: Wakes, N: Protocol<T, W>> CellCore<T, W, N> {
         requires rule { IfSome (content blank.start.cell) N.holds }
         ensures new { result.1.calls ≡ [] }
         ensures nobody { result.1.author ≡ 0 }
+        ensures none_made { result.1.own ≡ 0 }
     {
         let (core, opened, permit) = blank.into_parts();
         let core = CellCore::begin(core, opened);
@@ -110,7 +111,7 @@ impl<T: Drop, W: Wakes, N: Protocol<T, W>> CellCore<T, W, N> {
         self.past.shows(permit);
     }
 
-    /// Makes a call, which is entered, and signed so.
+    /// Makes a call, and enters it, signed `by`.
     #[inline(always)]
     pub fn make<O: Op<T, W, N>, B: Signs>(&mut self, op: O, by: &B) -> Deferred<O::Answer, O::After>
         requires can { O.can op }

@@ -7,29 +7,11 @@ ghost use Rattle.async_cell_model.specs.declared.entry.Kept.{Kept as Called};
 ghost use Rattle.async_cell_model.specs.Machine.{content, ends_waiting};
 ghost use Rattle.async_cell_model.specs.Legal.{IsExact};
 ghost use Rattle.async_cell_model.specs.History.{History, IsCovered, cell_after};
-ghost use Rattle.async_cell_model.specs.Taken.{IsDistinct, IsSubsequence, has_update, put_in};
-ghost use Rattle.async_cell_history.specs.History.{GoesOn, HasEntry, IsLawful, IsNoSet, IsOrSet, IsSigned, IsTake, IsLinearized, IsLinearizedUpTo, OnlyMakes, PutsWhatSetsMay, Seen, StillWaits, Took, come_out, dropped, gone_in, start_of};
+ghost use Rattle.async_cell_history.specs.History.{GoesOn, HasEntry, IsLawful, IsNoSet, IsOrSet, IsSigned, IsTake, IsLinearized, IsLinearizedUpTo, OnlyMakes, Seen, StillWaits, Took, come_out, dropped, gone_in, start_of};
 
 use crate::Protocol;
 use async_cell_core::Wakes;
 use async_cell_model::{Kept, Reply};
-
-/// A value that is taken or got is one that a `set` may put in, if all other changes put in such
-/// values alone, and the first state has none or such a one.
-pub fn a_value_is_one_that_may_be_set<T, W: Wakes, N: Protocol<T, W>>()
-    ensures taken { PutsWhatSetsMay N.may
-        → IfSome (content (start_of N.named).cell) (λ v. N.may (Kept.Set v))
-        → (seen now : History T W) (v : T)
-        → IsLawful W.will_wake W.SURE_CLONE N.may (start_of N.named) now
-        → IsLinearized W.Wakes N.named seen Kept.TryTake (Reply.Value (Some v)) now
-        → N.may (Kept.Set v) }
-    ensures got { PutsWhatSetsMay N.may
-        → IfSome (content (start_of N.named).cell) (λ v. N.may (Kept.Set v))
-        → (seen now : History T W) (v : T)
-        → IsLawful W.will_wake W.SURE_CLONE N.may (start_of N.named) now
-        → IsLinearized W.Wakes N.named seen Kept.TryGet (Reply.Value (Some v)) now
-        → N.may (Kept.Set v) }
-{}
 
 /// A call that fills or closes a cell wakes each waker that still waits there, or one that would
 /// wake it.
@@ -66,8 +48,8 @@ pub fn an_exact_get_is_linearized<T: Clone, W: Wakes, N: Protocol<T, W>>()
         → IsLinearized W.Wakes N.named seen Kept.TryGet (Reply.Value (Some v)) now }
 {}
 
-/// If an `or_set` is the only change that may be made, each `try_get` of a value finds the same.
-/// What it returned is that value or a clone of it.
+/// If `or_set` is the only change that may be made, all `try_get`s that find a value find the same.
+/// Each returned that value or a clone of it.
 pub fn what_is_set_once_all_get<T, W: Wakes, N: Protocol<T, W>>()
     ensures { (now : History T W) (v w : T)
         → OnlyMakes N.may IsOrSet
@@ -98,24 +80,6 @@ pub fn a_seen_take_is_of_its_author<T, W: Wakes, N: Protocol<T, W>>()
         → IsSigned seen now → length now.authors ≡ length now.calls → Took seen.author v now }
     ensures later { (seen all : Seen T W) (n : ℕ) (v : T) → Took n v seen
         → IsPrefix seen.calls all.calls → IsPrefix seen.authors all.authors → Took n v all }
-{}
-
-/// Two authors take two values. In a history without updates, what they took are two of the values
-/// that the cell held at the start and that were passed to the writes, in the one order or the
-/// other. So if all of those differ, the two values do.
-pub fn two_takers_take_two_values<T, W: Wakes, N: Protocol<T, W>>()
-    ensures two_put { (all : Seen T W) (m n : ℕ) (v w : T)
-        → IsLawful W.will_wake W.SURE_CLONE N.may (start_of N.named) all.calls
-        → has_update all.calls ≡ false → Took m v all → Took n w all → m ≢ n
-        → IsSubsequence (v ∷ w ∷ [])
-        (option_to_list (content (start_of N.named).cell) ++ put_in all.calls)
-        ⊎ IsSubsequence (w ∷ v ∷ [])
-        (option_to_list (content (start_of N.named).cell) ++ put_in all.calls) }
-    ensures differ { (all : Seen T W) (m n : ℕ) (v w : T)
-        → IsLawful W.will_wake W.SURE_CLONE N.may (start_of N.named) all.calls
-        → has_update all.calls ≡ false
-        → IsDistinct (option_to_list (content (start_of N.named).cell) ++ put_in all.calls)
-        → Took m v all → Took n w all → m ≢ n → v ≢ w }
 {}
 
 /// Of takers alone one gets a value. If takes are the only changes that may be made, all takes of a

@@ -126,7 +126,7 @@ pub trait Caller<T, W: Wakes, N: Protocol<T, W>> {
         ensures open { owns → is_closed core.old.inner.cell ≡ false };
 }
 
-/// Who calls may be no owner.
+/// Anyone may call, owner or not.
 pub struct Anyone;
 
 impl<T: Drop, W: Wakes, N: Protocol<T, W>> Caller<T, W, N> for Anyone {

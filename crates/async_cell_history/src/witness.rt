@@ -44,6 +44,7 @@ impl<T, W: Wakes, N: Protocol<T, W>> Witness<T, W, N> {
         ensures calls { result.calls ≡ past.now.calls }
         ensures authors { result.authors ≡ past.now.authors }
         ensures nobody { result.author ≡ 0 }
+        ensures none_made { result.own ≡ 0 }
     {
         Witness {
             seen: past.log.seen(),

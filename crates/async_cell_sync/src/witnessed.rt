@@ -27,6 +27,7 @@ impl<T: Drop, R: Wait + Copy, N: Protocol<T, TaskWaker>> Owner<T, R, N> {
         requires rule { IfSome (content blank.start.cell) N.holds }
         ensures new { IfOk result (λ made. made.1.calls ≡ []) }
         ensures nobody { IfOk result (λ made. made.1.author ≡ 0) }
+        ensures none_made { IfOk result (λ made. made.1.own ≡ 0) }
         ensures refused { FailsWithMemory result }
     {
         let (core, seen, permit) = LockedCore::<T, TaskWaker, N>::of_blank(blank);
