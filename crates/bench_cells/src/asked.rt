@@ -7,45 +7,24 @@ use std::sync::atomic::{AtomicU64, Ordering};
 /// The words of the command.
 #[derive(Drop)]
 pub struct Asked {
-    words: Vec<String>,
+    pub kind: String,
+    pub workload: String,
+    pub rounds: u64,
+    /// How many futures wait in a round.
+    pub waiters: u64,
 }
 
 impl Asked {
-    /// Reads the words of the command.
+    /// Reads the words of the command. One that is not there is empty, or 0.
     pub fn read<R: Env + AllocGlobal>(rt: &R) -> io::Result<Asked> {
-        let mut words: Vec<String> = Vec::new(rt.alloc());
-        for word in std::env::args(rt)? {
-            words.push(word)?;
-        }
-        Ok(Asked { words })
-    }
-
-    /// Returns a word, or an empty one if there are fewer.
-    fn word(&self, index: usize) -> &str {
-        match self.words.get(index) {
-            Some(word) => word.as_str(),
-            None => "",
-        }
-    }
-
-    /// Returns the kind of cell.
-    pub fn kind(&self) -> &str {
-        self.word(1)
-    }
-
-    /// Returns the workload.
-    pub fn workload(&self) -> &str {
-        self.word(2)
-    }
-
-    /// Returns how many rounds are run.
-    pub fn rounds(&self) -> u64 {
-        self.word(3).parse().unwrap_or(0)
-    }
-
-    /// Returns how many futures wait in a round.
-    pub fn waiters(&self) -> u64 {
-        self.word(4).parse().unwrap_or(0)
+        let mut words = std::env::args(rt)?.skip(1);
+        let mut word = || words.next().unwrap_or(String::new(rt.alloc()));
+        Ok(Asked {
+            kind: word(),
+            workload: word(),
+            rounds: word().parse().unwrap_or(0),
+            waiters: word().parse().unwrap_or(0),
+        })
     }
 }
 

@@ -22,7 +22,7 @@ pub fn count<R: Wait + AllocGlobal + Copy>(asked: &Asked, hidden: &Hidden, rt: R
 macro_rules! summed {
     ($asked:ident, $hidden:ident, |$value:ident| $set:expr, $found:expr) => {{
         let mut sum = 0u64;
-        for i in 0..$asked.rounds() {
+        for i in 0..$asked.rounds {
             let $value = $hidden.number(i);
             $set;
             sum = sum.wrapping_add($found);
@@ -43,7 +43,7 @@ fn count_named<N: Protocol<u64, TaskWaker>, R: Wait + AllocGlobal + Copy>(
     requires may { (call : Kept ℕ Waker) → N.may call }
 {
     let (owner, mut seen) = Owner::<u64, R, N>::witnessed(rt.alloc(), blank, rt)?;
-    Ok(match (asked.kind(), asked.workload()) {
+    Ok(match (asked.kind.as_str(), asked.workload.as_str()) {
         ("as", "reply") => summed!(
             asked,
             hidden,

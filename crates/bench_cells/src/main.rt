@@ -16,7 +16,7 @@ use std::io;
 
 fn main(rt: HostRuntime) -> io::Result<()> {
     let asked = Asked::read(&rt)?;
-    let counted = match asked.kind() {
+    let counted = match asked.kind.as_str() {
         "sync" => run::<sync::Locked, HostRuntime>(&asked, &rt)?,
         "sync_owner" => run::<sync::Owned<HostRuntime>, HostRuntime>(&asked, &rt)?,
         "unsync" => run::<unsync::Lent, HostRuntime>(&asked, &rt)?,

@@ -16,20 +16,20 @@ pub fn run<K: Kind<R>, R: Wait + RandomSource + AllocGlobal>(
     asked: &Asked,
     rt: &R,
 ) -> io::Result<u64> {
-    let (alloc, rounds, task) = (rt.alloc(), asked.rounds(), MockTask::new(rt)?);
+    let (alloc, rounds, task) = (rt.alloc(), asked.rounds, MockTask::new(rt)?);
     let hidden = Hidden::make(alloc)?;
     Ok(task.enter(|cx| run_in::<K, R>(asked, (alloc, rounds, cx, hidden, rt))))
 }
 
 /// Runs the workload.
 fn run_in<K: Kind<R>, R: Wait>(asked: &Asked, given: Given<'_, '_, R>) -> u64 {
-    if asked.workload() == "reply" {
+    if asked.workload.as_str() == "reply" {
         return reply_slots::<K, R>(given);
     }
     let Some(cell) = K::make(given.0, given.4) else {
         return 0;
     };
-    match asked.workload() {
+    match asked.workload.as_str() {
         "watch" => watcher(&cell, given),
         "again" => {
             let (_, rounds, cx, _, rt) = given;
@@ -39,7 +39,7 @@ fn run_in<K: Kind<R>, R: Wait>(asked: &Asked, given: Given<'_, '_, R>) -> u64 {
             Some(running) => stream(&cell, &running, given),
             None => 0,
         },
-        _ => fan_out(&cell, asked.waiters(), given),
+        _ => fan_out(&cell, asked.waiters, given),
     }
 }
 
