@@ -1,5 +1,5 @@
 """Reads, compares and writes the table of instructions of bench/README.md, and draws counts.svg of
-it. `count.py --write` writes both, and count_check.py compares them.
+it. `count.py --write` writes both.
 
 A line above the table says how it was counted. A field without a figure is empty.
 """

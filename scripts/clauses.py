@@ -58,11 +58,22 @@ def stated(of):
             yield from facts(f"{path} as {' '.join(it.head.split())}", it.declaration, it.contract)
 
 
+def definitions(text):
+    """Returns where each definition of specs/ begins. A field of a record is a part of it."""
+    found, deepest = [], 99
+    for it in re.finditer(SPEC, text):
+        depth = len(re.match(" *", it[0].rpartition("\n")[2])[0])
+        if depth <= deepest:
+            found.append(it)
+            deepest = depth if re.search("(?:record|data) .*$", it[0]) else 99
+    return found
+
+
 def words_of(top, parts):
     """Yields what a clause may name, with its fact: definitions of specs/, and types of parts."""
     for file in pathlib.Path(top).glob("crates/*/specs/*.antt"):
         text = re.sub(r"(?m)^ *--.*\n", "", api.read(file))
-        at = [*re.finditer(SPEC, text)] if not re.search("callers|uses", file.parts[-3]) else []
+        at = definitions(text) if not re.search("callers|uses", file.parts[-3]) else []
         for it, end in zip(at, [it.start() for it in at[1:]] + [len(text)]):
             said = " ".join(text[it.start() : end].split())
             yield it[1], f"{file.parts[-3]}.{file.stem}.{it[1]} | {said}"

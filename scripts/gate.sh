@@ -125,7 +125,6 @@ show 'misuse that must not compile (misuse/check.sh)' "$counts" bash misuse/chec
 show 'a project of its own (scripts/vendor_check.sh)' "$vendored" bash scripts/vendor_check.sh "$@"
 show 'the snippets of the pages (scripts/snippets.py)' "$counts" python3 scripts/snippets.py
 [ $# -eq 0 ] || show 'the examples (scripts/examples.sh)' "$counts" bash scripts/examples.sh
-show 'what tells a rise in cost (bench/count_check.py)' "$counts" python3 bench/count_check.py
 if [ "${WITHOUT_VALGRIND:-}" = yes ] && ! command -v valgrind >/dev/null; then
     echo 'gate: what the calls cost is not counted, as there is no valgrind' >>"$work/shown"
 else
