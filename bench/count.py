@@ -33,7 +33,7 @@ ROWS = {
     "unsync pair": ("pair unsync_pair", ALL[:1]),
     "sync pair": ("pair sync_pair", ALL[:1]),
     "calls of an Owner": ("cells calls", ALL[:2]),
-    "as calls of an Owner": ("cells as", ALL[:2]),
+    "`_as` calls of an Owner": ("cells as", ALL[:2]),
     "latest_sync": ("cells latest", ("watch", "fan", "again")),
     "oneshot of the kit": ("pair oneshot", ALL[:1]),
 }

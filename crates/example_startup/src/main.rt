@@ -14,7 +14,7 @@ struct NoNumber;
 
 type Setting = std::result::Result<u32, NoNumber>;
 
-/// Reads the setting. An early return leaves `NoNumber` in its place.
+/// Reads the setting. An early return sets it to `NoNumber`.
 fn load<R: Wait + Copy>(setting: &Owner<Setting, R>, text: &str) -> Option<()> {
     let guard = setting.guard(Err(NoNumber));
     let number = text.parse::<u32>().ok()?;
