@@ -6,7 +6,7 @@ import lay_out
 from lay_out import read, write
 
 # The modules whose text is of the cells that threads share, and of those of one thread as well.
-BOTH = ("cells", "replies")
+BOTH = ("cells",)
 # What stands otherwise in a text of cells of one thread: no right to wait for a lock is taken, and
 # owners end by their drop. What follows such a comment, up to an empty line, is left out.
 WITHOUT_LOCK = [

@@ -1,16 +1,18 @@
 """Makes random cases for the player, with what scripts/random_model.py says must come back.
 
-A case is a list of calls on a cell, on all that an owner makes, or on a latest state. Each is made
-from a seed, which its title has, so a case that fails can be made again, or pasted into tests/cases.
+A case is a list of calls on a cell, on all that an owner makes, on reply slots, or on a latest state.
+Each is made from a seed, which its title has, so a case that fails can be made again, or pasted into
+tests/cases.
 """
 import random
 
-from random_model import Cell
+from random_model import Cell, State
 
 TASKS = range(1, 8)
 LENGTH = 40
 WRITES = ["set", "or_set", "try_set", "replace", "update", "update_some", "guarded"]
-MAKES = ["own", "guard", "take_shared", "get_shared", "take_weak", "get_weak", "values"]
+MAKES = ["own", "guard", "into_guard", "values"]
+MAKES += ["take_shared", "get_shared", "take_weak", "get_weak"]
 MARKS = ["mark_unchanged", "mark_changed", "read_and_update", "peek_and_update"]
 LOOKS = ["try_take", "try_get", "peek", "is_set", "is_closed", "waiting", "debug", "purge"]
 LOOKS_OF_A_STATE = ["read", "peek", "has_changed", "is_closed", *MARKS]
@@ -19,12 +21,16 @@ LOOKS_OF_A_STATE = ["read", "peek", "has_changed", "is_closed", *MARKS]
 class Maker:
     """Writes a case down, call by call."""
 
+    # What is looked at inside a drop.
+    LOOK = "debug"
+
     def __init__(self, seed, kinds, holder):
         self.random = random.Random(f"{kinds} {seed}")
         self.cell = holder
         self.lines = [f"# Random calls on {kinds}, seed {seed}", f"on {kinds}"]
         self.made = {}
         self.count = 0
+        self.owners = []
 
     def some(self, choices):
         return self.random.choice(list(choices))
@@ -44,6 +50,14 @@ class Maker:
             last = word
         self.cell.events = []
         self.lines.append(call if told == "ok" else f"{call} -> {told}")
+        looked, self.cell.seen_in_drops = self.cell.seen_in_drops, []
+        for number, text in looked if self.owners and self.random.random() < 0.5 else []:
+            self.lines.append(f"  in drop of {number}: {self.LOOK} {self.owners[0]} -> {text}")
+
+    def fail(self):
+        """Has clones fail from now on, or work again."""
+        self.cell.clones_fail = not self.cell.clones_fail
+        self.line(f"clones {'fail' if self.cell.clones_fail else 'work'}")
 
     def write(self, on=""):
         """Makes a call that may write."""
@@ -87,11 +101,14 @@ class Cells(Maker):
 
     def __init__(self, seed):
         super().__init__(seed, "cells owners", Cell())
+        self.owners = ["it"]
         self.line("new")
 
     def step(self):
         chosen = self.random.randrange(8)
-        if chosen < 2 and len(self.made) < 6:
+        if self.random.random() < 0.05:
+            self.fail()
+        elif chosen < 2 and len(self.made) < 6:
             name, takes = self.name("f"), chosen == 0
             self.made[name] = [takes, None, "future"]
             self.line(f"{'take' if takes else 'get'} {name}")
@@ -123,7 +140,9 @@ class Owners(Maker):
         self.cell.owners += shared
         if word == "own":
             self.owners.append(name)
-        elif word == "guard":
+        elif word.endswith("guard"):
+            if word == "into_guard":
+                self.owners.remove(owner)
             self.guards[name] = self.value()
             name = f"{name} {self.guards[name]}"
         else:
@@ -136,6 +155,8 @@ class Owners(Maker):
         weak, name, how = self.some(self.weak), self.name("u"), self.some(["take", "get", "clone"])
         futures = [it for it, (_, _, kind) in self.made.items() if kind == "weak"]
         of = self.some([weak, *futures])
+        if self.random.random() < 0.2:
+            return self.line(f"is_closed {weak}", self.cell.look("is_closed"))
         if self.random.random() < 0.3 and how == "clone":
             self.weak.append(name)
             return self.line(f"clone {weak} {name}")
@@ -175,7 +196,9 @@ class Owners(Maker):
 
     def step(self):
         chosen = self.random.randrange(12)
-        if chosen < 4 and self.owners and len(self.made) < 6:
+        if self.random.random() < 0.05:
+            self.fail()
+        elif chosen < 4 and self.owners and len(self.made) < 6:
             self.add()
         elif chosen == 4:
             self.upgrade()
@@ -183,7 +206,7 @@ class Owners(Maker):
             self.end_guard()
         elif chosen == 6 and self.made:
             self.end(self.some(self.made))
-        elif chosen == 7 and self.owners:
+        elif chosen == 7 and self.owners and self.cell.owners > self.random.choice([0, 1, 1, 1]):
             self.end_owner()
         elif chosen < 10 and self.owners:
             name = self.some(self.owners)
@@ -192,13 +215,77 @@ class Owners(Maker):
             self.poll(self.some(self.made))
 
 
+class Slots(Maker):
+    """Reply slots, one after the other: `it` replies, the other side waits."""
+
+    def __init__(self, seed):
+        super().__init__(seed, "slots", Cell())
+        self.sides = []
+
+    def begin(self):
+        self.cell.owners, self.reply, self.is_over = 1, [True, None], False
+        self.sides = ["it", self.name("r")]
+        self.line("new")
+        self.line(f"take {self.sides[1]}")
+
+    def end(self, side):
+        """Closes the slot."""
+        self.sides.remove(side)
+        self.cell.owners and self.cell.end_owner()
+
+    def ask_it(self):
+        """Has the side that replies set a value, end or look."""
+        word, value = self.some(["set", "drop", "is_closed"]), self.value()
+        if word == "is_closed":
+            return self.line("is_closed it", self.cell.look(word))
+        if word == "drop":
+            self.end("it")
+            return self.line("drop it")
+        self.sides.remove("it")
+        return self.line(f"set {value}", self.cell.set(value) if self.cell.owners else f"back {value}")
+
+    def ask_reply(self):
+        """Polls the side that waits, has it look, or ends it."""
+        name, word = self.sides[-1], self.some(["poll", "poll", "try_take", "into_inner", "drop"])
+        if word == "poll":
+            task = self.some(TASKS)
+            reply = "closed" if self.is_over else self.cell.poll(self.reply, task)
+            self.is_over |= reply != "pending"
+            return self.line(f"poll {name} by {task}", reply)
+        if word == "try_take":
+            is_open = self.cell.owners and not self.is_over
+            reply = self.cell.try_take() if is_open else "closed"
+            self.is_over |= reply != "none"
+            return self.line(f"try_take {name}", reply)
+        reply = "none" if word == "into_inner" else "ok"
+        if self.is_over:
+            self.sides.remove(name)
+        elif word == "into_inner":
+            reply = self.cell.taken("inner")
+            self.end(name)
+        else:
+            self.end(name)
+        return self.line(f"{word} {name}", reply)
+
+    def step(self):
+        if not self.sides:
+            self.begin()
+        elif self.sides[0] == "it" and self.random.random() < 0.4:
+            self.ask_it()
+        elif self.sides[-1] != "it":
+            self.ask_reply()
+
+
 class States(Maker):
     """Owners and followers of a latest state. A follower lends itself to one future at a time."""
 
+    KIND, LOOK = "states", "peek"
+
     def __init__(self, seed):
-        super().__init__(seed, "states", Cell())
+        super().__init__(seed, self.KIND, State())
         self.cell.content, self.version = 1, 1
         self.owners, self.seen, self.lent = ["it"], {"f": 1}, {}
+        self.witnessed = {"f": 1}
         self.line("new 1")
         self.line("follow f")
 
@@ -211,6 +298,7 @@ class States(Maker):
         self.cell.content = {"": value, "keep": old}.get(how, old + value)
         if word.startswith("modify") and not how:
             self.cell.drop(old)
+            self.cell.seen_in_drops = []  # The lock is held.
         is_told = word != "modify_if" or how in ("", "add")
         if is_told:
             self.version += 1
@@ -225,6 +313,7 @@ class States(Maker):
     def follow(self):
         name, of = self.name("f"), self.some([*self.owners, *self.free()])
         self.seen[name] = self.seen.get(of, self.version)
+        self.witnessed[name] = self.witnessed.get(of, self.version)
         self.line(f"clone {of} {name}" if of in self.seen else f"follow {name} on {of}")
 
     def free(self):
@@ -236,6 +325,8 @@ class States(Maker):
         word = self.some(LOOKS_OF_A_STATE)
         if word in MARKS:
             self.seen[name] = 0 if word == "mark_changed" else self.version
+        if word == "read_and_update":
+            self.witnessed[name] = self.version
         if word.startswith("read"):
             reply = cell.cloned("some")
         elif word.startswith("peek"):
@@ -260,12 +351,16 @@ class States(Maker):
         kind = self.some(["changed", "wait_for", "states"])
         wanted = self.value() if kind == "wait_for" else 0
         if kind == "states":
-            self.seen[name] = self.seen[of]
+            self.seen[name] = self.seen_before(of)
         self.lent[name] = name if kind == "states" else of
         self.made[name] = [kind, None, 0 if kind == "wait_for" else None, wanted]
         called = f"wait_for {wanted}" if kind == "wait_for" else kind
         self.line(f"{called} {name} on {of}")
         self.poll(name)
+
+    def seen_before(self, of):
+        """What a stream of this follower has seen when it is made."""
+        return self.seen[of]
 
     def poll(self, name):
         future, of, task = self.made[name], self.lent[name], self.some(TASKS)
@@ -325,10 +420,20 @@ class States(Maker):
             self.poll(self.some(self.made))
 
 
+class StatesAs(States):
+    """Such a state, whose calls extend a witness. A stream goes on from what that has seen."""
+
+    KIND = "states_as"
+
+    def seen_before(self, of):
+        return self.witnessed[of]
+
+
 def cases(count, first=0):
     """Returns the text of so many cases of each sort, one of each after the other."""
     seeds = range(first, first + count)
-    made = [sort(seed) for seed in seeds for sort in (Cells, Owners, States)]
+    sorts = (Cells, Owners, Slots, States, StatesAs)
+    made = [sort(seed) for seed in seeds for sort in sorts]
     for it in made:
         for _ in range(LENGTH):
             it.step()

@@ -55,6 +55,7 @@ class Cell:
 
     def __init__(self):
         self.content, self.owners, self.wait, self.events = None, 1, Wait(), []
+        self.clones_fail, self.seen_in_drops = False, []
 
     def happen(self, word, *numbers):
         """Notes what happens. A task that was just woken is not woken again."""
@@ -74,6 +75,7 @@ class Cell:
     def drop(self, value):
         if value is not None:
             self.happen("dropped", value)
+            self.seen_in_drops.append((value, self.told()))
 
     def set(self, value):
         self.drop(self.fill(value))
@@ -107,7 +109,7 @@ class Cell:
 
     def taken(self, word):
         """Takes the content out, and replies with it after this word."""
-        taken, self.content = self.content, None
+        taken = self.take_out()
         return "none" if taken is None else f"{word} {taken}"
 
     def try_take(self):
@@ -123,6 +125,8 @@ class Cell:
         return str(self.content)
 
     def cloned(self, word):
+        if self.clones_fail:
+            return "memory"
         self.happen("cloned", self.content)
         return f"{word} {self.content}'"
 
@@ -153,9 +157,13 @@ class Cell:
         self.owners -= 1
         if not self.owners:
             self.wake_all()
-            self.drop(self.content)
-            self.content = None
+            self.drop(self.take_out())
         return "ok"
+
+    def take_out(self):
+        """Empties the cell, and returns what it held."""
+        taken, self.content = self.content, None
+        return taken
 
     def leave(self, word, place):
         """Drops or cancels a future that waits in this place."""
@@ -175,6 +183,29 @@ class Cell:
         return str(replies[word]).lower() if word in replies else getattr(self, word)()
 
     def debug(self):
+        if self.content is not None and self.clones_fail:
+            return "memory"
+        if self.content is not None:
+            self.happen("printed", self.content)
+        return self.text()
+
+    def told(self):
+        """What a look replies that is made now, and what happens in it."""
+        if self.content is None or not self.clones_fail:
+            return self.text() + f", printed {self.content}" * (self.content is not None)
+        return "memory"
+
+    def text(self):
+        """What the content prints."""
+        if not self.owners:
+            return "AsyncCell::Closed"
         if self.content is not None:
             return f"AsyncCell::Full({self.content})"
         return "AsyncCell::Pending" if any(self.wait.tasks) else "AsyncCell::Empty"
+
+
+class State(Cell):
+    """A latest state, of which a look sees the value."""
+
+    def told(self):
+        return f"{self.content}, saw {self.content}"

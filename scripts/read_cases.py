@@ -7,14 +7,16 @@ import re
 from collections import namedtuple
 
 KINDS = ["locked", "sync", "unsync", "sync_owner", "unsync_owner", "shared"]
-KINDS += ["owner_as", "cell_as", "sync_closed", "unsync_closed", "states"]
+KINDS += ["owner_as", "cell_as", "sync_closed", "unsync_closed", "states", "states_as"]
+KINDS += ["sync_slot", "unsync_slot"]
 GROUPS = {
     "cells": ("sync", "unsync"),
     "owners": ("sync_owner", "unsync_owner", "owner_as", "cell_as"),
     "closed": ("sync_closed", "unsync_closed"),
+    "slots": ("sync_slot", "unsync_slot"),
 }
 REPLIES = "ok pending ready some back old item inner none true false memory closed full"
-REPLIES = f"{REPLIES} shared end woke dropped cloned saw".split()
+REPLIES = f"{REPLIES} shared end woke dropped cloned printed saw".split()
 PLACES = "drop clone debug closure wake".split()
 # What a call takes, in this order. What ends in `?` may be left out. NAME is a thing that has a
 # name (none: `it`), MADE the name that a new thing gets, ON is `on NAME`, and BY is `by TASK`.
