@@ -4,8 +4,9 @@
     python3 scripts/api.py FOLDER     writes the pages there
     python3 scripts/api.py --check    writes nothing
 
-A page has the public items of a crate, also those that it exports from crates below it: each with
-its declaration, its docstring, and its contract, folded away under the labels. What is
+A page has the public items of a crate, also those that it exports from crates below it, first those
+that GUIDE names first: each with its declaration, its docstring, and its contract, folded away under
+the labels (that of a law is shown). Words of contracts link to their definitions. What is
 `doc(hidden)`, or has a docstring that begins with "Internal", is left out. A public item without a
 docstring is a fault, also a variant or a field, and so is an export of what is not found, and an
 item of a form that is not known here. Prints a line for each; the last line is 'api: N public
@@ -41,6 +42,11 @@ GENERICS = re.compile(r"^impl<(?:[^<>]|<(?:[^<>]|<[^<>]*>)*>)*>")
 PRIVATE = re.compile(r"(?:^ *(?:///|#\[).*\n)*^    (?!pub |///|#\[)\S.*\n", re.M)
 # A variant or a field without a docstring, also a field of a variant.
 BARE = re.compile(r"^(?! *(?:///|#\[)).*\n    (?:    )?(?:pub )?\w", re.M)
+# A definition of `specs/`, with its comment, and a word of a contract.
+DEFINED = re.compile(
+    r"(?m)((?:^ *-- .*\n)*^( *)(?:abbrev )?pub (?:record |data )?(\w\S*) .*(?:\n\2 +.*)*)"
+)
+WORD = re.compile(r"\b\w+\b")
 USE = re.compile(r"pub use ([\w:]+?)(?:::\{(.*)\})?(?: as (\w+))?$", re.S)
 ALSO = re.compile(r"(\w+)(?: as (\w+))?")
 FRAME = """<!doctype html>
@@ -167,6 +173,35 @@ def code(text):
     return f"<pre>{html.escape(text)}</pre>"
 
 
+@functools.cache
+def definitions():
+    """Returns the definitions of all crates by their names, each with its crate and its text."""
+    files = sorted(glob.glob(f"{TOP}/crates/*/specs/**/*.antt", recursive=True))
+    found = {}
+    for file in files:
+        of = file.split("/crates/")[1].split("/")[0]
+        for text, pad, name in DEFINED.findall(read(file)):
+            found.setdefault(name, {})[of] = textwrap.dedent(pad + text.strip())
+    return found
+
+
+@functools.cache
+def imported(file):
+    """Returns the names that a file imports for its contracts, each with the crate that it is of."""
+    uses = re.findall(r"ghost use Rattle\.(\w+)\.specs\.(?!declared)[\w.]*\{(.*?)\}", read(file))
+    return {name.strip(): of for of, names in uses for name in names.split(",")}
+
+
+def contract(item):
+    """Returns a contract as code, whose words are links to their definitions."""
+    def link(word):
+        home = imported(item.file).get(word[0])
+        is_defined = home in definitions().get(word[0], {})
+        link = f'<a href="definitions.html#{home}.{word[0]}">{word[0]}</a>'
+        return link if is_defined else word[0]
+    return f"<pre>{WORD.sub(link, html.escape(item.contract))}</pre>"
+
+
 def prose(docs):
     """Returns a docstring as HTML: paragraphs, lists, code, and bold words."""
     parts = []
@@ -188,7 +223,9 @@ def one(item):
     """Returns the docstring of an item, and its contract, folded away under the labels."""
     labels = re.findall(r"(?m)^(?:    )?(?:requires|ensures|ghost) (\w+)", item.contract)
     label = ": ".join(["Contract", ", ".join(dict.fromkeys(labels))]).rstrip(": ")
-    return prose(item.docs) + folded(label, code(item.contract) * bool(item.contract))
+    said = contract(item) * bool(item.contract)
+    is_law = item.file.endswith("laws.rt") or "/laws/" in item.file
+    return prose(item.docs) + (said if is_law else folded(label, said))
 
 
 def section(of, name, home, item):
@@ -210,9 +247,16 @@ def section(of, name, home, item):
             f"{inner}</section>")
 
 
+def named_at(name):
+    """Returns where GUIDE first names it, so that what users meet first comes first."""
+    guide = read(f"{TOP}/docs/GUIDE.md")
+    found = re.search(rf"\b{name}\b", guide)
+    return found.start() if found else len(guide)
+
+
 def page(of):
     """Returns the page of a crate."""
-    exports = sorted(of.exports(), key=lambda it: (it[1] != of, "::" in it[0]))
+    exports = sorted(of.exports(), key=lambda it: (it[1] != of, "::" in it[0], named_at(it[0])))
     listed = ""
     for name, home, item in exports:
         own = functions(home, item) if item and home == of else []
@@ -231,7 +275,10 @@ def linked(of):
 
 def make(folder):
     """Writes the pages, and the one that lists them under the comments of crates.txt."""
-    title, listed, body = "", "", ""
+    jobs = re.findall(r"\[([^]]+)\]\((crates/example_\w+/src/main\.rt)\)", read(f"{TOP}/README.md"))
+    shown = [folded(" ".join(it.split()), code(read(f"{TOP}/{file}"))) for it, file in jobs]
+    body = f"<h2>Example programs</h2>{''.join(shown)}"
+    title, listed = "", '<a href="definitions.html">Definitions</a>'
     for comment, name in LISTED.findall(read(f"{TOP}/crates.txt")):
         title = comment.split(". ")[-1].rstrip(".") or title
         if name:
@@ -241,6 +288,10 @@ def make(folder):
             body += f"<h3>{link}</h3>{prose(crate(name).docs)}{names}"
             title, listed = "", listed + link
     write(f"{folder}/index.html", FRAME.format("The libraries", listed, body))
+    defined = [(f"{of}.{name}", text) for name, homes in sorted(definitions().items())
+               for of, text in homes.items()]
+    body = "".join(f'<section id="{it}"><h4>{it}</h4>{code(text)}</section>' for it, text in defined)
+    write(f"{folder}/definitions.html", FRAME.format("The definitions", listed, body))
 
 
 def public_items(found):
