@@ -17,7 +17,7 @@ WITHOUT_LOCK = [
     (r"\bArc::try_clone\(pointer\)", "pointer.clone()"),
     (r"\bArc\b", "Rc"),
     (r"\bowner\.end\(&world\.rt\)", "drop(owner)"),
-    (r", (?:R|HostRuntime)>", ">"),
+    (r", (?:R|HostRuntime)(?=>|, Ruled)", ""),
     (r" as Request<R>>", " as Request<_>>"),
     (r"(, )?&?(world\.rt|\$?right(:ident)?)\)", ")"),
 ]

@@ -164,7 +164,7 @@ def main(words):
         program, said = build(told, room, words)
         sources = f"{room}/project/crates/tests/src"
         every, lost = listed(program, sources) if program else ([], None)
-        runs = chosen(every, words)
+        runs = chosen(every, words) if program else []
         if lost:
             told.count("the list of tests", lost)
         if runs:
