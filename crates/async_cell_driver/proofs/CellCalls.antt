@@ -1,8 +1,8 @@
 -- Where a call on the cell leads.
-use Rattle.async_cell_driver.proofs.Words.{refl, Kind, ◌≡◌, ℕ, Bool, true, false, not, ◌&&◌, ◌||◌, List, [], ◌∷◌, Option, Some, None, IsSomeAnd, waker_of, map, length, ap, sym, ◌∙◌, subst, append-nil, arith, is_some, if◌then◌else◌, option_to_list, option_map, Named, Cell, Entry, Kept, Reply, ends_waiting, State, IsSound, Does, woken_by, model_of, Runs-sound, up_to_clones, Mark, Task, Event, is_done_mark, waits_mark, is_due_mark, is_ready_mark, DriverState, mark_at, result_at, NamesMatch, is_named, wake_each, AllNamed, AllWaiting, Line, kinds, is_ready, is_poll_of, started, history, handed_out, line_of, call_of, is_call, with_edit, entry_of, names_by, Drives, FitsTold, same_name}
+use Rattle.async_cell_driver.proofs.Words.{refl, Kind, ◌≡◌, ℕ, Bool, true, false, not, ◌&&◌, ◌||◌, List, [], ◌∷◌, Option, Some, None, IsSomeAnd, waker_of, map, length, ap, sym, ◌∙◌, append-nil, arith, is_some, if◌then◌else◌, option_to_list, option_map, Named, Cell, Entry, Kept, Reply, ends_waiting, State, IsSound, Does, woken_by, model_of, Runs-sound, up_to_clones, Mark, Task, Event, is_done_mark, waits_mark, is_due_mark, is_ready_mark, DriverState, mark_at, NamesMatch, is_named, wake_each, AllNamed, AllWaiting, Line, kinds, is_ready, is_poll_of, started, history, handed_out, line_of, call_of, is_call, with_edit, entry_of, names_by, Drives, FitsTold, same_name}
 use Rattle.async_cell_driver.specs.declared.event.Told.TheVariants as told
 use Rattle.async_cell_driver.proofs.ReadyNow.{awake, ready_now, started_now}
-use Rattle.async_cell_driver.proofs.WokenTasks.{mark-wake_each, woken_if, kinds-wake_each, results-wake_each, named-wait_list, named-append}
+use Rattle.async_cell_driver.proofs.WokenTasks.{mark-wake_each, woken_if, kinds-wake_each, named-wait_list, named-append}
 
 done_woken : (named : Bool) (m : Option Mark) → is_done_mark (woken_if named m) ≡ is_done_mark m
 done_woken named m = grind arith
@@ -77,11 +77,10 @@ module _ {T : Type 0} where
   is_call-with_edit edit event is = grind arith
 
   -- Where the call of an event leads, with the tasks woken whose names it wakes.
-  pub call_drives : (is_clone : T → T → Type 0) (from old : DriverState T) → from ≡ old → (core : State T Named) (tasks : List (Task T)) (names : List Named)
-      (event : Event T (Option T → Option T)) (r : Reply T)
-      → is_call event ≡ true → NamesMatch from → CallsAs event from.core r names core → tasks ≡ wake_each names from.tasks
-      → Drives is_clone old (line_of old event (told.Reply r) ∷ []) (record { core = core; tasks = tasks })
-  call_drives is_clone from old same core tasks names event r is_event covered made tasks_are =
+  pub call_drives : (is_clone : T → T → Type 0) (from : DriverState T) (core : State T Named) (names : List Named) (event : Event T (Option T → Option T)) (r : Reply T)
+      → is_call event ≡ true → NamesMatch from → CallsAs event from.core r names core
+      → Drives is_clone from (line_of from event (told.Reply r) ∷ []) (record { core = core; tasks = wake_each names from.tasks })
+  call_drives is_clone from core names event r is_event covered made =
       let (call, is_call, answers) = from_some _ _ made in
       let e : Entry T Named = record { call = call; reply = r } in
       let entry : entry_of (call_of (map (λ task. task.kind) from.tasks) from.core.cell event) (Some r) ≡ Some e =
@@ -89,14 +88,9 @@ module _ {T : Type 0} where
       let line : Line T = record { event = event; told = told.Reply r; names = names } in
       let line_is : line_of from event (told.Reply r) ≡ line =
       λ k. record { event = event; told = told.Reply r; names = (ap (names_by from.core) entry ∙ sym (names_are from.core core call r names answers)) k } in
-      subst (λ (s : DriverState T). Drives is_clone s (line_of s event (told.Reply r) ∷ []) (record { core = core; tasks = tasks })) same
-      (subst (λ (l : Line T). Drives is_clone from (l ∷ []) (record { core = core; tasks = tasks })) (sym line_is)
-      (subst (λ (ts : List (Task T)). Drives is_clone from (line ∷ []) (record { core = core; tasks = ts })) (sym tasks_are)
+      rw line_is
       (called is_clone from core line call r (ap option_to_list entry) (ap (λ (o : Option (Entry T Named)). option_to_list (option_map (λ x. names) o)) entry)
-      (fits_any (length (kinds from [])) (is_ready from []) event r names is_event) (λ i. no_poll i event r is_event) (no_start event r is_event) covered answers)))
-
-  pub results_woken : (names : List Named) (from old : DriverState T) (tasks : List (Task T)) → from ≡ old → tasks ≡ wake_each names from.tasks → (i : ℕ) → result_at tasks i ≡ result_at old.tasks i
-  results_woken names from old tasks same tasks_are i = ap (λ ts. result_at ts i) tasks_are ∙ (results-wake_each names from.tasks i ∙ ap (λ (s : DriverState T). result_at s.tasks i) same)
+      (fits_any (length (kinds from [])) (is_ready from []) event r names is_event) (λ i. no_poll i event r is_event) (no_start event r is_event) covered answers)
 
   -- a call that does not wait adds no name, and each that stays in the list is that of a task that
   -- is not woken
@@ -105,9 +99,9 @@ module _ {T : Type 0} where
       → AllWaiting (record { core = from; tasks = tasks }) → AllWaiting (record { core = to; tasks = wake_each names tasks })
   waiting_after from to call r names tasks silent answers waiting_all i named = grind (arith, model_of, names_are, mark-wake_each, named-wait_list, append-nil, waiting_all)
 
-  pub covered_called : (from : DriverState T) (core : State T Named) (tasks : List (Task T)) (names : List Named) (event : Event T (Option T → Option T)) (r : Reply T)
-      → is_call event ≡ true → NamesMatch from → CallsAs event from.core r names core → tasks ≡ wake_each names from.tasks → NamesMatch (record { core = core; tasks = tasks })
-  covered_called from core tasks names event r is_event covered made tasks_are =
+  pub covered_called : (from : DriverState T) (core : State T Named) (names : List Named) (event : Event T (Option T → Option T)) (r : Reply T)
+      → is_call event ≡ true → NamesMatch from → CallsAs event from.core r names core → NamesMatch (record { core = core; tasks = wake_each names from.tasks })
+  covered_called from core names event r is_event covered made =
       let (call, is_call, answers) = from_some _ _ made in
       let silent = no_waker from.core.cell event call is_event is_call in
       grind (arith, named_after, waiting_after, covered.0, covered.1)

@@ -111,11 +111,6 @@ module _ {T : Type 0} where
         none_forgotten = second.none_forgotten;
       }
 
-  -- a log, and one line from where it leads
-  pub drives_more : (is_clone : T → T → Type 0) (from at to : DriverState T) (log : Log T) (line : Line T) → Drives is_clone from log at
-      → Drives is_clone at (line ∷ []) to → Drives is_clone from (line ∷ log) to
-  drives_more is_clone from at to log line first second = drives_join is_clone from at to log (line ∷ []) first second
-
   lines-append : (events more : List (Event T (Option T → Option T))) (answers others : List (Told T)) (handed later : List (List Named))
       → length answers ≡ length events → length handed ≡ length events
       → lines (events ++ more) (answers ++ others) (handed ++ later) ≡ lines events answers handed ++ lines more others later
@@ -137,11 +132,6 @@ module _ {T : Type 0} where
       → log_of (map (with_edit edit) (events ++ more)) (answers ++ others) (handed ++ later) ≡ log_of (map (with_edit edit) more) others later ++ log_of (map (with_edit edit) events) answers handed
   log_of-append-edits edit events more answers others handed later same same' = grind (arith, length-map, map-append, log_of-append)
 
-  pub log_of-push : (events : List (Event T (Option T → Option T))) (answers : List (Told T)) (handed : List (List Named)) (line : Line T)
-      → length answers ≡ length events → length handed ≡ length events
-      → log_of (events ++ line.event ∷ []) (answers ++ line.told ∷ []) (handed ++ line.names ∷ []) ≡ line ∷ log_of events answers handed
-  log_of-push events answers handed line same same' = log_of-append events (line.event ∷ []) answers (line.told ∷ []) handed (line.names ∷ []) same same'
-
   -- events that happened, and one more
   pub happen_more : {E : Type 0} (edit : E → Option T → Option T) (is_clone : T → T → Type 0) (is_infallible : T → Type 0) (from at to : DriverState T)
       (events : List (Event T E)) (answers : List (Told T)) (event : Event T E) (answer : Told T)
@@ -156,10 +146,10 @@ module _ {T : Type 0} where
       let mapped = length-map events (with_edit edit) in
       let log_is : log_of (map (with_edit edit) (events ++ event ∷ [])) (answers ++ answer ∷ []) (before.0 ++ line.names ∷ []) ≡ line ∷ log_of (map (with_edit edit) events) answers before.0 =
       ap (λ es. log_of es (answers ++ answer ∷ []) (before.0 ++ line.names ∷ [])) (map-append (with_edit edit) events (event ∷ []))
-      ∙ log_of-push (map (with_edit edit) events) answers before.0 line (same ∙ sym mapped) (before.1 ∙ sym mapped) in (
+      ∙ log_of-append (map (with_edit edit) events) (line.event ∷ []) answers (line.told ∷ []) before.0 (line.names ∷ []) (same ∙ sym mapped) (before.1 ∙ sym mapped) in (
         before.0 ++ line.names ∷ [],
         length-append before.0 (line.names ∷ []) ∙ (ap (λ n. n + 1) before.1 ∙ sym (length-append events (event ∷ []))),
-        subst (λ (l : Log T). Drives is_clone from l to) (sym log_is) (drives_more is_clone from at to _ line before.2 one),
+        subst (λ (l : Log T). Drives is_clone from l to) (sym log_is) (drives_join is_clone from at to _ (line ∷ []) before.2 one),
         subst (λ (l : Log T). AllSpared is_infallible from l) (sym log_is)
             (subst (λ (c : Cell T). IsSpared is_infallible c (with_edit edit event) answer) before.2.core_leads.cell_is spared, before.3),
       )

@@ -1,7 +1,6 @@
 -- What a kept result leaves as it was.
 use Rattle.async_cell_driver.proofs.Words.{◌≡◌, ◌≢◌, ℕ, List, [], Option, None, ap, sym, ◌∙◌, arith, option_map, Task, is_ready_mark, DriverState, mark_at, result_at, result_of, change, with_result, NamesMatch, Log, is_ready, Drives}
-use Rattle.async_cell_driver.proofs.ReadyNow.{ready_now}
-use Rattle.async_cell_driver.proofs.WokenTasks.{says_same, map-change, slice_get-change_same, slice_get-change_other}
+use Rattle.async_cell_driver.proofs.{ReadyNow.ready_now, WokenTasks.says_same, WokenTasks.map-change, WokenTasks.slice_get-change_same, WokenTasks.slice_get-change_other}
 
 module _ {T : Type 0} where
   -- the state with what is kept for task i

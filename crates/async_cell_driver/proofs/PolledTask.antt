@@ -1,7 +1,6 @@
 -- Where a poll leads.
-use Rattle.async_cell_driver.proofs.Words.{◌≡◌, ◌≢◌, ℕ, Bool, true, false, not, ◌&&◌, ◌||◌, List, [], ◌∷◌, ◌++◌, Option, Some, length, refl, ap, sym, ◌∙◌, subst, append-nil, arith, is_some, nat_eq, if◌then◌else◌, Result, Ok, Err, IsOk, IfOk, IfErr, OnOk, MatchOption, option_map, eqb-true, eqb-false, eq-eqb, or-false, or-true, Named, Reply, Refusal, Memory, State, IsSound, RunsUpTo, StepsUpTo, poll_reply, IsReadyWith, Kind, Mark, Task, Told, Polled, is_done_mark, waits_mark, is_due_mark, is_ready_mark, DriverState, name_of, mark_at, result_of, result_at, kind_at, names_by, entry_of, reply_of, NamesMatch, AllNamed, AllWaiting, is_named, change, with_mark, Line, kinds, is_ready, is_poll_of, was_ready, was_pending, was_refused, poll_of, told_of, line_of, history, handed_out, waiting_when, mark_after, polled_of, IsPolledWith, Drives, FitsTold, same_name}
-use Rattle.futures.specs.declared.task.Poll.{Poll}
-use Rattle.futures.specs.declared.task.Poll.TheVariants.{Ready, Pending}
+use Rattle.async_cell_driver.proofs.Words.{◌≡◌, ◌≢◌, ℕ, Bool, true, false, not, ◌&&◌, ◌||◌, List, [], ◌∷◌, ◌++◌, Option, Some, length, refl, ap, sym, ◌∙◌, subst, append-nil, arith, is_some, nat_eq, if◌then◌else◌, Result, Ok, Err, IsOk, IfOk, IfErr, OnOk, MatchOption, option_map, nat_tests, eqb-true, eq-eqb, or-false, or-true, Named, Reply, Refusal, Memory, State, IsSound, RunsUpTo, StepsUpTo, poll_reply, IsReadyWith, Kind, Mark, Task, Told, is_done_mark, waits_mark, is_due_mark, is_ready_mark, DriverState, name_of, mark_at, result_of, result_at, kind_at, names_by, entry_of, reply_of, NamesMatch, AllNamed, AllWaiting, is_named, change, with_mark, Line, kinds, is_ready, is_poll_of, was_ready, was_pending, was_refused, poll_of, told_of, line_of, history, handed_out, waiting_when, mark_after, polled_of, IsPolledWith, Drives, FitsTold, same_name}
+use Rattle.futures.specs.declared.{task.Poll.Poll, task.Poll.TheVariants.Ready, task.Poll.TheVariants.Pending}
 use Rattle.async_cell_driver.specs.declared.task.Mark.TheVariants as mark
 use Rattle.async_cell_driver.specs.declared.event.Event.TheVariants as event
 use Rattle.async_cell_driver.specs.declared.event.Told.TheVariants as told
@@ -48,11 +47,8 @@ waiting_or_asked : (i j : ℕ) (b : Bool) → nat_eq i j ≡ b → (l : List Nam
 waiting_or_asked i j b is l old ready waits named = grind (arith, named-append, or-false, ready, waits)
 
 module _ {T : Type 0} where
-  mark-marked_one : (m : Mark) (i j : ℕ) (b : Bool) → nat_eq i j ≡ b → (tasks : List (Task T)) → mark_at (change (with_mark m) i tasks) j ≡ marked_if b m (mark_at tasks j)
-  mark-marked_one m i j b is tasks = grind (arith, eqb-true, slice_get-change_same, slice_get-change_other, eqb-false)
-
   pub mark-marked : (m : Mark) (i j : ℕ) (tasks : List (Task T)) → mark_at (change (with_mark m) i tasks) j ≡ marked_if (nat_eq i j) m (mark_at tasks j)
-  mark-marked m i j tasks = mark-marked_one m i j (nat_eq i j) refl tasks
+  mark-marked m i j tasks = grind (arith, nat_tests, slice_get-change_same, slice_get-change_other)
 
   -- what a task of the same number says
   this_ready : (i j : ℕ) (tasks : List (Task T)) → is_ready_mark (mark_at tasks i) ≡ true → nat_eq i j ≡ true → is_ready_mark (mark_at tasks j) ≡ true
@@ -144,18 +140,6 @@ module _ {T : Type 0} where
   -- a poll leaves the results
   pub results-marked : (m : Mark) (i j : ℕ) (tasks : List (Task T)) → result_at (change (with_mark m) i tasks) j ≡ result_at tasks j
   results-marked m i j tasks = says_same result_of (with_mark m) (λ t. grind arith) i j tasks
-
-  -- the same, for an old state, tasks and an answer that are known by what they equal
-  pub poll_drives_as : (is_clone : T → T → Type 0) (from old : DriverState T) → from ≡ old
-      → (core : State T Named) (tasks : List (Task T)) (i : ℕ) (kind : Kind) (asked : Result (Poll (Option T)) Refusal) (answer : Result (Polled T) Refusal)
-      → IsSound same_name core → NamesMatch from → kind_at from.tasks i ≡ Some kind → is_ready_mark (mark_at from.tasks i) ≡ true
-      → (StepsUpTo same_name true is_clone from.core (poll_of (Some kind) i) (poll_reply asked) [] core)
-      → IfErr asked (λ why. (why ≡ Memory) × (core.cell ≡ from.core.cell) × (core.waiting ≡ from.core.waiting)) → IfOk asked (λ p. core.waiting ≡ waiting_when p (name_of i) from.core.waiting)
-      → tasks ≡ change (with_mark (mark_after asked)) i from.tasks → answer ≡ polled_of asked
-      → Drives is_clone old (line_of old (event.Poll i) (told_of answer) ∷ []) (record { core = core; tasks = tasks })
-  poll_drives_as is_clone from old same core tasks i kind asked answer sound covered is_kind ready answers refused waits tasks_are answer_is =
-      subst (λ (s : DriverState T). Drives is_clone s (line_of s (event.Poll i) (told_of answer) ∷ []) (record { core = core; tasks = tasks })) same
-      (rw (tasks_are, answer_is) (poll_drives is_clone from core i kind asked sound covered is_kind ready answers refused waits))
 
   marked_same : (m : Mark) (i : ℕ) (tasks : List (Task T)) → is_ready_mark (mark_at tasks i) ≡ true → mark_at (change (with_mark m) i tasks) i ≡ Some m
   marked_same m i tasks ready = grind (arith, mark-marked, eq-eqb)

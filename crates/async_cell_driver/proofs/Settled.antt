@@ -1,10 +1,8 @@
 -- Polls of all that are ready, one by one.
-use Rattle.async_cell_driver.proofs.Words.{◌≡◌, ◌<◌, ◌≤◌, ◌+◌, ◌-◌, ℕ, zero, suc, Bool, true, false, ◌||◌, List, [], ◌∷◌, ◌++◌, Option, Some, None, Ok, Err, map, length, reverse, refl, ap, sym, ◌∙◌, arith, append-nil, append_assoc, length-append, add-one, slice_get, is_some, nat_eq, filter, Result, MatchResult, if◌then◌else◌, eqb-true, eqb-false, slice_get_past, filter-append, map-append, length-map, reverse-append, Refusal, is_vacant, Poll, Told, Ready, DriverState, result_at, change, with_result, Line, Log, is_ready, waits, was_refused, line_of, Drives, ResultsStay, NoneForgotten, numbers, events_of, has_refused, got_by, got_or, Keeps, Settles, SettlesOne}
+use Rattle.async_cell_driver.proofs.Words.{◌≡◌, ◌<◌, ◌≤◌, ◌+◌, ◌-◌, ℕ, zero, suc, true, false, ◌||◌, List, [], ◌∷◌, ◌++◌, Option, Some, None, Ok, Err, map, length, reverse, refl, ap, sym, ◌∙◌, arith, append-nil, append_assoc, length-append, add-one, slice_get, is_some, nat_eq, filter, Result, MatchResult, if◌then◌else◌, nat_tests, slice_get_past, filter-append, map-append, length-map, reverse-append, Refusal, is_vacant, Poll, Told, Ready, DriverState, Task, result_at, change, with_result, Line, Log, is_ready, waits, was_refused, line_of, Drives, ResultsStay, NoneForgotten, numbers, events_of, has_refused, got_by, got_or, Keeps, Settles, SettlesOne}
 use Rattle.async_cell_driver.specs.declared.event.Told.TheVariants as told
-use Rattle.async_cell_driver.proofs.JoinedLogs.{drives_more}
-use Rattle.async_cell_driver.proofs.ReadyNow.{ready_now, started_now}
-use Rattle.async_cell_driver.proofs.KeptResult.{keeping, result-keeping_other}
-use Rattle.async_cell_driver.proofs.WokenTasks.{slice_get-change_same, length-change}
+use Rattle.async_cell_driver.proofs.{JoinedLogs.drives_join, ReadyNow.ready_now, ReadyNow.started_now, KeptResult.keeping, KeptResult.result-keeping_other}
+use Rattle.async_cell_driver.proofs.WokenTasks.{slice_get-change_same, map-change}
 
 -- the numbers below one begin those below another
 begin_numbers : (d m n : ℕ) → n ≡ d + m → (rest : List ℕ) × (numbers n ≡ numbers m ++ rest)
@@ -43,51 +41,45 @@ module _ {T : Type 0} where
   keeps_more : (from at to : DriverState T) (log : Log T) (line : Line T) → Keeps from log at → Keeps at (line ∷ []) to → Keeps from (line ∷ log) to
   keeps_more from at to log line first second j = grind (arith, first, second)
 
+  -- the events after the poll of a ready task
+  events_then : (is_clone : T → T → Type 0) (from at : DriverState T) (i polls : ℕ) (log : Log T) (answer : Told T) → SoFar is_clone from i polls log at → is_ready from [] i ≡ true
+      → events_of (line_of at (Poll i) answer ∷ log) ≡ map Poll (filter (is_ready from []) (numbers (i + 1)))
+  events_then is_clone from at i polls log answer here ready = grind (arith, events-more, map-append, with_ready)
+
   -- a ready task is polled
   pub so_far_more : (is_clone : T → T → Type 0) (from at to : DriverState T) (i polls : ℕ) (log : Log T) (answer : Told T) → SoFar is_clone from i polls log at → is_ready from [] i ≡ true
       → SettlesOne is_clone at i (Ok tt) answer to → SoFar is_clone from (i + 1) (polls + 1) (line_of at (Poll i) answer ∷ log) to
-  so_far_more is_clone from at to i polls log answer here ready one =
-      let more = with_ready from i ready in record {
-        drives = drives_more is_clone from at to log _ here.drives one.drives;
-        events = events-more _ log ∙ (ap (λ l. l ++ Poll i ∷ []) here.events ∙ (sym (map-append Poll (filter (is_ready from []) (numbers i)) (i ∷ [])) ∙ ap (map Poll) (sym more)));
-        none_refused = ap (λ b. b || has_refused log) one.told ∙ here.none_refused;
-        counts = ap (λ n. n + 1) here.counts ∙ (sym (length-append (filter (is_ready from []) (numbers i)) (i ∷ [])) ∙ ap length (sym more));
-        keeps = keeps_more from at to log (line_of at (Poll i) answer) here.keeps one.keeps;
-      }
+  so_far_more is_clone from at to i polls log answer here ready one = record {
+    drives = drives_join is_clone from at to log (_ ∷ []) here.drives one.drives;
+    events = events_then is_clone from at i polls log answer here ready;
+    none_refused = ap (λ b. b || has_refused log) one.told ∙ here.none_refused;
+    counts = grind (arith, length-append, with_ready);
+    keeps = keeps_more from at to log (line_of at (Poll i) answer) here.keeps one.keeps;
+  }
 
   -- where a poll was refused
   pub settles_refused : (is_clone : T → T → Type 0) (from at to : DriverState T) (i polls : ℕ) (log : Log T) (answer : Told T) (why : Refusal)
       → SoFar is_clone from i polls log at → is_ready from [] i ≡ true → i < length from.tasks
       → SettlesOne is_clone at i (Err why) answer to → Settles is_clone from (Err why) (line_of at (Poll i) answer ∷ log) to
   settles_refused is_clone from at to i polls log answer why here ready within one =
-      let more = with_ready from i ready in
       let rest = begin_numbers (length from.tasks - (i + 1)) (i + 1) (length from.tasks) (omega arith) in
-      let events : events_of (line_of at (Poll i) answer ∷ log) ≡ map Poll (filter (is_ready from []) (numbers (i + 1))) =
-      events-more _ log ∙ (ap (λ l. l ++ Poll i ∷ []) here.events ∙ (sym (map-append Poll (filter (is_ready from []) (numbers i)) (i ∷ [])) ∙ ap (map Poll) (sym more))) in
+      let events = events_then is_clone from at i polls log answer here ready in
       record {
-        drives = drives_more is_clone from at to log _ here.drives one.drives;
+        drives = drives_join is_clone from at to log (_ ∷ []) here.drives one.drives;
         polls_ready = record {
-          polls = (
-            filter (is_ready from []) rest.0,
-            ap (λ l. l ++ map Poll (filter (is_ready from []) rest.0)) events
-                ∙ (sym (map-append Poll (filter (is_ready from []) (numbers (i + 1))) (filter (is_ready from []) rest.0))
-                ∙ ap (map Poll) (sym (filter-append (is_ready from []) (numbers (i + 1)) rest.0) ∙ ap (filter (is_ready from [])) (sym rest.1))),
-          );
+          polls = (filter (is_ready from []) rest.0, grind (arith, events, rest.1, map-append, filter-append));
           counts = (one.told, here.none_refused);
         };
         keeps = keeps_more from at to log (line_of at (Poll i) answer) here.keeps one.keeps;
       }
 
-  keeps_over : (from at : DriverState T) (i j : ℕ) (value : Option T) (b : Bool) → nat_eq i j ≡ b → is_some (slice_get at.tasks i) ≡ true → ResultsStay from at
-      → result_at (change (with_result (Some value)) i at.tasks) j ≡ got_or (got_or (if b then Some value else None) None) (result_at from.tasks j)
-  keeps_over from at i j value b is there stay = grind (arith, eqb-true, slice_get-change_same, result-keeping_other, eqb-false, stay)
+  keeps_over : (from at : DriverState T) (i j : ℕ) (value : Option T) → is_some (slice_get at.tasks i) ≡ true → ResultsStay from at
+      → result_at (change (with_result (Some value)) i at.tasks) j ≡ got_or (got_or (if nat_eq i j then Some value else None) None) (result_at from.tasks j)
+  keeps_over from at i j value there stay = grind (arith, nat_tests, slice_get-change_same, result-keeping_other, stay)
 
   pub keeps_one : (from at : DriverState T) (i : ℕ) (value : Option T) → is_ready from [] i ≡ true → map (λ task. task.kind) at.tasks ≡ map (λ task. task.kind) from.tasks ++ [] → ResultsStay from at
       → Keeps from (line_of from (Poll i) (told.Polled (Ready value)) ∷ []) (keeping i (Some value) at)
   keeps_one from at i value ready kinds stay j = grind (arith, started_now, append-nil, keeps_over, stay)
-
-  size_same : (from at : DriverState T) → map (λ task. task.kind) at.tasks ≡ map (λ task. task.kind) from.tasks ++ [] → length at.tasks ≡ length from.tasks
-  size_same from at kinds = grind (arith, length-map, append-nil)
 
   -- a poll that gets nothing
   settles_quiet : (is_clone : T → T → Type 0) (from at : DriverState T) (i : ℕ) (result : Result (Unit {0}) Refusal) (answer : Told T) → got_by answer ≡ None
@@ -102,7 +94,9 @@ module _ {T : Type 0} where
 
   pub size_kept : (from at : DriverState T) (i : ℕ) (result : Option (Option T)) → map (λ task. task.kind) at.tasks ≡ map (λ task. task.kind) from.tasks ++ []
       → length (change (with_result result) i at.tasks) ≡ length from.tasks
-  size_kept from at i result kinds = grind (arith, length-change, size_same)
+  size_kept from at i result kinds =
+      let changed = map-change (λ (task : Task T). task.kind) (with_result result) (λ t. refl) i at.tasks in
+      grind (arith, changed, length-map, append-nil)
 
   -- where no task was left out, none is ready
   pub none_ready : (at : DriverState T) (n : ℕ) → length at.tasks ≤ n → ((j : ℕ) → j < n → is_ready at [] j ≡ false) → (j : ℕ) → is_ready at [] j ≡ false

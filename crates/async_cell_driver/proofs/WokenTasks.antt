@@ -1,5 +1,5 @@
 -- What waking does to the tasks, and who is named in a waiting list.
-use Rattle.async_cell_driver.proofs.Words.{◌≡◌, ◌≢◌, ℕ, zero, suc, Bool, true, false, ◌||◌, List, [], ◌∷◌, ◌++◌, Option, Some, map, length, refl, ap, ◌∙◌, arith, slice_get, nat_eq, fold, if◌then◌else◌, option_map, eqb-true, eqb-false, list_any-append, Named, wait_list, skips, with_one_more, Mark, Task, woken, mark_at, result_of, result_at, is_named, change, wake, wake_each, same_name}
+use Rattle.async_cell_driver.proofs.Words.{◌≡◌, ◌≢◌, ℕ, zero, suc, Bool, true, false, ◌||◌, List, [], ◌∷◌, ◌++◌, Option, Some, map, refl, ap, ◌∙◌, arith, slice_get, nat_eq, fold, if◌then◌else◌, option_map, nat_tests, eqb-true, list_any-append, Named, wait_list, skips, with_one_more, Mark, Task, woken, mark_at, result_of, result_at, is_named, change, wake, wake_each, same_name}
 
 module _ {T : Type 0} where
   pub slice_get-change_same : (f : Task T → Task T) (i : ℕ) (tasks : List (Task T)) → slice_get (change f i tasks) i ≡ option_map f (slice_get tasks i)
@@ -26,11 +26,6 @@ module _ {T : Type 0} where
   map-change says f same zero (t ∷ tasks) = ap (λ x. x ∷ map says tasks) (same t)
   map-change says f same (suc n) (t ∷ tasks) = ap (λ xs. says t ∷ xs) (map-change says f same n tasks)
 
-  pub length-change : (f : Task T → Task T) (n : ℕ) (tasks : List (Task T)) → length (change f n tasks) ≡ length tasks
-  length-change f n [] = refl
-  length-change f zero (t ∷ tasks) = refl
-  length-change f (suc n) (t ∷ tasks) = ap suc (length-change f n tasks)
-
   pub kinds-wake_each : (names : List Named) (tasks : List (Task T)) → map (λ task. task.kind) (wake_each names tasks) ≡ map (λ task. task.kind) tasks
   kinds-wake_each [] tasks = refl
   kinds-wake_each (n ∷ names) tasks = kinds-wake_each names (change wake n.0 tasks) ∙ map-change (λ task. task.kind) wake (λ t. refl) n.0 tasks
@@ -45,13 +40,10 @@ woken_if true mark = option_map woken mark
 woken_if false mark = mark
 
 module _ {T : Type 0} where
-  mark-wake_one : (n i : ℕ) (b : Bool) → nat_eq n i ≡ b → (tasks : List (Task T)) → mark_at (change wake n tasks) i ≡ woken_if b (mark_at tasks i)
-  mark-wake_one n i b is tasks = grind (arith, eqb-true, slice_get-change_same, slice_get-change_other, eqb-false)
-
   pub mark-wake_each : (names : List Named) (tasks : List (Task T)) (i : ℕ) → mark_at (wake_each names tasks) i ≡ woken_if (is_named i names) (mark_at tasks i)
   mark-wake_each [] tasks i = refl
   mark-wake_each (n ∷ names) tasks i =
-      let one = mark-wake_one n.0 i (nat_eq n.0 i) refl tasks in let rest = mark-wake_each names (change wake n.0 tasks) i in grind (arith, one, rest)
+      let rest = mark-wake_each names (change wake n.0 tasks) i in grind (arith, nat_tests, slice_get-change_same, slice_get-change_other, rest)
 
 pub named-append : (i : ℕ) (xs ys : List Named) → is_named i (xs ++ ys) ≡ (is_named i xs || is_named i ys)
 named-append i xs ys = list_any-append (λ name. nat_eq name.0 i) xs ys

@@ -1,14 +1,12 @@
 -- What follows from the core's reply to a poll.
 use Rattle.std.specs.Prelude.{◌≡◌, false, List, [], ◌∷◌, ◌++◌, Option, None, Result, Ok, Err, IfOk, OnOk}
-use Rattle.futures.specs.declared.task.Poll.{Poll}
-use Rattle.futures.specs.declared.task.Poll.TheVariants.{Ready, Pending}
+use Rattle.futures.specs.declared.{task.Poll.Poll, task.Poll.TheVariants.Ready, task.Poll.TheVariants.Pending}
 use Rattle.async_cell_wakers.specs.declared.named.Named.{Named}
 use Rattle.async_cell_model.specs.declared.refusal.Refusal.{Refusal}
 use Rattle.async_cell_model.specs.Machine.{content, is_vacant, State}
 use Rattle.async_cell_core.specs.Polled.{IsCloneOf}
-use Rattle.async_cell_driver.specs.declared.task.Mark.{Mark}
+use Rattle.async_cell_driver.specs.declared.{task.Mark.Mark, event.Polled.Polled}
 use Rattle.async_cell_driver.specs.declared.task.Mark.TheVariants as mark
-use Rattle.async_cell_driver.specs.declared.event.Polled.{Polled}
 use Rattle.async_cell_driver.specs.declared.event.Polled.TheVariants as polled
 
 module _ {T : Type 0} where

@@ -1,13 +1,9 @@
 -- What contracts see of a driver: its core, and its tasks by number.
 use Rattle.std.specs.Prelude.{◌≡◌, ℕ, zero, suc, Bool, true, List, [], ◌∷◌, Option, Some, None, slice_get, map, nat_eq}
-use Rattle.std.specs.List.{list_any}
-use Rattle.std.specs.Option.{option_map}
+use Rattle.std.specs.{List.list_any, Option.option_map}
 use Rattle.async_cell_wakers.specs.declared.named.Named.{Named}
 use Rattle.async_cell_model.specs.Machine.{State}
-use Rattle.async_cell_driver.specs.declared.task.Kind.{Kind}
-use Rattle.async_cell_driver.specs.declared.task.Mark.{Mark}
-use Rattle.async_cell_driver.specs.declared.task.Mark.TheVariants.{Waiting}
-use Rattle.async_cell_driver.specs.declared.task.Task.{Task}
+use Rattle.async_cell_driver.specs.declared.{task.Kind.Kind, task.Mark.Mark, task.Mark.TheVariants.Waiting, task.Task.Task}
 use Rattle.async_cell_driver.specs.Mark.{woken}
 
 pub record DriverState (T : Type 0) : Type 0 where

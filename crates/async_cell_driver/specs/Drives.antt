@@ -3,19 +3,11 @@ use Rattle.std.specs.Prelude.{◌≡◌, ℕ, Bool, true, false, List, [], ◌�
 use Rattle.std.specs.Option.{IsSomeAnd}
 use Rattle.async_cell_wakers.specs.Named.{same_name}
 use Rattle.async_cell_wakers.specs.declared.named.Named.{Named}
-use Rattle.async_cell_model.specs.declared.refusal.Refusal.TheVariants.{Memory}
-use Rattle.async_cell_model.specs.Machine.{content, is_vacant, next, reply as model_reply, State}
-use Rattle.async_cell_model.specs.declared.cell.Cell.{Cell}
-use Rattle.async_cell_model.specs.declared.reply.Reply.{Reply}
-use Rattle.async_cell_model.specs.History.{cell_after}
-use Rattle.async_cell_model.specs.Legal.{RunsUpTo}
-use Rattle.async_cell_driver.specs.declared.event.Event.{Event}
-use Rattle.async_cell_driver.specs.declared.event.Event.TheVariants.{Start, Poll}
-use Rattle.async_cell_driver.specs.declared.event.Told.{Told}
+use Rattle.async_cell_model.specs.declared.{refusal.Refusal.TheVariants.Memory, cell.Cell.Cell, reply.Reply.Reply}
+use Rattle.async_cell_model.specs.{Machine.content, Machine.is_vacant, Machine.next, Machine.reply as model_reply, Machine.State, History.cell_after, Legal.RunsUpTo}
+use Rattle.async_cell_driver.specs.declared.{event.Event.Event, event.Event.TheVariants.Start, event.Event.TheVariants.Poll, event.Told.Told, event.Polled.TheVariants.NotReady}
 use Rattle.async_cell_driver.specs.declared.event.Told.TheVariants as told
-use Rattle.async_cell_driver.specs.declared.event.Polled.TheVariants.{NotReady}
-use Rattle.async_cell_driver.specs.DriverState.{DriverState, result_at}
-use Rattle.async_cell_driver.specs.Log.{Log, kinds, is_done, waits, is_ready}
+use Rattle.async_cell_driver.specs.{DriverState.DriverState, DriverState.result_at, Log.Log, Log.kinds, Log.is_done, Log.waits, Log.is_ready}
 use Rattle.async_cell_driver.specs.History.{call_of, history, handed_out, line_of}
 
 -- The outcome and the woken names that an event may have, if this many tasks were started and these

@@ -2,27 +2,15 @@
 use Rattle.std.specs.Prelude.{map, ℕ, Bool, true, false, ◌++◌, List, [], ◌∷◌, Option, Some, None, Result, Ok, Err, slice_get, option_to_list}
 use Rattle.std.specs.Option.{option_map}
 use Rattle.async_cell_wakers.specs.declared.named.Named.{Named}
-use Rattle.async_cell_model.specs.declared.cell.Cell.{Cell}
-use Rattle.async_cell_model.specs.declared.cell.Cell.TheVariants.{Closed, Open}
-use Rattle.async_cell_model.specs.declared.entry.Entry.{Entry}
-use Rattle.async_cell_model.specs.declared.entry.Kept.{Kept}
+use Rattle.async_cell_model.specs.declared.{cell.Cell.Cell, cell.Cell.TheVariants.Closed, cell.Cell.TheVariants.Open, entry.Entry.Entry, entry.Kept.Kept, refusal.Refusal.Refusal, reply.Reply.Reply}
 use Rattle.async_cell_model.specs.declared.entry.Kept.TheVariants as kept
-use Rattle.async_cell_model.specs.declared.refusal.Refusal.{Refusal}
-use Rattle.async_cell_model.specs.declared.reply.Reply.{Reply}
 use Rattle.async_cell_model.specs.declared.reply.Reply.TheVariants as reply
-use Rattle.async_cell_model.specs.Machine.{State, reply as model_reply}
-use Rattle.async_cell_model.specs.History.{History, cell_after}
-use Rattle.async_cell_model.specs.Legal.{woken_by}
-use Rattle.async_cell_driver.specs.declared.task.Kind.{Kind}
-use Rattle.async_cell_driver.specs.declared.task.Kind.TheVariants.{Get}
-use Rattle.async_cell_driver.specs.declared.event.Event.{Event}
+use Rattle.async_cell_model.specs.{Machine.State, Machine.reply as model_reply, History.History, History.cell_after, Legal.woken_by}
+use Rattle.async_cell_driver.specs.declared.{task.Kind.Kind, task.Kind.TheVariants.Get, event.Event.Event, event.Told.Told, event.Polled.Polled}
 use Rattle.async_cell_driver.specs.declared.event.Event.TheVariants.{Start, Poll, Set, OrSet, Replace, Update, TryTake, AddOwner, EndOwner}
-use Rattle.async_cell_driver.specs.declared.event.Told.{Told}
 use Rattle.async_cell_driver.specs.declared.event.Told.TheVariants as told
-use Rattle.async_cell_driver.specs.declared.event.Polled.{Polled}
 use Rattle.async_cell_driver.specs.declared.event.Polled.TheVariants.{Ready, Pending, NotReady}
-use Rattle.async_cell_driver.specs.DriverState.{DriverState, name_of}
-use Rattle.async_cell_driver.specs.Log.{Line, Log, kinds}
+use Rattle.async_cell_driver.specs.{DriverState.DriverState, DriverState.name_of, Log.Line, Log.Log, Log.kinds}
 
 module _ {T : Type 0} where
   -- the poll of task i, by its kind

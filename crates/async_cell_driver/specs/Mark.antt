@@ -1,7 +1,6 @@
 -- What the mark of a task says.
 use Rattle.std.specs.Prelude.{Bool, true, false, Option, Some, None}
-use Rattle.async_cell_driver.specs.declared.task.Mark.{Mark}
-use Rattle.async_cell_driver.specs.declared.task.Mark.TheVariants.{Ready, Waiting, Woken, Done}
+use Rattle.async_cell_driver.specs.declared.{task.Mark.Mark, task.Mark.TheVariants.Ready, task.Mark.TheVariants.Waiting, task.Mark.TheVariants.Woken, task.Mark.TheVariants.Done}
 
 -- a poll of the task was ready
 abbrev pub is_done_mark : Option Mark → Bool

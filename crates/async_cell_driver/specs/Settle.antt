@@ -2,15 +2,9 @@
 use Rattle.std.specs.Prelude.{◌≡◌, ℕ, zero, suc, ◌++◌, Bool, false, List, [], ◌∷◌, Option, Some, None, Result, MatchResult, filter, map, reverse, length, if◌then◌else◌}
 use Rattle.std.specs.List.{list_any}
 use Rattle.async_cell_model.specs.declared.refusal.Refusal.{Refusal}
-use Rattle.async_cell_driver.specs.declared.event.Event.{Event}
-use Rattle.async_cell_driver.specs.declared.event.Event.TheVariants.{Poll}
-use Rattle.async_cell_driver.specs.declared.event.Told.{Told}
+use Rattle.async_cell_driver.specs.declared.{event.Event.Event, event.Event.TheVariants.Poll, event.Told.Told, event.Polled.TheVariants.Ready}
 use Rattle.async_cell_driver.specs.declared.event.Told.TheVariants as told
-use Rattle.async_cell_driver.specs.declared.event.Polled.TheVariants.{Ready}
-use Rattle.async_cell_driver.specs.DriverState.{DriverState, result_at}
-use Rattle.async_cell_driver.specs.Log.{Log, is_ready, is_poll_of, was_refused}
-use Rattle.async_cell_driver.specs.History.{line_of}
-use Rattle.async_cell_driver.specs.Drives.{Drives}
+use Rattle.async_cell_driver.specs.{DriverState.DriverState, DriverState.result_at, Log.Log, Log.is_ready, Log.is_poll_of, Log.was_refused, History.line_of, Drives.Drives}
 
 -- the numbers below n, in order
 abbrev pub numbers : ℕ → List ℕ

@@ -114,8 +114,9 @@ impl<T: Clone> Driver<T> {
         };
         let asked = ask(&mut self.core, kind, Named(i as u64));
         self.core.soundness();
-        self.tasks.set_mark(i, mark_of(&asked));
-        polled(asked)
+        let (mark, polled) = outcome(asked);
+        self.tasks.set_mark(i, mark);
+        polled
     }
 
     /// Makes room in the core's wait list: the next `additional` wakers that polls add need no
@@ -138,13 +139,11 @@ impl<T: Clone> Driver<T> {
 
     /// Returns whether a task is ready: it was started, is not done, and was never polled, or its
     /// last poll was refused, or its name was woken since.
+    #[tactic(auto, using(crate::proofs::ReadyNow::ready_now))]
     pub fn is_ready(&self, i: usize) -> bool
         ensures { result ≡ is_ready self.now [] i }
     {
-        match self.tasks.get(i) {
-            Some((_, mark)) => mark.is_ready(),
-            None => false,
-        }
+        self.tasks.ready(i).is_some()
     }
 
     /// Returns whether a task waits: its last poll returned `Pending`. Whenever the cell is full or
@@ -155,10 +154,7 @@ impl<T: Clone> Driver<T> {
             → is_vacant self.now.core.cell ≡ false → is_ready self.now [] i ≡ true }
     {
         self.core.soundness();
-        match self.tasks.get(i) {
-            Some((_, mark)) => mark.waits(),
-            None => false,
-        }
+        matches!(self.tasks.get(i), Some((_, mark)) if mark.waits())
     }
 
     /// Returns how many wakers wait for a value of the cell: at most as many as tasks were started,
@@ -210,24 +206,14 @@ fn ask<T: Clone>(
     }
 }
 
-/// Returns the mark of a task that was polled.
-fn mark_of<T: Drop>(asked: &Result<Poll<Option<T>>, Refusal>) -> Mark
-    ensures { result ≡ mark_after asked.now }
+/// Returns the mark of a task that was polled, and what the poll of the task returns.
+fn outcome<T: Drop>(asked: Result<Poll<Option<T>>, Refusal>) -> (Mark, Result<Polled<T>, Refusal>)
+    ensures mark { result.0 ≡ mark_after asked }
+    ensures polled { result.1 ≡ polled_of asked }
 {
     match asked {
-        Ok(Poll::Ready(_)) => Mark::Done,
-        Ok(Poll::Pending) => Mark::Waiting,
-        Err(_) => Mark::Ready,
-    }
-}
-
-/// Returns what the poll of the task returns.
-fn polled<T: Drop>(asked: Result<Poll<Option<T>>, Refusal>) -> Result<Polled<T>, Refusal>
-    ensures { result ≡ polled_of asked }
-{
-    match asked {
-        Ok(Poll::Ready(content)) => Ok(Polled::Ready(content)),
-        Ok(Poll::Pending) => Ok(Polled::Pending),
-        Err(why) => Err(why),
+        Ok(Poll::Ready(content)) => (Mark::Done, Ok(Polled::Ready(content))),
+        Ok(Poll::Pending) => (Mark::Waiting, Ok(Polled::Pending)),
+        Err(why) => (Mark::Ready, Err(why)),
     }
 }

@@ -1,5 +1,4 @@
-use crate::task::Kind;
-use async_cell_core::{Refusal, Reply};
+use crate::{Kind, Refusal, Reply};
 
 /// What can happen to a driver, as an item of a list of events. `E` is the type of the edits.
 #[derive(Clone, Copy, Debug, Drop, PartialEq, Eq)]

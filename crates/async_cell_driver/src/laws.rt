@@ -4,12 +4,10 @@ ghost use Rattle.std.specs.List.{list_any};
 ghost use Rattle.async_cell_wakers.specs.declared.named.Named.{Named as Name};
 ghost use Rattle.async_cell_model.specs.Legal.{Runs, copies, wakes_after};
 ghost use Rattle.async_cell_core.specs.Polled.{IsExact};
-ghost use Rattle.async_cell_driver.specs.declared.event.Event.{Event};
-ghost use Rattle.async_cell_driver.specs.declared.event.Told.{Told};
-ghost use Rattle.async_cell_driver.specs.DriverState.{DriverState};
+ghost use Rattle.async_cell_driver.specs.declared.{event.Event.Event, event.Told.Told};
+ghost use Rattle.async_cell_driver.specs.{DriverState.DriverState, Drives.Drives};
 ghost use Rattle.async_cell_driver.specs.Log.{Log, log_of, with_edit};
 ghost use Rattle.async_cell_driver.specs.History.{history, handed_out};
-ghost use Rattle.async_cell_driver.specs.Drives.{Drives};
 ghost use Rattle.async_cell_wakers.specs.Named.{same_name};
 
 /// Two logs are one, if the second starts from the state in which the first ends. So what each call

@@ -79,7 +79,7 @@ impl<T: Drop> Tasks<T> {
     }
 
     /// Marks a task, if it was started.
-    #[tactic(auto, using(crate::proofs::ChangedTask::change_past))]
+    #[tactic(auto, using(crate::proofs::ChangedTask::change_past, crate::proofs::ChangedTask::marked_within))]
     pub fn set_mark(&mut self, i: usize, mark: Mark)
         ensures { self.new ≡ change (with_mark mark) i self.old }
     {
@@ -90,7 +90,7 @@ impl<T: Drop> Tasks<T> {
     }
 
     /// Stores what was got for a task, if it was started.
-    #[tactic(auto, using(crate::proofs::ChangedTask::change_past))]
+    #[tactic(auto, using(crate::proofs::ChangedTask::change_past, crate::proofs::ChangedTask::kept_within))]
     pub fn keep(&mut self, i: usize, content: Option<T>)
         ensures { self.new ≡ change (with_result (Some content)) i self.old }
     {
@@ -102,7 +102,7 @@ impl<T: Drop> Tasks<T> {
     }
 
     /// Takes out what was stored for a task.
-    #[tactic(auto, using(crate::proofs::ChangedTask::change_past, crate::proofs::ChangedTask::result_within))]
+    #[tactic(auto, using(crate::proofs::ChangedTask::change_past, crate::proofs::ChangedTask::result_within, crate::proofs::ChangedTask::kept_within))]
     pub fn take_result(&mut self, i: usize) -> Option<Option<T>>
         ensures gives { result ≡ result_at self.old i }
         ensures once { self.new ≡ change (with_result None) i self.old }
@@ -124,7 +124,7 @@ impl<T: Drop> Tasks<T> {
     }
 
     /// Wakes one task, if it was started.
-    #[tactic(auto, using(crate::proofs::ChangedTask::change_past))]
+    #[tactic(auto, using(crate::proofs::ChangedTask::change_past, crate::proofs::ChangedTask::woken_within))]
     fn wake_one(&mut self, i: usize)
         ensures { self.new ≡ change wake i self.old }
     {

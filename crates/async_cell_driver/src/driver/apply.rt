@@ -4,9 +4,7 @@ ghost use Rattle.async_cell_wakers.specs.declared.named.Named.{Named as Name};
 ghost use Rattle.async_cell_driver.specs.Log.{log_of, with_edit};
 ghost use Rattle.async_cell_driver.specs.Drives.{AllSpared, Drives, Happens, IsSpared, ResultsStay};
 
-use super::Driver;
-use crate::event::{Event, Told};
-use async_cell_core::Edit;
+use crate::{Driver, Edit, Event, Told};
 
 impl<T: Clone> Driver<T> {
     /// Makes the events happen in order, and returns one outcome for each. The outcome of a refused

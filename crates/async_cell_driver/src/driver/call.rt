@@ -1,15 +1,12 @@
 //! The one function that makes the calls on the cell of a driver.
 ghost use Rattle.std.specs.Prelude.{◌≡◌, [], true, IsSomeAnd};
-ghost use Rattle.async_cell_model.specs.Machine.{Does};
-ghost use Rattle.async_cell_model.specs.Legal.{is_refused};
+ghost use Rattle.async_cell_model.specs.{Machine.Does, Legal.is_refused};
 ghost use Rattle.async_cell_wakers.specs.Named.{same_name};
-ghost use Rattle.async_cell_driver.specs.Log.{with_edit};
-ghost use Rattle.async_cell_driver.specs.History.{call_of, is_call};
+ghost use Rattle.async_cell_driver.specs.{Log.with_edit, History.call_of, History.is_call};
 ghost use Rattle.async_cell_driver.specs.Drives.{Happens, Replies, ResultsStay};
 
-use super::Driver;
-use crate::event::{Event, Told};
-use async_cell_core::{Answer, Core, Edit, Named, Refusal, Reply, Wakers};
+use crate::{Driver, Edit, Event, Named, Refusal, Reply, Told};
+use async_cell_core::{Answer, Core, Wakers};
 
 /// An event that takes no edit.
 pub(super) type NoEditEvent<T> = Event<T, NoEdit>;

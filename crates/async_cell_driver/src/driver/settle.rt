@@ -1,15 +1,12 @@
 //! Polls of all tasks that are ready.
 ghost use Rattle.std.specs.Prelude.{◌≡◌, ◌≢◌, ℕ, [], true, false, length, IsOk, OnOk, None, MatchOption};
 ghost use Rattle.async_cell_model.specs.Machine.{content, is_vacant};
-ghost use Rattle.async_cell_driver.specs.DriverState.{result_at};
+ghost use Rattle.async_cell_driver.specs.{DriverState.result_at, Drives.Drives};
 ghost use Rattle.async_cell_driver.specs.Log.{Log, is_ready, waits};
-ghost use Rattle.async_cell_driver.specs.Drives.{Drives};
 ghost use Rattle.async_cell_driver.specs.Settle.{Settles, SettlesOne};
 ghost use Rattle.async_cell_driver.specs.declared.event.Told.{Told as Answer};
 
-use super::Driver;
-use crate::event::Polled;
-use async_cell_core::Refusal;
+use crate::{Driver, Polled, Refusal};
 
 impl<T: Clone> Driver<T> {
     /// Takes out what `settle` got for a task: `Some(Some(v))`, or `Some(None)` from a closed cell.

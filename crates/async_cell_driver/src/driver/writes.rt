@@ -2,13 +2,10 @@
 ghost use Rattle.std.specs.Prelude.{◌≡◌, ◌↔◌, ◌+◌, ◌-◌, true, false, Some, None, Err, IsOk, IfOk, IfErr, OnOk, OnErr};
 ghost use Rattle.async_cell_model.specs.Machine.{is_closed, is_full, is_vacant, content, owners_of, owners_limit};
 ghost use Rattle.async_cell_model.specs.declared.entry.Kept.TheVariants as kept;
-ghost use Rattle.async_cell_driver.specs.History.{told_by};
-ghost use Rattle.async_cell_driver.specs.Drives.{Happens, ResultsStay};
+ghost use Rattle.async_cell_driver.specs.{History.told_by, Drives.Happens, Drives.ResultsStay};
 
-use super::Driver;
 use super::call::NoEditEvent;
-use crate::event::{Event, Told};
-use async_cell_core::{Edit, Refusal, Reply};
+use crate::{Driver, Edit, Event, Refusal, Reply, Told};
 
 impl<T: Clone> Driver<T> {
     /// Sets the value. Every waiting task is then ready. Fails on a closed cell; the value is

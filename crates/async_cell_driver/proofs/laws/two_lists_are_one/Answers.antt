@@ -2,7 +2,4 @@ use Rattle.async_cell_driver.proofs.JoinedLogs.{log_of-append, log_of-append-edi
 use Rattle.async_cell_driver.proofs.laws.two_lists_are_one.Goals as goal
 
 pub returns : goal.returns
-returns g c = record {
-  joined = λ events more told others handed later same same'. log_of-append events more told others handed later same same';
-  with_edits = λ edit events more told others handed later same same'. log_of-append-edits edit events more told others handed later same same';
-}
+returns g c = record { joined = log_of-append; with_edits = log_of-append-edits }

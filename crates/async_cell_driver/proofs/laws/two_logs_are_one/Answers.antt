@@ -2,4 +2,4 @@ use Rattle.async_cell_driver.proofs.JoinedLogs.{drives_join}
 use Rattle.async_cell_driver.proofs.laws.two_logs_are_one.Goals as goal
 
 pub returns : goal.returns
-returns g c from at to earlier later first second = drives_join _ from at to earlier later first second
+returns g c = drives_join _

@@ -1,7 +1,5 @@
-use Rattle.async_cell_driver.proofs.Words.{◌≡◌, true, false, sym, ◌∙◌, model_up_to, same_name, is_ready_mark, DriverState, mark_at}
-use Rattle.async_cell_driver.proofs.ReadyNow.{ready_now}
-use Rattle.async_cell_driver.proofs.Lines.{not_polled}
-use Rattle.async_cell_driver.proofs.PolledTask.{covered_polled, poll_drives_as, ready_no_more, others_stay}
+use Rattle.async_cell_driver.proofs.Words.{◌≡◌, true, false, [], ◌∷◌, subst, sym, ◌∙◌, Drives, line_of, Poll, told_of, polled_of, mark_after, change, with_mark, model_up_to, same_name, is_ready_mark, DriverState, mark_at}
+use Rattle.async_cell_driver.proofs.{ReadyNow.ready_now, Lines.not_polled, PolledTask.covered_polled, PolledTask.poll_drives, PolledTask.ready_no_more, PolledTask.others_stay}
 use Rattle.async_cell_driver.proofs.driver.Driver.poll.Goals as goal
 
 pub returns-in_default-clause-drives : goal.returns-in_default-clause-drives
@@ -14,23 +12,26 @@ pub invariant_of-self : goal.invariant_of-self
 invariant_of-self g c =
     let at : DriverState g.row.T.Denot = record { core = c.self.inside.core; tasks = c.self.inside.tasks } in
     let ready = rw c.in-Some.is at c.ready.ensures.kind in
-    rw (c.set_mark.ensures, c.mark_of.ensures) (covered_polled at c.ask-asked.new.core c.args.i c.ask-asked.result c.self.invariant ready.1 c.ask-asked.ensures.refused c.ask-asked.ensures.waiting)
+    rw (c.set_mark.ensures, c.outcome-mark.ensures.mark) (covered_polled at c.ask-asked.new.core c.args.i c.ask-asked.result c.self.invariant ready.1 c.ask-asked.ensures.refused c.ask-asked.ensures.waiting)
 
 pub returns-clause-drives : goal.returns-clause-drives
 returns-clause-drives g c =
+    let at : DriverState g.row.T.Denot = record { core = c.self.inside.core; tasks = c.self.inside.tasks } in
     let asked = c.ask-asked.ensures in
     let ready = rw c.in-Some.is at c.ready.ensures.kind in
     let E = g.T.Clone.is_clone in
-    poll_drives_as E _ _ c.self.view_is c.ask-asked.new.core c.set_mark.new.self c.args.i c.in-Some.kind c.ask-asked.result c.polled.result
-    c.soundness-2.ensures c.self.invariant ready.0 ready.1
-    (model_up_to E same_name true _ _ _ _ _ asked.model) asked.refused asked.waiting (rw c.mark_of.ensures at c.set_mark.ensures) c.polled.ensures
+    let drives = poll_drives E at c.ask-asked.new.core c.args.i c.in-Some.kind c.ask-asked.result
+    c.soundness-2.ensures c.self.invariant ready.0 ready.1 (model_up_to E same_name true _ _ _ _ _ asked.model) asked.refused asked.waiting in
+    let tasks = change (with_mark (mark_after c.ask-asked.result)) c.args.i at.tasks in
+    rw (c.set_mark.ensures, c.outcome-mark.ensures.mark, c.outcome-mark.ensures.polled)
+    (subst (λ (s : DriverState g.row.T.Denot). Drives E s (line_of s (Poll c.args.i) (told_of (polled_of c.ask-asked.result)) ∷ []) (record { core = c.ask-asked.new.core; tasks = tasks })) c.self.view_is drives)
 
 pub returns-clause-ready_no_more : goal.returns-clause-ready_no_more
 returns-clause-ready_no_more g c =
     let ready = rw c.in-Some.is at c.ready.ensures.kind in
-    rw (c.set_mark.ensures, c.mark_of.ensures, c.polled.ensures) (ready_no_more c.ask-asked.new.core c.args.i c.ask-asked.result c.self.inside.tasks ready.1)
+    rw (c.set_mark.ensures, c.outcome-mark.ensures.mark, c.outcome-mark.ensures.polled) (ready_no_more c.ask-asked.new.core c.args.i c.ask-asked.result c.self.inside.tasks ready.1)
 
 pub returns-clause-others_stay : goal.returns-clause-others_stay
 returns-clause-others_stay g c j other =
     let at : DriverState g.row.T.Denot = record { core = c.self.inside.core; tasks = c.self.inside.tasks } in
-    rw (c.set_mark.ensures, ← c.self.view_is) (others_stay c.ask-asked.new.core at c.mark_of.result c.args.i j (λ same. other (sym same)))
+    rw (c.set_mark.ensures, ← c.self.view_is) (others_stay c.ask-asked.new.core at c.outcome-mark.result.0 c.args.i j (λ same. other (sym same)))

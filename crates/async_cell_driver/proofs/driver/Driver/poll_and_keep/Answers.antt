@@ -1,7 +1,6 @@
 use Rattle.async_cell_driver.proofs.Words.{[], ◌∷◌, Some, map, refl, ap, sym, subst, ◌∙◌, err_from_is_err_and, DriverState, result_at, is_ready, line_of, Drives, Poll, Ready}
 use Rattle.async_cell_driver.specs.declared.event.Told.TheVariants as told
-use Rattle.async_cell_driver.proofs.KeptResult.{covered_keeping, ready-keeping, drives_keeping}
-use Rattle.async_cell_driver.proofs.Settled.{keeps_one, size_kept, one_refused}
+use Rattle.async_cell_driver.proofs.{KeptResult.covered_keeping, KeptResult.ready-keeping, KeptResult.drives_keeping, Settled.keeps_one, Settled.size_kept, Settled.one_refused}
 use Rattle.async_cell_driver.proofs.driver.Driver.poll_and_keep.Goals as goal
 
 pub invariant_of-self : goal.invariant_of-self

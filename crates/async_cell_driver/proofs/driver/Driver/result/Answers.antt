@@ -1,6 +1,5 @@
 use Rattle.async_cell_driver.proofs.Words.{None, [], DriverState}
-use Rattle.async_cell_driver.proofs.JoinedLogs.{drives_nil}
-use Rattle.async_cell_driver.proofs.KeptResult.{covered_keeping, drives_keeping}
+use Rattle.async_cell_driver.proofs.{JoinedLogs.drives_nil, KeptResult.covered_keeping, KeptResult.drives_keeping}
 use Rattle.async_cell_driver.proofs.driver.Driver.result.Goals as goal
 
 pub invariant_of-self : goal.invariant_of-self
