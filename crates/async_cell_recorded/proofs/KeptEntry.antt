@@ -1,5 +1,6 @@
 -- What one call on a core says of the entry that is kept of it.
-use Rattle.async_cell_recorded.proofs.Words.{◌≡◌, Bool, true, false, List, Option, arith, Kept, Reply, content, is_memory, State, Does, Call, kept_call, kept_before, kept_after}
+use Rattle.async_cell_recorded.proofs.Words.{◌≡◌, Bool, true, false, List, Option, arith, Kept, Reply, content, is_memory, State, Does, Call, kept_call, kept_before, kept_after, Named, Cell, reply, Fits}
+use Rattle.async_cell_model.specs.declared.entry.Entry.{Entry}
 use Rattle.async_cell_model.specs.declared.entry.Kept.TheVariants as kept
 use Rattle.async_cell_model.specs.declared.reply.Reply.TheVariants as replied
 
@@ -18,3 +19,10 @@ module _ {T W : Type 0} (will_wake : W → W → Bool) (sure : Bool) (at to : St
       → Does will_wake sure at (record { call = kept_call edit edit_some at.cell call; reply = r }) woken to
       → kept_after (kept_before call (content at.cell)) (content to.cell) ≡ kept_call edit edit_some at.cell call
   kept_made edit edit_some call r woken found one = grind arith
+
+module _ {T E : Type 0} (edit : E → Option T → Option T) (edit_some : E → T → T) where
+  -- an entry of the call on this cell fits the call
+  pub fits : (c : Cell T) (call : Call T Named E) (e : Entry T Named)
+      → e.call ≡ kept_call edit edit_some c call → e.reply ≡ reply c e.call
+      → Fits edit edit_some call e
+  fits c call e kept_is reply_is = grind arith

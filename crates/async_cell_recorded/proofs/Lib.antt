@@ -1,5 +1,4 @@
 mod Counted
-mod FittingAnswers
 mod KeptEntry
 mod OneMoreEntry
 mod PlainHistories

@@ -4,9 +4,8 @@ pub use Rattle.async_cell_model.proofs.{LegalHistories.Runs-join, Machine.model_
 pub use Rattle.async_cell_model.specs.{History.History, Legal.Runs, Legal.wakes_after, Legal.woken_by, declared.cell.Cell.Cell, declared.entry.Kept.Kept, declared.reply.Reply.Reply}
 pub use Rattle.async_cell_model.specs.Machine.{Does, IsSound, State, content, is_memory, reply}
 pub use Rattle.async_cell_recorded.specs.Counting.{IsJournal, ShareState, Test, Totals, from_bool, new_shares, picked_after}
-pub use Rattle.async_cell_recorded.specs.Outcomes.{HasEnded, IsNew, share_of}
+pub use Rattle.async_cell_recorded.specs.{Outcomes.HasEnded, Outcomes.IsNew, Outcomes.share_of, Recording.start, Recording.state, Recording.with_one_share, Recording.without_shares}
 pub use Rattle.async_cell_recorded.specs.Recording.{IsPlain, IsRecorded, PlainRecording, Recording, is_of, made_by, numbers_below, of_one_share, plain_entry, serials_of}
-pub use Rattle.async_cell_recorded.specs.Recording.{start, state, with_one_share, without_shares}
 pub use Rattle.async_cell_recorded.specs.{Fitting.Fits, Keeping.kept_after, Keeping.kept_before, declared.entry.Entry.Entry, declared.session.Seat.Seat}
 pub use Rattle.async_cell_wakers.specs.{Named.same_name, declared.named.Named.Named}
 pub use Rattle.std.proofs.Common.{Bool, List, None, Option, [], ap, append-nil, append_assoc, arith, drop, false, length, length-append, map, refl, rules, subst, suc, sym, take, true, vec_capacity}

@@ -1,15 +1,10 @@
 -- What a recorded call returns: an entry with the names that it wakes, or why there is no entry.
 use Rattle.std.specs.Prelude.{◌≡◌, ◌⊎◌, ◌++◌, ◌∷◌, [], List, Result, IfOk, IfErr, OnErr}
 use Rattle.async_cell_wakers.specs.declared.named.Named.{Named}
-use Rattle.async_cell_model.specs.declared.cell.Cell.{Cell}
-use Rattle.async_cell_model.specs.declared.entry.Kept.{Kept}
-use Rattle.async_cell_model.specs.declared.refusal.Refusal.{Refusal}
-use Rattle.async_cell_model.specs.declared.refusal.Refusal.TheVariants.{Memory, OutOfTurn}
-use Rattle.async_cell_model.specs.Legal.{woken_by}
-use Rattle.async_cell_model.specs.Machine.{reply}
+use Rattle.async_cell_model.specs.declared.{cell.Cell.Cell, entry.Kept.Kept, refusal.Refusal.Refusal, refusal.Refusal.TheVariants.Memory, refusal.Refusal.TheVariants.OutOfTurn}
+use Rattle.async_cell_model.specs.{Legal.woken_by, Machine.reply}
 use Rattle.async_cell_recorded.specs.declared.entry.Entry.{Entry}
-use Rattle.async_cell_recorded.specs.Counting.{ShareState, Test, share_after}
-use Rattle.async_cell_recorded.specs.Recording.{Recording, IsRecorded, state, plain_entry}
+use Rattle.async_cell_recorded.specs.{Counting.ShareState, Counting.Test, Counting.share_after, Recording.Recording, Recording.IsRecorded, Recording.state, Recording.plain_entry}
 
 module _ {T : Type 0} where
   -- The entry may come next in a recorded history. On the cell there it holds the call that was

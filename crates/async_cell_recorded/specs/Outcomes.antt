@@ -2,8 +2,7 @@
 use Rattle.std.specs.Prelude.{◌≡◌, ℕ, List, IsSomeAnd, length, map}
 use Rattle.std.specs.List.{AllZip, sum_by}
 use Rattle.async_cell_recorded.specs.declared.session.Seat.{Seat}
-use Rattle.async_cell_recorded.specs.Counting.{ShareState, Test, picked}
-use Rattle.async_cell_recorded.specs.Recording.{Recording, numbers_below}
+use Rattle.async_cell_recorded.specs.{Counting.ShareState, Counting.Test, Counting.picked, Recording.Recording, Recording.numbers_below}
 
 module _ {O : Type 0} where
   -- the share of a seat, under the number that it had before its thread ran

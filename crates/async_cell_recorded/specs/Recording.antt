@@ -5,9 +5,7 @@ use Rattle.async_cell_wakers.specs.Named.{same_name}
 use Rattle.async_cell_wakers.specs.declared.named.Named.{Named}
 use Rattle.async_cell_model.specs.declared.cell.Cell.TheVariants.{Open}
 use Rattle.async_cell_model.specs.declared.entry.Entry as model
-use Rattle.async_cell_model.specs.Machine.{owners_limit, is_memory, State}
-use Rattle.async_cell_model.specs.History.{History, after}
-use Rattle.async_cell_model.specs.Legal.{IsLegal}
+use Rattle.async_cell_model.specs.{Machine.owners_limit, Machine.is_memory, Machine.State, History.History, History.after, Legal.IsLegal}
 use Rattle.async_cell_recorded.specs.declared.entry.Entry.{Entry}
 
 -- the numbers 0, 1, 2, .. below n, in order

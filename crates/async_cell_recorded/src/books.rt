@@ -3,11 +3,9 @@ ghost use Rattle.std.specs.Prelude.{length, replicate, slice_index, slice_set};
 ghost use Rattle.std.specs.List.{sum_by};
 ghost use Rattle.async_cell_recorded.specs.Counting.{new_shares, from_bool, share_after};
 
-use crate::entry::Entry;
 use crate::ledger::add_unseen;
-use crate::marker::{Blanks, CallsLedger, Marker, Pick, PickedLedger};
-use crate::share::Share;
-use async_cell_core::{Named, Wakers};
+use crate::marker::{CallsLedger, PickedLedger};
+use crate::{Blanks, Entry, Marker, Named, Pick, Share, Wakers};
 use std::alloc::{AllocError, Global};
 use std::marker::Model;
 use std::sync::ledger::{self, Ledger};
@@ -103,14 +101,8 @@ impl<M: Marker> Books<M> {
             next_serials: _,
         } = self;
         for share in shares {
-            let Share {
-                number: _,
-                count: _,
-                calls,
-                picked,
-            } = share;
-            calls_left.merge(calls);
-            picked_left.merge(picked);
+            calls_left.merge(share.calls);
+            picked_left.merge(share.picked);
         }
         calls.audit(&mut calls_left);
         picked.audit(&mut picked_left);

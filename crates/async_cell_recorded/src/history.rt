@@ -3,9 +3,7 @@ ghost use Rattle.async_cell_model.specs.Taken.{IsDistinct, put_in, taken_out, ha
 ghost use Rattle.async_cell_model.specs.Refusal.{FailsWithMemory};
 ghost use Rattle.async_cell_recorded.specs.Recording.{IsRecorded, plain_entry, without_shares, with_one_share};
 
-use crate::entry::{Entry, Plain};
-use crate::plain_history::PlainHistory;
-use async_cell_core::{Named, Refusal};
+use crate::{Entry, Named, Plain, PlainHistory, Refusal};
 use async_cell_model::laws::exact::a_value_is_taken_once;
 use std::marker::Model;
 
@@ -111,12 +109,9 @@ impl<T: Copy> History<T> {
         let Ok(()) = entries.reserve_exact(old.entries.len()) else {
             return Err((Refusal::Memory, old));
         };
-        let PlainHistory {
-            begin,
-            entries: calls,
-        } = old;
+        let begin = old.begin;
         let mut serial = 0;
-        for plain in calls {
+        for plain in old.entries {
             entries.push_reserved(Entry {
                 share: 0,
                 serial,

@@ -1,21 +1,15 @@
 ghost use Rattle.std.specs.Prelude.{◌≡◌, ◌≢◌, ◌↔◌, ◌⊎◌, ◌≤◌, ◌++◌, ◌∷◌, [], length, vec_len};
-ghost use Rattle.std.specs.Prelude.{IfOk, IfErr, OnErr};
-ghost use Rattle.std.specs.List.{sum_by};
-ghost use Rattle.async_cell_model.specs.Machine.{reply};
-ghost use Rattle.async_cell_model.specs.Legal.{woken_by};
-ghost use Rattle.async_cell_model.specs.Refusal.{FailsWithMemory};
+ghost use Rattle.std.specs.{Prelude.IfOk, Prelude.IfErr, Prelude.OnErr, List.sum_by};
+ghost use Rattle.async_cell_model.specs.{Machine.reply, Legal.woken_by, Refusal.FailsWithMemory};
 ghost use Rattle.async_cell_core.specs.Kept.{kept_call};
 ghost use Rattle.async_cell_recorded.specs.Recording.{IsRecorded, state, plain_entry, made_by};
 ghost use Rattle.async_cell_recorded.specs.Counting.{new_shares, share_after, picked};
 
-use crate::books;
-use crate::books::Books;
-use crate::entry::{Entry, Plain};
-use crate::history::History;
+use crate::books::{self, Books};
 use crate::made::make;
-use crate::marker::{Blanks, Marker, Pick, ShareCount};
-use crate::share::Share;
-use async_cell_core::{Call, Core, Edit, Named, Refusal, Wakers};
+use crate::marker::ShareCount;
+use crate::{Blanks, Call, Edit, Entry, History, Named, Pick, Refusal, Share, Wakers};
+use async_cell_core::Core;
 use std::alloc::Global;
 use std::marker::Model;
 
@@ -33,8 +27,7 @@ pub struct Journal<T, M: Pick<T>> {
 /// order, it leads to the cell and its wait list, and it has as many entries as the books count.
 impl<T, M: Pick<T>> Model for Journal<T, M> {
     ghost use Rattle.std.specs.Prelude.{◌≡◌};
-    ghost use Rattle.async_cell_recorded.specs.Recording.{Recording};
-    ghost use Rattle.async_cell_recorded.specs.Counting.{IsJournal};
+    ghost use Rattle.async_cell_recorded.specs.{Recording.Recording, Counting.IsJournal};
 
     ghost Value = { Recording T };
 
@@ -107,7 +100,12 @@ impl<T: Copy, M: Pick<T>> Journal<T, M> {
         }
         self.entries.reserve(1)?;
         let (made, woken) = make(&mut self.core, call)?;
-        let entry = entry_of(share, made);
+        let entry = Entry {
+            share: share.number(),
+            serial: share.count(),
+            call: made.call,
+            reply: made.reply,
+        };
         self.entries.push_reserved(entry);
         let answer = (entry, woken);
         books::count(&mut self.books, share, &answer);
@@ -124,33 +122,10 @@ impl<T: Copy, M: Pick<T>> Journal<T, M> {
         ensures counted { length self.entries ≡ sum_by (λ s. s.count) shares.items }
         ensures picked { picked M.pick self ≡ sum_by (λ s. s.picked) shares.items }
     {
-        let Journal {
-            core: _,
-            count,
-            entries,
-            books,
-        } = self;
-        books.close(shares);
+        self.books.close(shares);
         History {
-            begin: count.get(),
-            entries,
+            begin: self.count.shares,
+            entries: self.entries,
         }
-    }
-}
-
-/// Returns the entry of a call that is made with this share.
-fn entry_of<T: Copy, M: Marker>(share: &Share<M>, made: Plain<T>) -> Entry<T>
-    ensures { result ≡ record {
-      share = share.now.number;
-      serial = share.now.count;
-      call = made.call;
-      reply = made.reply;
-    } }
-{
-    Entry {
-        share: share.number(),
-        serial: share.count(),
-        call: made.call,
-        reply: made.reply,
     }
 }

@@ -1,12 +1,12 @@
 //! One call on the core, as a history stores it.
 ghost use Rattle.std.specs.Prelude.{◌≡◌, true, false, IfOk, OnErr};
-ghost use Rattle.async_cell_model.specs.Machine.{content, is_memory, Does};
+ghost use Rattle.async_cell_model.specs.Machine.{is_memory, Does};
 ghost use Rattle.async_cell_core.specs.Kept.{kept_call};
 ghost use Rattle.async_cell_wakers.specs.Named.{same_name};
 ghost use Rattle.async_cell_recorded.specs.Keeping.{kept_before, kept_after};
 
-use crate::entry::{Kept, Plain};
-use async_cell_core::{Answer, Call, Core, Edit, Named, Refusal, Reply, Wakers, step_copied};
+use crate::{Call, Edit, Kept, Named, Plain, Refusal, Reply, Wakers};
+use async_cell_core::{Answer, Core, step_copied};
 use std::alloc::AllocError;
 
 /// Returns a call on a cell with this content as a history stores it, before it is made.
@@ -41,17 +41,9 @@ fn answered<T: Copy>(kept: Kept<T>, put: Option<T>) -> Kept<T>
     }
 }
 
-/// Returns a copy of the content.
-#[tactic(auto, using(crate::proofs::KeptEntry::got_content))]
-fn content<T: Copy>(core: &Core<T, Named>) -> Option<T>
-    ensures { result ≡ content core.now.cell }
-{
-    core.try_get_copied()
-}
-
 /// Makes the call. Returns it with its reply, and the wakers that are to be woken by the caller.
 /// Fails if the core refuses a poll because there is no memory.
-#[tactic(auto, using(crate::proofs::KeptEntry::refused_unchanged, crate::proofs::KeptEntry::kept_made))]
+#[tactic(auto, using(crate::proofs::KeptEntry::got_content, crate::proofs::KeptEntry::refused_unchanged, crate::proofs::KeptEntry::kept_made))]
 pub(crate) fn make<T: Copy, E: Edit<T> + Drop>(
     core: &mut Core<T, Named>,
     call: Call<T, Named, E>,
@@ -65,11 +57,11 @@ pub(crate) fn make<T: Copy, E: Edit<T> + Drop>(
     ensures unchanged { OnErr result
         ((core.new.cell ≡ core.old.cell) × (core.new.waiting ≡ core.old.waiting)) }
 {
-    let kept = keep(&call, content(core));
+    let kept = keep(&call, core.try_get_copied());
     let Answer { reply, woken } = step_copied(core, call);
     if let Reply::Refused(Refusal::Memory, _) = reply {
         return Err(AllocError);
     }
-    let call = answered(kept, content(core));
+    let call = answered(kept, core.try_get_copied());
     Ok((Plain { call, reply }, woken))
 }

@@ -1,5 +1,5 @@
 //! Markers, each of which names one recorded cell in contracts.
-ghost use Rattle.std.specs.Prelude.{◌≡◌, ◌↔◌, ℕ, IsTrue, false};
+ghost use Rattle.std.specs.Prelude.{◌≡◌, ℕ, false};
 ghost use Rattle.async_cell_recorded.specs.Counting.{Test};
 
 use std::marker::{Brand, PhantomData};
@@ -95,20 +95,5 @@ impl<M: Marker> ShareCount<M> {
             shares,
             of: PhantomData,
         }
-    }
-
-    /// Returns the number.
-    pub(crate) fn get(&self) -> u32
-        ensures same { result ≡ self.now.shares }
-        ensures all { result ≡ M.shares }
-    {
-        self.shares
-    }
-
-    /// Returns whether this many shares are all of them.
-    pub(crate) fn is_all(&self, count: usize) -> bool
-        ensures { IsTrue result ↔ (count ≡ M.shares) }
-    {
-        count == self.shares as usize
     }
 }

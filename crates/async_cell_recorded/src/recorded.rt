@@ -1,19 +1,15 @@
 ghost use Rattle.std.specs.Prelude.{◌≡◌, ◌↔◌, ◌≤◌, ◌⊎◌, Bool, Option, length, vec_len};
-ghost use Rattle.std.specs.Prelude.{IsOk, IfOk, IfErr};
-ghost use Rattle.std.specs.List.{sum_by};
+ghost use Rattle.std.specs.{Prelude.IsOk, Prelude.IfOk, Prelude.IfErr, List.sum_by};
 ghost use Rattle.async_cell_model.specs.Refusal.{FailsWithMemory};
 ghost use Rattle.async_cell_recorded.specs.Recording.{IsRecorded, plain_entry};
-ghost use Rattle.async_cell_recorded.specs.Answering.{IsCallResult};
+ghost use Rattle.async_cell_recorded.specs.{Answering.IsCallResult, Fitting.Fits};
 ghost use Rattle.async_cell_core.specs.Kept.{kept_call};
 ghost use Rattle.async_cell_recorded.specs.Counting.{new_shares, picked};
-ghost use Rattle.async_cell_recorded.specs.Fitting.{Fits};
 
-use crate::entry::Entry;
-use crate::history::History;
-use crate::journal::Journal;
-use crate::marker::{Blanks, Pick, ShareCount};
-use crate::share::Share;
-use async_cell_core::{Call, Edit, Named, Refusal, Reply, Wakers};
+use crate::marker::ShareCount;
+use crate::{
+    Blanks, Call, Edit, Entry, History, Journal, Named, Pick, Refusal, Reply, Share, Wakers,
+};
 use async_cell_model::Kept;
 use std::alloc::Global;
 use std::sync::{Mutex, Wait};
@@ -102,15 +98,14 @@ impl<T: Copy, M: Pick<T>> Recorded<T, M> {
             picked M.pick history ≡ sum_by (λ s. s.picked) shares.items) }
         ensures comes_back { IfErr result (λ back. (back.0 ≡ self) × (back.1 ≡ shares)) }
     {
-        if !self.count.is_all(shares.len()) {
+        if shares.len() != self.count.shares as usize {
             return Err((self, shares));
         }
-        let Recorded { journal, count: _ } = self;
-        Ok(journal.into_inner().close(shares))
+        Ok(self.journal.into_inner().close(shares))
     }
 
     /// Makes a call while the lock is held.
-    #[tactic(auto, using(crate::proofs::FittingAnswers::fits))]
+    #[tactic(auto, using(crate::proofs::KeptEntry::fits))]
     fn call<E: Edit<T> + Drop>(
         &self,
         share: &mut Share<M>,

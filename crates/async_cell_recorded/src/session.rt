@@ -1,22 +1,16 @@
 //! Sharing a recorded cell among threads, without a proof by the caller.
 ghost use Rattle.std.specs.Prelude.{◌≡◌, ◌≤◌, ⊤, false, [], length, vec_len, vec_capacity, map};
-ghost use Rattle.std.specs.Prelude.{IfOk};
-ghost use Rattle.std.specs.List.{All, AllZip};
+ghost use Rattle.std.specs.{Prelude.IfOk, List.All, List.AllZip};
 ghost use Rattle.async_cell_model.specs.Refusal.{FailsWithMemory};
 ghost use Rattle.async_cell_recorded.specs.Counting.{ShareState, Test, new_shares};
 ghost use Rattle.async_cell_recorded.specs.Outcomes.{AreOutcomes, HasEnded, IsNew, share_of};
 ghost use Rattle.async_cell_recorded.specs.Recording.{IsRecorded};
 
-use crate::history::History;
-use crate::marker::{Blanks, Marker, Pick};
-use crate::recorded::Recorded;
-use crate::share::Share;
-use async_cell_core::Refusal;
+use crate::{Blanks, History, Marker, Pick, Recorded, Refusal, Share};
 use std::alloc::{AllocError, Global};
 use std::marker::Brand;
 use std::sync::Wait;
-use std::thread;
-use std::thread::Threads;
+use std::thread::{self, Threads};
 
 /// What threads do with a recorded cell.
 pub trait Session {
@@ -203,11 +197,7 @@ fn part<O: Drop, S: Session<Outcome = O>, M: Marker>(
     ensures shares { shares.new.items ≡ map (λ seat. seat.share) seats.items }
 {
     for seat in seats {
-        let Seat {
-            number: _,
-            share,
-            outcome,
-        } = seat;
+        let Seat { share, outcome, .. } = seat;
         let Some(outcome) = outcome else {
             unreachable!();
         };

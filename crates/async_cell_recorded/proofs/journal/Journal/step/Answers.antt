@@ -9,11 +9,11 @@ invariant_of-self-2 g c =
     let turn : c.args.share.now.count ≡ made_by c.args.share.now.number c.self.inside.entries.items =
     omega (arith, c.count.ensures, c.if-count-next_serial.false, c.next_serial.ensures.serial, counted) in
     let model = c.in_ok-made.ensures.model in
-    rw (c.push_reserved.ensures.items, c.in_ok-reserve.ensures.items, c.count-2.ensures.books, c.entry_of-entry.ensures)
+    rw (c.push_reserved.ensures.items, c.in_ok-reserve.ensures.items, c.count-3.ensures.books, c.number.ensures.same, c.count-2.ensures)
     (journal_more g.M.Pick.pick _ _ c.make.new.core _ _ c.in_ok-made.woken _ _ c.self.invariant c.in_ok-made.ensures.answered refl refl within turn model)
 
-pub count-requires-2 : goal.count-requires-2
-count-requires-2 g c =
+pub count-requires-3 : goal.count-requires-3
+count-requires-3 g c =
     let counted = c.self.invariant.counts_each c.args.share.now.number (omega (arith, c.next_serial.ensures.of_shares, c.self.inside.count.all)) in
     let few = count_by-le-length (is_of c.args.share.now.number) c.self.inside.entries.items in
     omega (arith, c.count.ensures, c.if-count-next_serial.false, c.next_serial.ensures.serial, counted, few)
@@ -24,11 +24,11 @@ invariant_of-self-in_err-made g c =
     rw c.in_ok-reserve.ensures.items (journal_same g.M.Pick.pick _ _ c.make.new.core _ c.self.invariant same.0 same.1)
 
 pub returns-clause-call : goal.returns-clause-call
-returns-clause-call g c = rw (c.entry_of-entry.ensures, ← c.self.view_is, ← c.self.invariant.cell_is) c.in_ok-made.ensures.kept
+returns-clause-call g c = rw (← c.self.view_is, ← c.self.invariant.cell_is) c.in_ok-made.ensures.kept
 
 pub returns-clause-reply : goal.returns-clause-reply
 returns-clause-reply g c =
-    rw (c.entry_of-entry.ensures, ← c.self.view_is) (step_replies g.M.Pick.pick _ _ _ _ _ _ _ c.self.invariant c.in_ok-made.ensures.answered c.in_ok-made.ensures.model)
+    rw (← c.self.view_is) (step_replies g.M.Pick.pick _ _ _ _ _ _ _ c.self.invariant c.in_ok-made.ensures.answered c.in_ok-made.ensures.model)
 
 pub returns-clause-recorded : goal.returns-clause-recorded
 returns-clause-recorded g c = (invariant_of-self-2 g c).recorded
