@@ -1,7 +1,8 @@
 -- Polls of all that are ready, one by one.
 use Rattle.async_cell_driver.proofs.Words.{◌≡◌, ◌<◌, ◌≤◌, ◌+◌, ◌-◌, ℕ, zero, suc, true, false, ◌||◌, List, [], ◌∷◌, ◌++◌, Option, Some, None, Ok, Err, map, length, reverse, refl, ap, sym, ◌∙◌, arith, append-nil, append_assoc, length-append, add-one, slice_get, is_some, nat_eq, filter, Result, MatchResult, if◌then◌else◌, nat_tests, slice_get_past, filter-append, map-append, length-map, reverse-append, Refusal, is_vacant, Poll, Told, Ready, DriverState, Task, result_at, change, with_result, Line, Log, is_ready, waits, was_refused, line_of, Drives, ResultsStay, NoneForgotten, numbers, events_of, has_refused, got_by, got_or, Keeps, Settles, SettlesOne}
 use Rattle.async_cell_driver.specs.declared.event.Told.TheVariants as told
-use Rattle.async_cell_driver.proofs.{JoinedLogs.drives_join, ReadyNow.ready_now, ReadyNow.started_now, KeptResult.keeping, KeptResult.result-keeping_other}
+use Rattle.async_cell_driver.proofs.{JoinedLogs.drives_join, ReadyNow.ready_now, ReadyNow.started_now, PolledTask.poll_steps}
+use Rattle.async_cell_driver.proofs.KeptResult.{keeping, mark-keeping, ready-keeping, result-keeping_other}
 use Rattle.async_cell_driver.proofs.WokenTasks.{slice_get-change_same, map-change}
 
 -- the numbers below one begin those below another
@@ -105,3 +106,6 @@ module _ {T : Type 0} where
   -- and where the cell is full or closed then, none waits
   pub none_waits : (at : DriverState T) → NoneForgotten at → ((j : ℕ) → is_ready at [] j ≡ false) → is_vacant at.core.cell ≡ false → (j : ℕ) → waits at [] j ≡ false
   none_waits at awake not_ready not_vacant j = grind (arith, awake, not_ready)
+
+-- what the tactics use in `Driver::poll_and_keep`
+pub ruleset keep_steps = (poll_steps, mark-keeping, ready-keeping, size_kept)

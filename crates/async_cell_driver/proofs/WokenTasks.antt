@@ -30,9 +30,9 @@ module _ {T : Type 0} where
   kinds-wake_each [] tasks = refl
   kinds-wake_each (n ∷ names) tasks = kinds-wake_each names (change wake n.0 tasks) ∙ map-change (λ task. task.kind) wake (λ t. refl) n.0 tasks
 
-  pub results-wake_each : (names : List Named) (tasks : List (Task T)) (i : ℕ) → result_at (wake_each names tasks) i ≡ result_at tasks i
-  results-wake_each [] tasks i = refl
-  results-wake_each (n ∷ names) tasks i = results-wake_each names (change wake n.0 tasks) i ∙ says_same result_of wake (λ t. grind arith) n.0 i tasks
+  pub results_woken : (names : List Named) (tasks : List (Task T)) (i : ℕ) → result_at (wake_each names tasks) i ≡ result_at tasks i
+  results_woken [] tasks i = refl
+  results_woken (n ∷ names) tasks i = results_woken names (change wake n.0 tasks) i ∙ says_same result_of wake (λ t. grind arith) n.0 i tasks
 
 -- the mark of a task that is woken if it is named
 abbrev pub woken_if : Bool → Option Mark → Option Mark

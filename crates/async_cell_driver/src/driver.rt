@@ -62,6 +62,7 @@ impl<T: Clone> Driver<T> {
 
     /// Starts a task and returns its number, which is the number of tasks before it. Fails with
     /// `Memory` if there is no memory for it.
+    #[tactic(auto, using(crate::proofs::Lines::results_stay))]
     pub fn start(&mut self, kind: Kind) -> Result<usize, Refusal>
         ensures started { IfOk result (λ number.
             Happens T.is_clone self.old (Event.Start kind) (Told.Started number) self.new) }

@@ -35,6 +35,7 @@ impl<T> Edit<T> for NoEdit {
 
 impl<T: Clone> Driver<T> {
     /// Makes the call of an event, and wakes the tasks whose names the core returns.
+    #[tactic(auto, using(crate::proofs::WokenTasks::results_woken))]
     pub(super) fn call<E: Edit<T> + Drop>(&mut self, event: Event<T, E>) -> Reply<T>
         requires { is_call event ≡ true }
         ensures happens { Happens T.is_clone self.old (with_edit E.edit event)

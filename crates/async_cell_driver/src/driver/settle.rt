@@ -49,7 +49,7 @@ impl<T: Clone> Driver<T> {
     }
 
     /// Polls a task that is ready, and stores what the poll is ready with.
-    #[tactic(auto, using(crate::proofs::PolledTask::poll_steps))]
+    #[tactic(auto, using(crate::proofs::Settled::keep_steps))]
     fn poll_and_keep(&mut self, i: usize) -> Result<(), Refusal>
         requires { is_ready self.old [] i ≡ true }
         ensures settles { (answer : Answer T)

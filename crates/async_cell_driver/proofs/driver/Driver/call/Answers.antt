@@ -1,4 +1,3 @@
-use Rattle.async_cell_driver.proofs.WokenTasks.{results-wake_each}
 use Rattle.async_cell_driver.proofs.CellCalls.{is_call-with_edit, call_drives, covered_called}
 use Rattle.async_cell_driver.proofs.driver.Driver.call.Goals as goal
 
@@ -10,6 +9,3 @@ pub returns-clause-happens : goal.returns-clause-happens
 returns-clause-happens g c =
     rw (← c.self.view_is, c.wake.ensures) (call_drives g.T.Clone.is_clone _ _ c.step-answer.result.woken _ _ (is_call-with_edit g.E.Edit.edit c.args.event c.requires)
     c.self.invariant c.step-answer.ensures.model)
-
-pub returns-clause-results_stay : goal.returns-clause-results_stay
-returns-clause-results_stay g c i = rw (← c.self.view_is, c.wake.ensures) (results-wake_each c.step-answer.result.woken c.self.inside.tasks i)

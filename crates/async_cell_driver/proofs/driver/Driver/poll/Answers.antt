@@ -12,7 +12,8 @@ pub invariant_of-self : goal.invariant_of-self
 invariant_of-self g c =
     let at : DriverState g.row.T.Denot = record { core = c.self.inside.core; tasks = c.self.inside.tasks } in
     let ready = rw c.in-Some.is at c.ready.ensures.kind in
-    rw (c.set_mark.ensures, c.outcome-mark.ensures.mark) (covered_polled at c.ask-asked.new.core c.args.i c.ask-asked.result c.self.invariant ready.1 c.ask-asked.ensures.refused c.ask-asked.ensures.waiting)
+    rw (c.set_mark.ensures, c.outcome-mark.ensures.mark)
+    (covered_polled at c.ask-asked.new.core c.args.i c.ask-asked.result c.self.invariant ready.1 c.ask-asked.ensures.refused c.ask-asked.ensures.waiting)
 
 pub returns-clause-drives : goal.returns-clause-drives
 returns-clause-drives g c =
@@ -24,7 +25,8 @@ returns-clause-drives g c =
     c.soundness-2.ensures c.self.invariant ready.0 ready.1 (model_up_to E same_name true _ _ _ _ _ asked.model) asked.refused asked.waiting in
     let tasks = change (with_mark (mark_after c.ask-asked.result)) c.args.i at.tasks in
     rw (c.set_mark.ensures, c.outcome-mark.ensures.mark, c.outcome-mark.ensures.polled)
-    (subst (λ (s : DriverState g.row.T.Denot). Drives E s (line_of s (Poll c.args.i) (told_of (polled_of c.ask-asked.result)) ∷ []) (record { core = c.ask-asked.new.core; tasks = tasks })) c.self.view_is drives)
+    (subst (λ (s : DriverState g.row.T.Denot). Drives E s (line_of s (Poll c.args.i) (told_of (polled_of c.ask-asked.result)) ∷ []) (record { core = c.ask-asked.new.core; tasks = tasks }))
+    c.self.view_is drives)
 
 pub returns-clause-ready_no_more : goal.returns-clause-ready_no_more
 returns-clause-ready_no_more g c =

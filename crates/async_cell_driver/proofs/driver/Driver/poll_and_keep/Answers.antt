@@ -1,6 +1,6 @@
-use Rattle.async_cell_driver.proofs.Words.{[], ◌∷◌, Some, map, refl, ap, sym, subst, ◌∙◌, err_from_is_err_and, DriverState, result_at, is_ready, line_of, Drives, Poll, Ready}
+use Rattle.async_cell_driver.proofs.Words.{[], ◌∷◌, Some, refl, ap, sym, subst, ◌∙◌, err_from_is_err_and, DriverState, result_at, line_of, Drives, Poll, Ready}
 use Rattle.async_cell_driver.specs.declared.event.Told.TheVariants as told
-use Rattle.async_cell_driver.proofs.{KeptResult.covered_keeping, KeptResult.ready-keeping, KeptResult.drives_keeping, Settled.keeps_one, Settled.size_kept, Settled.one_refused}
+use Rattle.async_cell_driver.proofs.{KeptResult.covered_keeping, KeptResult.drives_keeping, Settled.keeps_one, Settled.one_refused}
 use Rattle.async_cell_driver.proofs.driver.Driver.poll_and_keep.Goals as goal
 
 pub invariant_of-self : goal.invariant_of-self
@@ -30,19 +30,3 @@ returns-in_err-content-clause-settles g c =
     let p = err_from_is_err_and c.from_residual.result c.from_residual.ensures.1 in
     let why = c.in_err-content.field-0.0 in
     rw (p.1, p.2) (told.Refused why, one_refused g.T.Clone.is_clone c.args.self.now c.poll.new.self c.args.i why c.in_err-content.ensures.results_stay c.in_err-content.ensures.drives)
-
-pub returns-in-Ready-clause-ready_no_more : goal.returns-in-Ready-clause-ready_no_more
-returns-in-Ready-clause-ready_no_more g c =
-    let at : DriverState g.row.T.Denot = record { core = c.self.inside.core; tasks = c.self.inside.tasks } in
-    rw c.keep.ensures (ready-keeping c.args.i c.args.i (Some c.in-Ready.content) at ∙ (ap (λ s. is_ready s [] c.args.i) c.self.view_is ∙ c.in_ok-content.ensures.ready_no_more))
-
-pub returns-in-Ready-clause-others_stay : goal.returns-in-Ready-clause-others_stay
-returns-in-Ready-clause-others_stay g c j other =
-    let at : DriverState g.row.T.Denot = record { core = c.self.inside.core; tasks = c.self.inside.tasks } in
-    rw c.keep.ensures (ready-keeping c.args.i j (Some c.in-Ready.content) at ∙ (ap (λ (s : DriverState g.row.T.Denot). is_ready s [] j) c.self.view_is ∙ c.in_ok-content.ensures.others_stay j other))
-
-pub returns-in-Ready-clause-size : goal.returns-in-Ready-clause-size
-returns-in-Ready-clause-size g c =
-    let at : DriverState g.row.T.Denot = record { core = c.self.inside.core; tasks = c.self.inside.tasks } in
-    rw c.keep.ensures (size_kept c.args.self.now at c.args.i (Some c.in-Ready.content)
-    (ap (λ (s : DriverState g.row.T.Denot). map (λ task. task.kind) s.tasks) c.self.view_is ∙ c.in_ok-content.ensures.drives.kinds_are))

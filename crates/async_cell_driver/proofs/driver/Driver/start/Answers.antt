@@ -1,5 +1,5 @@
 use Rattle.async_cell_driver.proofs.Words.{MatchResult-weaker}
-use Rattle.async_cell_driver.proofs.Lines.{starts_as, start_refused_as, results_stay}
+use Rattle.async_cell_driver.proofs.Lines.{starts_as, start_refused_as}
 use Rattle.async_cell_driver.proofs.driver.Driver.start.Goals as goal
 
 pub returns-clause-started : goal.returns-clause-started
@@ -12,6 +12,3 @@ pub returns-clause-refused : goal.returns-clause-refused
 returns-clause-refused g c =
     rw (← c.self.view_is) (MatchResult-weaker c.start.result c.start.ensures.refused (λ number p. p)
     (λ why same. start_refused_as _ (record { core = c.self.inside.core; tasks = c.self.inside.tasks }) c.args.kind c.start.new.self why c.soundness.ensures c.self.invariant same.0 same.1))
-
-pub returns-clause-results_stay : goal.returns-clause-results_stay
-returns-clause-results_stay g c i = rw (← c.self.view_is) (results_stay c.self.inside.tasks c.start.new.self c.args.kind i c.start.result c.start.ensures.started c.start.ensures.refused)
