@@ -1,17 +1,13 @@
 //! The futures and the stream of a follower.
-ghost use Rattle.std.specs.Prelude.{◌≡◌, ◌≢◌, ◌↔◌, ◌⊎◌, true, false, Err, IfOk, IfNone, IfSome, OnOk, OnErr};
-ghost use Rattle.std.specs.Fn.{CalledAt};
-ghost use Rattle.std.specs.List.{AllByRecursion};
-ghost use Rattle.futures.specs.Poll.{IfReady, OnPending};
-ghost use Rattle.futures.specs.Task.{Covers, Keeps};
+ghost use Rattle.std.specs.Prelude.{◌≡◌, ◌≢◌, ◌⊎◌, true, false, Err, IfOk, IfNone, IfSome, OnOk, OnErr};
+ghost use Rattle.std.specs.{Fn.CalledAt, List.AllByRecursion};
+ghost use Rattle.futures.specs.{Poll.IfReady, Poll.OnPending, Task.Covers, Task.Keeps};
 ghost use Rattle.async_cell_model.specs.Refusal.{FailsWithMemoryOrClosed};
-ghost use Rattle.async_cell_latest_sync.specs.Found.{IsFound, IsItem};
-ghost use Rattle.async_cell_latest_sync.specs.Names.{cell_followed, sources};
+ghost use Rattle.async_cell_latest_sync.specs.{Found.IsFound, Found.IsItem, Names.cell_followed, Names.sources};
 
 use crate::cell::{LatestCore, Unseen, UnseenState};
-use crate::follower::Follower;
-use crate::history::{Protocol, Unruled};
-use async_cell_latest::{Place, Refusal};
+use crate::{Follower, Protocol, Refusal, Unruled};
+use async_cell_latest::Place;
 use async_cell_step::{Query, poll};
 use futures::future::Future;
 use futures::stream::Stream;
@@ -212,7 +208,7 @@ impl<T: Clone, R: Wait + Drop, F: FnMut(&T) -> bool + Drop, N: Protocol<T>> Futu
             return Poll::Ready(Ok(copy));
         }
         let polled = follower.poll_later(version, &mut self.place, cx);
-        if lacks_memory(&polled) {
+        if matches!(polled, Poll::Ready(Err(Refusal::Memory))) {
             // Nothing is marked, so the next poll looks at this state again.
             let place = mem::replace(&mut self.place, Place::new());
             cell.core.vacate(place, rt);
@@ -222,13 +218,6 @@ impl<T: Clone, R: Wait + Drop, F: FnMut(&T) -> bool + Drop, N: Protocol<T>> Futu
         self.follower.seen = version;
         polled
     }
-}
-
-/// Returns whether a poll failed, as there was no memory.
-fn lacks_memory<A>(polled: &Poll<Result<A, Refusal>>) -> bool
-    ensures { (result ≡ true) ↔ (polled.now ≡ Poll.Ready (Err Refusal.Memory)) }
-{
-    matches!(polled, Poll::Ready(Err(Refusal::Memory)))
 }
 
 /// The states that a follower is in time for, as a stream of clones: each is one that it has not

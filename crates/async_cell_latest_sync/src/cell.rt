@@ -1,13 +1,20 @@
-//! The state behind a lock, as owners and followers point to it.
+//! The state behind a lock, as owners and followers point to it, and the looks at it. Closures, and
+//! clones of the value, run while the lock is held.
 mod calls;
-mod looks;
 mod waits;
-mod writes;
 
-use crate::history::{Protocol, Unruled};
-use async_cell_step::Lock;
+ghost use Rattle.std.specs.Prelude.{◌≡◌, ◌≢◌, IsOk, IfOk, IfSome, IfNone};
+ghost use Rattle.std.specs.Fn.{FnOnceReturnsAt};
+ghost use Rattle.async_cell_model.specs.Refusal.{FailsWithMemory};
+ghost use Rattle.async_cell_step.specs.Rule.{IsCloneOfOne};
+ghost use Rattle.async_cell_latest_sync.specs.Found.{IsTested};
+
+use crate::{Protocol, Refusal, Unruled};
+use async_cell_step::{Deferred, Lock, Step, end};
 pub use calls::LatestCore;
 use futures::task::Source;
+use std::alloc::AllocError;
+use std::sync::Wait;
 pub use waits::{Unseen, UnseenState};
 
 /// A state that threads share, behind a lock.
@@ -19,11 +26,84 @@ pub struct LatestCell<T, N: Protocol<T> = Unruled> {
 }
 
 impl<T: Drop, N: Protocol<T>> LatestCell<T, N> {
-    /// Makes the cell of this state.
-    pub(crate) fn of(core: LatestCore<T, N>) -> Self {
-        LatestCell {
-            core: Lock::of(core),
-            source: Source::new(),
-        }
+    /// Calls the closure on the value, while the lock is held. Returns the version too.
+    pub(crate) fn peek<A, F: FnOnce(&T) -> A, R: Wait>(&self, look: F, rt: &R) -> (u64, A)
+        requires { F.IsAlwaysCallable look }
+        ensures called { (seen : T) × N.holds seen × FnOnceReturnsAt F.FnOnce look seen result.1 }
+    {
+        let step = self.core.lock(rt);
+        let (version, value) = step.shown().read();
+        let answer = look(value);
+        end(step, Deferred::of(()));
+        (version, answer)
     }
+
+    /// Returns the version and a clone of the value, made under the lock. Fails with `Memory`.
+    pub(crate) fn get<R: Wait>(&self, rt: &R) -> Result<(u64, T), Refusal>
+    where
+        T: Clone,
+        ensures rule { IfOk result (λ shown. IsCloneOfOne T.is_clone N.holds shown.1) }
+        ensures if_infallible { ((value : T) → T.is_infallible value) → IsOk result }
+        ensures refused { FailsWithMemory result }
+    {
+        let step = self.core.lock(rt);
+        let copy = step.shown().get();
+        end(step, copy)
+    }
+
+    /// Calls the predicate on the value, if the state has another version than this one, and
+    /// returns the version, and a clone of the value if the predicate holds of it. Fails with
+    /// `Memory` if the clone fails. Returns `None`, without the call, of a state of this version.
+    pub(crate) fn test<P: FnMut(&T) -> bool, R: Wait>(
+        &self,
+        seen: u64,
+        predicate: &mut P,
+        rt: &R,
+    ) -> Option<(u64, Result<Option<T>, Refusal>)>
+    where
+        T: Clone,
+        requires { P.IsAlwaysCallable predicate.old }
+        ensures tested { IfSome result (λ tested. (value : T)
+            × N.holds value × IsTested P.FnMut T.is_clone predicate.old value tested.1 predicate.new) }
+        ensures unseen { IfSome result (λ tested. tested.0 ≢ seen) }
+        ensures uncalled { IfNone result (predicate.new ≡ predicate.old) }
+        ensures again { P.IsAlwaysCallable predicate.new }
+        ensures refused { IfSome result (λ tested. FailsWithMemory tested.1) }
+    {
+        let step = self.core.lock(rt);
+        let (version, value) = step.shown().read();
+        if version == seen {
+            end(step, Deferred::of(()));
+            return None;
+        }
+        let found = find(value, predicate);
+        Some(end(step, Deferred::of((version, found))))
+    }
+
+    /// Returns the version.
+    pub(crate) fn version<R: Wait>(&self, rt: &R) -> u64 {
+        self.peek(|_| (), rt).0
+    }
+
+    /// Returns whether the last owner has ended.
+    pub(crate) fn is_closed<R: Wait>(&self, rt: &R) -> bool {
+        let step = self.core.lock(rt);
+        let is_closed = step.shown().is_closed();
+        end(step, Deferred::of(is_closed))
+    }
+}
+
+/// Returns a clone of the value if the predicate holds of it. Fails with `Memory`.
+#[inline]
+fn find<T: Clone, P: FnMut(&T) -> bool>(value: &T, predicate: &mut P) -> Result<Option<T>, Refusal>
+    requires { P.IsAlwaysCallable predicate.old }
+    ensures tested { IsTested P.FnMut T.is_clone predicate.old value.now result predicate.new }
+    ensures again { P.IsAlwaysCallable predicate.new }
+    ensures refused { FailsWithMemory result }
+{
+    if !predicate(value) {
+        return Ok(None);
+    }
+    let copy: Result<T, AllocError> = value.clone();
+    Ok(Some(copy?))
 }

@@ -1,14 +1,13 @@
 ghost use Rattle.std.specs.Prelude.{◌≡◌, IsOk, IfOk, OnErr};
-ghost use Rattle.std.specs.Arc.{arc_value};
-ghost use Rattle.std.specs.Fn.{FnOnceReturnsAt};
+ghost use Rattle.std.specs.{Arc.arc_value, Fn.FnOnceReturnsAt};
 ghost use Rattle.async_cell_model.specs.Refusal.{FailsWithMemory};
 ghost use Rattle.async_cell_step.specs.Rule.{IsCloneOfOne};
-ghost use Rattle.async_cell_latest_sync.specs.Names.{cell_followed};
+ghost use Rattle.async_cell_latest_sync.specs.{Life.IsShown, Names.cell_followed};
 
-use crate::awaited::{Changed, States, WaitFor};
 use crate::cell::LatestCell;
-use crate::history::{Protocol, Unruled};
-use async_cell_latest::{Place, Refusal};
+use crate::{Changed, Protocol, Refusal, States, Unruled, WaitFor, Witness};
+use async_cell_latest::Place;
+use async_cell_step::{Step, end};
 use std::alloc::AllocError;
 use std::sync::{Arc, Wait};
 
@@ -177,6 +176,29 @@ impl<T: Drop, R: Wait + Drop, N: Protocol<T>> Follower<T, R, N> {
         ensures of_this { cell_followed self.new ≡ cell_followed self.old }
     {
         self.seen = self.cell.version(&self.rt);
+    }
+}
+
+impl<T: Clone, R: Wait + Drop, N: Protocol<T>> Follower<T, R, N> {
+    /// Returns a clone of the last value, which is then marked as seen. Fails with `Memory`, and
+    /// marks nothing, if the clone fails.
+    #[tactic(auto, using(crate::proofs::Showing::shown))]
+    pub fn read_and_update_as(&mut self, seen: &mut Witness<T, N>) -> Result<T, Refusal>
+        ensures linearized { IfOk result (λ copy. IsShown T.is_clone seen.old copy seen.new) }
+        ensures rule { IfOk result (IsCloneOfOne T.is_clone N.holds) }
+        ensures unmarked { OnErr result ((self.new ≡ self.old) × (seen.new ≡ seen.old)) }
+        ensures of_this { cell_followed self.new ≡ cell_followed self.old }
+        ensures if_infallible { ((value : T) → T.is_infallible value) → IsOk result }
+        ensures refused { FailsWithMemory result }
+    {
+        let mut now = seen.again();
+        let step = self.cell.core.lock(&self.rt);
+        step.shown().show_to(&mut now);
+        let copy = step.shown().get();
+        let (version, value) = end(step, copy)?;
+        *seen = now;
+        self.seen = version;
+        Ok(value)
     }
 }
 

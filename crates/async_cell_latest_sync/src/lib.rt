@@ -2,7 +2,6 @@
 #![tactic(auto)]
 
 mod awaited;
-mod calls_as;
 mod cell;
 mod follower;
 mod history;

@@ -1,14 +1,11 @@
 //! The wait of a follower for a value that a witness has not seen.
-ghost use Rattle.std.specs.Prelude.{◌≡◌, IfOk};
-ghost use Rattle.std.specs.Arc.{arc_value};
+ghost use Rattle.std.specs.{Arc.arc_value, Prelude.IfOk, Prelude.◌≡◌};
 ghost use Rattle.async_cell_model.specs.Refusal.{FailsWithMemoryOrClosed};
-ghost use Rattle.async_cell_latest_sync.specs.Life.{IsNext};
-ghost use Rattle.async_cell_latest_sync.specs.Names.{cell_followed};
+ghost use Rattle.async_cell_latest_sync.specs.{Life.IsNext, Names.cell_followed};
 
 use crate::cell::{LatestCell, LatestCore};
-use crate::follower::Follower;
-use crate::history::{Protocol, Witness};
-use async_cell_latest::{Place, Refusal};
+use crate::{Follower, Protocol, Refusal, Witness};
+use async_cell_latest::Place;
 use async_cell_step::{At, Deferred, Places, Polled, Query, Request, With, poll};
 use futures::task::{Context, Poll};
 use std::sync::Wait;

@@ -1,15 +1,14 @@
-ghost use Rattle.std.specs.Prelude.{◌≡◌, [], ◌∷◌, false, Some, IsOk, IfOk};
-ghost use Rattle.std.specs.Fn.{FnOnceReturnsAt};
-ghost use Rattle.async_cell_model.specs.Refusal.{FailsWithMemory};
+ghost use Rattle.std.specs.Prelude.{◌≡◌, [], ◌∷◌, ◌++◌, Bool, List, None, Some, false, IsOk, IfOk, IfErr, OnOk, OnErr};
+ghost use Rattle.std.specs.Fn.{FnOnceReturnsAt, FnOnceReturnsAtMut};
+ghost use Rattle.async_cell_model.specs.Refusal.{FailsWithClosed, FailsWithMemory, IsOwnerRefusal};
 ghost use Rattle.async_cell_step.specs.Rule.{IsCloneOfOne};
-ghost use Rattle.async_cell_latest_sync.specs.Life.{GoesOn};
+ghost use Rattle.async_cell_latest_sync.specs.Life.{GoesOn, IsUpdated, IsWritten, MayUpdate, MayWrite, TakesNoMore};
 ghost use Rattle.async_cell_latest_sync.specs.Names.{cell_followed, cell_owned};
 
 use crate::cell::{LatestCell, LatestCore};
-use crate::follower::Follower;
-use crate::history::{Blank, Protocol, Unruled, Witness};
-use async_cell_latest::Refusal;
-use async_cell_step::{Rule, Ruled, Step, end_and_wake};
+use crate::{Blank, Follower, Protocol, Refusal, Rule, Ruled, Unruled, Witness};
+use async_cell_step::{Lock, Opens, Step, Writes, end, end_and_wake, end_and_wake_one, put_held};
+use futures::task::Source;
 use std::alloc::{AllocFailed, Global};
 use std::sync::{Arc, Wait};
 
@@ -77,7 +76,7 @@ impl<T: Drop, R: Wait + Copy, N: Protocol<T>> Owner<T, R, N> {
             made.1 ≡ record { values = value ∷ []; closed = false }) }
         ensures refused { FailsWithMemory result }
     {
-        let core = LatestCore::<T, N>::begin(alloc, value, blank.into_log());
+        let core = LatestCore::<T, N>::begin(alloc, value, blank);
         let seen = core.witness();
         Ok((Owner::of(alloc, core, rt)?, seen))
     }
@@ -86,7 +85,11 @@ impl<T: Drop, R: Wait + Copy, N: Protocol<T>> Owner<T, R, N> {
     fn of(alloc: Global, core: LatestCore<T, N>, rt: R) -> Result<Self, Refusal>
         ensures refused { FailsWithMemory result }
     {
-        match Arc::new(alloc, LatestCell::of(core)) {
+        let cell = LatestCell {
+            core: Lock::of(core),
+            source: Source::new(),
+        };
+        match Arc::new(alloc, cell) {
             Ok(cell) => Ok(Owner { cell, rt }),
             Err(AllocFailed { value: _ }) => Err(Refusal::Memory),
         }
@@ -107,6 +110,19 @@ impl<T: Drop, R: Wait + Copy, N: Protocol<T>> Owner<T, R, N> {
         ensures refused { FailsWithMemory result }
     {
         Ok(Follower::new(Arc::try_clone(&self.cell)?, self.rt))
+    }
+
+    /// Adds an owner, in place of a clone. Fails with `Memory` if the pointer cannot be counted, or
+    /// with `OwnersFull`; `Closed` is in the contract, but cannot happen while this owner lives.
+    pub fn another(&self) -> Result<Self, Refusal>
+        ensures of_this { IfOk result (λ owner. cell_owned owner ≡ cell_owned self.now) }
+        ensures refused { IfErr result IsOwnerRefusal }
+    {
+        let cell = Arc::try_clone(&self.cell)?;
+        let mut step = cell.core.lock(&self.rt);
+        let added = step.lend().add_writer();
+        end(step, added)?;
+        Ok(Owner { cell, rt: self.rt })
     }
 }
 
@@ -136,6 +152,95 @@ impl<T: Drop, R: Wait + Drop, N: Protocol<T>> Owner<T, R, N> {
         self.cell.peek(look, &self.rt).1
     }
 
+    /// Sets the value and drops the old one. Wakes all followers that wait.
+    pub fn set(&self, value: T)
+        requires may { (before : List T) → N.may before value }
+    {
+        let Some(mut step) = self.rt.try_open(&self.cell.core) else {
+            return self.set_in_turn(value);
+        };
+        match step.lend().write_first(value) {
+            Ok(written) => drop(end_and_wake_one(step, written)),
+            Err(value) => put_held(step, value),
+        }
+    }
+
+    /// `set`, where the lock is not free.
+    #[inline(never)]
+    fn set_in_turn(&self, value: T)
+        requires may { (before : List T) → N.may before value }
+    {
+        let _ = self.replace(value);
+    }
+
+    /// Sets the value and returns the old one. Wakes all followers that wait. If the state takes no
+    /// further write, the value is returned in the error.
+    pub fn replace(&self, value: T) -> Result<T, T>
+        requires may { (before : List T) → N.may before value }
+        ensures rule { IfOk result N.holds }
+        ensures comes_back { IfErr result (λ back. back ≡ value) }
+    {
+        let mut step = self.cell.core.lock(&self.rt);
+        let written = step.lend().write(value);
+        end_and_wake(step, written)
+    }
+
+    /// Calls the closure on the value, sets the one that it returns, and drops the old one. Wakes
+    /// all followers that wait. No other call comes in between: the lock is held meanwhile, so a
+    /// closure that calls its own state waits forever.
+    pub fn update<F: FnOnce(&T) -> T>(&self, change: F)
+        requires callable { F.IsAlwaysCallable change }
+        requires may { (before : List T) (old new : T) → N.holds old
+            → FnOnceReturnsAt F.FnOnce change old new → N.may before new }
+        ensures called { (old new : T) × FnOnceReturnsAt F.FnOnce change old new }
+    {
+        let mut step = self.cell.core.lock(&self.rt);
+        let written = step.lend().update(change);
+        let _ = end_and_wake(step, written);
+    }
+
+    /// Calls the closure on the value, which it may change in place, and returns what it returns.
+    /// Wakes all followers that wait. No other call comes in between: the lock is held meanwhile,
+    /// so a closure that calls its own state, or drops a value that does, waits forever.
+    ///
+    /// Fails with `Closed` if the state takes no further write; the closure is then not called.
+    ///
+    /// ```rust
+    /// let setting = Owner::new(rt.alloc(), 1u32, rt)?;
+    /// setting.modify(|value| *value = value.saturating_mul(2))?;
+    /// println!(rt; "{}", setting.read()?)?; // prints 2
+    /// ```
+    pub fn modify<A, F: FnOnce(&mut T) -> A + Drop>(&self, change: F) -> Result<A, Refusal>
+        requires callable { F.IsAlwaysCallable change }
+        requires may { (before : List T) (old new : T) (answer : A) → N.holds old
+            → FnOnceReturnsAtMut F.FnOnce change old answer new → N.may before new }
+        ensures called { IfOk result (λ answer. (old new : T)
+            × FnOnceReturnsAtMut F.FnOnce change old answer new) }
+        ensures refused { FailsWithClosed result }
+    {
+        let mut step = self.cell.core.lock(&self.rt);
+        let modified = step.lend().modify(change);
+        end_and_wake(step, modified)
+    }
+
+    /// `modify`, if the closure returns `true`. If it returns `false`, nothing is written: nobody
+    /// is woken, and no follower is told of a new state. Returns what the closure returned.
+    ///
+    /// A closure that returns `false` should change nothing: what it did stays, and nobody is told.
+    pub fn modify_if<F: FnOnce(&mut T) -> bool + Drop>(&self, change: F) -> Result<bool, Refusal>
+        requires callable { F.IsAlwaysCallable change }
+        requires unnamed { N.named ≡ None }
+        requires may { (before : List T) (old new : T) (changed : Bool) → N.holds old
+            → FnOnceReturnsAtMut F.FnOnce change old changed new → N.may before new }
+        ensures called { IfOk result (λ changed. (old new : T)
+            × FnOnceReturnsAtMut F.FnOnce change old changed new) }
+        ensures refused { FailsWithClosed result }
+    {
+        let mut step = self.cell.core.lock(&self.rt);
+        let modified = step.lend().modify_if(change);
+        end_and_wake(step, modified)
+    }
+
     /// Lets go of the wakers that dropped futures left; the task of each of these is polled again.
     ///
     /// A dropped future leaves its waker until the next write, and a waker keeps what its executor
@@ -148,6 +253,73 @@ impl<T: Drop, R: Wait + Drop, N: Protocol<T>> Owner<T, R, N> {
     #[doc(hidden)]
     pub fn waiting(&self) -> usize {
         self.cell.core.places(&self.rt)
+    }
+
+    /// Sets the value, drops the old one and wakes all followers that wait. If the state takes no
+    /// further write, as it has had 18,446,744,073,709,551,615 values, the value is returned in the
+    /// error.
+    pub fn set_as(&self, seen: &mut Witness<T, N>, value: T) -> Result<(), T>
+        requires may { MayWrite N.may seen.old value }
+        ensures linearized { OnOk result (IsWritten seen.old value seen.new) }
+        ensures goes_on { GoesOn seen.old seen.new }
+        ensures full { OnErr result (TakesNoMore seen.new) }
+        ensures comes_back { IfErr result (λ back. back ≡ value) }
+    {
+        match self.replace_as(seen, value) {
+            Ok(_old) => Ok(()),
+            Err(value) => Err(value),
+        }
+    }
+
+    /// `set_as`, which returns the old value: the one that was written before this one.
+    #[tactic(auto, using(crate::proofs::Showing::written, crate::proofs::Showing::replaced, crate::proofs::Showing::goes_further))]
+    pub fn replace_as(&self, seen: &mut Witness<T, N>, value: T) -> Result<T, T>
+        requires may { MayWrite N.may seen.old value }
+        ensures linearized { OnOk result (IsWritten seen.old value seen.new) }
+        ensures gives_old { IfOk result (λ old. (before : List T)
+            × (seen.new.values ≡ before ++ old ∷ value ∷ [])) }
+        ensures rule { IfOk result N.holds }
+        ensures goes_on { GoesOn seen.old seen.new }
+        ensures full { OnErr result (TakesNoMore seen.new) }
+        ensures comes_back { IfErr result (λ back. back ≡ value) }
+    {
+        let mut step = self.cell.core.lock(&self.rt);
+        let core = step.lend();
+        core.show_to(seen);
+        seen.lawful();
+        let replaced = core.replace(value);
+        core.show_to(seen);
+        end_and_wake(step, replaced)
+    }
+
+    /// Calls the closure on the last value, and sets the one that it returns: no other write comes
+    /// in between. The lock is held meanwhile, so a closure that calls its own state waits forever.
+    /// If the state takes no further write, as at `set_as`, the new value is returned in the error.
+    #[tactic(auto, using(crate::proofs::Showing::may_update, crate::proofs::Showing::updated, crate::proofs::Showing::goes_further))]
+    pub fn update_as<F: FnOnce(&T) -> T>(
+        &self,
+        seen: &mut Witness<T, N>,
+        change: F,
+    ) -> Result<(), T>
+        requires callable { F.IsAlwaysCallable change }
+        requires may { MayUpdate N.may seen.old (FnOnceReturnsAt F.FnOnce change) }
+        ensures linearized { OnOk result (IsUpdated seen.old (FnOnceReturnsAt F.FnOnce change)
+            seen.new) }
+        ensures goes_on { GoesOn seen.old seen.new }
+        ensures full { OnErr result (TakesNoMore seen.new) }
+        ensures comes_back { IfErr result (λ back. (last : T)
+            × FnOnceReturnsAt F.FnOnce change last back) }
+    {
+        let mut step = self.cell.core.lock(&self.rt);
+        let core = step.lend();
+        core.show_to(seen);
+        seen.lawful();
+        let updated = core.update(change);
+        core.show_to(seen);
+        match end_and_wake(step, updated) {
+            Ok(_old) => Ok(()),
+            Err(unused) => Err(unused),
+        }
     }
 
     /// Ends this owner, as its drop does. Returns whether the state is closed, as this was the last
@@ -170,6 +342,8 @@ impl<T: Drop, R: Wait + Drop, N: Protocol<T>> Owner<T, R, N> {
 impl<T: Drop, R: Wait + Drop, N: Protocol<T>> Drop for Owner<T, R, N> {
     fn drop(self) {
         let Owner { cell, rt } = self;
-        cell.end_owner(&rt);
+        let mut step = cell.core.lock(&rt);
+        let ended = step.lend().end_writer();
+        end_and_wake(step, ended);
     }
 }

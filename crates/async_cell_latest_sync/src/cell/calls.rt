@@ -7,11 +7,11 @@ ghost use Rattle.async_cell_step.specs.Rule.{IsCloneOfOne};
 ghost use Rattle.async_cell_latest.specs.State.{is_closed};
 ghost use Rattle.async_cell_latest_sync.specs.Life.{Fits, GoesOn, IsNext, IsOf, TakesNoMore};
 
-use crate::history::{Protocol, Unruled, Values, Witness};
-use async_cell_latest::{Latest, Place, Refusal, TaskWaker, Wakers};
+use crate::history::Values;
+use crate::{Blank, Protocol, Refusal, TaskWaker, Unruled, Witness};
+use async_cell_latest::{Latest, Place, Wakers};
 use async_cell_step::{Deferred, Room, Writes};
 use futures::task::Waker;
-use ghost_log::Log;
 use std::alloc::Global;
 use std::marker::Model;
 
@@ -35,24 +35,24 @@ impl<T, N: Protocol<T>> Model for LatestCore<T, N> {
     ghost invariant = { λ c. IsOf N.named N.holds c.state c.values };
 }
 
+#[tactic(auto, using(crate::proofs::Keeping::of_written, crate::proofs::Keeping::open_life, crate::proofs::Keeping::full_life))]
 impl<T: Drop, N: Protocol<T>> LatestCore<T, N> {
     /// Makes a state of this value, and of one writer, without a name.
     pub(crate) fn new(alloc: Global, value: T) -> Self
         requires unnamed { N.named ≡ None }
         requires may { N.may [] value }
     {
-        LatestCore::begin(alloc, value, Log::open())
+        LatestCore::begin(alloc, value, Blank::new())
     }
 
-    /// Makes a state of this value, and of one writer, whose list has this name.
-    pub(crate) fn begin(alloc: Global, value: T, log: Log<Option<T>>) -> Self
-        requires named { Fits N.named log.name }
-        requires empty { log.list ≡ [] }
+    /// Makes a state of this value, and of one writer, whose list this begins.
+    pub(crate) fn begin(alloc: Global, value: T, blank: Blank<T>) -> Self
+        requires named { Fits N.named blank }
         requires may { N.may [] value }
         ensures { result.life ≡ record { values = value ∷ []; closed = false } }
     {
         let state = Latest::new(alloc, value);
-        let values = Values::begin(log, &state);
+        let values = Values::begin(blank, &state);
         LatestCore { state, values }
     }
 
@@ -112,13 +112,6 @@ impl<T: Drop, N: Protocol<T>> LatestCore<T, N> {
     }
 
     #[inline(always)]
-    pub(crate) fn version(&self) -> u64
-        ensures { result ≡ self.now.state.version }
-    {
-        self.state.version()
-    }
-
-    #[inline(always)]
     pub(crate) fn is_unseen(&self, seen: u64) -> bool
         ensures { (result ≡ true) ↔ (seen ≢ self.now.state.version) }
     {
@@ -146,7 +139,6 @@ impl<T: Drop, N: Protocol<T>> LatestCore<T, N> {
     }
 
     #[inline(always)]
-    #[tactic(auto, using(crate::proofs::Keeping::of_written, crate::proofs::Keeping::open_life))]
     pub(crate) fn write_first(
         &mut self,
         value: T,
@@ -164,7 +156,6 @@ impl<T: Drop, N: Protocol<T>> LatestCore<T, N> {
     }
 
     #[inline(always)]
-    #[tactic(auto, using(crate::proofs::Keeping::of_written, crate::proofs::Keeping::open_life, crate::proofs::Keeping::full_life))]
     pub(crate) fn replace(&mut self, value: T) -> Deferred<Result<T, T>, Option<Wakers<TaskWaker>>>
         requires may { N.may self.old.life.values value }
         ensures entered { OnOk result.answer (self.new.life ≡ record
@@ -184,7 +175,6 @@ impl<T: Drop, N: Protocol<T>> LatestCore<T, N> {
         }
     }
 
-    #[tactic(auto, using(crate::proofs::Keeping::of_written, crate::proofs::Keeping::open_life, crate::proofs::Keeping::full_life))]
     pub(crate) fn update<F: FnOnce(&T) -> T>(
         &mut self,
         change: F,
@@ -211,7 +201,6 @@ impl<T: Drop, N: Protocol<T>> LatestCore<T, N> {
         }
     }
 
-    #[tactic(auto, using(crate::proofs::Keeping::of_written, crate::proofs::Keeping::open_life))]
     pub(crate) fn modify<A, F: FnOnce(&mut T) -> A + Drop>(
         &mut self,
         change: F,
@@ -234,7 +223,6 @@ impl<T: Drop, N: Protocol<T>> LatestCore<T, N> {
     }
 
     /// No state with a name has it: a closure that returned `false` may have changed the value.
-    #[tactic(auto, using(crate::proofs::Keeping::of_written, crate::proofs::Keeping::open_life))]
     pub(crate) fn modify_if<F: FnOnce(&mut T) -> bool + Drop>(
         &mut self,
         change: F,
@@ -292,6 +280,7 @@ impl<T: Drop, N: Protocol<T>> Writes<T> for LatestCore<T, N> {
     }
 }
 
+#[tactic(auto, using(crate::proofs::Keeping::of_stays))]
 impl<T: Drop, N: Protocol<T>> Room for LatestCore<T, N> {
     ghost use Rattle.std.specs.Prelude.{◌≡◌, false};
     ghost use Rattle.async_cell_latest.specs.State.{is_closed};
@@ -303,7 +292,6 @@ impl<T: Drop, N: Protocol<T>> Room for LatestCore<T, N> {
     ghost room = { λ core. core.state.room };
 
     #[inline(always)]
-    #[tactic(auto, using(crate::proofs::Keeping::of_stays))]
     fn add(&mut self, waker: TaskWaker) -> Deferred<Result<(), TaskWaker>> {
         Deferred::of(self.state.add(waker))
     }
@@ -314,7 +302,6 @@ impl<T: Drop, N: Protocol<T>> Room for LatestCore<T, N> {
     }
 
     #[inline(always)]
-    #[tactic(auto, using(crate::proofs::Keeping::of_stays))]
     fn store_new(
         &mut self,
         place: &mut Place,
@@ -329,7 +316,6 @@ impl<T: Drop, N: Protocol<T>> Room for LatestCore<T, N> {
     }
 
     #[inline(always)]
-    #[tactic(auto, using(crate::proofs::Keeping::of_stays))]
     fn store(
         &mut self,
         place: &mut Place,

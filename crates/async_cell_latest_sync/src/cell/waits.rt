@@ -1,7 +1,6 @@
 //! What polls ask a state.
-use super::LatestCore;
-use crate::history::Protocol;
-use async_cell_latest::Refusal;
+use crate::cell::LatestCore;
+use crate::{Protocol, Refusal};
 use async_cell_step::{Deferred, Query};
 
 /// Asks a state for its version, if it is another one than this.
@@ -27,7 +26,7 @@ impl<T: Drop, N: Protocol<T>> Query<LatestCore<T, N>> for Unseen {
     #[inline(always)]
     fn answer(self, core: &mut LatestCore<T, N>) -> Deferred<Result<u64, Refusal>> {
         match core.is_unseen(self.0) {
-            true => Deferred::of(Ok(core.version())),
+            true => Deferred::of(Ok(core.read().0)),
             false => Deferred::of(Err(Refusal::Closed)),
         }
     }

@@ -6,6 +6,31 @@ use async_cell_latest::{Latest, TaskWaker};
 use ghost_log::{Log, Makes};
 use std::marker::{Model, PhantomData};
 
+/// The empty list of a state that is not made yet. A type may name it: by a function over that
+/// type, which is called at `std::marker::Brand` (see `Protocol`). It has no bytes.
+#[derive(Drop)]
+pub struct Blank<T> {
+    log: Log<Option<T>>,
+}
+
+/// Contracts see the name of the list.
+impl<T> Model for Blank<T> {
+    ghost use Rattle.std.specs.Prelude.{◌≡◌, ℕ, []};
+
+    ghost Value = { ℕ };
+
+    ghost view = { λ b. b.log.name };
+
+    ghost invariant = { λ b. b.log.list ≡ [] };
+}
+
+impl<T> Blank<T> {
+    /// Begins a list under a new name.
+    pub fn new() -> Self {
+        Blank { log: Log::open() }
+    }
+}
+
 /// All values that a state has had, and the right to add one: it lies beside the state. It has no
 /// bytes.
 #[derive(Drop)]
@@ -29,14 +54,13 @@ impl<T, N: Protocol<T>> Model for Values<T, N> {
 impl<T: Drop, N: Protocol<T>> Values<T, N> {
     /// Begins the list of a new state.
     #[tactic(auto, using(crate::proofs::Lives::first_lawful))]
-    pub(crate) fn begin(log: Log<Option<T>>, state: &Latest<T, TaskWaker>) -> Self
-        requires named { Fits N.named log.name }
-        requires empty { log.list ≡ [] }
+    pub(crate) fn begin(blank: Blank<T>, state: &Latest<T, TaskWaker>) -> Self
+        requires named { Fits N.named blank }
         requires may { N.may [] state.now.value }
         ensures begun { result ≡ record { values = state.now.value ∷ []; closed = false } }
         ensures rule { N.holds state.now.value }
     {
-        let mut log = log;
+        let Blank { mut log } = blank;
         log.push::<_, Written>(state);
         Values {
             log,

@@ -1,5 +1,5 @@
 use Rattle.std.proofs.Common.{refl}
-use Rattle.async_cell_latest_sync.proofs.cell.looks.find.Goals as goal
+use Rattle.async_cell_latest_sync.proofs.cell.find.Goals as goal
 
 -- the value that was cloned is the one that the predicate was called on
 pub returns-clause-tested : goal.returns-clause-tested
