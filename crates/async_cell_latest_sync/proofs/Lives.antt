@@ -1,5 +1,5 @@
 -- What one more write, or the close, makes of a life, and what follows from a beginning of it.
-use Rattle.async_cell_latest_sync.proofs.Words.{Life, Fits, GoesOn, IsLawful, values_of, closed_of, life_of, ◌≡◌, ◌⊎◌, inl, inr, ℕ, true, false, List, [], ◌∷◌, ◌++◌, Option, Some, None, IsSome, refl, ap, sym, subst, arith, IsPrefix}
+use Rattle.async_cell_latest_sync.proofs.Words.{Life, Fits, GoesOn, IsLawful, values_of, closed_of, life_of, ◌≡◌, ◌⊎◌, inl, inr, ℕ, true, false, List, [], ◌∷◌, ◌++◌, Option, Some, None, IsSome, refl, ap, sym, subst, arith, length, length-append, IsPrefix}
 
 -- a list that is of a name, and one that fits it, are one
 pub same_name : (named : Option ℕ) (name other : ℕ) → named ≡ Some name → Fits named other → name ≡ other
@@ -41,17 +41,11 @@ module _ {T : Type 0} where
   each_append : (may : List T → T → Type 0) (values : List T) (x : T) → ((before later : List T) → (value : T) → values ≡ before ++ value ∷ later → may before value) → may values x
       → (before later : List T) → (value : T) → values ++ x ∷ [] ≡ before ++ value ∷ later → may before value
   each_append may [] x each it [] later value is = subst (λ v. may [] v) (cc is) it
-  each_append may [] x each it (b ∷ []) later value is = absurd (cc is)
-  each_append may [] x each it (b ∷ c ∷ before) later value is = absurd (cc is)
+  each_append may [] x each it (b ∷ before) later value is = absurd (omega (arith, length-append before (value ∷ later), ap length is))
   each_append may (y ∷ ys) x each it [] later value is = each [] ys value (cc is)
   each_append may (y ∷ ys) x each it (b ∷ before) later value is =
-      let first : y ≡ b = cc is in
-      let rest : ys ++ x ∷ [] ≡ before ++ value ∷ later = cc is in
-      subst (λ f. may (f ∷ before) value) first (each_append (λ l v. may (y ∷ l) v) ys x (λ bs ls v e. each (y ∷ bs) ls v (ap (λ l. y ∷ l) e)) it before later value rest)
-
-  none_each : (may : List T → T → Type 0) (before later : List T) (value : T) → [] ≡ before ++ value ∷ later → may before value
-  none_each may [] later value is = absurd (cc is)
-  none_each may (b ∷ before) later value is = absurd (cc is)
+      subst (λ f. may (f ∷ before) value) (cc is)
+      (each_append (λ l v. may (y ∷ l) v) ys x (λ bs ls v e. each (y ∷ bs) ls v (ap (λ l. y ∷ l) e)) it before later value (cc is))
 
   -- after one more write that may be made
   pub lawful_more : (may : List T → T → Type 0) (writes : List (Option T)) (value : T) → closed_of writes ≡ false → IsLawful may (values_of writes) → may (values_of writes) value
@@ -65,4 +59,4 @@ module _ {T : Type 0} where
 
   -- the first value
   pub first_lawful : (may : List T → T → Type 0) (value : T) → may [] value → IsLawful may (values_of (Some value ∷ []))
-  first_lawful may value it = record { each = each_append may [] value (none_each may) it }
+  first_lawful may value it = record { each = each_append may [] value (λ before later v is. absurd (omega (arith, length-append before (v ∷ later), ap length is))) it }

@@ -1,5 +1,5 @@
--- Clauses of a poll that its trait wants, at each answer.
-use Rattle.async_cell_latest_sync.proofs.Words.{IfReady, OnPending, Poll, List, [], ◌∷◌, Option, IfSome, OnSome, arith, AllByRecursion, ⊤}
+-- Clauses of a poll that its trait wants, at each answer, and one more call of a predicate.
+use Rattle.async_cell_latest_sync.proofs.Words.{IfReady, OnPending, Poll, IsFound, Refusal, Bool, false, List, [], ◌∷◌, Option, IfSome, OnSome, Result, Ok, Err, Bor, Mut, CalledAt, arith, AllByRecursion, ⊤}
 
 -- what holds anyway holds where a poll is pending
 pub on_pending : {A P : Type 0} (polled : Poll A) → P → OnPending polled P
@@ -20,3 +20,11 @@ module _ {A : Type 0} (P : A → Type 0) where
 
 pub goes_on : {A : Type 0} (polled : Poll (Option A)) → IfReady polled (λ item. OnSome item ⊤)
 goes_on polled = grind arith
+
+module _ {F T : Type 0} (calls : Mut F (Bor T × Unit {0}) Bool) (is_clone : T → T → Type 0) (holds : T → Type 0) where
+  -- what is found after it was found before
+  pub after_false : {f g : F} (value : T) → CalledAt calls f value false g
+      → (answer : Result T Refusal) → IsFound calls is_clone holds g answer
+      → IsFound calls is_clone holds f answer
+  after_false {f} {g} value called (Ok copy) (why, (x, held, clone, (denied, p, q, folds, last))) = (why, (x, held, clone, (value ∷ denied, p, q, (g, called, folds), last)))
+  after_false value called (Err why) found = (found.0, tt)

@@ -1,17 +1,7 @@
 -- What a look shows: the last value, and whether it was seen.
-use Rattle.async_cell_latest_sync.proofs.Words.{State, is_closed, Life, GoesOn, IsLawful, IsOf, IsShown, IsShownNext, IsNext, IsUpdated, IsWritten, MayUpdate, ◌≡◌, ◌≢◌, ℕ, suc, true, false, List, [], ◌∷◌, ◌++◌, length, Option, None, IsSome, refl, ap, sym, subst, ◌∙◌, arith, append_assoc, append-nil, length-append, IsPrefix}
+use Rattle.async_cell_latest_sync.proofs.Words.{State, is_closed, Life, GoesOn, IsLawful, IsOf, IsShown, IsShownNext, IsNext, IsUpdated, IsWritten, MayUpdate, ◌≡◌, ◌≢◌, ◌≤◌, ℕ, true, false, List, [], ◌∷◌, ◌++◌, length, Option, None, IsSome, refl, ap, sym, subst, ◌∙◌, arith, append_assoc, append-nil, length-append, IsPrefix, shorter_begins}
 
 module _ {T : Type 0} where
-  -- a beginning that is not the whole begins what is before the last
-  before_last : (xs before : List T) (last : T) → IsPrefix xs (before ++ last ∷ []) → (length xs ≡ length (before ++ last ∷ []) → ⊥) → IsPrefix xs before
-  before_last [] before last begins other = (before, refl)
-  before_last (x ∷ []) [] last begins other = absurd (other refl)
-  before_last (x ∷ y ∷ xs) [] last begins other = absurd (cc begins.1)
-  before_last (x ∷ xs) (b ∷ before) last begins other =
-      let head : x ≡ b = cc begins.1 in
-      let rest = before_last xs before last (begins.0, cc begins.1) (λ same. other (ap (λ n. suc n) same)) in
-      (rest.0, cc (head, rest.1))
-
   -- a beginning as long as the whole is the whole
   whole : (xs ys : List T) → IsPrefix xs ys → length xs ≡ length ys → ys ≡ xs
   whole xs ys ([], is) same = sym is ∙ append-nil xs
@@ -23,14 +13,10 @@ module _ {T : Type 0} where
         → IsShownNext is_clone seen copy now
     shown_next is_clone copy there of on other clone =
         let last = of.last there in
-        record {
-          goes_on = on;
-          before = last.0;
-          value = state.value;
-          after_seen = before_last seen.values last.0 state.value (subst (λ l. IsPrefix seen.values l) last.1 on.begins) (λ same. other (same ∙ (sym (ap (λ l. length l) last.1) ∙ of.counted)));
-          ends = last.1;
-          clone = clone;
-        }
+        let shorter : length seen.values ≤ length last.0 =
+        omega (arith, length-append last.0 (state.value ∷ []), ap length last.1, of.counted, other, length-append seen.values on.begins.0, ap length on.begins.1) in
+        let after_seen = shorter_begins seen.values last.0 now.values on.begins (state.value ∷ [], sym last.1) shorter in
+        record { goes_on = on; before = last.0; value = state.value; after_seen = after_seen; ends = last.1; clone = clone }
 
     -- a closed state of the version that was seen shows nothing
     pub shown_all : (is_clone : T → T → Type 0) → IsOf named holds state now → GoesOn seen now → length seen.values ≡ state.version → is_closed state ≡ true → IsNext is_clone seen None now
@@ -46,13 +32,8 @@ module _ {T : Type 0} where
 
   -- a write that was seen from before it until after it
   pub written : (seen old now : Life T) (value : T) → GoesOn seen old → GoesOn old now → now ≡ record { values = old.values ++ value ∷ []; closed = false } → IsWritten seen value now
-  written seen old now value on more is = record {
-    goes_on = goes_further seen old now on more;
-    before = old.values;
-    after_seen = on.begins;
-    ends = ap (λ (l : Life T). l.values) is;
-    stays_open = ap (λ (l : Life T). l.closed) is;
-  }
+  written seen old now value on more is =
+      record { goes_on = goes_further seen old now on more; before = old.values; after_seen = on.begins; ends = ap (λ (l : Life T). l.values) is; stays_open = ap (λ (l : Life T). l.closed) is }
 
   -- and the value that it replaced
   pub replaced : {W : Type 0} (named : Option ℕ) (holds : T → Type 0) (state : State T W) (old now : Life T) (value was : T)

@@ -1,10 +1,7 @@
 -- What a wait for a predicate gives, and a stream of states.
 use Rattle.std.specs.Prelude.{Bool, true, false, List, Option, Result, IfOk, MatchOption}
-use Rattle.std.specs.List.{FoldsTo}
-use Rattle.std.specs.Borrow.{Bor}
-use Rattle.std.specs.Fn.{Mut, CalledAt}
-use Rattle.async_cell_model.specs.declared.refusal.Refusal.{Refusal}
-use Rattle.async_cell_model.specs.Refusal.{FailsWithMemory, FailsWithMemoryOrClosed}
+use Rattle.std.specs.{List.FoldsTo, Borrow.Bor, Fn.Mut, Fn.CalledAt}
+use Rattle.async_cell_model.specs.{Refusal.FailsWithMemory, Refusal.FailsWithMemoryOrClosed, declared.refusal.Refusal.Refusal}
 use Rattle.async_cell_step.specs.Rule.{IsCloneOfOne}
 
 -- an item of a stream: a clone of a value that keeps the rule, or there was no memory for one

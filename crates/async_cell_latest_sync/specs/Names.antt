@@ -1,9 +1,6 @@
 -- Which cell an owner or a follower is of.
-use Rattle.std.specs.Prelude.{◌≡◌, ℕ}
-use Rattle.std.specs.Arc.{arc_value}
-use Rattle.async_cell_latest_sync.specs.declared.cell.LatestCell.{LatestCell}
-use Rattle.async_cell_latest_sync.specs.declared.owner.Owner.{Owner}
-use Rattle.async_cell_latest_sync.specs.declared.follower.Follower.{Follower}
+use Rattle.std.specs.{Arc.arc_value, Prelude.◌≡◌, Prelude.ℕ}
+use Rattle.async_cell_latest_sync.specs.declared.{cell.LatestCell.LatestCell, follower.Follower.Follower, owner.Owner.Owner}
 
 module _ {T R N : Type 0} where
   -- the cell of an owner

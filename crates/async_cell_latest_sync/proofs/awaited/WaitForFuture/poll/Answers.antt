@@ -1,6 +1,5 @@
 use Rattle.async_cell_latest_sync.proofs.Words.{[], refl}
-use Rattle.async_cell_latest_sync.proofs.Found.{after_false}
-use Rattle.async_cell_latest_sync.proofs.Polled.{on_pending}
+use Rattle.async_cell_latest_sync.proofs.Polled.{after_false, on_pending}
 use Rattle.async_cell_latest_sync.proofs.awaited.WaitForFuture.poll.Goals as goal
 
 -- the value that was cloned is the one that the predicate was called on
