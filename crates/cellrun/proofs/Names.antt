@@ -15,23 +15,17 @@ pub no_skip : (waiting : List Named) (names : BTreeSet ℕ) (all : Bool) (name :
     → skips same_name waiting (record { 0 = name }) ≡ false
 no_skip waiting names all name known is absent = grind (arith, known.each is name)
 
-stays : (waiting : List Named) (old new : BTreeSet ℕ) (all : Bool) (name q : ℕ) → KnowsNames waiting old all → Updates nat_cmp old new name true → all ≡ true
-    → skips same_name waiting (record { 0 = q }) ≡ true → contains nat_cmp new q ≡ true
-stays waiting old new all name q known updates so skipped = grind (arith, known.each so q, updates.0 q)
-
 -- one name more
 pub noted : (waiting : List Named) (old new : BTreeSet ℕ) (all : Bool) (name : ℕ) → KnowsNames waiting old all → Updates nat_cmp old new name true → KnowsNames waiting new all
-noted waiting old new all name known updates = record { each = λ so q skipped. stays waiting old new all name q known updates so skipped }
+noted waiting old new all name known updates = record { each = λ so q skipped. grind (arith, known.each so q, updates.0 q) }
 
 -- one waits more whose name is known
-joins : (before : List Named) (names : BTreeSet ℕ) (all : Bool) (name q : ℕ) → KnowsNames before names all → (all ≡ true → contains nat_cmp names name ≡ true) → all ≡ true
-    → skips same_name (before ++ record { 0 = name } ∷ []) (record { 0 = q }) ≡ true → contains nat_cmp names q ≡ true
-joins before names all name q known has so skipped = grind (arith, nat_tests, list_any-append (λ v. same_name v (record { 0 = q })) before (record { 0 = name } ∷ []), known.each so q, has so)
-
 polled_by : (skipped : Bool) (before : List Named) (names : BTreeSet ℕ) (all : Bool) (name : ℕ) → KnowsNames before names all → (all ≡ true → contains nat_cmp names name ≡ true)
     → KnowsNames (if skipped then before else before ++ record { 0 = name } ∷ []) names all
 polled_by true before names all name known has = known
-polled_by false before names all name known has = record { each = λ so q skipped. joins before names all name q known has so skipped }
+polled_by false before names all name known has = record {
+  each = λ so q skipped. grind (arith, nat_tests, list_any-append (λ v. same_name v (record { 0 = q })) before (record { 0 = name } ∷ []), known.each so q, has so);
+}
 
 -- after a call, if the name of its waker is known
 pub known_after : (from to : State ℤ Named) (call : Kept ℤ Named) (reply : Reply ℤ) (woken : List Named) (names : BTreeSet ℕ) (all : Bool)

@@ -61,18 +61,9 @@ module _ (left : Option (List ℕ)) (n : ℕ) (cell : State ℤ Named) (before n
 pub owes_nothing : (bytes before : Option (List ℕ)) → Owes bytes before before Failed
 owes_nothing bytes before = owes_failed bytes 1 new_cell before before bytes before (printed_start bytes before) (Keeps-refl before)
 
--- what stops so stops otherwise, too
-owes_as : (bytes before now after : Option (List ℕ)) (ended ended' : Ended) → ((n : ℕ) (rest whole : List ℕ) → StopsAt n rest whole now ended → StopsAt n rest whole after ended')
-    → Owes bytes before now ended → Owes bytes before after ended'
-owes_as bytes before now after ended ended' stops h = IfSome_then bytes h (λ input h. IfSome_then before h (λ held w. (w.0, w.1, w.2, w.3, w.4, stops w.0 w.1 (held ++ w.3) w.5)))
-
-kept_stop : (total flushed after : Option (List ℕ)) (ended : Ended) (n : ℕ) (rest whole : List ℕ) → Keeps total flushed → Keeps flushed after → StopsAt n rest whole total ended
-    → StopsAt n rest whole after ended
-kept_stop total flushed after ended n rest whole k l h = grind arith
-
 -- after all that was gathered is written
 pub owes_flushed : (bytes before total flushed after : Option (List ℕ)) (ended : Ended) → Owes bytes before total ended → Keeps total flushed → Keeps flushed after → Owes bytes before after ended
-owes_flushed bytes before total flushed after ended h k l = owes_as bytes before total after ended ended (λ n rest whole. kept_stop total flushed after ended n rest whole k l) h
+owes_flushed bytes before total flushed after ended h k l = grind arith
 
 cut_stop : (total after : Option (List ℕ)) (unwritten : List ℕ) (ended : Ended) (n : ℕ) (rest whole : List ℕ) → Keeps total (append_known after unwritten) → StopsAt n rest whole total ended
     → StopsAt n rest whole after Failed
@@ -83,12 +74,12 @@ cut_stop total after unwritten Failed n rest whole k h = (unwritten ++ h.0, grin
 -- after a part of what was gathered is written
 pub owes_cut : (bytes before total after : Option (List ℕ)) (unwritten : List ℕ) (ended : Ended) → Owes bytes before total ended → Keeps total (append_known after unwritten)
     → Owes bytes before after Failed
-owes_cut bytes before total after unwritten ended h k = owes_as bytes before total after ended Failed (λ n rest whole. cut_stop total after unwritten ended n rest whole k) h
+owes_cut bytes before total after unwritten ended h k =
+    IfSome_then bytes h (λ input h. IfSome_then before h (λ held w. (w.0, w.1, w.2, w.3, w.4, cut_stop total after unwritten ended w.0 w.1 (held ++ w.3) k w.5)))
 
 -- an error is a failure
 pub err_fails : {E : Type 0} (bytes before after : Option (List ℕ)) (r : Result Ended E) → IsErr r → Owes bytes before after Failed → Owes bytes before after (result_unwrap_or r Failed)
-err_fails bytes before after (Ok ended) e h = absurd (cc e)
-err_fails bytes before after (Err error) e h = h
+err_fails bytes before after r e h = grind arith
 
 -- the same of the reader and the writer that a script is given
 pub owes_kept : (bytes left before now after : Option (List ℕ)) (ended : Ended) → Keeps bytes left → Keeps before now → Owes left now after ended → Owes bytes before after ended

@@ -1,9 +1,7 @@
 -- How a script ends, by the bytes of its input.
 use Rattle.std.specs.Prelude.{◌≢◌, ℕ, ◌+◌, List, [], ⊤}
 use Rattle.cellrun.specs.Next.{IsLine, first_line, after_line}
-use Rattle.cellrun.specs.declared.lines.Next.{Next}
-use Rattle.cellrun.specs.declared.lines.Next.TheVariants.{Bad}
-use Rattle.cellrun.specs.declared.script.Ended.{Ended}
+use Rattle.cellrun.specs.declared.{lines.Next.Next, lines.Next.TheVariants.Bad, script.Ended.Ended}
 use Rattle.cellrun.specs.declared.script.Ended.TheVariants.{Done, BadLine, Failed}
 
 -- rest begins with line n of the bytes, and each line before it is a call or empty

@@ -1,8 +1,6 @@
 -- The bytes of an input that are not returned as lines yet.
 use Rattle.std.specs.Prelude.{ℕ, List, [], Option, Some, if◌then◌else◌}
-use Rattle.std.specs.Io.KnownBytes.{prepend_known}
-use Rattle.std.specs.Io.Buffered.{reader_remaining}
-use Rattle.std.specs.declared.io.traits.Read.{Ghosts}
+use Rattle.std.specs.{Io.Buffered.reader_remaining, Io.KnownBytes.prepend_known, declared.io.traits.Read.Ghosts}
 use Rattle.cellrun.specs.declared.lines.Lines.{Lines}
 
 -- the held part of a line and the reader's bytes, if those are known; nothing after the end

@@ -1,9 +1,7 @@
 -- The names that a session knows of the wakers that wait.
 use Rattle.std.specs.Prelude.{◌≡◌, ℕ, Bool, true, List}
-use Rattle.std.specs.Ordering.{nat_cmp}
-use Rattle.std.specs.BTreeSet.{BTreeSet, contains}
-use Rattle.async_cell_wakers.specs.Named.{same_name}
-use Rattle.async_cell_wakers.specs.declared.named.Named.{Named}
+use Rattle.std.specs.{BTreeSet.BTreeSet, BTreeSet.contains, Ordering.nat_cmp}
+use Rattle.async_cell_wakers.specs.{Named.same_name, declared.named.Named.Named}
 use Rattle.async_cell_model.specs.Machine.{skips}
 
 -- If `all` is true, the names that wait are among these.

@@ -1,8 +1,7 @@
 -- The next line of an input, or its end.
 use Rattle.std.specs.Prelude.{◌≡◌, ◌≢◌, ℕ, ◌≤◌, Bool, List, [], length, ◌==◌, Option, Some}
 use Rattle.std.specs.List.{before_first, after_first}
-use Rattle.cellrun.specs.Command.{Spells, SpellsNone}
-use Rattle.cellrun.specs.declared.lines.Next.{Next}
+use Rattle.cellrun.specs.{Command.Spells, Command.SpellsNone, declared.lines.Next.Next}
 use Rattle.cellrun.specs.declared.lines.Next.TheVariants.{Call, Blank, Bad, End}
 
 -- the byte ends a line

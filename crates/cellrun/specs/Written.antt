@@ -2,13 +2,9 @@
 use Rattle.std.specs.Prelude.{◌≡◌, ◌≢◌, ℕ, ℤ, ◌+◌, List, [], ◌++◌, Option, Some, None, IfSome}
 use Rattle.std.specs.Io.KnownBytes.{append_known}
 use Rattle.async_cell_wakers.specs.declared.named.Named.{Named}
-use Rattle.async_cell_model.specs.declared.cell.Cell.TheVariants.{Open}
-use Rattle.async_cell_model.specs.Machine.{State}
-use Rattle.cellrun.specs.CallPrints.{CallPrints}
-use Rattle.cellrun.specs.Next.{IsLine, first_line, after_line}
-use Rattle.cellrun.specs.declared.command.Command.{Command}
+use Rattle.async_cell_model.specs.{Machine.State, declared.cell.Cell.TheVariants.Open}
+use Rattle.cellrun.specs.{CallPrints.CallPrints, Next.IsLine, Next.after_line, Next.first_line, declared.command.Command.Command, declared.script.Ended.Ended}
 use Rattle.cellrun.specs.declared.lines.Next.TheVariants.{Call, Blank, Bad}
-use Rattle.cellrun.specs.declared.script.Ended.{Ended}
 use Rattle.cellrun.specs.declared.script.Ended.TheVariants.{Done, BadLine, Failed}
 
 -- an open cell without a value and without wakers, with one owner

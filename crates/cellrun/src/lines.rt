@@ -1,20 +1,15 @@
 //! Reads an input a line at a time. Only the reader's buffer and one line are in memory.
 ghost use Rattle.std.specs.Prelude.{◌≡◌, ◌<◌, ◌≤◌, ℕ, List, ◌≢◌, [], ◌++◌, length, true, Option, Some, IfSome, IfNone, OnOk, IfOk, IfErr, IsOk, OnErr};
-ghost use Rattle.std.specs.IoError.{error_kind};
-ghost use Rattle.std.specs.List.{position, position_or_len};
-ghost use Rattle.std.specs.Io.KnownBytes.{Keeps, IsAtEnd};
-ghost use Rattle.std.specs.Io.Buffered.{reader_remaining, reader_buffer};
+ghost use Rattle.std.specs.{IoError.error_kind, List.position, List.position_or_len};
+ghost use Rattle.std.specs.Io.{Buffered.reader_buffer, Buffered.reader_remaining, KnownBytes.IsAtEnd, KnownBytes.Keeps};
 ghost use Rattle.arrayvec.specs.ArrayVec.{array_vec_len};
-ghost use Rattle.cellrun.specs.Output.{output_contents};
-ghost use Rattle.cellrun.specs.Next.{IsLine, IsNext, is_line_feed};
+ghost use Rattle.cellrun.specs.{Next.IsLine, Next.IsNext, Next.is_line_feed, Output.output_contents};
 
-use crate::command;
-use crate::command::{Command, MAX_LINE};
+use crate::command::{self, Command, MAX_LINE};
 use crate::output::Output;
 use arrayvec::ArrayVec;
 use std::alloc::Global;
-use std::io;
-use std::io::{BufRead, BufReader, ErrorKind, Read, Write};
+use std::io::{self, BufRead, BufReader, ErrorKind, Read, Write};
 
 /// The next thing in an input.
 #[derive(Clone, Copy, Debug, PartialEq, Eq)]

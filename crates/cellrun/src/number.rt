@@ -1,6 +1,5 @@
 //! Reads the numbers in a line.
-ghost use Rattle.std.specs.Prelude.{SomeIff};
-ghost use Rattle.std.specs.Str.Parse.{digits_value};
+ghost use Rattle.std.specs.{Prelude.SomeIff, Str.Parse.digits_value};
 ghost use Rattle.cellrun.specs.Command.{IsValue, IsDigits, number_of};
 
 /// Reads a value: one or more decimal digits, and a minus before them if it is negative. Returns

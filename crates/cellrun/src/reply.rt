@@ -29,10 +29,8 @@ pub fn replied(
             Command::End => owned(out, owners),
             _ => labelled(out, b"some ", value, b"none"),
         },
-        Reply::Is(holds) => match holds {
-            true => out.extend_from_slice(b"true"),
-            false => out.extend_from_slice(b"false"),
-        },
+        Reply::Is(true) => out.extend_from_slice(b"true"),
+        Reply::Is(false) => out.extend_from_slice(b"false"),
         Reply::Pending => out.extend_from_slice(b"pending"),
         Reply::Ready(value) => labelled(out, b"ready ", value, b"closed"),
         Reply::Refused(why, _) => out.extend_from_slice(reason(why)),

@@ -1,17 +1,12 @@
 //! Runs a script of calls on one cell.
-ghost use Rattle.std.specs.Prelude.{IfSome, IfOk};
-ghost use Rattle.std.specs.Result.{result_unwrap_or};
-ghost use Rattle.cellrun.specs.Ended.{EndsAs};
-ghost use Rattle.cellrun.specs.Lines.{bytes_left};
-ghost use Rattle.cellrun.specs.Output.{output_contents};
-ghost use Rattle.cellrun.specs.Written.{Owes};
+ghost use Rattle.std.specs.{Prelude.IfOk, Prelude.IfSome, Result.result_unwrap_or};
+ghost use Rattle.cellrun.specs.{Ended.EndsAs, Lines.bytes_left, Output.output_contents, Written.Owes};
 
 use crate::lines::{Lines, Next};
 use crate::output::Output;
 use crate::session::Session;
 use std::alloc::Global;
-use std::io;
-use std::io::{Read, Write};
+use std::io::{self, Read, Write};
 
 /// The number of bytes of output that are buffered before more memory is needed.
 const ROOM: usize = 8_192;
@@ -37,6 +32,7 @@ pub enum Ended {
 /// gives for the calls before the end or before the bad line. If the script failed, the writer
 /// holds a prefix of what it held before and then the text of some first lines. `debug` leaves the
 /// cell as it was; what is printed for it is left open.
+#[tactic(auto, using(crate::proofs::Written::owes_nothing, crate::proofs::Written::owes_kept))]
 pub fn script<R: Read + Drop, W: Write + Drop>(alloc: Global, input: R, output: W) -> (Ended, W)
     ensures ended { IfSome (R.remaining input) (λ bytes. EndsAs bytes result.0) }
     ensures written { Owes (R.remaining input) (W.contents output) (W.contents result.1) result.0 }
@@ -70,6 +66,7 @@ fn run<R: Read + Drop, W: Write + Drop>(
 }
 
 /// Makes one call after the other on a new cell, up to the end or the first bad line.
+#[tactic(auto, using(crate::proofs::Written::owes_failed, crate::proofs::Written::err_fails))]
 fn step_all<R: Read + Drop, W: Write + Drop>(
     alloc: Global,
     lines: &mut Lines<R>,

@@ -1,14 +1,11 @@
 //! The cell that a script steps.
 ghost use Rattle.std.specs.Prelude.{◌≡◌, ℤ, [], true, false, OnOk, Some};
-ghost use Rattle.std.specs.Ordering.{nat_cmp};
-ghost use Rattle.std.specs.BTreeSet.{contains};
-ghost use Rattle.async_cell_model.specs.Machine.{Does, skips, waker_of};
+ghost use Rattle.std.specs.{BTreeSet.contains, Ordering.nat_cmp};
+ghost use Rattle.async_cell_model.specs.{Machine.Does, Machine.skips, Machine.waker_of, declared.cell.Cell.Cell};
 ghost use Rattle.async_cell_wakers.specs.Named.{same_name};
-ghost use Rattle.async_cell_model.specs.declared.cell.Cell.{Cell};
 ghost use Rattle.async_cell_core.specs.Kept.{kept_call as listed_call};
 ghost use Rattle.cellrun.specs.CallPrints.{CallPrints, kept_call, edited, increased};
-ghost use Rattle.cellrun.specs.Names.{KnowsNames};
-ghost use Rattle.cellrun.specs.Written.{new_cell};
+ghost use Rattle.cellrun.specs.{Names.KnowsNames, Written.new_cell};
 
 use crate::command::Command;
 use crate::reply::{replied, woke};
@@ -65,8 +62,7 @@ impl Session {
             result.woken self.new.core }
     {
         match command {
-            Command::Take(name) => self.poll(name, command),
-            Command::Get(name) => self.poll(name, command),
+            Command::Take(name) | Command::Get(name) => self.poll(name, command),
             _ => step_copied(&mut self.core, call_of(command)),
         }
     }
@@ -123,19 +119,16 @@ fn call_of(command: Command) -> Call<i64, Named, Command>
         Command::Set(value) => Call::Set(value),
         Command::OrSet(value) => Call::OrSet(value),
         Command::Replace(value) => Call::Replace(value),
-        Command::UpdatePut(_) => Call::Update(command),
-        Command::UpdateNone => Call::Update(command),
-        Command::UpdateKeep => Call::Update(command),
+        Command::UpdatePut(_) | Command::UpdateNone | Command::UpdateKeep => Call::Update(command),
         Command::UpdateSomeAdd(_) => Call::UpdateSome(command),
         Command::Take(name) => Call::PollTake(Named(name)),
         Command::Get(name) => Call::PollGet(Named(name)),
         Command::TryTake => Call::TryTake,
         Command::TryGet => Call::TryGet,
-        Command::IsSet => Call::IsSet,
         Command::Own => Call::AddOwner,
         Command::End => Call::EndOwner,
         Command::Inner => Call::TakeInner,
-        Command::Debug => Call::IsSet,
+        Command::IsSet | Command::Debug => Call::IsSet,
     }
 }
 

@@ -36,17 +36,3 @@ returns-in-Bad-clause-written g c =
 pub returns-in-End-clause-written : goal.returns-in-End-clause-written
 returns-in-End-clause-written g c =
     owes _ _ _ _ _ _ _ Done c.loop-number.invariant c.next.ensures.out (λ rest whole is. (rw (c.in-End.is, is) at c.in_ok-command.ensures.next, refl))
-
-pub returns-clause-written : goal.returns-clause-written
-returns-clause-written g c = owes_failed _ _ _ _ _ _ _ c.loop-number.invariant (Keeps-refl _)
-
-pub returns-in_err-command-clause-written : goal.returns-in_err-command-clause-written
-returns-in_err-command-clause-written g c =
-    err_fails _ _ _ c.from_residual.result c.from_residual.ensures.0 (owes_failed _ _ _ _ _ _ _ c.loop-number.invariant c.next.ensures.out)
-
-pub returns-then-is_err-clause-written : goal.returns-then-is_err-clause-written
-returns-then-is_err-clause-written g c = owes_failed _ _ _ _ _ _ _ c.loop-number.invariant c.next.ensures.out
-
-pub returns-then-is_err-2-clause-written : goal.returns-then-is_err-2-clause-written
-returns-then-is_err-2-clause-written g c =
-    owes_failed _ _ _ _ _ _ _ c.loop-number.invariant (Keeps-trans _ (output_contents g.W.Write.contents c.next.new.out) _ c.next.ensures.out (search rules))
