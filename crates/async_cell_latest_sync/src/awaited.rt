@@ -135,8 +135,7 @@ pub struct WaitFor<'a, T: Drop, R: Wait + Drop, F: Drop, N: Protocol<T> = Unrule
 }
 
 impl<T: Drop, R: Wait + Drop, F: Drop, N: Protocol<T>> WaitFor<'_, T, R, F, N> {
-    /// Drops the future, and the waker that it left in the state: the task that polled it last is
-    /// polled once more (see `Changed::cancel`). May wait for the lock.
+    /// Drops the future, and the waker that it left in the state, as `Changed::cancel` does.
     pub fn cancel(self) {
         let WaitFor {
             follower,
@@ -237,8 +236,7 @@ pub struct States<T: Drop, R: Wait + Drop, N: Protocol<T> = Unruled> {
 }
 
 impl<T: Drop, R: Wait + Drop, N: Protocol<T>> States<T, R, N> {
-    /// Drops the stream, and the waker that it left in the state: the task that polled it last is
-    /// polled once more (see `Changed::cancel`). May wait for the lock.
+    /// Drops the stream, and the waker that it left in the state, as `Changed::cancel` does.
     pub fn cancel(self) {
         let States { follower, place } = self;
         follower.cell.core.cancel(place, &follower.rt);

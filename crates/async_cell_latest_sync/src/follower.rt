@@ -133,8 +133,7 @@ impl<T: Drop, R: Wait + Drop, N: Protocol<T>> Follower<T, R, N> {
         Ok(value)
     }
 
-    /// Calls the closure on the last value, and returns what it returns. The value is not marked as
-    /// seen. The lock is held meanwhile: a closure that calls its own state waits forever.
+    /// Calls the closure on the last value, as `Owner::peek` does, and marks nothing.
     pub fn peek<A, F: FnOnce(&T) -> A>(&self, look: F) -> A
         requires { F.IsAlwaysCallable look }
         ensures called { (seen : T) × N.holds seen × FnOnceReturnsAt F.FnOnce look seen result }

@@ -265,10 +265,7 @@ impl<T: Drop, R: Wait + Drop, N: Protocol<T>> Owner<T, R, N> {
         ensures full { OnErr result (TakesNoMore seen.new) }
         ensures comes_back { IfErr result (λ back. back ≡ value) }
     {
-        match self.replace_as(seen, value) {
-            Ok(_old) => Ok(()),
-            Err(value) => Err(value),
-        }
+        self.replace_as(seen, value).map(drop)
     }
 
     /// `set_as`, which returns the old value: the one that was written before this one.
