@@ -1,6 +1,6 @@
 -- What a script has written, from one line to the next, and at its end.
 use Rattle.cellrun.proofs.Words.{State, Named, CallPrints, IsNext, after_line, Command, Call, Blank, Done, BadLine, Failed, arith, ◌≡◌, ℕ, ℤ, ◌+◌, List, [], ◌++◌, Option, Some, None, IfSome}
-use Rattle.cellrun.proofs.Words.{IfSome_then, Result, Ok, Err, IsErr, refl, append_assoc, append-nil, Appends-nil, Appends-kept, Appends-trans, Keeps, Keeps-refl, Appends, append_known}
+use Rattle.cellrun.proofs.Words.{IfSome_then, Result, IsErr, refl, append_assoc, append-nil, Appends-nil, Appends-kept, Appends-trans, Keeps, Keeps-refl, Appends, append_known}
 use Rattle.cellrun.proofs.Words.{result_unwrap_or, ComesTo, EndsAs, past, first, Prints, StopsAt, Owes, new_cell, start, blank, called, Ended}
 
 -- What is left of the input begins with line n, the calls before it lead to the cell, and they print

@@ -1,5 +1,5 @@
-use Rattle.cellrun.proofs.Words.{bytes_left, output_contents, Done, BadLine, refl, rules, subst, Keeps-refl, Keeps-trans, ComesTo}
-use Rattle.cellrun.proofs.Written.{printed_start, printed_blank, printed_call, ends, owes, owes_failed, err_fails}
+use Rattle.cellrun.proofs.Words.{bytes_left, output_contents, Done, BadLine, refl, rules, subst, ComesTo}
+use Rattle.cellrun.proofs.Written.{printed_start, printed_blank, printed_call, ends, owes}
 use Rattle.cellrun.proofs.script.step_all.Goals as goal
 use Rattle.cellrun.proofs.script.step_all.Goals.{in-Blank, in-Call+else-is_err+else-is_err-2}
 
