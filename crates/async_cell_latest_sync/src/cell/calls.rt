@@ -1,10 +1,11 @@
 //! The calls that a step may make of a state. Only this module sees the state: each function makes
 //! one call of it, and holds what comes out. So no other text can wake or drop that during a step.
-ghost use Rattle.std.specs.Prelude.{◌≡◌, ◌≢◌, ◌↔◌, [], ◌∷◌, ◌++◌, Bool, true, false, None, IsOk, IfOk, IfErr, IsSome, OnOk, OnErr};
+ghost use Rattle.std.specs.Prelude.{◌≡◌, ◌≢◌, ◌↔◌, [], ◌∷◌, ◌++◌, Bool, true, false, None, Some, Ok, IsOk, IfOk, IfErr, IsSome, OnOk, OnErr};
 ghost use Rattle.std.specs.Fn.{FnOnceReturnsAt, FnOnceReturnsAtMut};
 ghost use Rattle.async_cell_model.specs.Refusal.{FailsWithClosed, FailsWithMemory, FailsWithMemoryOrClosed, IsOwnerRefusal};
 ghost use Rattle.async_cell_step.specs.Rule.{IsCloneOfOne};
 ghost use Rattle.async_cell_latest.specs.State.{is_closed};
+ghost use Rattle.async_cell_wakers.specs.WaitList.{first_then};
 ghost use Rattle.async_cell_latest_sync.specs.Life.{Fits, GoesOn, IsNext, IsOf, TakesNoMore};
 
 use crate::history::Values;
@@ -144,6 +145,8 @@ impl<T: Drop, N: Protocol<T>> LatestCore<T, N> {
         value: T,
     ) -> Result<Deferred<T, Option<TaskWaker>>, Deferred<T>>
         requires may { N.may self.old.life.values value }
+        ensures hands_out_all { IfOk result (λ held.
+            self.old.state.waiting ≡ first_then held.woken []) }
         ensures comes_back { IfErr result (λ held. held.answer ≡ value) }
     {
         match self.state.write_first(value) {
@@ -163,6 +166,8 @@ impl<T: Drop, N: Protocol<T>> LatestCore<T, N> {
         ensures gives_old { IfOk result.answer (λ old. old ≡ self.old.state.value) }
         ensures rule { IfOk result.answer N.holds }
         ensures unchanged { OnErr result.answer (self.new.life ≡ self.old.life) }
+        ensures hands_out_all { OnOk result.answer
+            (result.woken ≡ Some self.old.state.waiting) }
         ensures full { OnErr result.answer (TakesNoMore self.new.life) }
         ensures comes_back { IfErr result.answer (λ back. back ≡ value) }
     {
@@ -188,6 +193,8 @@ impl<T: Drop, N: Protocol<T>> LatestCore<T, N> {
             (FnOnceReturnsAt F.FnOnce change self.old.state.value self.new.state.value) }
         ensures entered { OnOk result.answer (self.new.life ≡ record
             { values = self.old.life.values ++ self.new.state.value ∷ []; closed = false }) }
+        ensures hands_out_all { OnOk result.answer
+            (result.woken ≡ Some self.old.state.waiting) }
         ensures full { OnErr result.answer (TakesNoMore self.new.life) }
         ensures comes_back { IfErr result.answer
             (FnOnceReturnsAt F.FnOnce change self.old.state.value) }
@@ -211,6 +218,8 @@ impl<T: Drop, N: Protocol<T>> LatestCore<T, N> {
             → N.may self.old.life.values new }
         ensures called { IfOk result.answer (λ answer. (old new : T)
             × FnOnceReturnsAtMut F.FnOnce change old answer new) }
+        ensures hands_out_all { OnOk result.answer
+            (result.woken ≡ Some self.old.state.waiting) }
         ensures refused { FailsWithClosed result.answer }
     {
         match self.state.modify(change) {
@@ -234,6 +243,8 @@ impl<T: Drop, N: Protocol<T>> LatestCore<T, N> {
             → N.may self.old.life.values new }
         ensures called { IfOk result.answer (λ changed. (old new : T)
             × FnOnceReturnsAtMut F.FnOnce change old changed new) }
+        ensures hands_out_all { result.answer ≡ Ok true
+            → result.woken ≡ Some self.old.state.waiting }
         ensures refused { FailsWithClosed result.answer }
     {
         match self.state.modify_if(change) {
@@ -254,7 +265,10 @@ impl<T: Drop, N: Protocol<T>> LatestCore<T, N> {
     }
 
     #[tactic(auto, using(crate::proofs::Keeping::of_ended, crate::proofs::Keeping::of_closed))]
-    pub(crate) fn end_writer(&mut self) -> Deferred<(), Option<Wakers<TaskWaker>>> {
+    pub(crate) fn end_writer(&mut self) -> Deferred<(), Option<Wakers<TaskWaker>>>
+        ensures hands_out_all { self.old.state.writers ≡ 1
+            → result.woken ≡ Some self.old.state.waiting }
+    {
         let ended = self.state.end_writer();
         if self.state.is_closed() {
             self.values.close();
