@@ -118,7 +118,6 @@ count 'proofs, programs, and the bugs of must-fail/ (rt ci)' rt ci
 # that a step limit was met; that `search` gave up is what it says of most clauses that are false)
 ! grep -E 'BAD EDIT|refused, as it must be( \(only|:.*(step|resource) limit)' "$work/log" ||
     { failed=1 && finish 1; }
-show 'what tries deliberate bugs (scripts/bugs_check.py)' "$counts" python3 scripts/bugs_check.py
 count 'the bugs of bugs.txt (scripts/bugs.py)' python3 scripts/bugs.py ${1:+--record --all}
 show 'the built program (scripts/program.py)' "$counts" python3 scripts/program.py
 show 'misuse that must not compile (misuse/check.sh)' "$counts" bash misuse/check.sh
