@@ -231,7 +231,8 @@ class Slots(Maker):
     def end(self, side):
         """Closes the slot."""
         self.sides.remove(side)
-        self.cell.owners and self.cell.end_owner()
+        if self.cell.owners and not self.is_over:
+            self.cell.end_owner()
 
     def ask_it(self):
         """Has the side that replies set a value, end or look."""
@@ -257,14 +258,9 @@ class Slots(Maker):
             reply = self.cell.try_take() if is_open else "closed"
             self.is_over |= reply != "none"
             return self.line(f"try_take {name}", reply)
-        reply = "none" if word == "into_inner" else "ok"
-        if self.is_over:
-            self.sides.remove(name)
-        elif word == "into_inner":
-            reply = self.cell.taken("inner")
-            self.end(name)
-        else:
-            self.end(name)
+        left = "none" if self.is_over else self.cell.taken("inner") if word != "drop" else "ok"
+        reply = "ok" if word == "drop" else left
+        self.end(name)
         return self.line(f"{word} {name}", reply)
 
     def step(self):
