@@ -47,6 +47,7 @@ macro_rules! ruled {
         let cell = AsyncCell::<u32, Ruled<Even>>::ruled_with($rt.alloc(), 2);
         cell.set(owner.replace(8).unwrap_or(0) $(, $right)?);
         cell.update_some(|value| if value > 100 { 0 } else { value + 2 } $(, $right)?);
+        drop(owner.try_into_inner());
         Ok(cell.try_take($($right)?))
     }};
 }

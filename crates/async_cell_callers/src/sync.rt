@@ -19,6 +19,8 @@ fn locked_core<R: Host>(rt: R) {
     let core: Core<u32, Named> = Core::new_with(rt.alloc(), 1);
     let core = LockedCore::new(core);
     let _ = core.poll_get(&Named(1), &rt);
+    let _ = core.take_inner(&rt);
+    let _ = core.end_owner(&rt);
     content!(core, &rt)
 }
 
