@@ -103,7 +103,7 @@ def build(told, room, words):
     modules = {word.split("::")[0].removesuffix("_unsync") for word in words}
     named = [it for it in modules if lay_out.texts_of(it)]
     one_thread.lay_both(f"{room}/project", [*named, "checks"] if named else None)
-    told.say("compiling, some two minutes")
+    told.say("compiling, about a minute")
     refuses = try_kit.compiled(f"{TOP}/scripts/refuse.c", f"{room}/refuse.o")
     return try_kit.built(f"{room}/project", "tests", [refuses], f"{room}/built")
 
