@@ -4,9 +4,9 @@
     python3 scripts/api.py FOLDER     writes the pages there
     python3 scripts/api.py --check    writes nothing
 
-A page has the public items of a crate, also those that it exports from crates below it, first those
-that GUIDE names first: each with its declaration, its docstring, and its contract, folded away under
-the labels (that of a law is shown). Words of contracts link to their definitions. What is
+A page has the public items of a crate, also those that it exports from crates below it, and first
+those that GUIDE names first: each with its declaration, its docstring and its contract, folded away
+under the labels (that of a law is shown). Words of contracts link to their definitions. What is
 `doc(hidden)`, or has a docstring that begins with "Internal", is left out. A public item without a
 docstring is a fault, also a variant or a field, and so is an export of what is not found, and an
 item of a form that is not known here. Prints a line for each; the last line is 'api: N public
@@ -187,18 +187,19 @@ def definitions():
 
 @functools.cache
 def imported(file):
-    """Returns the names that a file imports for its contracts, each with the crate that it is of."""
+    """Returns the definitions that a file imports for its contracts, each with its crate."""
     uses = re.findall(r"ghost use Rattle\.(\w+)\.specs\.(?!declared)[\w.]*\{(.*?)\}", read(file))
-    return {name.strip(): of for of, names in uses for name in names.split(",")}
+    named = [(of, name.strip()) for of, names in uses for name in names.split(",")]
+    return {it.split(".")[-1]: of for of, it in named if not it.startswith("declared.")}
 
 
 def contract(item):
     """Returns a contract as code, whose words are links to their definitions."""
     def link(word):
         home = imported(item.file).get(word[0])
-        is_defined = home in definitions().get(word[0], {})
-        link = f'<a href="definitions.html#{home}.{word[0]}">{word[0]}</a>'
-        return link if is_defined else word[0]
+        if home not in definitions().get(word[0], {}):
+            return word[0]
+        return f'<a href="definitions.html#{home}.{word[0]}">{word[0]}</a>'
     return f"<pre>{WORD.sub(link, html.escape(item.contract))}</pre>"
 
 
@@ -290,7 +291,7 @@ def make(folder):
     write(f"{folder}/index.html", FRAME.format("The libraries", listed, body))
     defined = [(f"{of}.{name}", text) for name, homes in sorted(definitions().items())
                for of, text in homes.items()]
-    body = "".join(f'<section id="{it}"><h4>{it}</h4>{code(text)}</section>' for it, text in defined)
+    body = "".join(f'<section id="{it}"><h4>{it}</h4>{code(of)}</section>' for it, of in defined)
     write(f"{folder}/definitions.html", FRAME.format("The definitions", listed, body))
 
 

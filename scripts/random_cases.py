@@ -258,8 +258,9 @@ class Slots(Maker):
             reply = self.cell.try_take() if is_open else "closed"
             self.is_over |= reply != "none"
             return self.line(f"try_take {name}", reply)
-        left = "none" if self.is_over else self.cell.taken("inner") if word != "drop" else "ok"
-        reply = "ok" if word == "drop" else left
+        reply = "ok"
+        if word == "into_inner":
+            reply = "none" if self.is_over else self.cell.taken("inner")
         self.end(name)
         return self.line(f"{word} {name}", reply)
 
