@@ -44,7 +44,7 @@ PRIVATE = re.compile(r"(?:^ *(?:///|#\[).*\n)*^    (?!pub |///|#\[)\S.*\n", re.M
 BARE = re.compile(r"^(?! *(?:///|#\[)).*\n    (?:    )?(?:pub )?\w", re.M)
 # A definition of `specs/`, with its comment, and a word of a contract.
 DEFINED = re.compile(
-    r"(?m)((?:^ *-- .*\n)*^( *)(?:abbrev )?pub (?:record |data )?(\w\S*) .*(?:\n\2 +.*)*)"
+    r"(?m)((?:^ *-- .*\n)*^( *)(?:abbrev )?pub (?:record |data )?(\w\S*) .*(?:\n\2(?: +|\3 ).*)*)"
 )
 WORD = re.compile(r"\b\w+\b")
 USE = re.compile(r"pub use ([\w:]+?)(?:::\{(.*)\})?(?: as (\w+))?$", re.S)
@@ -60,6 +60,8 @@ nav, main {{ padding: 1em }}
 nav a {{ display: block }}
 main {{ max-width: 58em; min-width: 0 }}
 section section {{ padding-left: 1em; border-left: 3px solid #8884 }}
+@media (width < 50em) {{ body {{ display: block }}
+nav {{ position: static; height: 9em; width: auto }} }}
 </style><nav><p><a href="index.html"><strong>The libraries</strong></a></p>{1}</nav>
 <main><h1>{0}</h1>{2}</main></html>
 """
@@ -175,32 +177,41 @@ def code(text):
 
 @functools.cache
 def definitions():
-    """Returns the definitions of all crates by their names, each with its crate and its text."""
+    """Returns the definitions by their names, each by its crate with its file and its text."""
     files = sorted(glob.glob(f"{TOP}/crates/*/specs/**/*.antt", recursive=True))
     found = {}
     for file in files:
         of = file.split("/crates/")[1].split("/")[0]
         for text, pad, name in DEFINED.findall(read(file)):
-            found.setdefault(name, {})[of] = textwrap.dedent(pad + text.strip())
+            found.setdefault(name, {})[of] = file, textwrap.dedent(pad + text.strip())
     return found
 
 
 @functools.cache
 def imported(file):
     """Returns the definitions that a file imports for its contracts, each with its crate."""
-    uses = re.findall(r"ghost use Rattle\.(\w+)\.specs\.(?!declared)[\w.]*\{(.*?)\}", read(file))
+    uses = re.findall(r"use Rattle\.(\w+)\.specs\.(?!declared)[\w.]*\{(.*?)\}", read(file))
     named = [(of, name.strip()) for of, names in uses for name in names.split(",")]
     return {it.split(".")[-1]: of for of, it in named if not it.startswith("declared.")}
 
 
-def contract(item):
-    """Returns a contract as code, whose words are links to their definitions."""
+def linked_code(text, home_of):
+    """Returns code in which a word links to its definition in the crate that `home_of` gives."""
     def link(word):
-        home = imported(item.file).get(word[0])
+        home = home_of(word[0])
         if home not in definitions().get(word[0], {}):
             return word[0]
         return f'<a href="definitions.html#{home}.{word[0]}">{word[0]}</a>'
-    return f"<pre>{WORD.sub(link, html.escape(item.contract))}</pre>"
+    return f"<pre>{WORD.sub(link, html.escape(text))}</pre>"
+
+
+def definition(of, name, file, text):
+    """Returns the section of a definition. Its words link to definitions, too."""
+    def home_of(word):
+        home = of if of in definitions().get(word, {}) else imported(file).get(word)
+        return home if word != name and not (word.isalpha() and word.islower()) else None
+    full = f"{of}.{name}"
+    return f'<section id="{full}"><h4>{full}</h4>{linked_code(text, home_of)}</section>'
 
 
 def prose(docs):
@@ -224,7 +235,7 @@ def one(item):
     """Returns the docstring of an item, and its contract, folded away under the labels."""
     labels = re.findall(r"(?m)^(?:    )?(?:requires|ensures|ghost) (\w+)", item.contract)
     label = ": ".join(["Contract", ", ".join(dict.fromkeys(labels))]).rstrip(": ")
-    said = contract(item) * bool(item.contract)
+    said = linked_code(item.contract, imported(item.file).get) * bool(item.contract)
     is_law = item.file.endswith("laws.rt") or "/laws/" in item.file
     return prose(item.docs) + (said if is_law else folded(label, said))
 
@@ -277,7 +288,7 @@ def linked(of):
 def make(folder):
     """Writes the pages, and the one that lists them under the comments of crates.txt."""
     jobs = re.findall(r"\[([^]]+)\]\((crates/example_\w+/src/main\.rt)\)", read(f"{TOP}/README.md"))
-    shown = [folded(" ".join(it.split()), code(read(f"{TOP}/{file}"))) for it, file in jobs]
+    shown = [folded(" ".join(it.strip("`").split()), code(read(f"{TOP}/{at}"))) for it, at in jobs]
     body = f"<h2>Example programs</h2>{''.join(shown)}"
     title, listed = "", '<a href="definitions.html">Definitions</a>'
     for comment, name in LISTED.findall(read(f"{TOP}/crates.txt")):
@@ -289,9 +300,8 @@ def make(folder):
             body += f"<h3>{link}</h3>{prose(crate(name).docs)}{names}"
             title, listed = "", listed + link
     write(f"{folder}/index.html", FRAME.format("The libraries", listed, body))
-    defined = [(f"{of}.{name}", text) for name, homes in sorted(definitions().items())
-               for of, text in homes.items()]
-    body = "".join(f'<section id="{it}"><h4>{it}</h4>{code(of)}</section>' for it, of in defined)
+    defined = sorted(definitions().items())
+    body = "".join(definition(of, name, *it[of]) for name, it in defined for of in it)
     write(f"{folder}/definitions.html", FRAME.format("The definitions", listed, body))
 
 
