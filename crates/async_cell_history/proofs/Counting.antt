@@ -1,23 +1,7 @@
 -- As many values come out, are dropped or are left as were there and went in.
-use Rattle.std.proofs.Common.{◌≡◌, inl, inr, ◌+◌, ℕ, Bool, true, List, [], ◌∷◌, ◌++◌, Option, Some, None, refl, ap, sym, subst, ◌∙◌, arith}
-use Rattle.std.specs.Prelude.{cond, option_to_list}
-use Rattle.std.specs.List.{count_by, cons_option}
+use Rattle.async_cell_history.proofs.Words.{◌≡◌, inl, inr, ◌+◌, ℕ, Bool, true, List, [], ◌∷◌, ◌++◌, Option, Some, None, refl, ap, sym, subst, ◌∙◌, arith, cond, option_to_list, count_by, cons_option, All, All-head, All-tail, Cell, Entry, Kept, Set, Reply, Refused, State, Exactly, FitsUpdate, content, may_refuse, next, reply, History, cell_after, IsLegalAfterBy, MayFollowBy, cell_after-append, IsAllowed, IsNoSet, come_out, comes_out, dropped, dropped_by, goes_in, gone_in}
 use Rattle.std.proofs.lemmas.List.Sums.{sum_by-append}
-use Rattle.std.specs.List.{All}
-use Rattle.std.proofs.lemmas.List.Elements.{All-head, All-tail}
-use Rattle.async_cell_model.specs.declared.cell.Cell.{Cell}
-use Rattle.async_cell_model.specs.declared.cell.Cell.TheVariants.{Closed, Open}
-use Rattle.async_cell_model.specs.declared.entry.Entry.{Entry}
-use Rattle.async_cell_model.specs.declared.entry.Kept.{Kept}
-use Rattle.async_cell_model.specs.declared.entry.Kept.TheVariants.{Set}
 use Rattle.async_cell_model.specs.declared.refusal.Refusal.TheVariants as why
-use Rattle.async_cell_model.specs.declared.reply.Reply.{Reply}
-use Rattle.async_cell_model.specs.declared.reply.Reply.TheVariants.{Refused}
-use Rattle.async_cell_model.specs.Machine.{State, Exactly, FitsUpdate, content, may_refuse, next, reply}
-use Rattle.async_cell_model.specs.History.{History, cell_after}
-use Rattle.async_cell_model.specs.Legal.{IsLegalAfterBy, MayFollowBy}
-use Rattle.async_cell_model.proofs.JoinedHistory.{cell_after-append}
-use Rattle.async_cell_history.specs.History.{IsAllowed, IsNoSet, come_out, comes_out, dropped, dropped_by, goes_in, gone_in}
 
 module _ {T : Type 0} (test : T → Bool) where
   abbrev count : Option T → ℕ
@@ -35,13 +19,9 @@ module _ {T W : Type 0} (test : T → Bool) where
   replied : (c : Cell T) (call : Kept T W) → FitsUpdate c call → Balances c call (reply c call) (next c (record { call = call; reply = reply c call }))
   replied c call fits = grind arith
 
-  stays : (c : Cell T) (call : Kept T W) → content (next c (record { call = call; reply = Refused why.Memory None })) ≡ content c
-  stays Closed call = refl
-  stays (Open value n) call = refl
-
   module _ (will_wake : W → W → Bool) (sure : Bool) where
     refused : (at : State T W) (call : Kept T W) → may_refuse will_wake sure at call ≡ true → Balances at.cell call (Refused why.Memory None) (next at.cell (record { call = call; reply = Refused why.Memory None }))
-    refused at call may = rw (stays at.cell call) (grind arith)
+    refused at call may = grind arith
 
     step : (at : State T W) (e : Entry T W) → MayFollowBy Exactly will_wake sure at e → Balances at.cell e.call e.reply (next at.cell e)
     step at e may = elim may.replied [

@@ -1,15 +1,7 @@
 -- What a future gives that extends a witness: what a take or a get found.
-use Rattle.std.proofs.Common.{◌≡◌, true, false, inr, Option, Some, None, Result, Ok, Err, refl, sym, subst, IfOk, IfSome}
-use Rattle.async_cell_model.specs.declared.cell.Cell.{Cell}
-use Rattle.async_cell_model.specs.declared.cell.Cell.TheVariants.{Closed, Open}
-use Rattle.async_cell_model.specs.declared.entry.Kept.TheVariants.{TryTake, TryGet}
+use Rattle.async_cell_history.proofs.Words.{◌≡◌, arith, true, false, inr, Option, Some, None, Result, Ok, Err, sym, subst, IfOk, IfSome, Cell, TryTake, TryGet, Value, History, WakerRules, content, is_closed, is_vacant, Begun, Seen, IsSigned, IsLinearized, IsLinearizedUpTo, get_reply}
 use Rattle.async_cell_model.specs.declared.refusal.Refusal.{Refusal}
-use Rattle.async_cell_model.specs.declared.reply.Reply.TheVariants.{Value}
-use Rattle.async_cell_model.specs.History.{History}
-use Rattle.async_cell_core.specs.IsStep.{WakerRules}
 use Rattle.async_cell_core.specs.Polled.{IsCloneOf}
-use Rattle.async_cell_model.specs.Machine.{content, is_closed, is_vacant}
-use Rattle.async_cell_history.specs.History.{Begun, Seen, IsSigned, IsLinearized, IsLinearizedUpTo, get_reply}
 use Rattle.async_cell_step.specs.Rule.{IsCloneOfOne}
 
 module _ {T W : Type 0} (rules : WakerRules W) (named : Option (Begun T W)) (seen : History T W) where
@@ -39,24 +31,17 @@ module _ {T W : Type 0} (rules : WakerRules W) (named : Option (Begun T W)) (old
       )
 
 module _ {T : Type 0} (is_clone : T → T → Type 0) (P : T → Type 0) where
-  cloned_one : (held got : Option T) → IfSome held P → IsCloneOf is_clone held got → IfSome got (IsCloneOfOne is_clone P)
-  cloned_one None None holds clones = tt
-  cloned_one None (Some b) holds clones = absurd clones
-  cloned_one (Some a) None holds clones = absurd clones
-  cloned_one (Some a) (Some b) holds clones = (a, holds, clones)
-
   -- a clone of a content that satisfies `P` is a clone of one that does
   pub cloned_ones : {E : Type 0} (held : Option T) (copied : Result (Option T) E) → IfSome held P → IfOk copied (IsCloneOf is_clone held) → IfOk copied (λ found. IfSome found (IsCloneOfOne is_clone P))
-  cloned_ones held (Ok got) holds clones = cloned_one held got holds clones
   cloned_ones held (Err why) holds clones = tt
+  cloned_ones None (Ok None) holds clones = tt
+  cloned_ones None (Ok (Some b)) holds clones = absurd clones
+  cloned_ones (Some a) (Ok None) holds clones = absurd clones
+  cloned_ones (Some a) (Ok (Some b)) holds clones = (a, holds, clones)
 
 -- a cell that has no value, and on which a poll need not wait, is closed
 pub closed_if_none : {T : Type 0} (c : Cell T) → content c ≡ None → is_vacant c ≡ false → is_closed c ≡ true
-closed_if_none Closed none ready = refl
-closed_if_none (Open None n) none ready = absurd (cc ready)
-closed_if_none (Open (Some x) n) none ready = absurd (cc none)
+closed_if_none c none ready = grind arith
 
 pub closed_if_no_clone : {T : Type 0} (is_clone : T → T → Type 0) (c : Cell T) → IsCloneOf is_clone (content c) None → is_vacant c ≡ false → is_closed c ≡ true
-closed_if_no_clone is_clone Closed none ready = refl
-closed_if_no_clone is_clone (Open None n) none ready = absurd (cc ready)
-closed_if_no_clone is_clone (Open (Some x) n) none ready = absurd none
+closed_if_no_clone is_clone c none ready = grind arith

@@ -1,24 +1,6 @@
 -- What is got later follows what was got before, if each change of a full cell puts in a value that follows the one before it.
-use Rattle.std.proofs.Common.{rules, ◌≡◌, ◌⊎◌, ◌++◌, ℕ, Bool, List, [], ◌∷◌, Contains, Option, Some, None, refl, ap, sym, subst, ◌∙◌, inl, inr, append_assoc, arith}
-use Rattle.std.specs.Prelude.{⊤}
-use Rattle.std.specs.List.{All}
-use Rattle.std.proofs.lemmas.List.Elements.{All-head, All-tail, All-weaker, All-contains, All-contains_itself, Contains-append_left, Contains-append_right, Contains-append_cases, Contains-push}
-use mathlib.Core.List.{IsPrefix}
-use Rattle.async_cell_model.specs.declared.cell.Cell.{Cell}
-use Rattle.async_cell_model.specs.declared.cell.Cell.TheVariants.{Closed, Open}
-use Rattle.async_cell_model.specs.declared.entry.Entry.{Entry}
-use Rattle.async_cell_model.specs.declared.entry.Kept.{Kept}
-use Rattle.async_cell_model.specs.declared.entry.Kept.TheVariants.{Update, UpdateSome, TryGet, EndOwner}
-use Rattle.async_cell_model.specs.declared.reply.Reply.{Reply}
-use Rattle.async_cell_model.specs.declared.reply.Reply.TheVariants.{Value}
-use Rattle.async_cell_model.specs.Machine.{State, Exactly, IsCloned, FitsUpdate, content, next, next_open, is_memory}
-use Rattle.async_cell_model.specs.History.{History, cell_after, after}
-use Rattle.async_cell_model.specs.Legal.{IsExact, IsLegalAfterBy, MayFollowBy}
-use Rattle.async_cell_model.proofs.JoinedHistory.{cell_after-append}
-use Rattle.async_cell_core.specs.IsStep.{WakerRules}
-use Rattle.async_cell_history.specs.History.{Begun, GoesOn, HasEntry, IsAllowed, IsLawful, IsOrSet, IsLinearized, IsLinearizedUpTo, OnlyMakes, start_of}
-use Rattle.async_cell_history.proofs.Leading.{all_such}
-use Rattle.async_cell_history.proofs.PutIn.{either, full_at}
+use Rattle.async_cell_history.proofs.Words.{rules, ◌≡◌, ◌⊎◌, ◌++◌, ℕ, Bool, List, [], ◌∷◌, Contains, Option, Some, None, refl, ap, sym, subst, ◌∙◌, inl, inr, append_assoc, arith, ⊤, All, All-head, All-tail, All-weaker, All-contains, All-contains_itself, Contains-append_left, Contains-append_right, Contains-append_cases, Contains-push, IsPrefix, Cell, Closed, Open, Entry, Kept, Update, UpdateSome, TryGet, EndOwner, Reply, Value, State, Exactly, IsCloned, FitsUpdate, content, next, next_open, is_memory, History, cell_after, after, IsExact, IsLegalAfterBy, MayFollowBy, cell_after-append, WakerRules, Begun, GoesOn, HasEntry, IsAllowed, IsLawful, IsOrSet, IsLinearized, IsLinearizedUpTo, OnlyMakes, start_of}
+use Rattle.async_cell_history.proofs.Leading.{all_such, either, full_at}
 use Rattle.async_cell_history.proofs.Linearizing.{second}
 
 -- an element of a list is its head, or one of its tail
@@ -53,12 +35,10 @@ module _ {T : Type 0} (Follows : T → T → Type 0) where
   Later x (Open (Some y) n) = Follows x y
 
   follows_there : (x w : T) (c : Cell T) → Later x c → content c ≡ Some w → Follows x w
-  follows_there x w (Open (Some y) n) later is = let same : y ≡ w = cc is in subst (Follows x) same later
-  follows_there x w c later is = absurd (cc is)
+  follows_there x w c later is = grind arith
 
   later_here : (v : T) (c : Cell T) → Follows v v → content c ≡ Some v → Later v c
-  later_here v (Open (Some y) n) itself is = let same : v ≡ y = cc is in subst (Follows v) same itself
-  later_here v c itself is = absurd (cc is)
+  later_here v c itself is = grind arith
 
 module _ {T W : Type 0} where
   -- a value was got

@@ -2,9 +2,7 @@ pub mod Counting
 pub mod Found
 pub mod GoingOn
 pub mod Leading
-pub mod Owning
-pub mod PutIn
-pub mod Signing
 pub mod Linearizing
 pub mod TwoTakers
 pub mod Waking
+pub mod Words

@@ -1,20 +1,25 @@
 -- What a thread knows after a call that it was told of.
-use Rattle.std.proofs.Common.{◌≡◌, ◌+◌, ℕ, Bool, List, [], ◌∷◌, ◌++◌, Option, refl, ap, sym, subst, ◌∙◌, append-nil, append_assoc, arith}
-use mathlib.Core.List.{IsPrefix}
-use Rattle.async_cell_model.specs.declared.entry.Entry.{Entry}
-use Rattle.async_cell_model.specs.declared.entry.Kept.{Kept}
-use Rattle.async_cell_model.specs.declared.reply.Reply.{Reply}
-use Rattle.async_cell_model.specs.Machine.{State, IsSound, Does, Exactly}
-use Rattle.async_cell_model.specs.History.{History, after}
-use Rattle.async_cell_model.specs.Legal.{IsLegal, IsLegalAfterBy, MayFollowBy, Runs, woken_by}
-use Rattle.async_cell_model.proofs.Exact.{NoClone, legal_of_exact}
-use Rattle.async_cell_model.proofs.JoinedHistory.{after-append}
-use Rattle.async_cell_model.proofs.Machine.{machine_of}
-use Rattle.async_cell_model.proofs.Whole.{after-nil, IsSound-after}
-use Rattle.async_cell_core.specs.IsStep.{WakerRules}
-use Rattle.async_cell_history.specs.History.{Begun, Logged, Made, Seen, IsLinearized, IsReady, IsSigned, start_of}
+use Rattle.async_cell_history.proofs.Words.{◌≡◌, ◌+◌, ℕ, Bool, List, [], ◌∷◌, ◌++◌, map, ap, sym, ◌∙◌, Option, refl, subst, append-nil, append_assoc, arith, IsPrefix, map-append, Kept, Reply, Logged, Made, Seen, IsSigned, Begun, IsLinearized, IsReady, start_of, Entry, State, IsSound, Does, Exactly, History, after, IsLegal, IsLegalAfterBy, MayFollowBy, Runs, woken_by, NoClone, legal_of_exact, after-append, machine_of, after-nil, IsSound-after, WakerRules}
 use Rattle.async_cell_history.proofs.Leading.{RunsTo, runs_more}
-use Rattle.async_cell_history.proofs.Signing.{signed_of}
+
+module _ {A B : Type 0} (f : A → B) where
+  -- what begins a list begins it also after a change of each element
+  pub begins_map : (xs ys : List A) (us vs : List B) → map f xs ≡ us → map f ys ≡ vs → IsPrefix xs ys → IsPrefix us vs
+  begins_map xs ys us vs first second (rest, is) = (map f rest, ap (λ l. l ++ map f rest) (sym first) ∙ sym (map-append f xs rest) ∙ ap (map f) is ∙ second)
+
+  -- one more element
+  pub map_more : (xs ys : List A) (x : A) → ys ≡ xs ++ x ∷ [] → map f ys ≡ map f xs ++ f x ∷ []
+  map_more xs ys x is = ap (map f) is ∙ map-append f xs (x ∷ [])
+
+-- who had seen the past before a call that it signed, and has seen the past after it
+pub signed_of : {T W : Type 0} {will_wake : W → W → Bool} {sure : Bool} {call : Kept T W} {reply : Reply T} {woken : List W} {by : ℕ} (old new : Logged T W) (seen now : Seen T W) → Made will_wake sure old call reply woken by new → IsPrefix seen.authors old.past.authors → by ≡ seen.author → now.authors ≡ new.past.authors → now.author ≡ seen.author → now.own ≡ seen.own + 1 → IsSigned seen now
+signed_of old new seen now made on by_it is stays one_more = record {
+  before = old.past.authors;
+  goes_on = on;
+  ends = is ∙ made.signed ∙ ap (λ n. old.past.authors ++ n ∷ []) by_it;
+  stays = stays;
+  one_more = one_more;
+}
 
 module _ {T W : Type 0} (will_wake : W → W → Bool) (sure : Bool) where
   -- the second part of legal calls is legal after the first

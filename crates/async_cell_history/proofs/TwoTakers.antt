@@ -1,21 +1,7 @@
 -- Two takes that two authors signed are two places of the history, so they give two of the values put in.
-use Rattle.std.proofs.Common.{◌≡◌, ◌≢◌, ◌⊎◌, inl, inr, ◌≤◌, ℕ, suc, Bool, false, List, [], ◌∷◌, ◌++◌, length, Option, Some, None, refl, ap, sym, subst, ◌∙◌, arith, append-nil, append_assoc}
-use Rattle.std.specs.Prelude.{option_to_list, AllPairs}
-use Rattle.std.specs.List.{All}
-use mathlib.Core.List.{IsPrefix}
-use Rattle.std.proofs.lemmas.List.{length-append}
-use Rattle.std.proofs.lemmas.List.Elements.{All-head, All-tail, filter_map-append}
-use Rattle.async_cell_model.specs.declared.entry.Entry.{Entry}
-use Rattle.async_cell_model.specs.declared.entry.Kept.{Kept}
-use Rattle.async_cell_model.specs.declared.entry.Kept.TheVariants.{TryTake}
-use Rattle.async_cell_model.specs.declared.reply.Reply.TheVariants.{Value}
-use Rattle.async_cell_model.specs.Machine.{State, content}
-use Rattle.async_cell_model.specs.History.{History}
+use Rattle.async_cell_history.proofs.Words.{◌≡◌, ◌≢◌, ◌⊎◌, inl, inr, ◌≤◌, ℕ, suc, Bool, false, List, [], ◌∷◌, ◌++◌, length, Option, Some, None, refl, ap, sym, subst, ◌∙◌, arith, append-nil, append_assoc, option_to_list, AllPairs, All, IsPrefix, length-append, All-head, All-tail, filter_map-append, Entry, Kept, TryTake, Value, State, content, History, NoClone, legal_of_exact, WakerRules, Begun, Seen, IsAllowed, IsLawful, IsTake, OnlyMakes, IsLinearized, IsSigned, Took}
 use Rattle.async_cell_model.specs.Taken.{IsSubsequence, has_update, is_update, put_by, put_in, taken_by, taken_out}
-use Rattle.async_cell_model.proofs.Exact.{NoClone, legal_of_exact}
 use Rattle.async_cell_model.proofs.Once.{IsSubsequence-same, IsSubsequence-nil, IsSubsequence-trans, IsSubsequence-append, pairs_of_subsequence, given_in_order}
-use Rattle.async_cell_core.specs.IsStep.{WakerRules}
-use Rattle.async_cell_history.specs.History.{Begun, Seen, IsAllowed, IsLawful, IsTake, OnlyMakes, IsLinearized, IsSigned, Took}
 use Rattle.async_cell_history.proofs.Leading.{all_such}
 use Rattle.ghost_log.proofs.Steps.{shorter_begins}
 

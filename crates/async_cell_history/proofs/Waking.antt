@@ -1,19 +1,5 @@
 -- No waiting poll is forgotten: its waker waits at the end of the history, or the first fill or close after it wakes it.
-use Rattle.std.proofs.Common.{◌≡◌, Bool, true, false, List, [], ◌∷◌, ◌++◌, Option, refl, ap, sym, subst, ◌∙◌, arith}
-use Rattle.async_cell_model.specs.declared.cell.Cell.{Cell}
-use Rattle.async_cell_model.specs.declared.entry.Entry.{Entry}
-use Rattle.async_cell_model.specs.declared.entry.Kept.{Kept}
-use Rattle.async_cell_model.specs.declared.entry.Kept.TheVariants.{Set}
-use Rattle.async_cell_model.specs.declared.reply.Reply.{Reply}
-use Rattle.async_cell_model.specs.declared.reply.Reply.TheVariants.{Done}
-use Rattle.async_cell_model.specs.Machine.{State, IsSound, ends_waiting, is_vacant, next}
-use Rattle.async_cell_model.specs.History.{History, IsCovered, after, cell_after, waiting}
-use Rattle.async_cell_model.specs.Legal.{IsLegal, IsLegalUpTo}
-use Rattle.async_cell_model.proofs.Exact.{NoClone, legal_of_exact}
-use Rattle.async_cell_model.proofs.JoinedHistory.{cell_after-append}
-use Rattle.async_cell_model.proofs.Whole.{stays_covered, IsLegalAfter-first}
-use Rattle.async_cell_core.specs.IsStep.{WakerRules}
-use Rattle.async_cell_history.specs.History.{Begun, IsLawful, IsLinearized, StillWaits, start_of}
+use Rattle.async_cell_history.proofs.Words.{◌≡◌, Bool, true, false, List, [], ◌∷◌, ◌++◌, Option, refl, ap, sym, subst, ◌∙◌, arith, Cell, Entry, Kept, Set, Reply, Done, State, IsSound, ends_waiting, is_vacant, next, History, IsCovered, after, cell_after, waiting, IsLegal, IsLegalUpTo, NoClone, legal_of_exact, cell_after-append, stays_covered, IsLegalAfter-first, WakerRules, Begun, IsLawful, IsLinearized, StillWaits, start_of}
 
 -- who still waits is in the wait list before the call, or somebody who would wake it
 waits_there : {T W : Type 0} (rules : WakerRules W) (may : Kept T W → Type 0) (named : Option (Begun T W)) (seen now : History T W) (call : Kept T W) (reply : Reply T) (w : W) (told : IsLinearized rules named seen call reply now) → IsLawful rules.will_wake rules.SURE_CLONE may (start_of named) now

@@ -1,9 +1,12 @@
-ghost use Rattle.std.specs.Prelude.{◌≡◌, [], Option, IsSome};
+//! How the history of a cell begins.
+ghost use Rattle.std.specs.Prelude.{◌≡◌, [], None, Option, IsSome};
 ghost use Rattle.async_cell_model.specs.declared.cell.Cell.TheVariants.{Open};
+ghost use Rattle.async_cell_model.specs.Machine.{owners_of};
 
-use crate::Opened;
+use crate::Signed;
 use async_cell_core::{Core, Wakes};
-use ghost_count::Permit;
+use ghost_count::{Count, Permit};
+use ghost_log::{Log, Makes};
 use std::alloc::Global;
 use std::marker::Model;
 
@@ -67,4 +70,94 @@ impl<T: Drop, W: Wakes> Drop for Blank<T, W> {
         } = self;
         permit.lose();
     }
+}
+
+/// A core that begins a history, which no type names yet.
+#[derive(Drop)]
+pub struct Opened<T, W: Wakes> {
+    pub(crate) log: Log<Signed<T, W>>,
+    pub(crate) start: Start<T, W>,
+    pub(crate) count: Count,
+}
+
+/// Contracts see how it begins.
+impl<T, W: Wakes> Model for Opened<T, W> {
+    ghost use Rattle.std.specs.Prelude.{◌≡◌, []};
+    ghost use Rattle.async_cell_model.specs.Machine.{owners_of};
+    ghost use Rattle.async_cell_history.specs.History.{Begun};
+
+    ghost Value = { Begun T W };
+
+    ghost view = { λ o. record { name = o.log.name; permits = o.count.name; start = o.start } };
+
+    ghost invariant = { λ o. (o.log.list ≡ []) × (o.count.out ≡ owners_of o.start.cell) };
+}
+
+impl<T: Drop, W: Wakes> Opened<T, W> {
+    /// Begins a history with this core, whose owners are not counted.
+    #[inline(always)]
+    pub fn of(core: &Core<T, W>) -> Self
+        ensures start { result.start ≡ core.now }
+        ensures blind { result.permits ≡ None }
+    {
+        Opened {
+            log: Log::open(),
+            start: Start::of(core),
+            count: Count::blind(core.owners()),
+        }
+    }
+
+    /// Begins a history with this core, and gives the permit of its one owner.
+    #[inline(always)]
+    pub fn counted(core: &Core<T, W>) -> (Self, Permit)
+        requires sole { owners_of core.now.cell ≡ 1 }
+        ensures start { result.0.start ≡ core.now }
+        ensures counted { IsSome result.0.permits }
+        ensures permit { result.1.name ≡ result.0.permits }
+    {
+        let mut count = Count::open();
+        let permit = count.give();
+        let opened = Opened {
+            log: Log::open(),
+            start: Start::of(core),
+            count,
+        };
+        (opened, permit)
+    }
+}
+
+/// The first state of a cell, in the proofs alone. (A `Snapshot` would be the thing, if the prover
+/// saw that what has one beside another field can be sent.)
+#[derive(Drop)]
+pub(crate) struct Start<T, W: Wakes> {
+    log: Log<Core<T, W>>,
+}
+
+/// Contracts see the state.
+impl<T, W: Wakes> Model for Start<T, W> {
+    ghost use Rattle.async_cell_model.specs.Machine.{State};
+    ghost use Rattle.async_cell_history.specs.History.{first_of};
+
+    ghost Value = { State T W };
+
+    ghost view = { λ s. first_of s.log.list };
+}
+
+impl<T, W: Wakes> Start<T, W> {
+    /// Keeps the state of this core.
+    #[inline(always)]
+    pub(crate) fn of(core: &Core<T, W>) -> Self
+        ensures { result ≡ core.now }
+    {
+        let mut log = Log::open();
+        log.push::<_, Itself>(core);
+        Start { log }
+    }
+}
+
+/// The entry is the core itself.
+struct Itself;
+
+impl<T, W: Wakes> Makes<Core<T, W>, Core<T, W>> for Itself {
+    ghost entry = { λ core. core };
 }

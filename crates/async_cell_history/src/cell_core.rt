@@ -10,7 +10,7 @@ mod owners;
 mod room;
 mod writes;
 
-use crate::op::{Makes, MakesFast};
+use crate::op::Makes;
 use crate::{Before, Blank, Op, Opened, OwnerPermit, Past, Protocol, Signs, Unruled, Witness};
 use async_cell_core::{Core, Refusal, Wakes};
 use async_cell_step::Deferred;
@@ -103,7 +103,7 @@ impl<T: Drop, W: Wakes, N: Protocol<T, W>> CellCore<T, W, N> {
     /// Does nothing. Its contract states that a cell is open while an owner that is counted has its
     /// permit.
     #[inline(always)]
-    #[tactic(auto, using(crate::proofs::Owning::open_if_owned))]
+    #[tactic(auto, using(crate::proofs::Leading::open_if_owned))]
     pub(crate) fn owned(&mut self, permit: &OwnerPermit<T, W, N>)
         ensures stays { self.new ≡ self.old }
         ensures open { IsSome (permits_of N.named) → is_closed self.old.inner.cell ≡ false }
@@ -123,13 +123,8 @@ impl<T: Drop, W: Wakes, N: Protocol<T, W>> CellCore<T, W, N> {
     {
         let before = Before::of(&self.inner, &op);
         let held = op.make(&mut self.inner);
-        before.enter(
-            &mut self.past,
-            &Makes::<N, O>(PhantomData),
-            &held,
-            &self.inner,
-            by,
-        );
+        let made = &Makes::<N, O>(PhantomData);
+        before.enter(&mut self.past, made, &held, &self.inner, by);
         held
     }
 
@@ -151,13 +146,8 @@ impl<T: Drop, W: Wakes, N: Protocol<T, W>> CellCore<T, W, N> {
     {
         let before = Before::of(&self.inner, &op);
         let held = op.fast(&mut self.inner)?;
-        before.enter(
-            &mut self.past,
-            &MakesFast::<N, O>(PhantomData),
-            &held,
-            &self.inner,
-            by,
-        );
+        let made = &Makes::<N, O>(PhantomData);
+        before.enter(&mut self.past, made, &held, &self.inner, by);
         Ok(held)
     }
 

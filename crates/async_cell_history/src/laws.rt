@@ -34,6 +34,7 @@ pub fn a_set_wakes_who_waits<T, W: Wakes, N: Protocol<T, W>>()
 {}
 
 /// A call that was linearized is in the history, and stays there.
+#[tactic(auto, using(crate::proofs::GoingOn::stays, crate::proofs::GoingOn::linearized_in))]
 pub fn what_was_seen_stays<T, W: Wakes, N: Protocol<T, W>>()
     ensures linearized { (seen now : History T W) (call : Called T W) (reply : Replied T)
         → IsLinearized W.Wakes N.named seen call reply now → HasEntry now call reply }
@@ -42,6 +43,7 @@ pub fn what_was_seen_stays<T, W: Wakes, N: Protocol<T, W>>()
 {}
 
 /// Where clones are exact, what was got is what the cell held.
+#[tactic(auto, using(crate::proofs::GoingOn::exact_get))]
 pub fn an_exact_get_is_linearized<T: Clone, W: Wakes, N: Protocol<T, W>>()
     ensures { IsExact T.is_clone → (seen now : History T W) (v : T)
         → IsLinearizedUpTo T.is_clone W.Wakes N.named seen Kept.TryGet (Reply.Value (Some v)) now
@@ -74,6 +76,7 @@ pub fn what_is_got_never_goes_back<T, W: Wakes, N: Protocol<T, W>>()
 {}
 
 /// A take that an author signed is one of its own, for ever: also in all that was seen later.
+#[tactic(auto, using(crate::proofs::TwoTakers::took, crate::proofs::TwoTakers::still_took))]
 pub fn a_seen_take_is_of_its_author<T, W: Wakes, N: Protocol<T, W>>()
     ensures linearized { (seen now : Seen T W) (v : T)
         → IsLinearized W.Wakes N.named seen.calls Kept.TryTake (Reply.Value (Some v)) now.calls

@@ -2,7 +2,7 @@
 ghost use Rattle.std.specs.Prelude.{◌≡◌, ◌+◌, ℕ};
 
 use async_cell_model::Entry;
-use ghost_log::{Log, Makes};
+use ghost_log::{Log, Makes, Seen};
 use std::marker::{Model, PhantomData};
 
 /// A number that calls are signed with. Only contracts read it; 0 is nobody.
@@ -20,7 +20,7 @@ pub(crate) struct Signed<T, W> {
 /// A number: of an author, or of calls. It has no bytes.
 #[derive(Drop)]
 pub(crate) struct Number {
-    log: Log<u64>,
+    seen: Seen<u64>,
 }
 
 /// Contracts see the number.
@@ -30,7 +30,7 @@ impl Model for Number {
 
     ghost Value = { ℕ };
 
-    ghost view = { λ n. first_number n.log.list };
+    ghost view = { λ n. first_number n.seen.list };
 }
 
 impl Number {
@@ -41,7 +41,7 @@ impl Number {
     {
         let mut log = Log::open();
         log.push::<_, By<A>>(&());
-        Number { log }
+        Number { seen: log.seen() }
     }
 
     /// The number after it.
@@ -51,7 +51,7 @@ impl Number {
     {
         let mut log = Log::open();
         log.push::<_, Next>(self);
-        Number { log }
+        Number { seen: log.seen() }
     }
 
     /// The same number.
@@ -59,9 +59,9 @@ impl Number {
     pub(crate) fn again(&self) -> Self
         ensures { result ≡ self.now }
     {
-        let mut log = Log::open();
-        log.push::<_, Itself>(self);
-        Number { log }
+        Number {
+            seen: self.seen.again(),
+        }
     }
 }
 
@@ -70,13 +70,6 @@ struct By<A>(PhantomData<A>);
 
 impl<A: Author> Makes<(), u64> for By<A> {
     ghost entry = { λ _. A.number };
-}
-
-/// The entry is the number itself.
-struct Itself;
-
-impl Makes<Number, u64> for Itself {
-    ghost entry = { λ number. number };
 }
 
 /// The entry is the number after it.

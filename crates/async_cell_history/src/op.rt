@@ -83,31 +83,16 @@ pub trait Op<T: Drop, W: Wakes, N: Protocol<T, W>>: Sized {
 /// The entry of a call that was made.
 pub(crate) struct Makes<N, O>(pub(crate) PhantomData<(N, O)>);
 
-impl<T, W, N, O> Enters<O, Deferred<O::Answer, O::After>, T, W> for Makes<N, O>
+impl<T, W, N, O, L> Enters<O, Deferred<O::Answer, L>, T, W> for Makes<N, O>
 where
     T: Drop,
     W: Wakes,
     N: Protocol<T, W>,
     O: Op<T, W, N>,
+    L: After<W>,
 {
     ghost call = { O.call };
 
     ghost answer = { λ from held. record
-        { reply = O.reply from held.answer; woken = O.After.wakes held.woken } };
-}
-
-/// The entry of a call that was made on its fast path.
-pub(crate) struct MakesFast<N, O>(pub(crate) PhantomData<(N, O)>);
-
-impl<T, W, N, O> Enters<O, Deferred<O::Answer, O::Few>, T, W> for MakesFast<N, O>
-where
-    T: Drop,
-    W: Wakes,
-    N: Protocol<T, W>,
-    O: Op<T, W, N>,
-{
-    ghost call = { O.call };
-
-    ghost answer = { λ from held. record
-        { reply = O.reply from held.answer; woken = O.Few.wakes held.woken } };
+        { reply = O.reply from held.answer; woken = L.wakes held.woken } };
 }

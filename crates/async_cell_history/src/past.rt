@@ -3,9 +3,9 @@ ghost use Rattle.async_cell_core.specs.IsStep.{IsStep};
 ghost use Rattle.async_cell_model.specs.Machine.{owners_of};
 ghost use Rattle.async_cell_history.specs.History.{Fits, IsAllowed, Leads, entry_of, is_of_owners, permits_of};
 
-use crate::{Nobody, Protocol, Signed, Signs, Start};
+use crate::{Nobody, Opened, Protocol, Signed, Signs, Start};
 use async_cell_core::{Core, Wakes};
-use ghost_count::{Count, Permit};
+use ghost_count::Count;
 use ghost_log::{Log, Makes};
 use std::marker::{Model, PhantomData};
 use std::snapshot::Snapshot;
@@ -20,60 +20,6 @@ pub(crate) trait Enters<C, A, T, W> {
     ghost call: { State T W → C → State T W → Kept T W };
 
     ghost answer: { State T W → A → Answer T W };
-}
-
-/// A core that begins a history, which no type names yet.
-#[derive(Drop)]
-pub struct Opened<T, W: Wakes> {
-    log: Log<Signed<T, W>>,
-    start: Start<T, W>,
-    count: Count,
-}
-
-/// Contracts see how it begins.
-impl<T, W: Wakes> Model for Opened<T, W> {
-    ghost use Rattle.std.specs.Prelude.{◌≡◌, []};
-    ghost use Rattle.async_cell_model.specs.Machine.{owners_of};
-    ghost use Rattle.async_cell_history.specs.History.{Begun};
-
-    ghost Value = { Begun T W };
-
-    ghost view = { λ o. record { name = o.log.name; permits = o.count.name; start = o.start } };
-
-    ghost invariant = { λ o. (o.log.list ≡ []) × (o.count.out ≡ owners_of o.start.cell) };
-}
-
-impl<T: Drop, W: Wakes> Opened<T, W> {
-    /// Begins a history with this core, whose owners are not counted.
-    #[inline(always)]
-    pub fn of(core: &Core<T, W>) -> Self
-        ensures start { result.start ≡ core.now }
-        ensures blind { result.permits ≡ None }
-    {
-        Opened {
-            log: Log::open(),
-            start: Start::of(core),
-            count: Count::blind(core.owners()),
-        }
-    }
-
-    /// Begins a history with this core, and gives the permit of its one owner.
-    #[inline(always)]
-    pub fn counted(core: &Core<T, W>) -> (Self, Permit)
-        requires sole { owners_of core.now.cell ≡ 1 }
-        ensures start { result.0.start ≡ core.now }
-        ensures counted { IsSome result.0.permits }
-        ensures permit { result.1.name ≡ result.0.permits }
-    {
-        let mut count = Count::open();
-        let permit = count.give();
-        let opened = Opened {
-            log: Log::open(),
-            start: Start::of(core),
-            count,
-        };
-        (opened, permit)
-    }
 }
 
 /// The whole history of a cell, and the right to make it longer: it lies beside the core. It has no
@@ -148,7 +94,7 @@ impl<C, T, W: Wakes> Before<C, T, W> {
     /// Adds the call at the end of the past, as `M` enters it: it returned this, left this core, and
     /// is signed so.
     #[inline(always)]
-    #[tactic(auto, using(crate::proofs::Owning::owners_stay))]
+    #[tactic(auto, using(crate::proofs::Leading::owners_stay))]
     pub(crate) fn enter<N: Protocol<T, W>, M: Enters<C, A, T, W>, A, B: Signs>(
         &self,
         past: &mut Past<T, W, N>,

@@ -46,10 +46,7 @@ impl<T, W, N: Protocol<T, W>> OwnerPermit<T, W, N> {
     pub fn blind() -> Self
         requires nameless { N.named ≡ None }
     {
-        OwnerPermit {
-            permit: Permit::blind(),
-            of: PhantomData,
-        }
+        OwnerPermit::of(Permit::blind())
     }
 
     /// Lets go a permit of a cell whose owners are not counted.

@@ -6,7 +6,7 @@ ghost use Rattle.async_cell_step.specs.Deferred.{all_of};
 ghost use Rattle.async_cell_history.specs.History.{Made, done_reply, end_reply, take_reply};
 
 use super::CellCore;
-use crate::entries::{AddsOwner, ClosesFirst, EndsOther, EndsOwner, TakesInner};
+use crate::entries::{AddsOwner, EndsOwner, TakesInner};
 use crate::{Before, Nobody, OwnerPermit, Protocol, Signs};
 use async_cell_core::{Refusal, Wakers, Wakes};
 use async_cell_model::{Kept, Reply};
@@ -41,7 +41,7 @@ impl<T: Drop, W: Wakes, N: Protocol<T, W>> CellCore<T, W, N> {
         if !is_other {
             return Err(permit);
         }
-        before.enter(&mut self.past, &EndsOther, &is_other, &self.inner, &Nobody);
+        before.enter(&mut self.past, &EndsOwner, &is_other, &self.inner, &Nobody);
         self.past.take(permit);
         Ok(())
     }
@@ -59,7 +59,7 @@ impl<T: Drop, W: Wakes, N: Protocol<T, W>> CellCore<T, W, N> {
         let Some(closed) = self.inner.close_first() else {
             return Err(permit);
         };
-        before.enter(&mut self.past, &ClosesFirst, &closed, &self.inner, &Nobody);
+        before.enter(&mut self.past, &EndsOwner, &closed, &self.inner, &Nobody);
         self.past.take(permit);
         let (value, first) = closed;
         Ok(Deferred::waking(value, first))

@@ -1,9 +1,8 @@
 use Rattle.std.proofs.Common.{[], ◌∷◌, ◌++◌, map, refl, ap, sym, subst}
 use Rattle.async_cell_model.specs.History.{History}
 use Rattle.async_cell_history.specs.History.{Past, Fits, Leads, IsLawful, entry_of}
-use Rattle.async_cell_history.proofs.Leading.{leads_more, lawful_more}
-use Rattle.async_cell_history.proofs.PutIn.{allowed_puts}
-use Rattle.async_cell_history.proofs.Signing.{map_more}
+use Rattle.async_cell_history.proofs.Leading.{leads_more, lawful_more, allowed_puts}
+use Rattle.async_cell_history.proofs.Linearizing.{map_more}
 use Rattle.async_cell_history.proofs.past.Before.enter.Goals as goal
 
 pub invariant_of-past : goal.invariant_of-past

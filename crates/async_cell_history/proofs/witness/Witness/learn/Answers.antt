@@ -1,5 +1,5 @@
 use Rattle.std.proofs.Common.{ap}
-use Rattle.async_cell_history.proofs.Signing.{begins_map}
+use Rattle.async_cell_history.proofs.Linearizing.{begins_map}
 use Rattle.async_cell_history.proofs.witness.Witness.learn.Goals as goal
 
 pub returns-clause-goes_on : goal.returns-clause-goes_on

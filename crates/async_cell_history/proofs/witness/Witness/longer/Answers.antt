@@ -1,5 +1,5 @@
 use Rattle.std.proofs.Common.{ap, refl}
-use Rattle.async_cell_history.proofs.Signing.{begins_map}
+use Rattle.async_cell_history.proofs.Linearizing.{begins_map}
 use Rattle.async_cell_history.proofs.witness.Witness.longer.Goals as goal
 
 pub returns-clause-begins : goal.returns-clause-begins
