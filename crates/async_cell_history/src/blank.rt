@@ -10,8 +10,8 @@ use ghost_log::{Log, Makes};
 use std::alloc::Global;
 use std::marker::Model;
 
-/// A cell that is not made yet, with its content. It begins a history, which a type may name: by
-/// a function over that type, which is called at `std::marker::Brand` (see `Protocol`).
+/// A cell that is not made yet, with its content. Its history begins. A type can name the history:
+/// write a function generic in that type, and call it at `std::marker::Brand` (see `Protocol`).
 pub struct Blank<T: Drop, W: Wakes> {
     core: Core<T, W>,
     opened: Opened<T, W>,
@@ -72,7 +72,7 @@ impl<T: Drop, W: Wakes> Drop for Blank<T, W> {
     }
 }
 
-/// A core that begins a history, which no type names yet.
+/// A history that begins with a core, and that no type names yet.
 #[derive(Drop)]
 pub struct Opened<T, W: Wakes> {
     pub(crate) log: Log<Signed<T, W>>,
@@ -126,8 +126,8 @@ impl<T: Drop, W: Wakes> Opened<T, W> {
     }
 }
 
-/// The first state of a cell, in the proofs alone. (A `Snapshot` would be the thing, if the prover
-/// saw that what has one beside another field can be sent.)
+/// The first state of a cell. It has no bytes. (It is no `Snapshot`: the prover does not see that a
+/// struct which has one beside another field can be sent.)
 #[derive(Drop)]
 pub(crate) struct Start<T, W: Wakes> {
     log: Log<Core<T, W>>,

@@ -1,5 +1,5 @@
-//! The calls that a step may make of a core. This module and `ops` alone see the core: each function
-//! makes one call of it, and holds what comes out, which the end of a step alone lets go.
+//! The calls that a step may make of a core. Only this module and `ops` see the core. Each function
+//! makes one call of it, and holds what comes out in a `Deferred`, until the step ends.
 ghost use Rattle.std.specs.Prelude.{◌≡◌, [], false, Some, None, IfErr, IfOk, IfSome, IsSome, IsSomeAnd};
 ghost use Rattle.std.specs.Fn.{FnOnceReturnsAt};
 ghost use Rattle.async_cell_model.specs.Machine.{content, is_closed, is_vacant, IsSound};
@@ -18,8 +18,8 @@ use std::alloc::Global;
 use std::fmt;
 use std::marker::{Model, PhantomData};
 
-/// The core of a cell, whose own calls it hides: what they return would be woken or dropped during
-/// a step. Its own hold what comes out.
+/// The core of a cell, with its history. It hides the core's own calls: what they return could be
+/// woken or dropped during a step.
 #[derive(Drop)]
 pub struct CellCore<T, W: Wakes, N: Protocol<T, W> = Unruled> {
     inner: Core<T, W>,
@@ -50,7 +50,7 @@ impl<T: Drop, W: Wakes, N: Protocol<T, W>> CellCore<T, W, N> {
         CellCore::begin(core, opened)
     }
 
-    /// Wraps the core, which begins its history.
+    /// Wraps the core, with the history that it begins.
     #[inline(always)]
     pub(crate) fn begin(core: Core<T, W>, opened: Opened<T, W>) -> Self
         requires named { Fits N.named opened }
@@ -67,8 +67,8 @@ impl<T: Drop, W: Wakes, N: Protocol<T, W>> CellCore<T, W, N> {
         }
     }
 
-    /// Wraps the core of a blank, and makes the first witness of its history, and the permit of its
-    /// owner.
+    /// Wraps the core of a blank. Also returns the first witness of its history, and the permit of
+    /// its owner.
     pub fn of_blank(blank: Blank<T, W>) -> (Self, Witness<T, W, N>, OwnerPermit<T, W, N>)
         requires named { N.named ≡ Some blank }
         requires rule { IfSome (content blank.start.cell) N.holds }
@@ -100,8 +100,8 @@ impl<T: Drop, W: Wakes, N: Protocol<T, W>> CellCore<T, W, N> {
         self.inner.soundness();
     }
 
-    /// Does nothing. Its contract states that a cell is open while an owner that is counted has its
-    /// permit.
+    /// Does nothing. Its contract states that the cell is open, if its owners are counted: here is
+    /// the permit of one.
     #[inline(always)]
     #[tactic(auto, using(crate::proofs::Leading::open_if_owned))]
     pub(crate) fn owned(&mut self, permit: &OwnerPermit<T, W, N>)
@@ -111,7 +111,7 @@ impl<T: Drop, W: Wakes, N: Protocol<T, W>> CellCore<T, W, N> {
         self.past.shows(permit);
     }
 
-    /// Makes a call, and enters it, signed `by`.
+    /// Makes a call, and adds its entry, signed `by`.
     #[inline(always)]
     pub fn make<O: Op<T, W, N>, B: Signs>(&mut self, op: O, by: &B) -> Deferred<O::Answer, O::After>
         requires can { O.can op }
@@ -128,7 +128,7 @@ impl<T: Drop, W: Wakes, N: Protocol<T, W>> CellCore<T, W, N> {
         held
     }
 
-    /// `make`, on the fast path of the call, if it has one and can take it.
+    /// `make`, on the fast path of the call. Returns the call if it cannot take that.
     #[inline(always)]
     pub fn fast<O: Op<T, W, N>, B: Signs>(
         &mut self,
@@ -157,7 +157,7 @@ impl<T: Drop, W: Wakes, N: Protocol<T, W>> CellCore<T, W, N> {
         self.inner.is_set()
     }
 
-    /// Returns whether the cell is open and has no value: whether a poll waits.
+    /// Returns whether the cell is open and has no value: then a poll waits.
     #[inline(always)]
     pub fn is_vacant(&self) -> bool
         ensures { result ≡ is_vacant self.now.inner.cell }
@@ -183,7 +183,7 @@ impl<T: Drop, W: Wakes, N: Protocol<T, W>> CellCore<T, W, N> {
         self.inner.wakes_nobody()
     }
 
-    /// Calls the closure on the value, if there is one. It comes back otherwise.
+    /// Calls the closure on the value. Returns the closure if there is none.
     #[inline(always)]
     pub fn peek<A, F: FnOnce(&T) -> A>(&self, look: F) -> Deferred<Result<A, F>>
         requires { F.IsAlwaysCallable look }
@@ -194,7 +194,7 @@ impl<T: Drop, W: Wakes, N: Protocol<T, W>> CellCore<T, W, N> {
         Deferred::of(self.inner.peek(look))
     }
 
-    /// Prints the core. Fails with `Memory`.
+    /// Returns the core's `Debug` text. Fails with `Memory`.
     pub fn debug_text(&self, alloc: Global) -> Deferred<Result<String, Refusal>>
     where
         T: fmt::Debug,

@@ -13,8 +13,8 @@ use crate::Protocol;
 use async_cell_core::Wakes;
 use async_cell_model::{Kept, Reply};
 
-/// A call that fills or closes a cell wakes each waker that still waits there, or one that would
-/// wake it.
+/// A call that fills or closes a cell wakes each waker that still waits there, or in its place one
+/// that would wake it.
 pub fn a_fill_or_close_wakes_who_waits<T, W: Wakes, N: Protocol<T, W>>()
     ensures { (seen now : History T W) (call : Called T W) (reply : Replied T) (w : W)
         (made : IsLinearized W.Wakes N.named seen call reply now)
@@ -25,7 +25,7 @@ pub fn a_fill_or_close_wakes_who_waits<T, W: Wakes, N: Protocol<T, W>>()
         → IsCovered W.will_wake made.woken w }
 {}
 
-/// A `set` that was done wakes each waker that still waits there, or one that would wake it.
+/// As `a_fill_or_close_wakes_who_waits`, of a `set` that succeeded.
 pub fn a_set_wakes_who_waits<T, W: Wakes, N: Protocol<T, W>>()
     ensures { (seen now : History T W) (v : T) (w : W)
         (made : IsLinearized W.Wakes N.named seen (Kept.Set v) Reply.Done now)
@@ -42,7 +42,7 @@ pub fn what_was_seen_stays<T, W: Wakes, N: Protocol<T, W>>()
         → IsPrefix seen now → HasEntry seen call reply → HasEntry now call reply }
 {}
 
-/// Where clones are exact, what was got is what the cell held.
+/// If each clone equals its source, a `try_get` returned what the cell held.
 #[tactic(auto, using(crate::proofs::GoingOn::exact_get))]
 pub fn an_exact_get_is_linearized<T: Clone, W: Wakes, N: Protocol<T, W>>()
     ensures { IsExact T.is_clone → (seen now : History T W) (v : T)
@@ -60,9 +60,10 @@ pub fn what_is_set_once_all_get<T, W: Wakes, N: Protocol<T, W>>()
         → HasEntry now Kept.TryGet (Reply.Value (Some w)) → v ≡ w }
 {}
 
-/// What is got never goes back, if only an `or_set` may be made, and an update that leaves in a
-/// full cell a value which follows the one there, by a reflexive and transitive test. What a
-/// `try_get` finds follows what one that it has seen found: each returned that, or a clone of it.
+/// What is got never goes back. Of two `try_get`s, if the second has seen the first, the value that
+/// it finds follows that of the first, by a reflexive and transitive test. Only `or_set`s may be
+/// made, and updates that leave in a full cell a value that follows the one there. Each `try_get`
+/// returned the value that it found, or a clone of it.
 pub fn what_is_got_never_goes_back<T, W: Wakes, N: Protocol<T, W>>()
     ensures { (follows : T → T → Bool) (seen first later now : History T W) (v w : T)
         → ((a : T) → follows a a ≡ true)
@@ -75,7 +76,7 @@ pub fn what_is_got_never_goes_back<T, W: Wakes, N: Protocol<T, W>>()
         → follows v w ≡ true }
 {}
 
-/// A take that an author signed is one of its own, for ever: also in all that was seen later.
+/// A take that an author signed is one of its own, also in all that is seen later.
 #[tactic(auto, using(crate::proofs::TwoTakers::took, crate::proofs::TwoTakers::still_took))]
 pub fn a_seen_take_is_of_its_author<T, W: Wakes, N: Protocol<T, W>>()
     ensures linearized { (seen now : Seen T W) (v : T)
@@ -85,8 +86,7 @@ pub fn a_seen_take_is_of_its_author<T, W: Wakes, N: Protocol<T, W>>()
         → IsPrefix seen.calls all.calls → IsPrefix seen.authors all.authors → Took n v all }
 {}
 
-/// Of takers alone one gets a value. If takes are the only changes that may be made, all takes of a
-/// value are signed by one author.
+/// If takes are the only changes that may be made, one author signed all takes that found a value.
 pub fn of_takers_alone_one_gets<T, W: Wakes, N: Protocol<T, W>>()
     ensures { (all : Seen T W) (m n : ℕ) (v w : T) → OnlyMakes N.may IsTake
         → IsLawful W.will_wake W.SURE_CLONE N.may (start_of N.named) all.calls

@@ -1,6 +1,5 @@
-//! The core of a cell beside its history, which exists in the proofs alone. Its calls, each a value,
-//! who makes and who sees them, and laws. Internal, but for what the crates of the cells re-export:
-//! it may change without notice.
+//! A cell's core with its history, which exists only in proofs. A call is a value (`Op`). Internal,
+//! except what the crates of the cells re-export: it may change without notice.
 #![tactic(auto)]
 
 mod blank;

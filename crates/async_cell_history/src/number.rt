@@ -1,4 +1,4 @@
-//! Numbers in the proofs alone: who makes the calls of a history, and how many.
+//! Numbers that exist only in proofs: who makes the calls of a history, and how many.
 ghost use Rattle.std.specs.Prelude.{◌≡◌, ◌+◌, ℕ};
 
 use async_cell_model::Entry;

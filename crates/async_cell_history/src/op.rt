@@ -1,4 +1,4 @@
-//! Calls as values: one function makes any of them in one step, plainly or for a witness.
+//! Calls as values: one function makes any of them in one step, with or without a witness.
 ghost use Rattle.std.specs.Prelude.{◌≡◌, ⊤, false, None, IfOk, IfSome, OnErr, IfErr};
 ghost use Rattle.async_cell_model.specs.declared.entry.Kept.{Kept};
 ghost use Rattle.async_cell_model.specs.declared.reply.Reply.{Reply};
@@ -10,25 +10,24 @@ use async_cell_core::{Core, Wakes};
 use async_cell_step::{After, Deferred};
 use std::marker::PhantomData;
 
-/// A call of a cell, as a value. Which call of the model it is only contracts read: from the states
-/// before and after it, and from its answer.
+/// A call of a cell, as a value. Only contracts read its ghost members.
 pub trait Op<T: Drop, W: Wakes, N: Protocol<T, W>>: Sized {
     /// What it returns.
     type Answer;
 
-    /// What it leaves for after the step.
+    /// What is woken and dropped after the step.
     type After: After<W>;
 
-    /// What it leaves on its fast path.
+    /// The same, on its fast path.
     type Few: After<W>;
 
-    /// It has a fast path.
+    /// Whether it has a fast path.
     const IS_FAST: bool = false;
 
-    /// What has to be known for it to be made.
+    /// What it requires.
     ghost can: { Self → Type 0 } = { λ _. ⊤ };
 
-    /// The call of the model.
+    /// The call of the model, by the states before and after it.
     ghost call: { State T W → Self → State T W → Kept T W };
 
     /// The reply of the model.
@@ -37,13 +36,13 @@ pub trait Op<T: Drop, W: Wakes, N: Protocol<T, W>>: Sized {
     /// What is known of the answer.
     ghost gives: { State T W → Self → Self.Answer → State T W → Type 0 } = { λ _ _ _ _. ⊤ };
 
-    /// What it leaves for after the step.
+    /// What is known of `After`.
     ghost leaves: { State T W → Self → Self.After → Type 0 } = { λ _ _ _. ⊤ };
 
-    /// What it leaves on its fast path.
+    /// What is known of `Few`.
     ghost leaves_few: { State T W → Self → Self.Few → Type 0 } = { λ _ _ _. ⊤ };
 
-    /// Makes it.
+    /// Makes the call.
     fn make(self, core: &mut Core<T, W>) -> Deferred<Self::Answer, Self::After>
         requires can { can self }
         requires rule { IfSome (content core.old.cell) N.holds }
@@ -55,7 +54,7 @@ pub trait Op<T: Drop, W: Wakes, N: Protocol<T, W>>: Sized {
         ensures gives { gives core.old self result.answer core.new }
         ensures leaves { leaves core.old self result.woken };
 
-    /// Makes it, if it wakes no more than one waker and has a fast path. It comes back otherwise.
+    /// Makes the call, if it has a fast path and wakes one waker at most. Otherwise returns it.
     #[inline(always)]
     fn fast(self, core: &mut Core<T, W>) -> Result<Deferred<Self::Answer, Self::Few>, Self>
         requires can { can self }
@@ -75,7 +74,7 @@ pub trait Op<T: Drop, W: Wakes, N: Protocol<T, W>>: Sized {
         Err(self)
     }
 
-    /// What it returns where no core is lent: as of a closed cell.
+    /// Returns what the call returns where no core is lent: as if the cell were closed.
     fn unlent(self) -> Self::Answer
         ensures gives { gives (start_of None) self result (start_of None) };
 }

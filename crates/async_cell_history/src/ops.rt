@@ -1,5 +1,5 @@
-//! The calls of a cell, each once. (Of plain writes `CellStore` has a text of its own, too: with
-//! ends that they share with others they would cost 13 instructions more.)
+//! The calls of a cell. (`CellStore` also has code of its own for plain writes: ends shared with
+//! other calls would cost 13 instructions more.)
 mod looks;
 mod writes;
 

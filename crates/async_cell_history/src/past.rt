@@ -10,20 +10,21 @@ use ghost_log::{Log, Makes};
 use std::marker::{Model, PhantomData};
 use std::snapshot::Snapshot;
 
-/// Says which call of the model it is, by the states before and after it and by what was passed to
-/// it, and how it was answered, by what it returned. Only contracts read it.
+/// Says which call of the model a call of the core is, and how it was answered. Only contracts read
+/// it.
 pub(crate) trait Enters<C, A, T, W> {
     ghost use Rattle.async_cell_model.specs.declared.entry.Kept.{Kept};
     ghost use Rattle.async_cell_model.specs.Machine.{State};
     ghost use Rattle.async_cell_core.specs.declared.call.Answer.{Answer};
 
+    /// The call, by the state before it, what was passed, and the state after it.
     ghost call: { State T W → C → State T W → Kept T W };
 
+    /// The answer, by the state before it, and what it returned.
     ghost answer: { State T W → A → Answer T W };
 }
 
-/// The whole history of a cell, and the right to make it longer: it lies beside the core. It has no
-/// bytes.
+/// The whole history of a cell, and the right to extend it. It has no bytes.
 #[derive(Drop)]
 pub struct Past<T, W: Wakes, N: Protocol<T, W>> {
     pub(crate) log: Log<Signed<T, W>>,
@@ -53,7 +54,7 @@ impl<T, W: Wakes, N: Protocol<T, W>> Model for Past<T, W, N> {
 }
 
 impl<T, W: Wakes, N: Protocol<T, W>> Past<T, W, N> {
-    /// Begins with this core, and no calls.
+    /// Begins without calls.
     pub(crate) fn of(opened: Opened<T, W>) -> Self
         requires named { Fits N.named opened }
         requires counted { opened.permits ≡ permits_of N.named }
@@ -71,7 +72,7 @@ impl<T, W: Wakes, N: Protocol<T, W>> Past<T, W, N> {
     }
 }
 
-/// A call that is made of a core: the core before it, and what is passed to it. It has no bytes.
+/// A call that begins: the core before it, and what is passed to it. It has no bytes.
 #[derive(Drop)]
 pub(crate) struct Before<C, T, W: Wakes> {
     from: Snapshot<Core<T, W>>,
@@ -79,7 +80,7 @@ pub(crate) struct Before<C, T, W: Wakes> {
 }
 
 impl<C, T, W: Wakes> Before<C, T, W> {
-    /// A call of this core, to which this is passed.
+    /// A call of `core`, to which `passed` is passed.
     #[inline(always)]
     pub(crate) fn of(core: &Core<T, W>, passed: &C) -> Self
         ensures from { result.from.value ≡ core.now }
@@ -91,8 +92,8 @@ impl<C, T, W: Wakes> Before<C, T, W> {
         }
     }
 
-    /// Adds the call at the end of the past, as `M` enters it: it returned this, left this core, and
-    /// is signed so.
+    /// Adds the entry that `M` makes of the call at the end of `past`. The call returned `returned`
+    /// and left the core `to`; `by` signs it.
     #[inline(always)]
     #[tactic(auto, using(crate::proofs::Leading::owners_stay))]
     pub(crate) fn enter<N: Protocol<T, W>, M: Enters<C, A, T, W>, A, B: Signs>(
@@ -128,9 +129,9 @@ impl<C, T, W: Wakes> Before<C, T, W> {
         });
     }
 
-    /// `enter`, of a call that stores a waker, if none stood in its place: where one did, its
-    /// future waited already. It is not inlined always, so the compiler finds it empty before it
-    /// inlines it: in its caller the branch would cost an instruction.
+    /// `enter`, of a call that stored a waker in a place. If it replaced a waker, it has no entry:
+    /// its future waited already. This is not `inline(always)`, so that the compiler finds it empty
+    /// first: otherwise its branch would cost the caller an instruction.
     pub(crate) fn enter_stored<N: Protocol<T, W>, M: Enters<C, (), T, W>>(
         &self,
         past: &mut Past<T, W, N>,
@@ -161,7 +162,7 @@ impl<C, T, W: Wakes> Before<C, T, W> {
     }
 }
 
-/// A call that was made: what it returned, the core that it left, and who made it.
+/// A call that was made: what it returned, the core that it left, and who signed it.
 #[derive(Drop)]
 struct Made<'a, 'b, 'c, 'd, C, A, T, W: Wakes, B> {
     before: &'a Before<C, T, W>,

@@ -1,4 +1,4 @@
-//! The permits of a cell's owners: as many are out as its core counts owners.
+//! The permits of a cell's owners. As many are out as its core counts owners.
 ghost use Rattle.std.specs.Prelude.{◌≡◌, ◌+◌, ◌-◌, ◌<◌, false, None, IsSome, IsTrue};
 ghost use Rattle.async_cell_model.specs.Machine.{is_closed};
 ghost use Rattle.async_cell_history.specs.History.{permits_of};
@@ -10,14 +10,14 @@ use ghost_count::Permit;
 use ghost_log::Log;
 use std::marker::{Model, PhantomData};
 
-/// The permit of one owner of a cell, in the proofs alone. It is not `Drop`: the end of its owner
-/// takes it. It has no bytes.
+/// The permit of one owner of a cell. It is not `Drop`: the end of its owner takes it. It has no
+/// bytes.
 pub struct OwnerPermit<T, W, N: Protocol<T, W>> {
     permit: Permit,
     of: PhantomData<Log<(T, W, N)>>, // As a log, it may be sent and shared with any `T`.
 }
 
-/// It is of the count of the cell that `N` names.
+/// Its count is that of the cell that `N` names.
 impl<T, W, N: Protocol<T, W>> Model for OwnerPermit<T, W, N> {
     ghost use Rattle.std.specs.Prelude.{◌≡◌};
     ghost use Rattle.async_cell_history.specs.History.{permits_of};
@@ -58,7 +58,7 @@ impl<T, W, N: Protocol<T, W>> OwnerPermit<T, W, N> {
         permit.lose();
     }
 
-    /// Lets go the permit of the last owner of a cell that ends next: nobody else can call it.
+    /// Lets go the permit of the last owner. The cell ends next, and nobody else can call it.
     #[inline(always)]
     pub fn rest<M: Stores<Core = CellCore<T, W, N>>>(self, _: &mut StoredCore<M>)
     where
@@ -68,7 +68,7 @@ impl<T, W, N: Protocol<T, W>> OwnerPermit<T, W, N> {
         permit.lose();
     }
 
-    /// Loses the permit where no step could be lent: nobody closes the cell then.
+    /// Lets go a permit where no step could be lent: then nobody closes the cell.
     #[inline(always)]
     pub fn lose<'a, M: Stores, R: Opens<'a, M>>(self, _: &R)
         requires unlent { IsTrue R.always → ⊥ }

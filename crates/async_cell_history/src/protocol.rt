@@ -88,7 +88,8 @@ impl<T, W, P: Rule<T>> Unwitnessed<T, W> for Ruled<P> {
     ghost nameless = { refl };
 }
 
-/// What a call at `Brand` picks in place of these may name values of the program.
+/// A call at `Brand` may pick other members, in an `Invariants.antt`. They may name the program's
+/// values.
 impl<T, W> Protocol<T, W> for Brand {
     ghost named = { None };
 

@@ -9,25 +9,25 @@ use async_cell_core::Wakes;
 
 /// Who signs a call.
 pub trait Signs {
-    /// With this number.
+    /// The number that it signs with.
     ghost number: { Self → ℕ };
 }
 
-/// Who is told of a call, which it signs: a witness, or nobody.
+/// Who signs a call and is told of it: a witness, or nobody.
 pub trait Sees<T: Drop, W: Wakes, N: Protocol<T, W>>: Signs {
-    /// The first has seen what led to this core, as the second knows.
+    /// The second is the first, after it caught up: it has seen all that led to this core.
     ghost ready: { Self → Self → Logged T W → Type 0 };
 
     /// The second has seen that this call was made, with this reply, after what the first has seen.
     ghost sees: { Self → Kept T W → Reply T → Self → Type 0 };
 
-    /// Sees what was called before.
+    /// Sees all calls so far.
     fn catch_up(&mut self, core: &CellCore<T, W, N>)
         ensures ready { ready self.old self.new core.now }
         ensures again { (first : Self) (from : Logged T W) → ready first self.old from
             → ready first self.new core.now };
 
-    /// Sees the call that it has made.
+    /// Sees the call that it has signed.
     fn see(&mut self, core: &CellCore<T, W, N>)
         ensures sees { (first : Self) (from : Logged T W) (call : Kept T W) (reply : Reply T)
             (woken : List W) → ready first self.old from

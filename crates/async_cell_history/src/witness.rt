@@ -68,7 +68,7 @@ impl<T, W: Wakes, N: Protocol<T, W>> Witness<T, W, N> {
         self.seen.learn(&past.log);
     }
 
-    /// `learn`, of a history that ends with a call that was made with this.
+    /// `learn`, of a history whose last call was made with this.
     #[inline(always)]
     pub(crate) fn learn_own(&mut self, past: &Past<T, W, N>)
         ensures calls { self.new.calls ≡ past.now.calls }
@@ -80,8 +80,8 @@ impl<T, W: Wakes, N: Protocol<T, W>> Witness<T, W, N> {
         self.own = self.own.next();
     }
 
-    /// Ensures what holds of all that was seen: its calls are legal, its changes may be made, each
-    /// call has one author, and the owners of the cell are counted.
+    /// Does nothing. Its contract states what holds of all that was seen: its calls are legal, its
+    /// changes may be made, each call has one author, and the owners of the cell are counted.
     #[inline(always)]
     pub fn lawful(&self)
         ensures lawful { IsLawful W.will_wake W.SURE_CLONE N.may (start_of N.named) self.now.calls }
@@ -114,8 +114,8 @@ impl<T, W: Wakes, N: Protocol<T, W>> Witness<T, W, N> {
         }
     }
 
-    /// Returns a witness of what the one of two has seen that has seen more. What the other one has
-    /// seen begins it. It signs as the first does, and has made as many calls.
+    /// Returns a witness of the longer of what the two have seen. What each has seen begins it. It
+    /// signs as `self` does, and has made as many calls.
     pub fn longer(&self, other: &Self) -> Self
         ensures one_of_both { (result.calls ≡ self.now.calls) ⊎ (result.calls ≡ other.now.calls) }
         ensures begins { IsPrefix self.now.calls result.calls }

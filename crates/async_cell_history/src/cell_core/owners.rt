@@ -1,4 +1,4 @@
-//! The calls that add an owner, which give its permit, and those that end one, which take it.
+//! The calls that add an owner, and give its permit, and those that end one, and take it.
 ghost use Rattle.std.specs.Prelude.{◌≡◌, ◌⊎◌, [], None, IfErr, IfOk, IfSome, OnOk};
 ghost use Rattle.async_cell_model.specs.Refusal.{FailsWithClosed};
 ghost use Rattle.async_cell_wakers.specs.WaitList.{first_then};
@@ -13,7 +13,7 @@ use async_cell_model::{Kept, Reply};
 use async_cell_step::Deferred;
 
 impl<T: Drop, W: Wakes, N: Protocol<T, W>> CellCore<T, W, N> {
-    /// Adds an owner, and gives its permit.
+    /// Adds an owner, and gives its permit. Fails with `Closed` or `OwnersFull`.
     #[inline(always)]
     pub fn add_owner<B: Signs>(&mut self, by: &B) -> Deferred<Result<OwnerPermit<T, W, N>, Refusal>>
         ensures refused { IfErr result.answer (λ why.
@@ -30,7 +30,7 @@ impl<T: Drop, W: Wakes, N: Protocol<T, W>> CellCore<T, W, N> {
         }
     }
 
-    /// Ends one of several owners. Otherwise its permit comes back.
+    /// Ends one of several owners. Otherwise returns its permit.
     #[inline(always)]
     pub fn end_other(&mut self, permit: OwnerPermit<T, W, N>) -> Result<(), OwnerPermit<T, W, N>>
         ensures made { OnOk result (Made W.will_wake W.SURE_CLONE self.old
@@ -46,7 +46,7 @@ impl<T: Drop, W: Wakes, N: Protocol<T, W>> CellCore<T, W, N> {
         Ok(())
     }
 
-    /// Ends the last owner, if no more than one waker waits. Otherwise its permit comes back.
+    /// Ends the last owner, if one waker at most waits. Otherwise returns its permit.
     #[inline(always)]
     pub fn close_first(
         &mut self,
@@ -65,7 +65,7 @@ impl<T: Drop, W: Wakes, N: Protocol<T, W>> CellCore<T, W, N> {
         Ok(Deferred::waking(value, first))
     }
 
-    /// Ends an owner, which takes its permit.
+    /// Ends an owner. Fails with `Closed`.
     #[inline(always)]
     pub fn end_owner(
         &mut self,
@@ -82,7 +82,8 @@ impl<T: Drop, W: Wakes, N: Protocol<T, W>> CellCore<T, W, N> {
         Deferred::of_result(ended)
     }
 
-    /// Closes the cell, if there is one owner. Otherwise its permit comes back.
+    /// Closes the cell, if it has one owner. Otherwise fails with `Closed` or `StillShared`, and
+    /// returns the permit.
     #[inline(always)]
     pub fn take_inner(
         &mut self,

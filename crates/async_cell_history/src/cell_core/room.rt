@@ -1,5 +1,4 @@
-//! The places of futures that wait. One that begins to wait is entered, as a poll that takes
-//! nothing.
+//! The places of futures that wait. A future that begins to wait is entered as a `poll_get`.
 use super::CellCore;
 use crate::entries::Waits;
 use crate::{Before, Nobody, Protocol};

@@ -1,4 +1,4 @@
-//! The calls that change nothing but by taking the value or adding a waker.
+//! The calls that write no value: they look for one, take it, or wait for it.
 ghost use Rattle.std.specs.Prelude.{◌≡◌, true, IfOk, IfSome, IsOk};
 ghost use Rattle.async_cell_model.specs.declared.entry.Kept.TheVariants as kept;
 ghost use Rattle.async_cell_model.specs.declared.reply.Reply.TheVariants as reply;
@@ -100,11 +100,11 @@ impl<T: Drop, W: Wakes, N: Protocol<T, W>> Op<T, W, N> for IsSet {
     }
 }
 
-/// Takes the value, or registers the waker.
+/// Takes the value, or registers the waker. Fails with `Memory`.
 #[derive(Drop)]
 pub struct PollTake<'a, W>(pub &'a W);
 
-/// `PollTake`, of a clone made during the step. Fails with `Memory` for the clone too.
+/// Clones the value during the step, or registers the waker. Fails with `Memory`.
 #[derive(Drop)]
 pub struct PollGet<'a, W>(pub &'a W);
 
