@@ -1,19 +1,26 @@
-//! The calls that speak of the value.
-ghost use Rattle.std.specs.Prelude.{◌≡◌, Option, Some, None, IfErr, IfOk, IfSome, OnOk};
+//! The calls that speak of the value, and those that change nothing.
+ghost use Rattle.std.specs.Prelude.{◌≡◌, Option, Some, None, IfErr, IfOk, IfSome, IsOk, IsSome, IsTrue, OnOk};
+ghost use Rattle.std.specs.Fn.{FnOnceReturnsAt};
+ghost use Rattle.async_cell_model.specs.Machine.{IsSound};
 ghost use Rattle.async_cell_model.specs.Refusal.{FailsWithClosed, FailsWithMemory};
+ghost use Rattle.async_cell_step.specs.Rule.{IsCloneOfOne};
 
 use crate::cell_store::CellStore;
 use async_cell_core::{Poll, Refusal, Wakes};
 use async_cell_history::{
-    Anyone, CellCore, Nobody, OrSet, PollGet, PollTake, Protocol, TryTake, Update, UpdateSome,
+    Anyone, CellCore, IsSet, Nobody, OrSet, PollGet, PollTake, Protocol, TryGet, TryTake, Update,
+    UpdateSome,
 };
 use async_cell_model::Kept;
 use async_cell_step::{
     Deferred, Opens, Step, Stores, end, end_and_wake_one, opened, put_held, write_held,
 };
+use std::alloc::Global;
+use std::fmt;
 
 impl<M: Stores<Core = CellCore<T, W, N>>, T: Drop, W: Wakes, N: Protocol<T, W>> CellStore<M> {
-    /// Sets the value, drops the old one and wakes all waiters. A closed cell gives the value back.
+    /// Sets the value, drops the old one and wakes all waiters. Fails on a closed cell, and then
+    /// returns the value.
     pub fn set<'a, R: Opens<'a, M>>(&'a self, value: T, rt: &R) -> Result<(), T>
         requires may { N.may (Kept.Replace value) }
         ensures comes_back { IfErr result (λ back. back ≡ value) }
@@ -40,7 +47,7 @@ impl<M: Stores<Core = CellCore<T, W, N>>, T: Drop, W: Wakes, N: Protocol<T, W>> 
         }
     }
 
-    /// Sets the value, wakes all waiters, returns the old one. A closed cell gives the value back.
+    /// `set`, which returns the old value.
     #[inline]
     pub fn replace<'a, R: Opens<'a, M>>(&'a self, value: T, rt: &R) -> Result<Option<T>, T>
         requires may { N.may (Kept.Replace value) }
@@ -61,8 +68,7 @@ impl<M: Stores<Core = CellCore<T, W, N>>, T: Drop, W: Wakes, N: Protocol<T, W>> 
         }
     }
 
-    /// Sets the value and wakes all waiters, if the cell holds no value. Drops `value` otherwise.
-    /// Fails on a closed cell; the value is returned in the error.
+    /// `set`, if the cell holds no value. Otherwise drops `value`.
     pub fn or_set<'a, R: Opens<'a, M>>(&'a self, value: T, rt: &R) -> Result<(), T>
         requires may { N.may (Kept.OrSet value) }
         ensures comes_back { IfErr result (λ back. back ≡ value) }
@@ -71,7 +77,7 @@ impl<M: Stores<Core = CellCore<T, W, N>>, T: Drop, W: Wakes, N: Protocol<T, W>> 
         Ok(())
     }
 
-    /// `or_set`, which returns an unused `value` in the error, also on a closed cell.
+    /// `or_set`, which fails if the cell holds a value, too: an unused `value` is in the error.
     pub fn try_set<'a, R: Opens<'a, M>>(&'a self, value: T, rt: &R) -> Result<(), T>
         requires may { N.may (Kept.OrSet value) }
         ensures comes_back { IfErr result (λ back. back ≡ value) }
@@ -81,9 +87,8 @@ impl<M: Stores<Core = CellCore<T, W, N>>, T: Drop, W: Wakes, N: Protocol<T, W>> 
     }
 
     /// Calls the closure on the content and stores what it returns, all in one step. Wakes all
-    /// waiters if that puts a value into an empty cell. Fails with `Closed` on a closed cell,
-    /// without calling the closure. What the closure owns is dropped under the lock. A closure that
-    /// was not called is dropped after the step.
+    /// waiters if that fills an empty cell. Fails with `Closed` on a closed cell, and then does not
+    /// call the closure. What a called closure owns is dropped under the lock.
     pub fn update<'a, F, R: Opens<'a, M>>(&'a self, change: F, rt: &R) -> Result<(), Refusal>
     where
         F: FnOnce(Option<T>) -> Option<T> + Drop,
@@ -97,9 +102,7 @@ impl<M: Stores<Core = CellCore<T, W, N>>, T: Drop, W: Wakes, N: Protocol<T, W>> 
         self.make(Update(change), &Anyone, &mut Nobody, rt)
     }
 
-    /// `update`, of a value: the closure is not called if there is none. Fails with `Closed` on a
-    /// closed cell. What the closure owns is dropped under the lock. A closure that was not called
-    /// is dropped after the step.
+    /// `update`, of a value: the closure is not called if there is none.
     pub fn update_some<'a, F, R: Opens<'a, M>>(&'a self, change: F, rt: &R) -> Result<(), Refusal>
     where
         F: FnOnce(T) -> T + Drop,
@@ -133,7 +136,7 @@ impl<M: Stores<Core = CellCore<T, W, N>>, T: Drop, W: Wakes, N: Protocol<T, W>> 
         self.make(TryTake, &Anyone, &mut Nobody, rt)
     }
 
-    /// Takes the content out; `None` if the cell is closed.
+    /// Takes the content. Returns `None` if the cell is closed.
     #[doc(hidden)]
     pub fn take_out<'a, R: Opens<'a, M>>(&'a self, rt: &R) -> Option<Option<T>>
         requires may { N.may Kept.TryTake }
@@ -147,8 +150,8 @@ impl<M: Stores<Core = CellCore<T, W, N>>, T: Drop, W: Wakes, N: Protocol<T, W>> 
         Some(end(step, content))
     }
 
-    /// Takes the value, or waits: registers the waker (see `WaitList::skips`). `Ready(None)` on a
-    /// closed cell. Fails with `Memory` for the waker's clone, or to grow the list.
+    /// Takes the value, or waits: adds a clone of the waker (see `WaitList::skips`). `Ready(None)`
+    /// on a closed cell. Fails with `Memory` if the clone fails, or the list cannot grow.
     pub fn poll_take<'a, R: Opens<'a, M>>(
         &'a self,
         waker: &W,
@@ -160,7 +163,8 @@ impl<M: Stores<Core = CellCore<T, W, N>>, T: Drop, W: Wakes, N: Protocol<T, W>> 
         self.make(PollTake(waker), &Anyone, &mut Nobody, rt)
     }
 
-    /// `poll_take`, of a clone made during the step. Fails with `Memory` for the clone too.
+    /// `poll_take`, of a clone of the value, made during the step. Fails with `Memory` if that
+    /// fails, too.
     pub fn poll_get<'a, R: Opens<'a, M>>(
         &'a self,
         waker: &W,
@@ -173,8 +177,8 @@ impl<M: Stores<Core = CellCore<T, W, N>>, T: Drop, W: Wakes, N: Protocol<T, W>> 
         self.make(PollGet(waker), &Anyone, &mut Nobody, rt)
     }
 
-    /// Makes room: the next `additional` wakers need no memory beyond their clones, until a fill or
-    /// a close gives it up. Fails with `Memory`. Does nothing on a closed cell.
+    /// Makes room: the next `additional` wakers need no memory beyond their clones. A fill or a
+    /// close gives the room up. Fails with `Memory`. Does nothing on a closed cell.
     pub fn reserve<'a, R: Opens<'a, M>>(&'a self, additional: usize, rt: &R) -> Result<(), Refusal>
         ensures refused { FailsWithMemory result }
     {
@@ -183,7 +187,7 @@ impl<M: Stores<Core = CellCore<T, W, N>>, T: Drop, W: Wakes, N: Protocol<T, W>> 
         end(step, reserved)
     }
 
-    /// Ends a guard: `cancel` is `None` if it was released.
+    /// Ends a guard, which sets `cancel` if the cell is empty. `None`: it was released.
     #[doc(hidden)]
     pub fn end_guard<'a, R: Opens<'a, M>>(&'a self, cancel: Option<T>, rt: &R)
         requires may { IfSome cancel (λ value. N.may (Kept.OrSet value)) }
@@ -191,5 +195,102 @@ impl<M: Stores<Core = CellCore<T, W, N>>, T: Drop, W: Wakes, N: Protocol<T, W>> 
         if let Some(value) = cancel {
             let _ = self.or_set(value, rt);
         }
+    }
+
+    /// Lends the core for a look, which `end` of `async_cell_step` ends. Its state is sound,
+    /// whatever other steps did.
+    #[inline(always)]
+    pub fn look<'a, R: Opens<'a, M>>(&'a self, rt: &R) -> Option<R::Open>
+        ensures lent { IsTrue R.always → IsSome result }
+        ensures sound { IfSome result (λ step. IsSound W.will_wake (R.Open.shows step).inner) }
+    {
+        let step = rt.open(&self.store)?;
+        step.shown().soundness();
+        Some(step)
+    }
+
+    /// Returns a clone of the value, if there is one, made during the step. Fails with `Memory` if
+    /// the clone fails.
+    pub fn try_get<'a, R: Opens<'a, M>>(&'a self, rt: &R) -> Result<Option<T>, Refusal>
+    where
+        T: Clone,
+        ensures rule { IfOk result (λ found. IfSome found (IsCloneOfOne T.is_clone N.holds)) }
+        ensures if_infallible { ((value : T) → T.is_infallible value) → IsOk result }
+        ensures refused { FailsWithMemory result }
+    {
+        self.make(TryGet, &Anyone, &mut Nobody, rt)
+    }
+
+    /// Calls the closure on the value, if there is one, during the step, and returns its answer.
+    #[doc(hidden)]
+    pub fn peek<'a, A, F, R: Opens<'a, M>>(&'a self, look: F, rt: &R) -> Option<A>
+    where
+        F: FnOnce(&T) -> A + Drop,
+        requires { F.IsAlwaysCallable look }
+        ensures called { IfSome result (λ answer. (seen : T)
+            × N.holds seen × FnOnceReturnsAt F.FnOnce look seen answer) }
+    {
+        let step = self.look(rt)?;
+        let looked = step.shown().peek(look);
+        match end(step, looked) {
+            Ok(answer) => Some(answer),
+            Err(_not_called) => None,
+        }
+    }
+
+    /// Returns whether the cell holds a value.
+    #[inline]
+    pub fn is_set<'a, R: Opens<'a, M>>(&'a self, rt: &R) -> bool {
+        self.make(IsSet, &Anyone, &mut Nobody, rt)
+    }
+
+    /// Returns whether the cell is closed.
+    pub fn is_closed<'a, R: Opens<'a, M>>(&'a self, rt: &R) -> bool {
+        self.owners(rt) == 0
+    }
+
+    /// Returns the number of owners: 0 once the cell is closed.
+    pub fn owners<'a, R: Opens<'a, M>>(&'a self, rt: &R) -> u32 {
+        let Some(step) = self.look(rt) else {
+            return 0;
+        };
+        let owners = step.shown().owners();
+        end(step, Deferred::of(owners))
+    }
+
+    /// Returns how many wakers wait.
+    pub fn waiting<'a, R: Opens<'a, M>>(&'a self, rt: &R) -> usize {
+        let Some(step) = self.look(rt) else {
+            return 0;
+        };
+        let waiting = step.shown().waiting();
+        end(step, Deferred::of(waiting))
+    }
+
+    /// Returns whether a task waits, or `None` if the cell is closed or full.
+    #[doc(hidden)]
+    pub fn is_pending<'a, R: Opens<'a, M>>(&'a self, rt: &R) -> Option<bool> {
+        let step = self.look(rt)?;
+        let waits = match step.shown().is_vacant() {
+            true => Some(!step.shown().wakes_nobody()),
+            false => None,
+        };
+        end(step, Deferred::of(waits))
+    }
+
+    /// Prints the cell during the step. Fails with `Memory`.
+    #[doc(hidden)]
+    pub fn debug_text<'a, R: Opens<'a, M>>(
+        &'a self,
+        alloc: Global,
+        rt: &R,
+    ) -> Result<String, Refusal>
+    where
+        T: fmt::Debug,
+        ensures refused { FailsWithMemory result }
+    {
+        let step = self.look(rt).ok_or(Refusal::Memory)?;
+        let text = step.shown().debug_text(alloc);
+        end(step, text)
     }
 }

@@ -5,7 +5,7 @@ use async_cell_core::TaskWaker;
 use async_cell_history::Protocol;
 use std::marker::{Model, PhantomData};
 
-/// The value that a guard sets, which may be set. Contracts see the value.
+/// The value that a guard sets at its end: one that may be set. Contracts see the value.
 #[derive(Drop)]
 pub struct Cancel<T, N: Protocol<T, TaskWaker>> {
     value: T,
@@ -13,8 +13,6 @@ pub struct Cancel<T, N: Protocol<T, TaskWaker>> {
 }
 
 impl<T, N: Protocol<T, TaskWaker>> Model for Cancel<T, N> {
-    ghost use Rattle.async_cell_model.specs.declared.entry.Kept.TheVariants.{OrSet};
-
     ghost Value = { T };
 
     ghost view = { λ c. c.value };

@@ -8,9 +8,9 @@ use async_cell_history::{Blank, Caller, CellCore, Op, OwnerPermit, Protocol, See
 use async_cell_step::{Opens, Step, StoredCore, Stores, finish, opened};
 
 /// The core of a cell in a `Mutex` or a `RefCell`, lent for one step at a time. A call makes its
-/// change in one step; `rt` is the right to it: behind a lock, to wait. Wakers are woken, and old
-/// values, unused values and the value of a closed cell dropped, after it. Closures, clones and
-/// prints run in it: behind a lock one that calls its own cell waits forever.
+/// change in one step, to which `rt` is the right: behind a lock, to wait. After the step wakers are
+/// woken, and old values, unused values and the value of a closed cell are dropped. Closures,
+/// clones and prints run during the step: behind a lock, one that calls its own cell waits forever.
 #[derive(Drop)]
 pub struct CellStore<M> {
     /// The store, on which futures poll.
@@ -18,7 +18,7 @@ pub struct CellStore<M> {
     pub store: StoredCore<M>,
 }
 
-/// Makes a call on its fast path, or else apart.
+/// Makes a call on its fast path, or else by `make_slow`.
 macro_rules! made_fast {
     ($op:ident, $core:ident, $step:ident, $by:ident, $seen:ident) => {
         match $core.fast($op, &*$seen) {
@@ -34,9 +34,7 @@ macro_rules! made_fast {
 impl<M: Stores<Core = CellCore<T, W>>, T: Drop, W: Wakes> CellStore<M> {
     /// Stores the core, whatever its state.
     pub fn new(core: Core<T, W>) -> Self {
-        CellStore {
-            store: StoredCore::of(CellCore::of(core)),
-        }
+        CellStore::nameless(core)
     }
 }
 
@@ -52,7 +50,7 @@ impl<M: Stores<Core = CellCore<T, W, N>>, T: Drop, W: Wakes, N: Protocol<T, W>> 
         }
     }
 
-    /// Stores the core of a blank, and makes the first witness of its history, and the permit of
+    /// Stores the core of a blank. Returns also the first witness of its history, and the permit of
     /// its owner.
     #[doc(hidden)]
     pub fn of_blank(blank: Blank<T, W>) -> (Self, Witness<T, W, N>, OwnerPermit<T, W, N>)
@@ -85,7 +83,7 @@ impl<M: Stores<Core = CellCore<T, W, N>>, T: Drop, W: Wakes, N: Protocol<T, W>> 
         content
     }
 
-    /// Makes a call in one step, and wakes whom it has to. Who sees it is told.
+    /// Makes a call in one step, shows it to `seen`, and wakes whom it has to.
     #[inline(always)]
     pub fn make<'a, O: Op<T, W, N>, K: Caller<T, W, N>, S: Sees<T, W, N>, R: Opens<'a, M>>(
         &'a self,

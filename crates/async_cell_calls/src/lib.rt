@@ -5,7 +5,6 @@
 mod calls;
 mod cancel;
 mod cell_store;
-mod looks;
 mod owners;
 mod queries;
 

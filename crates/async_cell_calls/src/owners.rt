@@ -10,14 +10,14 @@ use async_cell_model::Kept;
 use async_cell_step::{Deferred, Opens, Step, Stores, end, end_and_wake, end_and_wake_one, opened};
 
 impl<M: Stores<Core = CellCore<T, W, N>>, T: Drop, W: Wakes, N: Protocol<T, W>> CellStore<M> {
-    /// Lets go the permit of the last owner. The cell, which nobody else can call, is to end next,
-    /// by its drop.
+    /// Ends the last owner of a cell that nobody else can call. The cell is to be dropped next.
     #[inline(always)]
     pub fn rest(&mut self, permit: OwnerPermit<T, W, N>) {
         permit.rest(&mut self.store);
     }
 
-    /// Adds an owner. Fails with `Closed`, and with `OwnersFull` beyond 4,294,967,295 owners.
+    /// Adds an owner. Fails with `Closed` on a closed cell, and with `OwnersFull` if there are
+    /// 4,294,967,295 owners.
     pub fn add_owner<'a, R: Opens<'a, M>>(&'a self, rt: &R) -> Result<(), Refusal>
         requires nameless { N.named ≡ None }
         ensures refused { IfErr result (λ why.
@@ -27,8 +27,8 @@ impl<M: Stores<Core = CellCore<T, W, N>>, T: Drop, W: Wakes, N: Protocol<T, W>> 
         Ok(())
     }
 
-    /// Ends one owner. The last one closes the cell, drops its value and wakes all waiters. Fails
-    /// with `Closed` on a closed cell.
+    /// Ends one owner. The end of the last one closes the cell, drops its value and wakes all
+    /// waiters. Fails with `Closed` on a closed cell.
     pub fn end_owner<'a, R: Opens<'a, M>>(&'a self, rt: &R) -> Result<(), Refusal>
         requires nameless { N.named ≡ None }
         ensures refused { FailsWithClosed result }
@@ -54,8 +54,8 @@ impl<M: Stores<Core = CellCore<T, W, N>>, T: Drop, W: Wakes, N: Protocol<T, W>> 
         }
     }
 
-    /// `add_owner`, which gives the permit of the new owner. The permit of an owner shows that the
-    /// cell is open.
+    /// `add_owner`, which returns the permit of the new owner. An owner never gets `Closed`: its
+    /// permit shows that the cell is open.
     pub fn add_counted<'a, K: Caller<T, W, N>, S: Sees<T, W, N>, R: Opens<'a, M>>(
         &'a self,
         by: &K,
@@ -78,7 +78,7 @@ impl<M: Stores<Core = CellCore<T, W, N>>, T: Drop, W: Wakes, N: Protocol<T, W>> 
         end(step, added)
     }
 
-    /// `end_owner`, which takes the permit of the owner.
+    /// `end_owner`, of the owner with this permit.
     pub fn end_counted<'a, R: Opens<'a, M>>(
         &'a self,
         permit: OwnerPermit<T, W, N>,
@@ -106,7 +106,7 @@ impl<M: Stores<Core = CellCore<T, W, N>>, T: Drop, W: Wakes, N: Protocol<T, W>> 
         }
     }
 
-    /// `take_inner`, which takes the permit of the owner. It comes back in the error.
+    /// `take_inner`, by the owner with this permit, which comes back in the error.
     pub fn take_counted<'a, R: Opens<'a, M>>(
         &'a self,
         permit: OwnerPermit<T, W, N>,

@@ -1,5 +1,10 @@
 //! What polls ask the core of a cell.
-ghost use Rattle.std.specs.Prelude.{◌≡◌};
+ghost use Rattle.std.specs.Prelude.{◌≡◌, true, false, Some};
+ghost use Rattle.async_cell_model.specs.Machine.{is_closed, is_vacant};
+ghost use Rattle.async_cell_model.specs.declared.entry.Kept.TheVariants.{TryGet, TryTake};
+ghost use Rattle.async_cell_model.specs.declared.reply.Reply.TheVariants.{Value};
+ghost use Rattle.async_cell_history.specs.History.{IsLinearized, IsLinearizedUpTo, IsSigned};
+ghost use Rattle.async_cell_step.specs.Rule.{IsCloneOfOne};
 
 use async_cell_core::{Refusal, TaskWaker, Wakes};
 use async_cell_history::{Caller, CellCore, Nobody, Protocol, Sees, TryGet, TryTake, Witness};
@@ -14,10 +19,6 @@ pub struct Taking;
 pub struct Cloning;
 
 impl<T: Drop, N: Protocol<T, TaskWaker>> Query<CellCore<T, TaskWaker, N>> for Taking {
-    ghost use Rattle.std.specs.Prelude.{◌≡◌, true, false};
-    ghost use Rattle.async_cell_model.specs.Machine.{is_closed, is_vacant};
-    ghost use Rattle.async_cell_model.specs.declared.entry.Kept.TheVariants.{TryTake};
-
     type Answer = T;
 
     ghost asks = { λ _. N.may TryTake };
@@ -41,10 +42,6 @@ impl<T: Drop, N: Protocol<T, TaskWaker>> Query<CellCore<T, TaskWaker, N>> for Ta
 }
 
 impl<T: Clone, N: Protocol<T, TaskWaker>> Query<CellCore<T, TaskWaker, N>> for Cloning {
-    ghost use Rattle.std.specs.Prelude.{◌≡◌, true, false};
-    ghost use Rattle.async_cell_model.specs.Machine.{is_closed, is_vacant};
-    ghost use Rattle.async_cell_step.specs.Rule.{IsCloneOfOne};
-
     type Answer = T;
 
     ghost gives = { λ _ value. IsCloneOfOne T.is_clone N.holds value };
@@ -89,9 +86,6 @@ where
     K: Caller<T, TaskWaker, N>,
     Q: Query<CellCore<T, TaskWaker, N>>,
 {
-    ghost use Rattle.std.specs.Prelude.{◌≡◌, false};
-    ghost use Rattle.async_cell_model.specs.Machine.{is_closed};
-
     type Answer = Q::Answer;
 
     ghost asks = { λ asked. Q.asks asked.query };
@@ -123,14 +117,8 @@ pub struct TakingAs<T, N: Protocol<T, TaskWaker>>(pub Witness<T, TaskWaker, N>);
 #[derive(Drop)]
 pub struct CloningAs<T, N: Protocol<T, TaskWaker>>(pub Witness<T, TaskWaker, N>);
 
-/// Gives the witness back, which has seen that the value was taken.
+/// Returns the witness, too, which has seen that the value was taken.
 impl<T: Drop, N: Protocol<T, TaskWaker>> Query<CellCore<T, TaskWaker, N>> for TakingAs<T, N> {
-    ghost use Rattle.std.specs.Prelude.{◌≡◌, true, false, Some};
-    ghost use Rattle.async_cell_model.specs.Machine.{is_closed, is_vacant};
-    ghost use Rattle.async_cell_model.specs.declared.entry.Kept.TheVariants.{TryTake};
-    ghost use Rattle.async_cell_model.specs.declared.reply.Reply.TheVariants.{Value};
-    ghost use Rattle.async_cell_history.specs.History.{IsSigned, IsLinearized};
-
     type Answer = (T, Witness<T, TaskWaker, N>);
 
     ghost asks = { λ _. N.may TryTake };
@@ -161,15 +149,8 @@ impl<T: Drop, N: Protocol<T, TaskWaker>> Query<CellCore<T, TaskWaker, N>> for Ta
     }
 }
 
-/// Gives the witness back, which has seen that the value was cloned.
+/// Returns the witness, too, which has seen that the value was cloned.
 impl<T: Clone, N: Protocol<T, TaskWaker>> Query<CellCore<T, TaskWaker, N>> for CloningAs<T, N> {
-    ghost use Rattle.std.specs.Prelude.{◌≡◌, true, false, Some};
-    ghost use Rattle.async_cell_model.specs.Machine.{is_closed, is_vacant};
-    ghost use Rattle.async_cell_model.specs.declared.entry.Kept.TheVariants.{TryGet};
-    ghost use Rattle.async_cell_model.specs.declared.reply.Reply.TheVariants.{Value};
-    ghost use Rattle.async_cell_history.specs.History.{IsSigned, IsLinearizedUpTo};
-    ghost use Rattle.async_cell_step.specs.Rule.{IsCloneOfOne};
-
     type Answer = (T, Witness<T, TaskWaker, N>);
 
     ghost gives = { λ asked given. IsCloneOfOne T.is_clone N.holds given.0

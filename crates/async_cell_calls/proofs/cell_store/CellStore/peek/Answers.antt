@@ -3,14 +3,11 @@ use Rattle.std.specs.Prelude.{Option, Result, IfOk, IfSome, IsSomeAnd}
 use Rattle.std.specs.Fn.{FnOnceReturnsAt}
 use Rattle.async_cell_calls.proofs.cell_store.CellStore.peek.Goals as goal
 
-module _ {A T : Type 0} (H : T → Type 0) (P : T → A → Type 0) where
-  of_some : (found : Option T) (a : A) → IfSome found H → IsSomeAnd found (λ v. P v a) → (x : T) × H x × P x a
-  of_some (Some v) a holds told = (v, holds, told)
-  of_some None a holds told = absurd told
-
-  -- what holds of the value that is there holds of some value, which keeps the rule
-  of_found : {E : Type 0} (found : Option T) (result : Result A E) (a : A) → result ≡ Ok a → IfSome found H → IfOk result (λ a. IsSomeAnd found (λ v. P v a)) → (x : T) × H x × P x a
-  of_found found result a is holds told = of_some found a holds (subst (λ r. IfOk r (λ a. IsSomeAnd found (λ v. P v a))) is told)
+-- what holds of the value that is there holds of some value, which keeps the rule
+of_found : {A T E : Type 0} (H : T → Type 0) (P : T → A → Type 0) (found : Option T) (result : Result A E) (a : A)
+    → result ≡ Ok a → IfSome found H → IfOk result (λ a. IsSomeAnd found (λ v. P v a)) → (x : T) × H x × P x a
+of_found H P (Some v) result a is holds told = (v, holds, subst (λ r. IfOk r (P v)) is told)
+of_found H P None result a is holds told = absurd (subst (λ r. IfOk r (λ a. ⊥)) is told)
 
 pub returns-in-Ok : goal.returns-in-Ok
 returns-in-Ok g c = record {
