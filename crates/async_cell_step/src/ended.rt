@@ -1,8 +1,8 @@
-//! The end of a step, and what comes out of a core meanwhile. The core is released, then wakers are
-//! woken, and then the caller gets what it may drop. What is held is let go by an end alone.
-ghost use Rattle.std.specs.Prelude.{◌≡◌, ⊤, List, Ok, Err, None, Some, IfOk, IfErr, IsSome, IsTrue, OnErr};
+//! The end of a step, and what comes out of a core during it. An end releases the core, then wakes
+//! wakers, and then gives the caller what it may drop. Only an end lets go of what is held.
+ghost use Rattle.std.specs.Prelude.{◌≡◌, ⊤, List, [], Ok, Err, None, Some, IfOk, IfErr, IsSome, IsTrue, OnErr};
 ghost use Rattle.async_cell_model.specs.Refusal.{FailsWithClosed, FailsWithMemory, FailsWithMemoryOrClosed};
-ghost use Rattle.async_cell_step.specs.Deferred.{answer_of};
+ghost use Rattle.async_cell_step.specs.Deferred.{all_of, answer_of, one_of};
 
 use crate::room::Room;
 use crate::store::{Opens, Step, StoredCore, Stores};
@@ -10,9 +10,9 @@ use async_cell_model::Refusal;
 use async_cell_wakers::{Place, TaskWaker, Wakers, Wakes};
 use futures::task::Waker;
 
-/// What came out of a core during a step: an answer, and whom to wake: nobody (`()`), one waker, or
-/// all that a call handed out (`None` if it handed out none). It is not `Drop` and must be
-/// consumed: by the end of its kind, which wakes them and returns the answer.
+/// What came out of a core during a step: an answer, and whom to wake. That is nobody (`()`), at
+/// most one waker, or all that a call handed out (`None` if it handed out none). It is not `Drop`:
+/// the end of its kind consumes it, wakes them and returns the answer.
 pub struct Deferred<X, K = ()> {
     answer: X,
     woken: K,
@@ -77,8 +77,6 @@ impl<W: Wakes, X> All<W, X> {
 }
 
 impl<W> After<W> for () {
-    ghost use Rattle.std.specs.Prelude.{[]};
-
     ghost wakes = { λ _. [] };
 
     #[inline(always)]
@@ -86,8 +84,6 @@ impl<W> After<W> for () {
 }
 
 impl<W: Wakes, X: Drop> After<W> for One<W, X> {
-    ghost use Rattle.async_cell_step.specs.Deferred.{one_of};
-
     ghost wakes = { λ one. one_of one.woken };
 
     #[inline(always)]
@@ -101,8 +97,6 @@ impl<W: Wakes, X: Drop> After<W> for One<W, X> {
 }
 
 impl<W: Wakes, X: Drop> After<W> for All<W, X> {
-    ghost use Rattle.async_cell_step.specs.Deferred.{all_of};
-
     ghost wakes = { λ all. all_of all.woken };
 
     #[inline(always)]
@@ -162,7 +156,7 @@ pub fn end_and_wake_one<G: Step, X, W: Wakes>(step: G, held: Deferred<X, Option<
     answer
 }
 
-/// Lends the core for a step that begins with something held, which is dropped if it is not lent.
+/// Lends the core for a step that holds this from the start. Drops it if the core is not lent.
 #[inline(always)]
 pub fn open_holding<'a, M: Stores, X: Drop, R: Opens<'a, M>>(
     store: &'a StoredCore<M>,
@@ -228,8 +222,8 @@ pub trait Writes<T> {
         ensures comes_back { IfErr result.answer (λ back. back ≡ value) };
 }
 
-/// Writes a value that came back during the step, and ends it. Apart from the calls, which pay for
-/// it only where it is called.
+/// Writes a value that came back during the step, and ends the step. It is not inlined, so that
+/// calls without such a write cost no more.
 #[inline(never)]
 pub fn write_held<C: Writes<T>, G: Step<Core = C>, T>(
     mut step: G,
@@ -255,7 +249,7 @@ where
 }
 
 impl<X> Deferred<Option<X>> {
-    /// Holds what there is: `Closed` if there is none.
+    /// Holds what was found, or `Closed` if nothing was.
     #[inline(always)]
     pub fn or_closed(self) -> Deferred<Result<X, Refusal>>
         ensures found { IfOk result.answer (λ found. self.answer ≡ Some found) }
@@ -268,7 +262,7 @@ impl<X> Deferred<Option<X>> {
 }
 
 impl<X> Deferred<Result<Option<X>, Refusal>> {
-    /// Holds what there is, or the error: `Closed` if there is neither.
+    /// Holds what was found, `Closed` if nothing was, or the error.
     #[inline(always)]
     pub fn or_closed(self) -> Deferred<Result<X, Refusal>>
         requires { FailsWithMemory self.answer }

@@ -1,12 +1,10 @@
 //! What lends a core for one step at a time, how a step ends, and the polls and futures that are
-//! made of steps: the one text for waiting, for the core of a cell or of a latest state. Internal,
-//! but for what the crates of the cells re-export: it may change without notice.
+//! made of steps. The core is that of a cell, or of a latest state. Internal, but for what the
+//! cells' crates re-export: it may change without notice.
 #![tactic(auto)]
 
 mod ended;
-mod places;
 mod polls;
-mod query;
 mod room;
 mod rule;
 mod store;
@@ -17,8 +15,7 @@ pub use ended::{
     put_held, write_held,
 };
 pub use polls::poll;
-pub use query::Query;
-pub use room::Room;
+pub use room::{Query, Room};
 pub use rule::{Rule, Ruled};
 pub use store::{Lender, Lent, Lock, Locked, OneThread, Opens, Step, StoredCore, Stores};
 pub use with::{At, Places, Polled, Request, Takes, Upgrade, Values, With, weakly};

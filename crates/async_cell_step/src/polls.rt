@@ -1,5 +1,6 @@
-//! Polls, over any store: each finds what need not be waited for, or registers the task and adds
-//! its waker to the wait list, in the place of its future if it keeps one.
+//! Polls, over any store: each gives an answer, or registers the task and adds its waker to the
+//! wait list, at the place of its future if that has one. And what becomes of a place when its
+//! future ends. A waker that is dropped wakes its task, so none is dropped during a step.
 ghost use Rattle.std.specs.Prelude.{◌≡◌, Err, IfErr, IfOk};
 ghost use Rattle.futures.specs.Poll.{IfReady, OnPending};
 ghost use Rattle.futures.specs.Task.{Hears, IsArmed, Keeps};
@@ -7,16 +8,15 @@ ghost use Rattle.async_cell_model.specs.Refusal.{FailsWithMemory, FailsWithMemor
 
 use crate::ended::{Deferred, end, open_holding};
 use crate::opened;
-use crate::query::Query;
-use crate::room::Room;
+use crate::room::{Query, Room};
 use crate::store::{Opens, Step, StoredCore, Stores};
 use crate::with::At;
 use async_cell_model::Refusal;
 use async_cell_wakers::{Place, TaskWaker};
 use futures::task::{Context, Poll, Source};
 
-/// Answers the query, or waits, in the place if any. Fails with `Memory` if there is no memory for
-/// the task's waker or for the growth of the list. Asks to be polled again if the core is not lent.
+/// Answers the query, or waits, at the place if there is one. Fails with `Memory` if there is none
+/// for the task's waker, or to grow the list. If the core is not lent, asks to be polled again.
 #[inline(always)]
 pub fn poll<'a, C: Room, M: Stores<Core = C>, Q: Query<C>, R: Opens<'a, M>>(
     store: &'a StoredCore<M>,
@@ -77,7 +77,7 @@ fn add<C: Room, G: Step<Core = C>>(
     }
 }
 
-/// `add`, at a new place: that of the waker from then on.
+/// `add`, at a new place, which is the waker's from then on.
 fn add_at<C: Room, G: Step<Core = C>>(
     mut step: G,
     source: &Source,
@@ -102,8 +102,8 @@ fn add_at<C: Room, G: Step<Core = C>>(
     }
 }
 
-/// Registers the task with the waker that was taken out of its place, and stores it again. One of
-/// another task is dropped, which wakes that task: so no step runs meanwhile.
+/// Registers the task with the waker that was at the place, and stores it again. To register drops
+/// a waker of another task, which wakes that task. So it is done between two steps.
 #[inline(never)]
 fn renew<'a, C: Room, M: Stores<Core = C>, Q: Query<C>, R: Opens<'a, M>>(
     store: &'a StoredCore<M>,
@@ -155,5 +155,59 @@ fn waits<A>(added: Result<(), Refusal>) -> Poll<Result<A, Refusal>>
     match added {
         Ok(()) => Poll::Pending,
         Err(why) => Poll::Ready(Err(why)),
+    }
+}
+
+#[doc(hidden)]
+impl<M: Stores<Core: Room>> StoredCore<M> {
+    /// Lets go of all wakers that dropped futures left.
+    pub fn purge<'a, R: Opens<'a, M>>(&'a self, rt: &R) {
+        for index in 0..self.places(rt) {
+            if let Some(mut step) = rt.open(self) {
+                let left = step.lend().take_left(index);
+                drop(end(step, left));
+            }
+        }
+    }
+
+    /// Returns the number of places in the wait list.
+    pub fn places<'a, R: Opens<'a, M>>(&'a self, rt: &R) -> usize {
+        let Some(step) = rt.open(self) else {
+            return 0;
+        };
+        let places = step.shown().places();
+        end(step, Deferred::of(places))
+    }
+
+    /// Leaves the place of a future that is dropped.
+    #[inline(always)]
+    pub fn vacate<'a, R: Opens<'a, M>>(&'a self, place: Place, rt: &R) {
+        if place.was_held() {
+            self.vacate_held(place, rt);
+        }
+    }
+
+    /// `vacate`, of a place that may still be held.
+    #[inline(never)]
+    fn vacate_held<'a, R: Opens<'a, M>>(&'a self, place: Place, rt: &R) {
+        if let Some(mut step) = rt.open(self) {
+            let _ = step.lend().vacate(place);
+            end(step, Deferred::of(()));
+        }
+    }
+
+    /// Leaves the place of a future that is cancelled, and lets go of its waker.
+    pub fn cancel<'a, R: Opens<'a, M>>(&'a self, place: Place, rt: &R) {
+        if !place.was_held() {
+            return;
+        }
+        let Some(mut step) = rt.open(self) else {
+            return;
+        };
+        let left = match step.lend().vacate(place) {
+            Some(index) => step.lend().take_left(index),
+            None => Deferred::of(None),
+        };
+        drop(end(step, left));
     }
 }

@@ -1,3 +1,5 @@
+ghost use Rattle.std.specs.Prelude.{⊤};
+
 use std::marker::{Brand, PhantomData};
 
 /// A rule on values: whoever writes one to the cell shows that it holds, so whoever takes or gets
@@ -15,13 +17,11 @@ pub trait Rule<T> {
     ghost holds: { T → Type 0 };
 }
 
-/// Says that values keep the rule `P`, of a cell without a name: every change may be made that puts
-/// in such a value, or none.
+/// Says that the values of a cell without a name keep the rule `P`: every change may be made that
+/// puts in such a value, or none.
 pub struct Ruled<P>(PhantomData<P>);
 
-/// A rule that names values of the program: what a call at `Brand` picks in place of this.
+/// A call at `Brand` gives its own rule in place of this one: it may name values of the program.
 impl<T> Rule<T> for Brand {
-    ghost use Rattle.std.specs.Prelude.{⊤};
-
     ghost holds = { λ _. ⊤ };
 }

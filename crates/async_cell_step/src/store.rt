@@ -1,16 +1,11 @@
 //! What lends a core for one step at a time: a lock, or a `RefCell`.
-ghost use Rattle.std.specs.Prelude.{◌≡◌, Bool, IsSome, IsTrue};
+ghost use Rattle.std.specs.Prelude.{◌≡◌, Bool, true, false, IsSome, IsTrue};
+ghost use Rattle.std.specs.{RefCell.ref_mut_value, Sync.Mutex.mutex_guard_value};
 
-mod lent;
-mod locked;
+use std::cell::{RefCell, RefMut};
+use std::sync::{Mutex, MutexGuard, Wait};
 
-pub use lent::{Lender, Lent};
-pub use locked::{Lock, Locked};
-
-/// A core in a `Mutex` or a `RefCell`, lent for one step at a time. A call of a cell makes its
-/// change in one step; `rt` is the right to it: behind a lock, to wait. Wakers are woken, and
-/// old values, unused values and the value of a closed cell dropped, after it. Closures, clones and
-/// prints run in it: behind a lock one that calls its own cell waits forever.
+/// A core in a `Mutex` or a `RefCell`, lent for one step at a time.
 #[derive(Drop)]
 pub struct StoredCore<M> {
     store: M,
@@ -37,16 +32,16 @@ impl<M: Stores> StoredCore<M> {
     }
 }
 
-/// A right to lend the core of a store `M`: to wait for its lock, or to be of its one thread.
+/// The right to a step on a store `M`: to wait for its lock, or to be its one thread.
 pub trait Opens<'a, M: Stores> {
     /// The core while it is lent.
     type Open: Step<Core = M::Core>;
 
-    /// Each step waits for its turn: none finds the core lent already.
+    /// Each step waits until the core is free, so `open` always lends it.
     ghost always: { Bool };
 
-    /// Lends the core. Returns `None` during another step of a store that cannot wait for its end,
-    /// which no caller ever sees: no step in one thread runs code that could call the cell.
+    /// Lends the core. Returns `None` during another step of a store that cannot wait for its end.
+    /// No caller sees that: no step in one thread runs code that could call the cell.
     fn open(&self, store: &'a StoredCore<M>) -> Option<Self::Open>
         ensures lent { IsTrue always → IsSome result };
 
@@ -58,8 +53,8 @@ pub trait Opens<'a, M: Stores> {
         ensures lent { IsTrue always → IsSome result };
 }
 
-/// Lends the core, or else does what is said. It is `open` for the calls that are made most: what
-/// waits is apart, and no function stands between, after which the compiler would test its flag.
+/// `open` for the calls that are made most, with an `else` for `None`. Only what waits is a
+/// function: after another one the compiler would test its result once more.
 #[doc(hidden)]
 #[macro_export]
 macro_rules! opened {
@@ -97,3 +92,145 @@ pub trait Step {
 /// The right of a step on a store of one thread.
 #[derive(Clone, Copy, Drop)]
 pub struct OneThread;
+
+/// A core of one thread.
+pub type Lender<C> = StoredCore<RefCell<C>>;
+
+/// A core that is lent. It is not `Drop` and must be consumed.
+pub struct Lent<'a, C> {
+    core: RefMut<'a, C>,
+}
+
+impl<C> Stores for RefCell<C> {
+    type Core = C;
+
+    fn into_core(self) -> C {
+        self.into_inner()
+    }
+}
+
+impl<'a, C: 'a> Opens<'a, RefCell<C>> for OneThread {
+    type Open = Lent<'a, C>;
+
+    ghost always = { false };
+
+    #[inline(always)]
+    fn open(&self, store: &'a Lender<C>) -> Option<Lent<'a, C>> {
+        self.try_open(store)
+    }
+
+    #[inline(always)]
+    fn try_open(&self, store: &'a Lender<C>) -> Option<Lent<'a, C>> {
+        let core = store.store.try_borrow_mut().ok()?;
+        Some(Lent { core })
+    }
+
+    #[inline(always)]
+    fn wait_open(&self, _: &'a Lender<C>) -> Option<Lent<'a, C>> {
+        None
+    }
+}
+
+impl<C> Step for Lent<'_, C> {
+    type Core = C;
+
+    ghost shows = { λ lent. ref_mut_value lent.core };
+
+    #[inline(always)]
+    fn shown(&self) -> &C {
+        &*self.core
+    }
+
+    #[inline(always)]
+    fn lend(&mut self) -> &mut C {
+        &mut *self.core
+    }
+
+    #[inline(always)]
+    fn release(self) {
+        let Lent { core } = self;
+        drop(core);
+    }
+}
+
+/// A core behind a lock.
+pub type Lock<C> = StoredCore<Mutex<C>>;
+
+/// A core whose lock is held. It is not `Drop` and must be consumed.
+pub struct Locked<'a, C> {
+    core: MutexGuard<'a, C>,
+}
+
+/// Waits for the lock. To try first costs less while nobody holds it. A function would cost 6 more
+/// instructions.
+macro_rules! locked {
+    ($store:expr, $rt:expr) => {
+        Locked {
+            core: match $store.store.try_lock() {
+                Some(core) => core,
+                None => $store.store.lock($rt),
+            },
+        }
+    };
+}
+
+impl<C> StoredCore<Mutex<C>> {
+    /// Waits for the lock.
+    #[inline(always)]
+    pub fn lock<R: Wait>(&self, rt: &R) -> Locked<'_, C> {
+        locked!(self, rt)
+    }
+}
+
+impl<C> Stores for Mutex<C> {
+    type Core = C;
+
+    fn into_core(self) -> C {
+        self.into_inner()
+    }
+}
+
+impl<'a, C: 'a, R: Wait> Opens<'a, Mutex<C>> for R {
+    type Open = Locked<'a, C>;
+
+    ghost always = { true };
+
+    #[inline(always)]
+    fn open(&self, store: &'a Lock<C>) -> Option<Locked<'a, C>> {
+        Some(locked!(store, self))
+    }
+
+    #[inline(always)]
+    fn try_open(&self, store: &'a Lock<C>) -> Option<Locked<'a, C>> {
+        let core = store.store.try_lock()?;
+        Some(Locked { core })
+    }
+
+    #[inline(never)]
+    fn wait_open(&self, store: &'a Lock<C>) -> Option<Locked<'a, C>> {
+        let core = store.store.lock(self);
+        Some(Locked { core })
+    }
+}
+
+impl<C> Step for Locked<'_, C> {
+    type Core = C;
+
+    ghost shows = { λ locked. mutex_guard_value locked.core };
+
+    #[inline(always)]
+    fn shown(&self) -> &C {
+        &*self.core
+    }
+
+    #[inline(always)]
+    fn lend(&mut self) -> &mut C {
+        &mut *self.core
+    }
+
+    #[inline(always)]
+    fn release(self) {
+        let Locked { core } = self;
+        drop(core);
+    }
+}

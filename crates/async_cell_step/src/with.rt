@@ -1,16 +1,15 @@
-ghost use Rattle.std.specs.Prelude.{◌≡◌, ℕ, Ok, Err, IfOk, IfSome};
+ghost use Rattle.std.specs.Prelude.{◌≡◌, ⊤, ℕ, Ok, Err, IfOk, IfSome};
+ghost use Rattle.std.specs.List.{AllByRecursion};
 ghost use Rattle.futures.specs.Poll.{IfReady, OnPending};
 ghost use Rattle.futures.specs.Task.{Covers, Keeps};
 ghost use Rattle.async_cell_model.specs.Refusal.{FailsWithMemory, FailsWithMemoryOrClosed};
 ghost use Rattle.async_cell_step.specs.Upgrade.{FailsToUpgrade};
 
-mod values;
-
 use async_cell_model::Refusal;
 use async_cell_wakers::Place;
 use futures::future::Future;
+use futures::stream::Stream;
 use futures::task::{Context, Poll};
-pub use values::{Takes, Values};
 
 /// The place that a poll may wait in.
 pub type At<'a> = Option<&'a mut Place>;
@@ -103,9 +102,10 @@ impl<P: Request<R>, R> With<P, R> {
 }
 
 impl<P: Request<R>, R: Drop> With<P, R> {
-    /// Drops the future, and the waker that it left in the cell: the task that polled it last is
-    /// polled once more. A waker keeps what its executor needs to wake the task, so cancel a wait
-    /// that came to nothing on a cell that lives on, as when its time is up. May wait for the lock.
+    /// Drops the future and the waker that it left in the cell: the task that polled it last is
+    /// polled once more. A waker that stays keeps what its executor needs to wake the task. So call
+    /// this where a wait ends early, as after a timeout, and the cell lives on. May wait for the
+    /// lock.
     pub fn cancel(self) {
         let With { polled, rt, place } = self;
         if let Some(cell) = polled.cell() {
@@ -154,7 +154,7 @@ impl<P: Polled<R>, R: Drop> Future for With<P, R> {
     }
 }
 
-/// Makes the answer of a request that is no owner: a closed cell gives `None`.
+/// Makes the answer of a request that is no owner: `Ok(None)` in place of `Closed`.
 #[inline(always)]
 pub fn weakly<T>(polled: Poll<Result<T, Refusal>>) -> Poll<Result<Option<T>, Refusal>>
     requires { IfReady polled FailsWithMemoryOrClosed }
@@ -168,5 +168,76 @@ pub fn weakly<T>(polled: Poll<Result<T, Refusal>>) -> Poll<Result<Option<T>, Ref
         Poll::Ready(Err(Refusal::Closed)) => Poll::Ready(Ok(None)),
         Poll::Ready(Err(why)) => Poll::Ready(Err(why)),
         Poll::Pending => Poll::Pending,
+    }
+}
+
+/// A request that takes one value after another: a `TakeWeak`.
+pub trait Takes<R>: Polled<R, Output = Result<Option<Self::Value>, Refusal>> {
+    /// The type of the values.
+    type Value: Drop;
+
+    /// What is known of each value.
+    ghost holds: { Self.Value → Type 0 } = { λ _. ⊤ };
+
+    /// A poll fails with `Memory`, and with nothing else.
+    ghost lacks_memory: { (take : Self) (given : _)
+        → ⟦<Self as Polled<R>>⟧.may_give take given → FailsWithMemory given };
+
+    /// Of each value that a poll takes this is known.
+    ghost gives_held: { (take : Self) (given : _) → ⟦<Self as Polled<R>>⟧.may_give take given
+        → IfOk given (λ found. IfSome found holds) };
+}
+
+/// The values of a cell, as a stream: it takes each value that it is in time for, and ends when the
+/// last owner has ended. It is no owner.
+///
+/// **Several takers do not take turns.** Each value goes to the first that is polled, and a write
+/// wakes them in the order in which they began to wait. So of several streams, or of takes in
+/// loops, the first may get every value on one executor: it is the first again when it polls again.
+///
+/// **The last value may be lost**: the end of the last owner drops a value that was not yet taken.
+/// If a poll fails with `Memory`, the item is that error, and the stream may be polled again.
+#[derive(Drop)]
+#[derive_where(Debug)]
+pub struct Values<P: Takes<R>, R: Drop> {
+    #[derive_where(skip)]
+    taker: With<P, R>,
+}
+
+impl<P: Takes<R>, R: Drop> With<P, R> {
+    /// Returns the stream of the values that this future would take, one after another. Of several
+    /// such streams of a cell one may get every value (see `Values`).
+    pub fn values(self) -> Values<P, R>
+        ensures takes { result.taker ≡ self }
+    {
+        Values { taker: self }
+    }
+}
+
+impl<P: Takes<R>, R: Drop> Values<P, R> {
+    /// Drops the stream, and the waker that it left in the cell, as `With::cancel` does.
+    pub fn cancel(self) {
+        let Values { taker } = self;
+        taker.cancel();
+    }
+}
+
+impl<P: Takes<R>, R: Drop> Stream for Values<P, R> {
+    type Item = Result<P::Value, Refusal>;
+
+    ghost needs = { λ values. P.waits_for values.taker.polled };
+
+    ghost yields = { λ _ items last.
+        AllByRecursion (λ item. FailsWithMemory item × IfOk item P.holds) items
+        × IfSome last (λ item. FailsWithMemory item × IfOk item P.holds) };
+
+    fn poll_next(&mut self, cx: &mut Context<'_>) -> Poll<Option<Result<P::Value, Refusal>>> {
+        let taker = &mut self.taker;
+        match taker.polled.poll_at(Some(&mut taker.place), cx, &taker.rt) {
+            Poll::Ready(Ok(Some(value))) => Poll::Ready(Some(Ok(value))),
+            Poll::Ready(Ok(None)) => Poll::Ready(None),
+            Poll::Ready(Err(why)) => Poll::Ready(Some(Err(why))),
+            Poll::Pending => Poll::Pending,
+        }
     }
 }
