@@ -50,9 +50,8 @@ impl<M: Stores<Core = CellCore<T, W, N>>, T: Drop, W: Wakes, N: Protocol<T, W>> 
         }
     }
 
-    /// Stores the core of a blank. Returns also the first witness of its history, and the permit of
-    /// its owner.
-    #[doc(hidden)]
+    /// Makes the cell of a blank, the first witness of its history, and the permit of its owner, which
+    /// `end_counted` ends.
     pub fn of_blank(blank: Blank<T, W>) -> (Self, Witness<T, W, N>, OwnerPermit<T, W, N>)
         requires named { N.named ≡ Some blank }
         requires rule { IfSome (content blank.start.cell) N.holds }
