@@ -14,8 +14,7 @@ module _ {T N : Type 0} where
   abbrev pub Names : Weak T N → AsyncCell T N → Type 0
   Names weak cell = IsSomeAnd weak.cell (λ pointer. arc_value pointer ≡ cell)
 
-  -- the weak pointer points to this cell, or to none because it could not be counted when it was
-  -- made
+  -- the weak pointer points to this cell, or is lost
   abbrev pub NamesAtMost : Weak T N → AsyncCell T N → Type 0
   NamesAtMost weak cell = IfSome weak.cell (λ pointer. arc_value pointer ≡ cell)
 
@@ -24,8 +23,7 @@ module _ {T N : Type 0} where
   NameTheSame weak copy =
       MatchOption weak.cell (copy.cell ≡ None) (λ pointer. Names copy (arc_value pointer))
 
-  -- the second weak pointer points to what the first one points to, or to none because it could
-  -- not be counted when it was made
+  -- the second weak pointer points to what the first one points to, or is lost
   abbrev pub NameAtMostTheSame : Weak T N → Weak T N → Type 0
   NameAtMostTheSame weak copy =
       MatchOption weak.cell (copy.cell ≡ None) (λ pointer. NamesAtMost copy (arc_value pointer))
@@ -34,6 +32,6 @@ module _ {T N : Type 0} where
   abbrev pub OwnsNamed : Weak T N → Shared T N → Type 0
   OwnsNamed weak owner = Names weak (cell_of owner)
 
-  -- the pointer could not be counted when the weak pointer was made
+  -- the weak pointer is lost: it could not be counted when it was made, so it points to no cell
   abbrev pub IsLost : Weak T N → Type 0
   IsLost weak = weak.cell ≡ None

@@ -2,36 +2,38 @@ ghost use Rattle.std.specs.Prelude.{◌≡◌, None, IfOk, IfErr, IfSome};
 ghost use Rattle.async_cell_model.specs.Machine.{content};
 ghost use Rattle.async_cell_model.specs.Refusal.{FailsWithMemory};
 ghost use Rattle.async_cell_sync.specs.Names.{cell_of};
+ghost use Rattle.async_cell_sync.specs.Owned.{cell_owned};
 
-use crate::get::Get;
-use crate::guarded_cell::GuardedCell;
-use crate::locked_core::LockedCore;
+use crate::guard::GuardedCell;
+use crate::owner::Owner;
 use crate::shared::Shared;
-use crate::take::Take;
+use crate::take::{Get, Take};
+use async_cell_calls::CellStore;
 use async_cell_core::{Core, Place, Refusal, TaskWaker};
-use async_cell_history::{Protocol, Unruled};
+use async_cell_history::{CellCore, Protocol, Unruled};
 use async_cell_model::Kept;
 use async_cell_step::{Places, Rule, Ruled};
 use futures::task::Source;
 use std::alloc::Global;
-use std::sync::Wait;
+use std::sync::{Mutex, Wait};
 
-/// A cell that threads share. It holds an optional value, and futures wait on it for a value.
+/// A core behind a lock. Each call holds the lock while it makes its change: `rt` is the right to
+/// wait for it. `N` names the cell to the contracts of a [`Witness`](crate::Witness).
 ///
-/// Dropping a cell takes no lock, and wakes all waiters.
+/// **What runs under the lock** is as for `AsyncCell`; also `clone` and `will_wake` of wakers.
+pub type LockedCore<T, W, N = Unruled> = CellStore<Mutex<CellCore<T, W, N>>>;
+
+/// A cell that threads share. It holds an optional value, and futures wait on it for a value. Its
+/// drop takes no lock, and wakes all waiters.
 ///
-/// **What runs under the lock:** closures, clones of the value, and its `Debug`. What a closure
-/// owns is dropped there too. Code that then calls the same cell waits forever. So does code that
-/// then drops an `Owner`, a `Guard`, a waiting future or a stream of it, or waits for a thread that
-/// calls it: so call no cell there. Wakers are woken and values are dropped after the lock is
-/// released: what runs then may call the cell.
+/// **What runs under the lock:** closures, the drop of what they own, and `clone` and `Debug` of
+/// the value. **Call no cell there.** Code that calls the same cell waits forever. So does code
+/// that drops an `Owner`, a `Guard`, a waiting future or a stream of it, or waits for a thread that
+/// calls it. Wakers are woken and values dropped after the lock is released: these may call it.
 ///
-/// A future made by `with` holds one place in the wait list while it waits (see `With`), so the
+/// A future made by `with` holds one place in the wait list while it waits (see `With`). So the
 /// list is no longer than the number of such futures that were alive at once. Each `poll_shared`
-/// that waits adds one waker, which stays until the next write or close.
-///
-/// `N` says what is known of the values (see `Rule`), and which history a witness sees. `Unruled`,
-/// the default, has neither.
+/// that waits adds one waker, which stays until the next write or close. `N` is as for an `Owner`.
 pub struct AsyncCell<T, N: Protocol<T, TaskWaker> = Unruled> {
     pub(crate) core: LockedCore<T, TaskWaker, N>,
     /// The source that waiting tasks register with.
@@ -98,13 +100,23 @@ impl<T: Drop, N: Protocol<T, TaskWaker>> AsyncCell<T, N> {
         }
     }
 
-    /// Makes the first counted owner of this cell. Fails with `Memory`, and then returns the cell.
+    /// As `Shared::into_shared`.
     pub fn into_shared(self) -> Result<Shared<T, N>, (Refusal, Self)>
         requires nameless { N.named ≡ None }
         ensures owns { IfOk result (λ owner. cell_of owner ≡ self) }
         ensures comes_back { IfErr result (λ back. back ≡ (Refusal.Memory, self)) }
     {
         Shared::into_shared(self)
+    }
+
+    /// Makes the first owner of this cell, with the right to wait. Fails with `Memory`, and then
+    /// returns the cell. For `?` write `Owner::new_with`, or `into_shared_or_drop()?.with(rt)`.
+    pub fn into_owner<R: Wait + Drop>(self, rt: R) -> Result<Owner<T, R, N>, (Refusal, Self)>
+        requires nameless { N.named ≡ None }
+        ensures owns { IfOk result (λ owner. cell_owned owner ≡ self) }
+        ensures comes_back { IfErr result (λ back. back ≡ (Refusal.Memory, self)) }
+    {
+        Ok(self.into_shared()?.with(rt))
     }
 
     /// As `into_shared`, but drops the cell if there is no memory, so that `?` serves.
@@ -161,8 +173,12 @@ impl<T: Drop, N: Protocol<T, TaskWaker>> AsyncCell<T, N> {
 }
 
 impl AsyncCell<()> {
-    /// Returns a future that waits for `notify`. It takes the value, so each `notify` ends at most
-    /// one `wait`: where several tasks wait, use `get`.
+    /// As `Owner::notify`.
+    pub fn notify<R: Wait>(&self, rt: &R) {
+        self.set((), rt);
+    }
+
+    /// As `Owner::wait`.
     pub fn wait(&self) -> Take<&AsyncCell<()>>
         ensures of_this { result.0.now ≡ self.now }
     {

@@ -28,7 +28,7 @@ impl<T: Drop, N: Protocol<T, TaskWaker>> AsyncCell<T, N> {
         let _ = self.core.or_set(value, rt);
     }
 
-    /// `or_set`, which returns an unused `value` in the error, also on a closed cell.
+    /// As `or_set`, but returns an unused `value` in the error, also on a closed cell.
     pub fn try_set<R: Wait>(&self, value: T, rt: &R) -> Result<(), T>
         requires may { N.may (Kept.OrSet value) }
         ensures comes_back { IfErr result (λ back. back ≡ value) }
@@ -44,9 +44,7 @@ impl<T: Drop, N: Protocol<T, TaskWaker>> AsyncCell<T, N> {
         self.core.replace(value, rt).unwrap_or(None)
     }
 
-    /// Stores what the closure makes of the content. Wakes all waiters if an empty cell gets a
-    /// value. The closure runs under the lock, and what it owns is dropped there: one that calls
-    /// its own cell, or owns an `Owner` of it, waits forever (see `AsyncCell`).
+    /// As `Owner::update`.
     pub fn update<F: FnOnce(Option<T>) -> Option<T> + Drop, R: Wait>(&self, change: F, rt: &R)
         requires callable { F.IsAlwaysCallable change }
         requires may { (saw put : Option T) → IfSome saw N.holds → F.post change saw put
@@ -56,8 +54,7 @@ impl<T: Drop, N: Protocol<T, TaskWaker>> AsyncCell<T, N> {
         let _ = self.core.update(change, rt);
     }
 
-    /// `update`, of a value: the closure is not called if there is none. It runs, and what it owns
-    /// is dropped, under the lock (see `AsyncCell`).
+    /// As `Owner::update_some`.
     pub fn update_some<F: FnOnce(T) -> T + Drop, R: Wait>(&self, change: F, rt: &R)
         requires callable { F.IsAlwaysCallable change }
         requires may { (old new : T) → N.holds old → F.post change old new
@@ -86,8 +83,7 @@ impl<T: Drop, N: Protocol<T, TaskWaker>> AsyncCell<T, N> {
         self.core.try_get(rt)
     }
 
-    /// Calls the closure on the value, if there is one, and returns what it returns. The closure
-    /// runs under the lock: one that calls its own cell waits forever (see `AsyncCell`).
+    /// As `Owner::peek`.
     pub fn peek<A, F: FnOnce(&T) -> A + Drop, R: Wait>(&self, look: F, rt: &R) -> Option<A>
         requires { F.IsAlwaysCallable look }
         ensures called { IfSome result (λ answer. (seen : T)
@@ -117,31 +113,16 @@ impl<T: Drop, N: Protocol<T, TaskWaker>> AsyncCell<T, N> {
         self.core.debug_text(self.alloc, rt)
     }
 
-    /// Lets go of the wakers that dropped futures left; the task of each of these is polled again.
-    ///
-    /// A dropped future leaves its waker in the cell, and a waker keeps what its executor needs.
-    /// Call this where many waits end early and the cell lives on. It locks once for each place.
+    /// Drops the wakers that dropped futures left, which wakes their tasks. A waker keeps what its
+    /// executor needs: call this where many waits end early and the cell lives on. It takes the
+    /// lock once for each place.
     pub fn purge<R: Wait>(&self, rt: &R) {
         self.core.store.purge(rt);
     }
 }
 
-impl AsyncCell<()> {
-    /// Sets the value and wakes all waiters. One `wait` is ready: the first that is polled takes
-    /// the value, and the others wait on. A `get` leaves it, and is ready until somebody takes it.
-    pub fn notify<R: Wait>(&self, rt: &R) {
-        self.set((), rt);
-    }
-}
-
 impl<T: Drop, R: Wait + Drop, N: Protocol<T, TaskWaker>> Owner<T, R, N> {
     /// Sets the value and drops the old one. Wakes all waiters.
-    ///
-    /// ```rust
-    /// let cell = Owner::new_with(rt.alloc(), 6, rt)?;
-    /// cell.set(7);
-    /// println!(rt; "{:?}", cell.try_take())?; // prints Some(7)
-    /// ```
     pub fn set(&self, value: T)
         requires may { N.may (Kept.Replace value) }
     {
@@ -155,7 +136,7 @@ impl<T: Drop, R: Wait + Drop, N: Protocol<T, TaskWaker>> Owner<T, R, N> {
         self.shared.cell.or_set(value, &self.rt);
     }
 
-    /// `or_set`, which returns an unused `value` in the error, also on a closed cell.
+    /// As `or_set`, but returns an unused `value` in the error, also on a closed cell.
     pub fn try_set(&self, value: T) -> Result<(), T>
         requires may { N.may (Kept.OrSet value) }
         ensures comes_back { IfErr result (λ back. back ≡ value) }
@@ -172,8 +153,8 @@ impl<T: Drop, R: Wait + Drop, N: Protocol<T, TaskWaker>> Owner<T, R, N> {
     }
 
     /// Stores what the closure makes of the content. Wakes all waiters if an empty cell gets a
-    /// value. The closure runs under the lock, and what it owns is dropped there: one that calls
-    /// its own cell, or owns an `Owner` of it, waits forever (see `AsyncCell`).
+    /// value. The closure runs under the lock, and what it owns is dropped there: if that calls the
+    /// cell or drops an `Owner` of it, it waits forever.
     ///
     /// ```rust
     /// let sum = Owner::new(rt.alloc(), rt)?;
@@ -189,8 +170,7 @@ impl<T: Drop, R: Wait + Drop, N: Protocol<T, TaskWaker>> Owner<T, R, N> {
         self.shared.cell.update(change, &self.rt);
     }
 
-    /// `update`, of a value: the closure is not called if there is none. It runs, and what it owns
-    /// is dropped, under the lock (see `AsyncCell`).
+    /// As `update`, of a value: the closure is not called if there is none.
     pub fn update_some<F: FnOnce(T) -> T + Drop>(&self, change: F)
         requires callable { F.IsAlwaysCallable change }
         requires may { (old new : T) → N.holds old → F.post change old new
@@ -200,7 +180,7 @@ impl<T: Drop, R: Wait + Drop, N: Protocol<T, TaskWaker>> Owner<T, R, N> {
         self.shared.cell.update_some(change, &self.rt);
     }
 
-    /// Lets go of all wakers that dropped futures left in the cell (see `AsyncCell::purge`).
+    /// As `AsyncCell::purge`.
     pub fn purge(&self) {
         self.shared.cell.purge(&self.rt);
     }
@@ -208,7 +188,8 @@ impl<T: Drop, R: Wait + Drop, N: Protocol<T, TaskWaker>> Owner<T, R, N> {
     /// Takes the value, if there is one. The waiters stay registered.
     ///
     /// ```rust
-    /// let cell = Owner::new_with(rt.alloc(), 7, rt)?;
+    /// let cell = Owner::new_with(rt.alloc(), 6, rt)?;
+    /// cell.set(7);
     /// println!(rt; "{:?}", cell.try_take())?; // prints Some(7)
     /// println!(rt; "{:?}", cell.try_take())?; // prints None
     /// ```
@@ -252,7 +233,7 @@ impl<T: Drop, R: Wait + Drop, N: Protocol<T, TaskWaker>> Owner<T, R, N> {
         self.shared.cell()
     }
 
-    /// Returns the text of the cell as `AsyncCell::debug_text` does. Fails with `Memory`.
+    /// As `AsyncCell::debug_text`.
     pub fn debug_text(&self) -> Result<String, Refusal>
     where
         T: fmt::Debug,

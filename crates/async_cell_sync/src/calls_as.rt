@@ -51,7 +51,8 @@ impl<T: Drop, N: Protocol<T, TaskWaker>> AsyncCell<T, N> {
         self.core.make(Replace(value), &Anyone, seen, rt)
     }
 
-    /// If there is no value, sets this one and wakes all waiters. Returns an unused `value`.
+    /// If there is no value, sets this one and wakes all waiters. Returns an unused `value`; a
+    /// closed cell returns it in the error.
     pub fn or_set_as<R: Wait>(
         &self,
         seen: &mut Witness<T, TaskWaker, N>,
@@ -104,9 +105,8 @@ impl<T: Drop, N: Protocol<T, TaskWaker>> AsyncCell<T, N> {
         self.core.make(IsSet, &Anyone, seen, rt)
     }
 
-    /// Calls the closure on the content, under the lock, and stores what it returns. Wakes all
-    /// waiters if that puts a value into an empty cell. On a closed cell it fails with `Closed`,
-    /// as the witness then knows, and does not call the closure.
+    /// As `Owner::update`. On a closed cell it fails with `Closed`, as the witness then knows, and
+    /// does not call the closure.
     pub fn update_as<F: FnOnce(Option<T>) -> Option<T> + Drop, R: Wait>(
         &self,
         seen: &mut Witness<T, TaskWaker, N>,
@@ -127,9 +127,7 @@ impl<T: Drop, N: Protocol<T, TaskWaker>> AsyncCell<T, N> {
         self.core.make(Update(change), &Anyone, seen, rt)
     }
 
-    /// Calls the closure on the value, if there is one, under the lock, and stores what it returns.
-    /// On a closed cell it fails with `Closed`, as the witness then knows, and does not call the
-    /// closure.
+    /// As `update_as`, of a value: the closure is not called if there is none.
     pub fn update_some_as<F: FnOnce(T) -> T + Drop, R: Wait>(
         &self,
         seen: &mut Witness<T, TaskWaker, N>,
@@ -153,7 +151,7 @@ impl<T: Drop, N: Protocol<T, TaskWaker>> AsyncCell<T, N> {
 }
 
 impl<T: Drop, R: Wait + Drop, N: Protocol<T, TaskWaker>> Owner<T, R, N> {
-    /// Sets the value, drops the old one and wakes all waiters. A closed cell gives the value back.
+    /// As `AsyncCell::set_as`, and never fails.
     pub fn set_as(&self, seen: &mut Witness<T, TaskWaker, N>, value: T) -> Result<(), T>
         requires may { N.may (Kept.Set value) }
         ensures linearized { IsLinearized ⟦<TaskWaker as Wakes>⟧ N.named seen.old.calls
@@ -167,7 +165,7 @@ impl<T: Drop, R: Wait + Drop, N: Protocol<T, TaskWaker>> Owner<T, R, N> {
         cell.core.make(Set(value), permit, seen, &self.rt)
     }
 
-    /// Sets the value, wakes all waiters, returns the old one. A closed cell gives the value back.
+    /// As `AsyncCell::replace_as`, and never fails.
     pub fn replace_as(&self, seen: &mut Witness<T, TaskWaker, N>, value: T) -> Result<Option<T>, T>
         requires may { N.may (Kept.Replace value) }
         ensures linearized { IsLinearized ⟦<TaskWaker as Wakes>⟧ N.named seen.old.calls
@@ -182,7 +180,7 @@ impl<T: Drop, R: Wait + Drop, N: Protocol<T, TaskWaker>> Owner<T, R, N> {
         cell.core.make(Replace(value), permit, seen, &self.rt)
     }
 
-    /// If there is no value, sets this one and wakes all waiters. Returns an unused `value`.
+    /// As `AsyncCell::or_set_as`, and never fails.
     pub fn or_set_as(&self, seen: &mut Witness<T, TaskWaker, N>, value: T) -> Result<Option<T>, T>
         requires may { N.may (Kept.OrSet value) }
         ensures linearized { IsLinearized ⟦<TaskWaker as Wakes>⟧ N.named seen.old.calls
@@ -229,9 +227,7 @@ impl<T: Drop, R: Wait + Drop, N: Protocol<T, TaskWaker>> Owner<T, R, N> {
         self.shared.cell.is_set_as(seen, &self.rt)
     }
 
-    /// Calls the closure on the content, under the lock, and stores what it returns. Wakes all
-    /// waiters if that puts a value into an empty cell. On a closed cell it fails with `Closed`,
-    /// as the witness then knows, and does not call the closure.
+    /// As `AsyncCell::update_as`, and never fails.
     pub fn update_as<F: FnOnce(Option<T>) -> Option<T> + Drop>(
         &self,
         seen: &mut Witness<T, TaskWaker, N>,
@@ -254,9 +250,7 @@ impl<T: Drop, R: Wait + Drop, N: Protocol<T, TaskWaker>> Owner<T, R, N> {
         cell.core.make(Update(change), permit, seen, &self.rt)
     }
 
-    /// Calls the closure on the value, if there is one, under the lock, and stores what it returns.
-    /// On a closed cell it fails with `Closed`, as the witness then knows, and does not call the
-    /// closure.
+    /// As `AsyncCell::update_some_as`, and never fails.
     pub fn update_some_as<F: FnOnce(T) -> T + Drop>(
         &self,
         seen: &mut Witness<T, TaskWaker, N>,
@@ -282,8 +276,7 @@ impl<T: Drop, R: Wait + Drop, N: Protocol<T, TaskWaker>> Owner<T, R, N> {
 }
 
 impl<T: Drop, R: Wait + Copy, N: Protocol<T, TaskWaker>> Owner<T, R, N> {
-    /// Adds an owner, in place of a clone. Fails with `Memory` if the pointer cannot be counted, or
-    /// with `OwnersFull`.
+    /// Adds an owner, as `another` does. Fails with `Memory` or `OwnersFull`.
     pub fn another_as(&self, seen: &mut Witness<T, TaskWaker, N>) -> Result<Self, Refusal>
         ensures linearized { OnOk result (IsLinearized ⟦<TaskWaker as Wakes>⟧ N.named
             seen.old.calls Kept.AddOwner Reply.Done seen.new.calls) }

@@ -3,17 +3,81 @@ ghost use Rattle.async_cell_sync.specs.Source.{source_of};
 
 use crate::async_cell::AsyncCell;
 use crate::cell_ref::CellRef;
-use crate::guarded_cell::GuardedCell;
+use async_cell_calls::Cancel;
 use async_cell_model::Kept;
 use std::sync::Wait;
 
-/// A guard of a cell, with the right to wait for the lock. Its drop sets its cancel value, if the
-/// cell holds no value, unless the guard was ended by `release`, `set` or `or_set`. So `?` and an
-/// early `return` leave that value in the cell. Each end ends the owner too, if the guard is one:
-/// the last owner's end drops the value, so who waits for it has to be an owner (`take_shared`).
+/// A guard of a cell. It must be consumed: by `cancel`, which sets its cancel value if the cell
+/// holds no value, or by `release`, `set` or `or_set`. Each also ends the owner, if the guard is
+/// one. `with` makes it a `Guard`, which ends by its drop.
+#[derive_where(Debug)]
+pub struct GuardedCell<T, C: CellRef<Value = T>> {
+    #[derive_where(skip)]
+    pointer: C,
+    #[derive_where(skip)]
+    cancel: Cancel<T, C::Rules>,
+}
+
+impl<T: Drop, C: CellRef<Value = T>> GuardedCell<T, C> {
+    pub(crate) fn new(pointer: C, cancel: T) -> Self
+        requires may { C.Rules.may (Kept.OrSet cancel) }
+        ensures of_this { result.pointer ≡ pointer }
+        ensures keeps { result.cancel ≡ cancel }
+    {
+        let cancel = Cancel::of(cancel);
+        GuardedCell { pointer, cancel }
+    }
+
+    /// Keeps the right to wait beside this guard, which then ends by its drop.
+    pub fn with<R: Wait + Drop>(self, rt: R) -> Guard<T, C, R>
+        ensures guards { result.guarded ≡ self }
+    {
+        Guard { guarded: self, rt }
+    }
+
+    /// Returns the cell that it guards.
+    pub fn cell(&self) -> &AsyncCell<T, C::Rules>
+        ensures { (s : ℕ) → C.waits_for self.now.pointer s → s ≡ source_of result.now }
+    {
+        self.pointer.cell()
+    }
+
+    /// Ends the guard: sets its cancel value and wakes all waiters, unless the cell holds a value.
+    pub fn cancel<R: Wait>(self, rt: &R) {
+        let GuardedCell { pointer, cancel } = self;
+        pointer.cell().core.end_guard(Some(cancel.into_value()), rt);
+        pointer.leave(rt);
+    }
+
+    /// Ends the guard without a write. Drops its cancel value.
+    pub fn release<R: Wait>(self, rt: &R) {
+        let GuardedCell { pointer, cancel: _ } = self;
+        pointer.leave(rt);
+    }
+
+    /// Sets the value, and releases the guard.
+    pub fn set<R: Wait>(self, value: T, rt: &R)
+        requires may { C.Rules.may (Kept.Replace value) }
+    {
+        self.cell().set(value, rt);
+        self.release(rt);
+    }
+
+    /// Sets the value if the cell holds none, and releases the guard.
+    pub fn or_set<R: Wait>(self, value: T, rt: &R)
+        requires may { C.Rules.may (Kept.OrSet value) }
+    {
+        self.cell().or_set(value, rt);
+        self.release(rt);
+    }
+}
+
+/// A guard of a cell, with the right to wait for the lock. Its drop sets its cancel value if the
+/// cell holds no value, also at `?` or an early `return`. `release`, `set` and `or_set` end it
+/// otherwise. Each end also ends the owner, if the guard is one. The last owner's end drops the
+/// value, so who waits for it has to be an owner (`take_shared`).
 ///
-/// **Letting one go may wait for the lock**, as its other calls may. `GuardedCell` is the guard
-/// that must be consumed by a call, so that each end stands in the program.
+/// **Dropping it may wait for the lock**, as its calls may. A `GuardedCell` is ended by a call.
 #[derive_where(Debug)]
 pub struct Guard<T: Drop, C: CellRef<Value = T>, R: Wait + Drop> {
     #[derive_where(skip)]

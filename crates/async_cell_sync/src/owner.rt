@@ -1,31 +1,29 @@
-ghost use Rattle.std.specs.Prelude.{◌≡◌, None, IfOk, IfErr, IfSome};
+ghost use Rattle.std.specs.Prelude.{◌≡◌, [], None, Some, IfOk, IfErr, IfSome};
+ghost use Rattle.async_cell_model.specs.Machine.{content};
 ghost use Rattle.async_cell_model.specs.Refusal.{FailsWithMemory, IsOwnerRefusal};
 ghost use Rattle.async_cell_sync.specs.Names.{NamesAtMost};
 ghost use Rattle.async_cell_sync.specs.Owned.{cell_owned};
 ghost use Rattle.async_cell_sync.specs.Source.{source_of};
 
-use crate::async_cell::AsyncCell;
+use crate::async_cell::{AsyncCell, LockedCore};
 use crate::cell_ref::{CellRef, TakeRef};
-use crate::get::Get;
-use crate::guard::Guard;
-use crate::guarded_cell::GuardedCell;
+use crate::guard::{Guard, GuardedCell};
 use crate::shared::Shared;
-use crate::take::Take;
-use crate::weak::{GetWeak, TakeWeak};
-use crate::weak_owner::WeakOwner;
+use crate::take::{Get, GetWeak, Take, TakeWeak};
+use crate::weak::WeakOwner;
 use async_cell_core::{Refusal, TaskWaker};
-use async_cell_history::{Anyone, Nobody, Protocol, Takeable, Unruled};
+use async_cell_history::{Anyone, Blank, Nobody, Protocol, Takeable, Unruled, Witness};
 use async_cell_model::Kept;
 use async_cell_step::{Rule, Ruled, With};
-use std::alloc::Global;
+use futures::task::Source;
+use std::alloc::{AllocFailed, Global};
 use std::sync::{Arc, Wait};
 
 /// One counted owner of a cell, with the right to wait for the lock. It ends by its drop, in any
 /// thread, also at `?` or an early `return`. Its calls and futures take no `rt`. The end of the
 /// last owner closes the cell: the value is dropped, waiters are woken, weak futures give `None`.
 ///
-/// **Letting one go may wait for the lock**, as its other calls may. `Shared` is the owner that
-/// must be consumed by a call, so that each end stands in the program.
+/// **Dropping it may wait for the lock**, as its calls may. A `Shared` is ended by a call.
 ///
 /// `N` says what is known of the values (see `Rule`), and which history a witness sees. `Unruled`,
 /// the default, has neither.
@@ -37,22 +35,8 @@ pub struct Owner<T: Drop, R: Wait + Drop, N: Protocol<T, TaskWaker> = Unruled> {
     pub(crate) rt: R,
 }
 
-impl<T: Drop, N: Protocol<T, TaskWaker>> AsyncCell<T, N> {
-    /// Makes the first owner of this cell, with the right to wait. Fails with `Memory`, and then
-    /// gives the cell back. For `?` write `Owner::new_with`, or `into_shared_or_drop()?.with(rt)`.
-    pub fn into_owner<R: Wait + Drop>(self, rt: R) -> Result<Owner<T, R, N>, (Refusal, Self)>
-        requires nameless { N.named ≡ None }
-        ensures owns { IfOk result (λ owner. cell_owned owner ≡ self) }
-        ensures comes_back { IfErr result (λ back. back ≡ (Refusal.Memory, self)) }
-    {
-        Ok(self.into_shared()?.with(rt))
-    }
-}
-
 impl<T: Drop, R: Wait + Copy> Owner<T, R> {
     /// Makes a cell without a value, and its first owner. Fails with `Memory`.
-    ///
-    /// For a cell that you have already, call `AsyncCell::into_owner`.
     ///
     /// ```rust
     /// let slot = Owner::new(rt.alloc(), rt)?;
@@ -82,13 +66,11 @@ impl<T: Drop, R: Wait + Copy, P: Rule<T>> Owner<T, R, Ruled<P>> {
     pub fn ruled(alloc: Global, rt: R) -> Result<Self, Refusal>
         ensures refused { FailsWithMemory result }
     {
-        let cell = AsyncCell::<T, Ruled<P>>::ruled(alloc);
-        let owner = cell.into_shared_or_drop()?;
+        let owner = AsyncCell::<T, Ruled<P>>::ruled(alloc).into_shared_or_drop()?;
         Ok(owner.with(rt))
     }
 
-    /// Makes a cell that holds a value, whose values keep the rule `P`, and its first owner. Fails
-    /// with `Memory`, and then drops the value.
+    /// As `ruled`, but the cell holds a value. If it fails, it drops the value.
     pub fn ruled_with(alloc: Global, value: T, rt: R) -> Result<Self, Refusal>
         requires rule { P.holds value }
         ensures refused { FailsWithMemory result }
@@ -99,18 +81,45 @@ impl<T: Drop, R: Wait + Copy, P: Rule<T>> Owner<T, R, Ruled<P>> {
 }
 
 impl<T: Drop, R: Wait + Copy, N: Protocol<T, TaskWaker>> Owner<T, R, N> {
+    /// Makes the cell of this blank, which `N` names, its first owner, and the first witness of its
+    /// history. Fails with `Memory`. Call it in a function generic over `N`, and that function at
+    /// `std::marker::Brand`. The caller's `Invariants.antt` picks the name, the changes that may be
+    /// made, and the rule.
+    pub fn witnessed(
+        alloc: Global,
+        blank: Blank<T, TaskWaker>,
+        rt: R,
+    ) -> Result<(Self, Witness<T, TaskWaker, N>), Refusal>
+        requires named { N.named ≡ Some blank }
+        requires rule { IfSome (content blank.start.cell) N.holds }
+        ensures new { IfOk result (λ made. made.1.calls ≡ []) }
+        ensures nobody { IfOk result (λ made. made.1.author ≡ 0) }
+        ensures none_made { IfOk result (λ made. made.1.own ≡ 0) }
+        ensures refused { FailsWithMemory result }
+    {
+        let (core, seen, permit) = LockedCore::<T, TaskWaker, N>::of_blank(blank);
+        let cell = AsyncCell {
+            core,
+            source: Source::new(),
+            alloc,
+        };
+        match Arc::new(alloc, cell) {
+            Ok(cell) => Ok((Shared { cell, permit }.with(rt), seen)),
+            Err(AllocFailed { value: mut cell }) => {
+                cell.core.rest(permit);
+                Err(Refusal::Memory)
+            }
+        }
+    }
     /// Adds an owner, in place of a clone. Fails with `Memory` if the pointer cannot be counted, or
-    /// with `OwnersFull`; `Closed` is in the contract, but cannot happen while this owner lives.
+    /// with `OwnersFull`. `Closed` is in the contract, but cannot happen while this owner lives.
     pub fn another(&self) -> Result<Self, Refusal>
         ensures of_this { IfOk result (λ owner. cell_owned owner ≡ cell_owned self.now) }
         ensures refused { IfErr result IsOwnerRefusal }
     {
         let cell = Arc::try_clone(&self.shared.cell)?;
         let permit = cell.core.add_counted(&Anyone, &mut Nobody, &self.rt)?;
-        Ok(Owner {
-            shared: Shared { cell, permit },
-            rt: self.rt,
-        })
+        Ok(Shared { cell, permit }.with(self.rt))
     }
 
     /// Returns a weak owner. If its pointer cannot be counted, its calls fail with `Memory`.
@@ -172,20 +181,17 @@ impl<T: Drop, R: Wait + Copy, N: Protocol<T, TaskWaker>> Owner<T, R, N> {
     /// println!(rt; "{}", block_on(&rt, reply)??)?; // prints 7
     /// ```
     pub fn take_shared(&self) -> Result<With<Take<Self>, R>, Refusal>
-        ensures of_this { IfOk result (λ future.
-            cell_owned future.polled.0 ≡ cell_owned self.now) }
+        ensures of_this { IfOk result (λ future. cell_owned future.polled.0 ≡ cell_owned self.now) }
         ensures refused { IfErr result IsOwnerRefusal }
     {
         Ok(Take(self.another()?).with(self.rt))
     }
 
-    /// Returns a future that clones the value and is a new owner: while it waits the cell stays
-    /// open, so it waits forever if nobody sets a value. Fails as `another` does.
+    /// As `take_shared`, but the future clones the value.
     pub fn get_shared(&self) -> Result<With<Get<Self>, R>, Refusal>
     where
         T: Clone,
-        ensures of_this { IfOk result (λ future.
-            cell_owned future.polled.0 ≡ cell_owned self.now) }
+        ensures of_this { IfOk result (λ future. cell_owned future.polled.0 ≡ cell_owned self.now) }
         ensures refused { IfErr result IsOwnerRefusal }
     {
         Ok(Get(self.another()?).with(self.rt))
@@ -207,15 +213,7 @@ impl<T: Drop, R: Wait + Copy, N: Protocol<T, TaskWaker>> Owner<T, R, N> {
         self.shared.take_weak().with(self.rt)
     }
 
-    /// Returns a future that clones the value, leaves it, and is not an owner. It is `None` once
-    /// the last owner has ended.
-    ///
-    /// ```rust
-    /// let running: Owner<(), _> = Owner::new(rt.alloc(), rt)?;
-    /// let stopped = running.get_weak();
-    /// drop(running);
-    /// println!(rt; "{:?}", block_on(&rt, stopped)??)?; // prints None
-    /// ```
+    /// As `take_weak`, but the future clones the value.
     pub fn get_weak(&self) -> With<GetWeak<T, N>, R>
     where
         T: Clone,
@@ -234,8 +232,7 @@ impl<T: Drop, R: Wait + Copy, N: Protocol<T, TaskWaker>> Owner<T, R, N> {
     }
 
     /// Makes this owner a guard: its drop sets this value, if the cell holds none, and ends the
-    /// owner. The end of the last owner drops the value, so who waits for it has to be an owner, as
-    /// a future of `take_shared` is. Needs no memory.
+    /// owner. Who waits for the value has to be an owner (see `Guard`). Needs no memory.
     ///
     /// ```rust
     /// let slot = Owner::new(rt.alloc(), rt)?;
@@ -288,7 +285,7 @@ impl<T: Drop, R: Wait + Copy, N: Protocol<T, TaskWaker>> Owner<T, R, N> {
 
 impl<R: Wait + Copy> Owner<(), R> {
     /// Returns a future that waits for `notify`. It takes the value, so each `notify` ends at most
-    /// one `wait`. Where several tasks wait for one `notify`, let all use `get`.
+    /// one `wait`: where several tasks wait, use `get`.
     pub fn wait(&self) -> With<Take<&AsyncCell<()>>, R>
         ensures of_this { result.polled.0.now ≡ cell_owned self.now }
     {
@@ -297,8 +294,7 @@ impl<R: Wait + Copy> Owner<(), R> {
 
     /// Returns a future that waits for `notify` and is a new owner. Fails as `another` does.
     pub fn wait_shared(&self) -> Result<With<Take<Self>, R>, Refusal>
-        ensures of_this { IfOk result (λ future.
-            cell_owned future.polled.0 ≡ cell_owned self.now) }
+        ensures of_this { IfOk result (λ future. cell_owned future.polled.0 ≡ cell_owned self.now) }
         ensures refused { IfErr result IsOwnerRefusal }
     {
         self.take_shared()

@@ -20,9 +20,8 @@ use std::mem::ManuallyDrop;
 use std::sync::{Arc, Wait};
 
 /// The side of a reply slot that replies, once, by `set`. If it is dropped without that, as at `?`
-/// or an early `return`, the slot is closed, and the `Reply` is ready with `Closed`.
-///
-/// **Dropping it may wait for the lock**, as its calls may.
+/// or an early `return`, the slot is closed, and the `Reply` is ready with `Closed`. **Dropping it
+/// may wait for the lock**, as its calls may.
 #[derive_where(Debug)]
 pub struct Replier<T: Drop, R: Wait + Drop, N: Unwitnessed<T, TaskWaker> = Unruled> {
     #[derive_where(skip)]
@@ -97,10 +96,8 @@ fn sides<T: Drop, R: Wait + Copy, N: Unwitnessed<T, TaskWaker>>(
         arc_value cell ≡ arc_value sides.0.cell)) }
     ensures refused { FailsWithMemory result }
 {
-    let Ok(cell) = Arc::new(
-        alloc,
-        ManuallyDrop::new(AsyncCell::of(alloc, Core::new(alloc))),
-    ) else {
+    let cell = ManuallyDrop::new(AsyncCell::of(alloc, Core::new(alloc)));
+    let Ok(cell) = Arc::new(alloc, cell) else {
         return Err(Refusal::Memory);
     };
     let reply = Reply {
@@ -143,9 +140,8 @@ impl<T: Drop, R: Wait + Drop, N: Unwitnessed<T, TaskWaker>> Drop for Replier<T, 
 }
 
 impl<T: Drop, R: Wait + Drop, N: Unwitnessed<T, TaskWaker>> Reply<T, R, N> {
-    /// Takes the value, if it was set, without waiting. `Ok(None)` says that it may still come.
-    /// Fails with `Closed` if the `Replier` was dropped without a `set`, and after the reply was
-    /// taken.
+    /// Takes the value without waiting; `Ok(None)` if it may still come. Fails with `Closed` if the
+    /// `Replier` was dropped without a `set`, and after the value was taken.
     ///
     /// ```rust
     /// let (replier, mut reply) = reply_slot(rt.alloc(), rt)?;

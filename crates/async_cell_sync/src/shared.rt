@@ -4,22 +4,18 @@ ghost use Rattle.async_cell_model.specs.Refusal.{FailsWithMemory, IsOwnerRefusal
 ghost use Rattle.async_cell_sync.specs.Names.{cell_of, NamesAtMost};
 
 use crate::async_cell::AsyncCell;
-use crate::get::Get;
-use crate::guarded_cell::GuardedCell;
+use crate::guard::GuardedCell;
 use crate::owner::Owner;
-use crate::take::Take;
-use crate::weak::{GetWeak, TakeWeak, Weak};
+use crate::take::{Get, GetWeak, Take, TakeWeak};
+use crate::weak::Weak;
 use async_cell_core::{Refusal, TaskWaker};
 use async_cell_history::{Anyone, Nobody, OwnerPermit, Protocol, Unruled};
 use async_cell_model::Kept;
 use std::alloc::{AllocFailed, Global};
 use std::sync::{Arc, Wait};
 
-/// One counted owner of a cell. The end of the last one closes the cell: the value is dropped, all
-/// waiters are woken, and weak futures are ready with `None`.
-///
-/// It is not `Drop` and must be consumed: by `end`, `leave` or `try_into_inner`, or by `with`,
-/// which makes it an `Owner`, and that ends by its drop.
+/// One counted owner of a cell. The end of the last owner closes the cell (see `Owner`). It must be
+/// consumed: by `end`, `leave` or `try_into_inner`, or by `with`, which makes it an `Owner`.
 #[derive_where(Debug)]
 pub struct Shared<T, N: Protocol<T, TaskWaker> = Unruled> {
     #[derive_where(skip)]
@@ -38,9 +34,8 @@ impl<T: Drop> Shared<T> {
 }
 
 impl<T: Drop, N: Protocol<T, TaskWaker>> Shared<T, N> {
-    /// Makes the first owner of this cell. Fails with `Memory`; the cell is then returned in the
-    /// error. `AsyncCell::into_shared_or_drop` is the form for `?`. A cell with a history is made
-    /// with its first owner, by `Owner::witnessed`.
+    /// Makes the first owner of this cell. Fails with `Memory`, and then returns the cell (for `?`
+    /// write `AsyncCell::into_shared_or_drop`). `Owner::witnessed` makes a cell with a history.
     pub fn into_shared(cell: AsyncCell<T, N>) -> Result<Self, (Refusal, AsyncCell<T, N>)>
         requires nameless { N.named ≡ None }
         ensures owns { IfOk result (λ owner. cell_of owner ≡ cell) }
@@ -69,8 +64,7 @@ impl<T: Drop, N: Protocol<T, TaskWaker>> Shared<T, N> {
         Owner { shared: self, rt }
     }
 
-    /// Adds an owner, in place of a clone. Fails with `Memory` if the pointer cannot be counted, or
-    /// with `OwnersFull`; `Closed` is in the contract, but cannot happen while this owner lives.
+    /// As `Owner::another`.
     pub fn another<R: Wait>(&self, rt: &R) -> Result<Self, Refusal>
         ensures of_this { IfOk result (λ owner. cell_of owner ≡ cell_of self.now) }
         ensures refused { IfErr result IsOwnerRefusal }
@@ -135,14 +129,14 @@ impl<T: Drop, N: Protocol<T, TaskWaker>> Shared<T, N> {
         Weak::of(&self.cell)
     }
 
-    /// Returns a future that takes the value and is not an owner.
+    /// As `Owner::take_weak`.
     pub fn take_weak(&self) -> TakeWeak<T, N>
         ensures of_this { NamesAtMost result.0 (cell_of self.now) }
     {
         TakeWeak(Weak::of(&self.cell))
     }
 
-    /// Returns a future that clones the value, leaves it, and is not an owner.
+    /// As `Owner::get_weak`.
     pub fn get_weak(&self) -> GetWeak<T, N>
     where
         T: Clone,
@@ -151,8 +145,7 @@ impl<T: Drop, N: Protocol<T, TaskWaker>> Shared<T, N> {
         GetWeak(Weak::of(&self.cell))
     }
 
-    /// Closes the cell and returns its content, if this is the only owner. Wakes all waiters.
-    /// Otherwise this owner is returned in the error.
+    /// As `Owner::try_into_inner`.
     pub fn try_into_inner<R: Wait>(self, rt: &R) -> Result<Option<T>, Self>
         requires may { N.may Kept.TakeInner }
         ensures rule { IfOk result (λ content. IfSome content N.holds) }

@@ -1,19 +1,23 @@
 //! Futures that extend a witness.
-ghost use Rattle.std.specs.Prelude.{◌≡◌, Some, IfOk};
+ghost use Rattle.std.specs.Prelude.{◌≡◌, Some, Err, IfOk, IfSome};
 ghost use Rattle.async_cell_model.specs.Refusal.{FailsWithMemory};
 ghost use Rattle.async_cell_model.specs.declared.entry.Kept.TheVariants.{TryTake, TryGet};
+ghost use Rattle.async_cell_model.specs.declared.refusal.Refusal.TheVariants.{Memory};
 ghost use Rattle.async_cell_model.specs.declared.reply.Reply.TheVariants.{Value};
 ghost use Rattle.async_cell_history.specs.History.{IsSigned, IsLinearized, IsLinearizedUpTo};
 ghost use Rattle.async_cell_step.specs.Rule.{IsCloneOfOne};
-ghost use Rattle.async_cell_sync.specs.Source.{source_of};
+ghost use Rattle.async_cell_sync.specs.Names.{IsLost, NameAtMostTheSame};
 ghost use Rattle.async_cell_sync.specs.Owned.{cell_owned};
+ghost use Rattle.async_cell_sync.specs.Source.{source_of, IsSourceOf};
 
 use crate::async_cell::AsyncCell;
 use crate::owner::Owner;
+use crate::shared::Shared;
+use crate::weak::{Weak, WeakOwner};
 use async_cell_calls::{By, CloningAs, TakingAs};
 use async_cell_core::{Refusal, TaskWaker, Wakes};
 use async_cell_history::{Protocol, Witness};
-use async_cell_step::{At, Polled, Request, With, poll};
+use async_cell_step::{At, Polled, Request, Takes, With, poll, weakly};
 use futures::task::{Context, Poll};
 use std::marker::Model;
 use std::sync::Wait;
@@ -57,9 +61,8 @@ impl<T, N: Protocol<T, TaskWaker>> Taker<T, N> {
     }
 }
 
-/// Takes the value of a cell and extends a witness, which it gives back: the poll that gives both
-/// is a `try_take` of the history. It borrows an owner, so it never fails with `Closed`. Otherwise
-/// it is a `Take`.
+/// A `Take` that extends a witness, and gives it back with the value. The poll that gives them is a
+/// `try_take` of the history. It borrows an owner, so it never fails with `Closed`.
 #[derive(Drop)]
 pub struct TakeAs<'a, T: Drop, R: Wait + Drop, N: Protocol<T, TaskWaker>> {
     owner: &'a Owner<T, R, N>,
@@ -86,22 +89,14 @@ impl<T: Drop, R: Wait + Drop, N: Protocol<T, TaskWaker>> Polled<R> for TakeAs<'_
 
     #[inline(always)]
     fn poll_at(&self, at: At<'_>, cx: &mut Context<'_>, rt: &R) -> Poll<Self::Output> {
-        let shared = &self.owner.shared;
-        let query = By::new(&shared.permit, self.seen.query());
-        poll(
-            &shared.cell.core.store,
-            &shared.cell.source,
-            query,
-            at,
-            cx,
-            rt,
-        )
+        let Shared { cell, permit } = &self.owner.shared;
+        let query = By::new(permit, self.seen.query());
+        poll(&cell.core.store, &cell.source, query, at, cx, rt)
     }
 }
 
-/// Clones the value of a cell and extends a witness, which it gives back: the poll that gives both
-/// is a `try_get` of the history. It borrows an owner, so it never fails with `Closed`. Otherwise
-/// it is a `Get`.
+/// A `Get` that extends a witness, and gives it back with the clone. The poll that gives them is a
+/// `try_get` of the history. It borrows an owner, so it never fails with `Closed`.
 #[derive(Drop)]
 pub struct GetAs<'a, T: Drop, R: Wait + Drop, N: Protocol<T, TaskWaker>> {
     owner: &'a Owner<T, R, N>,
@@ -128,37 +123,25 @@ impl<T: Clone, R: Wait + Drop, N: Protocol<T, TaskWaker>> Polled<R> for GetAs<'_
 
     #[inline(always)]
     fn poll_at(&self, at: At<'_>, cx: &mut Context<'_>, rt: &R) -> Poll<Self::Output> {
-        let shared = &self.owner.shared;
+        let Shared { cell, permit } = &self.owner.shared;
         self.seen.lawful();
-        let query = By::new(&shared.permit, CloningAs(self.seen.again()));
-        poll(
-            &shared.cell.core.store,
-            &shared.cell.source,
-            query,
-            at,
-            cx,
-            rt,
-        )
+        let query = By::new(permit, CloningAs(self.seen.again()));
+        poll(&cell.core.store, &cell.source, query, at, cx, rt)
     }
 }
 
 impl<T: Drop, R: Wait + Copy, N: Protocol<T, TaskWaker>> Owner<T, R, N> {
-    /// Returns a future that takes the value and extends the witness, which it gives back. It
-    /// borrows this owner, which keeps the cell open.
+    /// As `take`, but the future extends the witness, and gives it back with the value.
     pub fn take_as(&self, seen: Witness<T, TaskWaker, N>) -> With<TakeAs<'_, T, R, N>, R>
         requires may { N.may TryTake }
         ensures of_this { result.polled.owner.now ≡ self.now }
         ensures seen { result.polled.seen ≡ seen }
     {
-        let taking = TakeAs {
-            owner: self,
-            seen: Taker::of(seen),
-        };
-        With::new(taking, self.rt)
+        let seen = Taker::of(seen);
+        With::new(TakeAs { owner: self, seen }, self.rt)
     }
 
-    /// Returns a future that clones the value and extends the witness, which it gives back. It
-    /// borrows this owner, which keeps the cell open.
+    /// As `get`, but the future extends the witness, and gives it back with the clone.
     pub fn get_as(&self, seen: Witness<T, TaskWaker, N>) -> With<GetAs<'_, T, R, N>, R>
     where
         T: Clone,
@@ -166,5 +149,114 @@ impl<T: Drop, R: Wait + Copy, N: Protocol<T, TaskWaker>> Owner<T, R, N> {
         ensures seen { result.polled.seen ≡ seen }
     {
         With::new(GetAs { owner: self, seen }, self.rt)
+    }
+}
+
+/// A `TakeAs` over a weak pointer: it is `None` once the last owner has ended. Of the items of its
+/// `values` the contract says the rule alone.
+#[derive(Drop)]
+pub struct TakeWeakAs<T, N: Protocol<T, TaskWaker>> {
+    weak: Weak<T, N>,
+    seen: Taker<T, N>,
+}
+
+impl<T: Drop, R: Wait, N: Protocol<T, TaskWaker>> Request<R> for TakeWeakAs<T, N> {
+    type Cell = AsyncCell<T, N>;
+
+    ghost is_lost = { λ asked. IsLost asked.weak };
+
+    fn cell(&self) -> Option<&AsyncCell<T, N>> {
+        self.weak.cell().ok()
+    }
+}
+
+impl<T: Drop, R: Wait, N: Protocol<T, TaskWaker>> Polled<R> for TakeWeakAs<T, N> {
+    type Output = Result<Option<(T, Witness<T, TaskWaker, N>)>, Refusal>;
+
+    ghost waits_for = { λ asked. IsSourceOf asked.weak };
+
+    ghost may_give = { λ asked given. FailsWithMemory given
+        × (IsLost asked.weak → given ≡ Err Memory)
+        × IfOk given (λ found. IfSome found (λ both. N.holds both.0))
+        × IfOk given (λ found. IfSome found (λ both.
+        IsLinearized ⟦<TaskWaker as Wakes>⟧ N.named asked.seen.calls
+        TryTake (Value (Some both.0)) both.1.calls × IsSigned asked.seen both.1)) };
+
+    fn poll_at(&self, at: At<'_>, cx: &mut Context<'_>, rt: &R) -> Poll<Self::Output> {
+        let taking = self.seen.query();
+        match self.weak.cell() {
+            Ok(cell) => weakly(poll(&cell.core.store, &cell.source, taking, at, cx, rt)),
+            Err(why) => Poll::Ready(Err(why)),
+        }
+    }
+}
+
+impl<T: Drop, R: Wait, N: Protocol<T, TaskWaker>> Takes<R> for TakeWeakAs<T, N> {
+    type Value = (T, Witness<T, TaskWaker, N>);
+
+    ghost holds = { λ both. N.holds both.0 };
+
+    ghost lacks_memory = { λ _ _ given. given.0 };
+
+    ghost gives_held = { λ _ _ given. given.2 };
+}
+
+/// A `GetAs` over a weak pointer: it is `None` once the last owner has ended.
+#[derive(Drop)]
+pub struct GetWeakAs<T, N: Protocol<T, TaskWaker>> {
+    weak: Weak<T, N>,
+    seen: Witness<T, TaskWaker, N>,
+}
+
+impl<T: Drop, R: Wait, N: Protocol<T, TaskWaker>> Request<R> for GetWeakAs<T, N> {
+    type Cell = AsyncCell<T, N>;
+
+    ghost is_lost = { λ asked. IsLost asked.weak };
+
+    fn cell(&self) -> Option<&AsyncCell<T, N>> {
+        self.weak.cell().ok()
+    }
+}
+
+impl<T: Clone, R: Wait, N: Protocol<T, TaskWaker>> Polled<R> for GetWeakAs<T, N> {
+    type Output = Result<Option<(T, Witness<T, TaskWaker, N>)>, Refusal>;
+
+    ghost waits_for = { λ asked. IsSourceOf asked.weak };
+
+    ghost may_give = { λ asked given. FailsWithMemory given
+        × (IsLost asked.weak → given ≡ Err Memory)
+        × IfOk given (λ found. IfSome found (λ both. IsCloneOfOne T.is_clone N.holds both.0
+        × IsLinearizedUpTo T.is_clone ⟦<TaskWaker as Wakes>⟧ N.named asked.seen.calls
+        TryGet (Value (Some both.0)) both.1.calls × IsSigned asked.seen both.1)) };
+
+    fn poll_at(&self, at: At<'_>, cx: &mut Context<'_>, rt: &R) -> Poll<Self::Output> {
+        let query = CloningAs(self.seen.again());
+        match self.weak.cell() {
+            Ok(cell) => weakly(poll(&cell.core.store, &cell.source, query, at, cx, rt)),
+            Err(why) => Poll::Ready(Err(why)),
+        }
+    }
+}
+
+impl<T: Drop, R: Wait + Copy, N: Protocol<T, TaskWaker>> WeakOwner<T, R, N> {
+    /// As `take`, but the future extends the witness, and gives it back with the value.
+    pub fn take_as(&self, seen: Witness<T, TaskWaker, N>) -> With<TakeWeakAs<T, N>, R>
+        requires may { N.may TryTake }
+        ensures of_this { NameAtMostTheSame self.now.weak result.polled.weak }
+        ensures seen { result.polled.seen ≡ seen }
+    {
+        let (weak, seen) = (self.weak.again(), Taker::of(seen));
+        With::new(TakeWeakAs { weak, seen }, self.rt)
+    }
+
+    /// As `get`, but the future extends the witness, and gives it back with the clone.
+    pub fn get_as(&self, seen: Witness<T, TaskWaker, N>) -> With<GetWeakAs<T, N>, R>
+    where
+        T: Clone,
+        ensures of_this { NameAtMostTheSame self.now.weak result.polled.weak }
+        ensures seen { result.polled.seen ≡ seen }
+    {
+        let weak = self.weak.again();
+        With::new(GetWeakAs { weak, seen }, self.rt)
     }
 }

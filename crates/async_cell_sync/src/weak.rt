@@ -1,43 +1,20 @@
 ghost use Rattle.std.specs.Prelude.{◌≡◌, ℕ, Err, IfOk, IfSome};
 ghost use Rattle.std.specs.Arc.{arc_value};
-ghost use Rattle.futures.specs.Poll.{IfReady, OnPending};
-ghost use Rattle.futures.specs.Task.{Covers, Keeps};
 ghost use Rattle.async_cell_model.specs.Refusal.{FailsWithMemory};
-ghost use Rattle.async_cell_step.specs.Rule.{IsCloneOfOne};
 ghost use Rattle.async_cell_step.specs.Upgrade.{FailsToUpgrade};
-ghost use Rattle.async_cell_sync.specs.Names.{IsLost, NameAtMostTheSame, Names, NamesAtMost};
-ghost use Rattle.async_cell_sync.specs.Names.{NameTheSame, OwnsNamed};
+ghost use Rattle.async_cell_sync.specs.Names.{IsLost, NameAtMostTheSame, NameTheSame, Names, NamesAtMost, OwnsNamed};
 ghost use Rattle.async_cell_sync.specs.Owned.{cell_owned};
-ghost use Rattle.async_cell_sync.specs.Refused.{GivesWeakly};
 ghost use Rattle.async_cell_sync.specs.Source.{source_of, IsSourceOf};
 
 use crate::async_cell::AsyncCell;
-use crate::get::Get;
 use crate::owner::Owner;
 use crate::shared::Shared;
-use crate::take::Take;
-use crate::weak_owner::WeakOwner;
-use async_cell_calls::{Cloning, Taking};
+use crate::take::{GetWeak, TakeWeak};
 use async_cell_core::{Refusal, TaskWaker};
-use async_cell_history::{Protocol, Takeable, Unruled};
-use async_cell_step::{At, Polled, Request, Takes, Upgrade, With, poll, weakly};
-use futures::task::{Context, Poll};
+use async_cell_history::{Protocol, Unruled};
+use async_cell_step::With;
 use std::alloc::AllocError;
 use std::sync::{Arc, Wait};
-
-/// The stream of the values of a cell, which `values` of a future of a `TakeWeak` makes. **Several
-/// streams of a cell do not take turns**: one may get every value.
-///
-/// **Dropping it may wait for the lock**, as dropping the future does that it polls (see `With`).
-///
-/// ```rust
-/// let states = Owner::new_with(rt.alloc(), 7, rt)?;
-/// let mut values = states.take_weak().values();
-/// println!(rt; "{:?}", block_on(&rt, values.next())?)?; // prints Some(Ok(7))
-/// drop(states);
-/// println!(rt; "{:?}", block_on(&rt, values.next())?)?; // prints None
-/// ```
-pub type Values<T, R, N = Unruled> = async_cell_step::Values<TakeWeak<T, N>, R>;
 
 /// A weak pointer to a cell, which does not count as an owner. `Shared::downgrade` makes one.
 /// `TakeWeak` and `GetWeak` make a future of it, `with` a `WeakOwner`, whose calls take no `rt`.
@@ -53,9 +30,8 @@ impl<T: Drop, N: Protocol<T, TaskWaker>> Weak<T, N> {
     pub(crate) fn of(cell: &Arc<AsyncCell<T, N>>) -> Self
         ensures of_this { NamesAtMost result (arc_value cell.now) }
     {
-        Weak {
-            cell: Arc::try_clone(cell).ok(),
-        }
+        let cell = Arc::try_clone(cell).ok();
+        Weak { cell }
     }
 
     /// Returns the cell. Fails with `Memory` if the pointer could not be counted when it was made.
@@ -117,172 +93,69 @@ impl<T: Drop, N: Protocol<T, TaskWaker>> Clone for Weak<T, N> {
     }
 }
 
-/// Takes the value of a cell and is no owner of it. Make the future by `with`. It may be polled
-/// again once ready. For the waker that `poll_shared` may add, see `AsyncCell`.
+/// A weak pointer to a cell, with the right to wait for its lock. It is no owner: it keeps the
+/// cell's memory alive, not its value. `Owner::downgrade` makes one. Its drop takes no lock.
 #[derive(Drop)]
-#[derive_where(Clone; T: Drop)]
 #[derive_where(Debug)]
-pub struct TakeWeak<T, N: Protocol<T, TaskWaker> = Unruled>(pub Weak<T, N>);
-
-impl<T: Drop, N: Takeable<T, TaskWaker>> TakeWeak<T, N> {
-    /// Polls by a shared reference. Takes the value, or waits; `None` on a closed cell. Fails with
-    /// `Memory` if there is no memory to wait.
-    pub fn poll_shared<R: Wait>(
-        &self,
-        cx: &mut Context<'_>,
-        rt: &R,
-    ) -> Poll<Result<Option<T>, Refusal>>
-        ensures rule { IfReady result (λ given. IfOk given (λ found. IfSome found N.holds)) }
-        ensures lost { IsLost self.now.0 → result ≡ Poll.Ready (Err Refusal.Memory) }
-        ensures registered { OnPending result (Covers cx.new (IsSourceOf self.now.0)) }
-        ensures kept { Keeps cx.old cx.new }
-        ensures refused { IfReady result FailsWithMemory }
-    {
-        self.poll_at(None, cx, rt)
-    }
+pub struct WeakOwner<T, R, N: Protocol<T, TaskWaker> = Unruled> {
+    #[derive_where(skip)]
+    pub(crate) weak: Weak<T, N>,
+    #[derive_where(skip)]
+    pub(crate) rt: R,
 }
 
-impl<T: Drop, N: Protocol<T, TaskWaker>> TakeWeak<T, N> {
-    /// Returns the future. It keeps `rt`, as `Future::poll` is passed no right to wait.
-    pub fn with<R: Wait>(self, rt: R) -> With<Self, R>
-        ensures polls { result.polled ≡ self }
-    {
-        With::new(self, rt)
-    }
-
-    /// Makes a `Take` that is a new owner. Fails or returns `None` when `Weak::upgrade` does.
-    pub fn upgrade<R: Wait>(&self, rt: &R) -> Result<Option<Take<Shared<T, N>>>, Refusal>
-        ensures of_this { IfOk result (λ found. IfSome found (λ take.
-            OwnsNamed self.now.0 take.0)) }
-        ensures lost { IsLost self.now.0 → result ≡ Err Refusal.Memory }
+impl<T: Drop, R: Wait + Copy, N: Protocol<T, TaskWaker>> WeakOwner<T, R, N> {
+    /// As `Weak::upgrade`, but the owner keeps the right to wait.
+    ///
+    /// ```rust
+    /// let slot = Owner::new_with(rt.alloc(), 7, rt)?;
+    /// let weak = slot.downgrade();
+    /// println!(rt; "{}", weak.upgrade()?.is_some())?; // prints true
+    /// drop(slot);
+    /// println!(rt; "{}", weak.upgrade()?.is_some())?; // prints false
+    /// println!(rt; "{}", weak.is_closed()?)?; // prints true
+    /// ```
+    pub fn upgrade(&self) -> Result<Option<Owner<T, R, N>>, Refusal>
+        ensures of_this { IfOk result (λ found. IfSome found (λ owner.
+            Names self.now.weak (cell_owned owner))) }
+        ensures lost { IsLost self.now.weak → result ≡ Err Refusal.Memory }
         ensures refused { FailsToUpgrade result }
     {
-        Ok(self.0.upgrade(rt)?.map(Take))
+        let owner = self.weak.upgrade(&self.rt)?;
+        Ok(owner.map(|owner| owner.with(self.rt)))
     }
-}
 
-impl<T: Drop, R: Wait, N: Protocol<T, TaskWaker>> Request<R> for TakeWeak<T, N> {
-    type Cell = AsyncCell<T, N>;
-
-    ghost is_lost = { λ weak. IsLost weak.0 };
-
-    fn cell(&self) -> Option<&AsyncCell<T, N>> {
-        self.0.cell().ok()
-    }
-}
-
-impl<T: Drop, R: Wait, N: Takeable<T, TaskWaker>> Polled<R> for TakeWeak<T, N> {
-    type Output = Result<Option<T>, Refusal>;
-
-    ghost waits_for = { λ take. IsSourceOf take.0 };
-
-    ghost may_give = { λ take. GivesWeakly N.holds take.0 };
-
-    fn poll_at(&self, at: At<'_>, cx: &mut Context<'_>, rt: &R) -> Poll<Self::Output> {
-        match self.0.cell() {
-            Ok(cell) => weakly(poll(&cell.core.store, &cell.source, Taking, at, cx, rt)),
-            Err(why) => Poll::Ready(Err(why)),
-        }
-    }
-}
-
-impl<T: Drop, R: Wait + Copy, N: Protocol<T, TaskWaker>> Upgrade<R> for TakeWeak<T, N> {
-    type Owning = Take<Owner<T, R, N>>;
-
-    ghost owned_by = { λ weak owning. Names weak.0 (cell_owned owning.0) };
-
-    fn owning(&self, rt: &R) -> Result<Option<Take<Owner<T, R, N>>>, Refusal> {
-        let owner = self.0.upgrade(rt)?;
-        Ok(owner.map(|owner| Take(owner.with(*rt))))
-    }
-}
-
-impl<T: Drop, R: Wait, N: Takeable<T, TaskWaker>> Takes<R> for TakeWeak<T, N> {
-    type Value = T;
-
-    ghost holds = { N.holds };
-
-    ghost lacks_memory = { λ _ _ given. given.0 };
-
-    ghost gives_held = { λ _ _ given. given.2 };
-}
-
-/// Clones the value of a cell and is no owner of it. Make the future by `with`. It may be polled
-/// again once ready. For the waker that `poll_shared` may add, see `AsyncCell`.
-#[derive(Drop)]
-#[derive_where(Clone; T: Drop)]
-#[derive_where(Debug)]
-pub struct GetWeak<T, N: Protocol<T, TaskWaker> = Unruled>(pub Weak<T, N>);
-
-impl<T: Clone, N: Protocol<T, TaskWaker>> GetWeak<T, N> {
-    /// Polls by a shared reference. Clones the value, or waits; `None` on a closed cell. Fails with
-    /// `Memory` if there is no memory for that.
-    pub fn poll_shared<R: Wait>(
-        &self,
-        cx: &mut Context<'_>,
-        rt: &R,
-    ) -> Poll<Result<Option<T>, Refusal>>
-        ensures rule { IfReady result (λ given. IfOk given (λ found.
-            IfSome found (IsCloneOfOne T.is_clone N.holds))) }
-        ensures lost { IsLost self.now.0 → result ≡ Poll.Ready (Err Refusal.Memory) }
-        ensures registered { OnPending result (Covers cx.new (IsSourceOf self.now.0)) }
-        ensures kept { Keeps cx.old cx.new }
-        ensures refused { IfReady result FailsWithMemory }
+    /// As `Weak::is_closed`.
+    pub fn is_closed(&self) -> Result<bool, Refusal>
+        ensures lost { IsLost self.now.weak → result ≡ Err Refusal.Memory }
+        ensures refused { FailsWithMemory result }
     {
-        self.poll_at(None, cx, rt)
+        self.weak.is_closed(&self.rt)
     }
-}
 
-impl<T: Drop, N: Protocol<T, TaskWaker>> GetWeak<T, N> {
-    /// Returns the future. It keeps `rt`, as `Future::poll` is passed no right to wait.
-    pub fn with<R: Wait>(self, rt: R) -> With<Self, R>
-        ensures polls { result.polled ≡ self }
+    /// As `Owner::take_weak`. If the pointer cannot be counted, the future fails with `Memory`.
+    pub fn take(&self) -> With<TakeWeak<T, N>, R>
+        ensures of_this { NameAtMostTheSame self.now.weak result.polled.0 }
     {
-        With::new(self, rt)
+        TakeWeak(self.weak.again()).with(self.rt)
     }
 
-    /// Makes a `Get` that is a new owner. Fails or returns `None` when `Weak::upgrade` does.
-    pub fn upgrade<R: Wait>(&self, rt: &R) -> Result<Option<Get<Shared<T, N>>>, Refusal>
-        ensures of_this { IfOk result (λ found. IfSome found (λ get. OwnsNamed self.now.0 get.0)) }
-        ensures lost { IsLost self.now.0 → result ≡ Err Refusal.Memory }
-        ensures refused { FailsToUpgrade result }
+    /// As `Owner::get_weak`. If the pointer cannot be counted, the future fails with `Memory`.
+    pub fn get(&self) -> With<GetWeak<T, N>, R>
+    where
+        T: Clone,
+        ensures of_this { NameAtMostTheSame self.now.weak result.polled.0 }
     {
-        Ok(self.0.upgrade(rt)?.map(Get))
+        GetWeak(self.weak.again()).with(self.rt)
     }
 }
 
-impl<T: Drop, R: Wait, N: Protocol<T, TaskWaker>> Request<R> for GetWeak<T, N> {
-    type Cell = AsyncCell<T, N>;
+/// A clone points to the same cell.
+impl<T: Drop, R: Copy, N: Protocol<T, TaskWaker>> Clone for WeakOwner<T, R, N> {
+    ghost is_clone = { λ weak copy. NameTheSame weak.weak copy.weak };
 
-    ghost is_lost = { λ weak. IsLost weak.0 };
-
-    fn cell(&self) -> Option<&AsyncCell<T, N>> {
-        self.0.cell().ok()
-    }
-}
-
-impl<T: Clone, R: Wait, N: Protocol<T, TaskWaker>> Polled<R> for GetWeak<T, N> {
-    type Output = Result<Option<T>, Refusal>;
-
-    ghost waits_for = { λ get. IsSourceOf get.0 };
-
-    ghost may_give = { λ get. GivesWeakly (IsCloneOfOne T.is_clone N.holds) get.0 };
-
-    fn poll_at(&self, at: At<'_>, cx: &mut Context<'_>, rt: &R) -> Poll<Self::Output> {
-        match self.0.cell() {
-            Ok(cell) => weakly(poll(&cell.core.store, &cell.source, Cloning, at, cx, rt)),
-            Err(why) => Poll::Ready(Err(why)),
-        }
-    }
-}
-
-impl<T: Drop, R: Wait + Copy, N: Protocol<T, TaskWaker>> Upgrade<R> for GetWeak<T, N> {
-    type Owning = Get<Owner<T, R, N>>;
-
-    ghost owned_by = { λ weak owning. Names weak.0 (cell_owned owning.0) };
-
-    fn owning(&self, rt: &R) -> Result<Option<Get<Owner<T, R, N>>>, Refusal> {
-        let owner = self.0.upgrade(rt)?;
-        Ok(owner.map(|owner| Get(owner.with(*rt))))
+    fn clone(&self) -> Result<WeakOwner<T, R, N>, AllocError> {
+        let weak = self.weak.clone()?;
+        Ok(WeakOwner { weak, rt: self.rt })
     }
 }
