@@ -3,12 +3,12 @@ ghost use Rattle.std.specs.Prelude.{◌≡◌, ◌≢◌, ◌⊎◌, true, false
 ghost use Rattle.std.specs.{Fn.CalledAt, List.AllByRecursion};
 ghost use Rattle.futures.specs.{Poll.IfReady, Poll.OnPending, Task.Covers, Task.Keeps};
 ghost use Rattle.async_cell_model.specs.Refusal.{FailsWithMemoryOrClosed};
-ghost use Rattle.async_cell_latest_sync.specs.{Found.IsFound, Found.IsItem, Names.cell_followed, Names.sources};
+ghost use Rattle.async_cell_latest_sync.specs.{Found.IsFound, Found.IsItem, Life.IsNext, Names.cell_followed, Names.sources};
 
-use crate::cell::{LatestCore, Unseen, UnseenState};
-use crate::{Follower, Protocol, Refusal, Unruled};
+use crate::cell::{LatestCell, LatestCore, Next, Unseen, UnseenState};
+use crate::{Follower, Protocol, Refusal, Unruled, Witness};
 use async_cell_latest::Place;
-use async_cell_step::{Query, poll};
+use async_cell_step::{At, Places, Polled, Query, Request, With, poll};
 use futures::future::Future;
 use futures::stream::Stream;
 use futures::task::{Context, Poll};
@@ -16,7 +16,7 @@ use std::mem;
 use std::sync::Wait;
 
 impl<T: Drop, R: Wait + Drop, N: Protocol<T>> Follower<T, R, N> {
-    /// Asks the state, for a future of this follower that has this place.
+    /// Asks the state, for a future of this follower that holds this place.
     #[inline(always)]
     fn poll<Q: Query<LatestCore<T, N>>>(
         &self,
@@ -34,7 +34,7 @@ impl<T: Drop, R: Wait + Drop, N: Protocol<T>> Follower<T, R, N> {
         poll(&cell.core, &cell.source, asked, Some(place), cx, &self.rt)
     }
 
-    /// Waits for another version than this one, which the next poll is to look at.
+    /// Waits for another version than `seen`. The next poll looks at it.
     fn poll_later<A>(
         &self,
         seen: u64,
@@ -54,6 +54,20 @@ impl<T: Drop, R: Wait + Drop, N: Protocol<T>> Follower<T, R, N> {
     }
 }
 
+impl<T: Clone, R: Wait + Copy, N: Protocol<T>> Follower<T, R, N> {
+    /// Returns a future that waits for a value that the witness has not seen. It returns a clone of
+    /// the value, and the witness, which has then seen it; `None` for the value once the state is
+    /// closed and all values were seen. Fails with `Memory` if there is no memory to wait or for
+    /// the clone. What this follower has seen stays as it is.
+    pub fn next_as(&self, seen: Witness<T, N>) -> With<NextAs<'_, T, N>, R>
+        ensures of_this { result.polled.cell.now ≡ cell_followed self.now }
+        ensures seen { result.polled.seen ≡ seen }
+    {
+        let cell = self.cell.as_ref();
+        With::new(NextAs { cell, seen }, self.rt)
+    }
+}
+
 /// The future of `Follower::changed`.
 ///
 /// While it waits it holds one place in the wait list, and each poll renews the waker there: the
@@ -69,10 +83,10 @@ pub struct Changed<'a, T: Drop, R: Wait + Drop, N: Protocol<T> = Unruled> {
 }
 
 impl<T: Drop, R: Wait + Drop, N: Protocol<T>> Changed<'_, T, R, N> {
-    /// Drops the future, and the waker that it left in the state: the task that polled it last is
-    /// polled once more. A waker keeps what its executor needs to wake the task, so cancel a wait
-    /// that came to nothing on a state that is written seldom, as when its time is up. May wait for
-    /// the lock.
+    /// Drops the future and the waker that it left in the state: the task that polled it last is
+    /// polled once more. A waker that stays keeps what its executor needs to wake the task. So call
+    /// this where a wait ends early, as after a timeout, and the state is written seldom. May wait
+    /// for the lock.
     pub fn cancel(self) {
         let Changed { follower, place } = self;
         follower.cell.core.cancel(place, &follower.rt);
@@ -135,7 +149,7 @@ pub struct WaitFor<'a, T: Drop, R: Wait + Drop, F: Drop, N: Protocol<T> = Unrule
 }
 
 impl<T: Drop, R: Wait + Drop, F: Drop, N: Protocol<T>> WaitFor<'_, T, R, F, N> {
-    /// Drops the future, and the waker that it left in the state, as `Changed::cancel` does.
+    /// As `Changed::cancel`.
     pub fn cancel(self) {
         let WaitFor {
             follower,
@@ -219,12 +233,10 @@ impl<T: Clone, R: Wait + Drop, F: FnMut(&T) -> bool + Drop, N: Protocol<T>> Futu
     }
 }
 
-/// The states that a follower is in time for, as a stream of clones: each is one that it has not
-/// seen before. It ends after the last state, once the last owner has ended. `Follower::states`
-/// makes it.
+/// The stream of `Follower::states`: clones of the unseen states that it is in time for. It ends
+/// after the last state, once the last owner has ended.
 ///
-/// An item is an error (`Memory`) if a poll was refused; the stream may be polled on, and misses
-/// nothing by it.
+/// If a poll fails with `Memory`, the item is that error. Poll the stream again: it missed nothing.
 ///
 /// It waits, and may be dropped, as `Changed`: **its drop may wait for the lock**.
 #[derive_where(Debug)]
@@ -236,7 +248,7 @@ pub struct States<T: Drop, R: Wait + Drop, N: Protocol<T> = Unruled> {
 }
 
 impl<T: Drop, R: Wait + Drop, N: Protocol<T>> States<T, R, N> {
-    /// Drops the stream, and the waker that it left in the state, as `Changed::cancel` does.
+    /// As `Changed::cancel`, of this stream.
     pub fn cancel(self) {
         let States { follower, place } = self;
         follower.cell.core.cancel(place, &follower.rt);
@@ -283,5 +295,45 @@ impl<T: Clone, R: Wait + Drop, N: Protocol<T>> Stream for States<T, R, N> {
             Poll::Ready(Err(why)) => Poll::Ready(Some(Err(why))),
             Poll::Pending => Poll::Pending,
         }
+    }
+}
+
+/// The request of `Follower::next_as`, of which `With` makes the future.
+#[derive(Drop)]
+pub struct NextAs<'a, T: Drop, N: Protocol<T>> {
+    cell: &'a LatestCell<T, N>,
+    seen: Witness<T, N>,
+}
+
+impl<T: Drop, N: Protocol<T>, R: Wait> Request<R> for NextAs<'_, T, N> {
+    type Cell = LatestCell<T, N>;
+
+    fn cell(&self) -> Option<&LatestCell<T, N>> {
+        Some(self.cell)
+    }
+}
+
+impl<T: Clone, N: Protocol<T>, R: Wait> Polled<R> for NextAs<'_, T, N> {
+    type Output = Result<(Option<T>, Witness<T, N>), Refusal>;
+
+    ghost waits_for = { λ asked s. s ≡ asked.cell.now.source.id };
+
+    ghost may_give = { λ asked given. FailsWithMemoryOrClosed given
+        × IfOk given (λ both. IsNext T.is_clone asked.seen both.0 both.1) };
+
+    #[inline(always)]
+    fn poll_at(&self, at: At<'_>, cx: &mut Context<'_>, rt: &R) -> Poll<Self::Output> {
+        let query = Next(self.seen.again());
+        poll(&self.cell.core, &self.cell.source, query, at, cx, rt)
+    }
+}
+
+impl<T: Drop, N: Protocol<T>, R: Wait> Places<R> for LatestCell<T, N> {
+    fn vacate(&self, place: Place, rt: &R) {
+        self.core.vacate(place, rt);
+    }
+
+    fn cancel(&self, place: Place, rt: &R) {
+        self.core.cancel(place, rt);
     }
 }

@@ -1,7 +1,6 @@
-//! The state behind a lock, as owners and followers point to it, and the looks at it. Closures, and
-//! clones of the value, run while the lock is held.
+//! The state behind a lock, as owners and followers point to it: the looks at it, and what polls ask
+//! it. Closures, and clones of the value, run while the lock is held.
 mod calls;
-mod waits;
 
 ghost use Rattle.std.specs.Prelude.{◌≡◌, ◌≢◌, IsOk, IfOk, IfSome, IfNone};
 ghost use Rattle.std.specs.Fn.{FnOnceReturnsAt};
@@ -10,12 +9,11 @@ ghost use Rattle.async_cell_step.specs.Rule.{IsCloneOfOne};
 ghost use Rattle.async_cell_latest_sync.specs.Found.{IsTested};
 
 use crate::{Protocol, Refusal, Unruled};
-use async_cell_step::{Deferred, Lock, Step, end};
-pub use calls::LatestCore;
+use async_cell_step::{Deferred, Lock, Query, Step, end};
+pub use calls::{LatestCore, Next};
 use futures::task::Source;
 use std::alloc::AllocError;
 use std::sync::Wait;
-pub use waits::{Unseen, UnseenState};
 
 /// A state that threads share, behind a lock.
 #[derive(Drop)]
@@ -51,9 +49,9 @@ impl<T: Drop, N: Protocol<T>> LatestCell<T, N> {
         end(step, copy)
     }
 
-    /// Calls the predicate on the value, if the state has another version than this one, and
-    /// returns the version, and a clone of the value if the predicate holds of it. Fails with
-    /// `Memory` if the clone fails. Returns `None`, without the call, of a state of this version.
+    /// Calls the predicate on the value, and returns the version, and a clone of the value if the
+    /// predicate holds of it. Fails with `Memory` if the clone fails. If the state has the version
+    /// `seen`, it only returns `None`.
     pub(crate) fn test<P: FnMut(&T) -> bool, R: Wait>(
         &self,
         seen: u64,
@@ -106,4 +104,51 @@ fn find<T: Clone, P: FnMut(&T) -> bool>(value: &T, predicate: &mut P) -> Result<
     }
     let copy: Result<T, AllocError> = value.clone();
     Ok(Some(copy?))
+}
+
+/// Asks a state for its version, unless it is this one.
+#[derive(Clone, Copy, Drop)]
+pub struct Unseen(pub u64);
+
+/// `Unseen`, with a clone of the value, made during the step.
+#[derive(Clone, Copy, Drop)]
+pub struct UnseenState(pub u64);
+
+impl<T: Drop, N: Protocol<T>> Query<LatestCore<T, N>> for Unseen {
+    type Answer = u64;
+
+    ghost gives = { λ asked version. version ≢ asked.0 };
+
+    #[inline(always)]
+    fn must_wait(&self, core: &LatestCore<T, N>) -> bool {
+        !core.is_unseen(self.0) && !core.is_closed()
+    }
+
+    #[inline(always)]
+    fn answer(self, core: &mut LatestCore<T, N>) -> Deferred<Result<u64, Refusal>> {
+        match core.is_unseen(self.0) {
+            true => Deferred::of(Ok(core.read().0)),
+            false => Deferred::of(Err(Refusal::Closed)),
+        }
+    }
+}
+
+impl<T: Clone, N: Protocol<T>> Query<LatestCore<T, N>> for UnseenState {
+    type Answer = (u64, T);
+
+    ghost gives = { λ asked shown.
+        (shown.0 ≢ asked.0) × IsCloneOfOne T.is_clone N.holds shown.1 };
+
+    #[inline(always)]
+    fn must_wait(&self, core: &LatestCore<T, N>) -> bool {
+        Unseen(self.0).must_wait(core)
+    }
+
+    #[inline(always)]
+    fn answer(self, core: &mut LatestCore<T, N>) -> Deferred<Result<(u64, T), Refusal>> {
+        match core.is_unseen(self.0) {
+            true => core.get(),
+            false => Deferred::of(Err(Refusal::Closed)),
+        }
+    }
 }

@@ -1,9 +1,238 @@
 //! The list of the values that a state has had, which exists in the proofs alone, and what is known
 //! of them.
-mod protocol;
-mod values;
-mod witness;
+ghost use Rattle.std.specs.Prelude.{◌≡◌, ◌⊎◌, ⊤, ℕ, List, [], ◌∷◌, ◌++◌, length, true, false, Option, Some, None, IsSome};
+ghost use Rattle.async_cell_latest_sync.specs.Life.{Fits, GoesOn, IsLawful, Life, life_of, values_of};
 
-pub use protocol::{Protocol, Unruled};
-pub use values::{Blank, Values};
-pub use witness::Witness;
+use async_cell_latest::{Latest, TaskWaker};
+use async_cell_step::{Rule, Ruled};
+use ghost_log::{Log, Makes, Seen};
+use std::marker::{Brand, Model, PhantomData};
+
+/// Which state it is, which values may be written, and what is known of each. Only contracts read
+/// it.
+pub trait Protocol<T> {
+    /// The name of the list of its values. `None`: it has none, and no witness sees it.
+    ghost named: { Option ℕ };
+
+    /// After these values this one may be written.
+    ghost may: { List T → T → Type 0 };
+
+    /// The rule: what is known of each value.
+    ghost holds: { T → Type 0 };
+
+    /// A value that may be written keeps the rule.
+    ghost keeps: { (before : List T) → (value : T) → may before value → holds value };
+}
+
+/// A state without a name, to which every value may be written.
+pub struct Unruled;
+
+impl<T> Protocol<T> for Unruled {
+    ghost named = { None };
+
+    ghost may = { λ _ _. ⊤ };
+
+    ghost holds = { λ _. ⊤ };
+
+    ghost keeps = { λ _ _ may. may };
+}
+
+/// A state without a name, whose values keep the rule `P`.
+impl<T, P: Rule<T>> Protocol<T> for Ruled<P> {
+    ghost named = { None };
+
+    ghost may = { λ _ value. P.holds value };
+
+    ghost holds = { P.holds };
+
+    ghost keeps = { λ _ _ may. may };
+}
+
+/// A call at `Brand` gives its own definitions in place of these: they may name its values.
+impl<T> Protocol<T> for Brand {
+    ghost named = { None };
+
+    ghost may = { λ _ _. ⊤ };
+
+    ghost holds = { λ _. ⊤ };
+
+    ghost keeps = { λ _ _ may. may };
+}
+
+/// The empty list of a state that is not made yet. A protocol can name it in a function over the
+/// protocol, which is called at `std::marker::Brand`. It has no bytes.
+#[derive(Drop)]
+pub struct Blank<T> {
+    log: Log<Option<T>>,
+}
+
+/// Contracts see the name of the list.
+impl<T> Model for Blank<T> {
+    ghost Value = { ℕ };
+
+    ghost view = { λ b. b.log.name };
+
+    ghost invariant = { λ b. b.log.list ≡ [] };
+}
+
+impl<T> Blank<T> {
+    /// Begins a list under a new name.
+    pub fn new() -> Self {
+        Blank { log: Log::open() }
+    }
+}
+
+/// All values that a state has had, and the right to add one. It has no bytes.
+#[derive(Drop)]
+pub struct Values<T, N: Protocol<T>> {
+    log: Log<Option<T>>,
+    of: PhantomData<N>,
+}
+
+/// Contracts see the life of the state so far.
+impl<T, N: Protocol<T>> Model for Values<T, N> {
+    ghost Value = { Life T };
+
+    ghost view = { λ v. life_of v.log.list };
+
+    ghost invariant = { λ v. Fits N.named v.log.name
+        × IsLawful N.may (values_of v.log.list) };
+}
+
+impl<T: Drop, N: Protocol<T>> Values<T, N> {
+    /// Begins the list of a new state.
+    #[tactic(auto, using(crate::proofs::Lives::first_lawful))]
+    pub(crate) fn begin(blank: Blank<T>, state: &Latest<T, TaskWaker>) -> Self
+        requires named { Fits N.named blank }
+        requires may { N.may [] state.now.value }
+        ensures begun { result ≡ record { values = state.now.value ∷ []; closed = false } }
+        ensures rule { N.holds state.now.value }
+    {
+        let Blank { mut log } = blank;
+        log.push::<_, Written>(state);
+        Values {
+            log,
+            of: PhantomData,
+        }
+    }
+
+    /// Adds the value of the state, which was written.
+    #[inline(always)]
+    #[tactic(auto, using(crate::proofs::Lives::written, crate::proofs::Lives::lawful_more))]
+    pub(crate) fn add(&mut self, state: &Latest<T, TaskWaker>)
+        requires open { self.old.closed ≡ false }
+        requires may { N.may self.old.values state.now.value }
+        ensures added { self.new ≡ record
+            { values = self.old.values ++ state.now.value ∷ []; closed = false } }
+        ensures rule { N.holds state.now.value }
+    {
+        self.log.push::<_, Written>(state);
+    }
+
+    /// Ends the list: the state was closed.
+    #[inline(always)]
+    #[tactic(auto, using(crate::proofs::Lives::closed, crate::proofs::Lives::lawful_closed))]
+    pub(crate) fn close(&mut self)
+        ensures { self.new ≡ record { values = self.old.values; closed = true } }
+    {
+        self.log.push::<_, Closed>(&());
+    }
+}
+
+/// Adds the value of a state.
+struct Written;
+
+impl<T> Makes<Latest<T, TaskWaker>, Option<T>> for Written {
+    ghost entry = { λ state. Some state.value };
+}
+
+/// Adds the close of a state.
+struct Closed;
+
+impl<T> Makes<(), Option<T>> for Closed {
+    ghost entry = { λ _. None };
+}
+
+/// What was seen of the values of the state that `N` names: all up to some moment. A call that ends
+/// in `_as` shows it all values of that moment. It belongs to no owner or follower: each of its
+/// state can take it. At run time it is the version of the last value that was seen.
+#[derive(Drop)]
+pub struct Witness<T, N: Protocol<T>> {
+    version: u64,
+    seen: Seen<Option<T>>,
+    of: PhantomData<N>,
+}
+
+/// Contracts see the life of the state, as far as it was seen.
+impl<T, N: Protocol<T>> Model for Witness<T, N> {
+    ghost Value = { Life T };
+
+    ghost view = { λ w. life_of w.seen.list };
+
+    ghost invariant = { λ w. (N.named ≡ Some w.seen.name)
+        × IsLawful N.may (values_of w.seen.list)
+        × (w.version ≡ length (values_of w.seen.list)) };
+}
+
+impl<T, N: Protocol<T>> Witness<T, N> {
+    /// Makes a witness that has seen the whole life, up to this version.
+    #[tactic(auto, using(crate::proofs::Lives::named))]
+    pub(crate) fn of(values: &Values<T, N>, version: u64) -> Self
+        requires named { IsSome N.named }
+        requires counted { version ≡ length values.now.values }
+        ensures { result ≡ values.now }
+    {
+        Witness {
+            version,
+            seen: values.log.seen(),
+            of: PhantomData,
+        }
+    }
+
+    /// Sees the whole life, up to this version. It has gone on from what was seen.
+    #[inline(always)]
+    #[tactic(auto, using(crate::proofs::Lives::same_name, crate::proofs::Lives::goes_on))]
+    pub(crate) fn learn(&mut self, values: &Values<T, N>, version: u64)
+        requires counted { version ≡ length values.now.values }
+        ensures whole { self.new ≡ values.now }
+        ensures goes_on { GoesOn self.old values.now }
+        ensures named { IsSome N.named }
+    {
+        self.seen.learn(&values.log);
+        self.version = version;
+    }
+
+    /// Returns the version of the last value that was seen.
+    #[inline(always)]
+    pub(crate) fn version(&self) -> u64
+        ensures { result ≡ length self.now.values }
+    {
+        self.version
+    }
+
+    /// Ensures what holds of all values that were seen: each may be written after those before it.
+    pub fn lawful(&self)
+        ensures { IsLawful N.may self.now.values }
+    {
+        let _ = &self.seen;
+    }
+
+    /// Ensures that what one of both has seen begins what the other has.
+    #[tactic(auto, using(crate::proofs::Lives::same_name))]
+    pub fn agrees(&self, other: &Self)
+        ensures { GoesOn self.now other.now ⊎ GoesOn other.now self.now }
+    {
+        let _longer = self.seen.longer(&other.seen);
+    }
+
+    /// Returns a copy.
+    pub fn again(&self) -> Self
+        ensures { result ≡ self.now }
+    {
+        Witness {
+            version: self.version,
+            seen: self.seen.again(),
+            of: PhantomData,
+        }
+    }
+}

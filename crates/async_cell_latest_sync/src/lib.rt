@@ -5,13 +5,11 @@ mod awaited;
 mod cell;
 mod follower;
 mod history;
-mod next_as;
 mod owner;
 
 pub use async_cell_latest::{Refusal, TaskWaker};
 pub use async_cell_step::{Rule, Ruled, With};
-pub use awaited::{Changed, States, WaitFor};
+pub use awaited::{Changed, NextAs, States, WaitFor};
 pub use follower::Follower;
 pub use history::{Blank, Protocol, Unruled, Witness};
-pub use next_as::NextAs;
 pub use owner::Owner;

@@ -25,8 +25,8 @@ use std::sync::{Arc, Wait};
 ///
 /// **Letting one go may wait for the lock**, as its other calls may.
 ///
-/// `N` says what is known of the values (see `Rule`), and to which list of them a witness sees: of
-/// a state of `Owner::new` neither.
+/// `N` says what is known of the values (see `Rule`), and names the list of them that a witness
+/// sees. A state of `Owner::new` has neither.
 #[derive_where(Debug)]
 pub struct Owner<T: Drop, R: Wait + Drop, N: Protocol<T> = Unruled> {
     #[derive_where(skip)]
@@ -46,7 +46,7 @@ impl<T: Drop, R: Wait + Copy> Owner<T, R> {
     pub fn new(alloc: Global, value: T, rt: R) -> Result<Self, Refusal>
         ensures refused { FailsWithMemory result }
     {
-        Owner::of(alloc, LatestCore::new(alloc, value), rt)
+        Owner::of(alloc, LatestCore::begin(alloc, value, Blank::new()), rt)
     }
 }
 
@@ -57,7 +57,7 @@ impl<T: Drop, R: Wait + Copy, P: Rule<T>> Owner<T, R, Ruled<P>> {
         requires rule { P.holds value }
         ensures refused { FailsWithMemory result }
     {
-        Owner::of(alloc, LatestCore::new(alloc, value), rt)
+        Owner::of(alloc, LatestCore::begin(alloc, value, Blank::new()), rt)
     }
 }
 

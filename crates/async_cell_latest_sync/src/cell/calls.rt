@@ -1,23 +1,24 @@
 //! The calls that a step may make of a state. Only this module sees the state: each function makes
 //! one call of it, and holds what comes out. So no other text can wake or drop that during a step.
-ghost use Rattle.std.specs.Prelude.{◌≡◌, ◌≢◌, ◌↔◌, [], ◌∷◌, ◌++◌, Bool, true, false, None, Some, Ok, IsOk, IfOk, IfErr, IsSome, OnOk, OnErr};
+ghost use Rattle.std.specs.Prelude.{◌≡◌, ◌≢◌, ◌↔◌, List, [], ◌∷◌, ◌++◌, Bool, true, false, None, Some, Ok, IsOk, IfOk, IfErr, IsSome, OnOk, OnErr};
 ghost use Rattle.std.specs.Fn.{FnOnceReturnsAt, FnOnceReturnsAtMut};
-ghost use Rattle.async_cell_model.specs.Refusal.{FailsWithClosed, FailsWithMemory, FailsWithMemoryOrClosed, IsOwnerRefusal};
+ghost use Rattle.async_cell_model.specs.Refusal.{FailsWithClosed, FailsWithMemory, IsOwnerRefusal};
 ghost use Rattle.async_cell_step.specs.Rule.{IsCloneOfOne};
 ghost use Rattle.async_cell_latest.specs.State.{is_closed};
 ghost use Rattle.async_cell_wakers.specs.WaitList.{first_then};
-ghost use Rattle.async_cell_latest_sync.specs.Life.{Fits, GoesOn, IsNext, IsOf, TakesNoMore};
+ghost use Rattle.async_cell_wakers.specs.declared.task_waker.TaskWaker.{TaskWaker};
+ghost use Rattle.async_cell_latest_sync.specs.Life.{Desk, Fits, GoesOn, IsNext, IsOf, TakesNoMore};
 
 use crate::history::Values;
 use crate::{Blank, Protocol, Refusal, TaskWaker, Unruled, Witness};
 use async_cell_latest::{Latest, Place, Wakers};
-use async_cell_step::{Deferred, Room, Writes};
+use async_cell_step::{Deferred, Query, Room, Writes};
 use futures::task::Waker;
 use std::alloc::Global;
 use std::marker::Model;
 
-/// A state, whose own calls it hides: what they return would be woken or dropped during a step. Its
-/// own hold what comes out, and each that writes adds the value to the list beside it.
+/// A state, and the list of its values, to which each write adds one. It hides the state's own
+/// calls, as what these return could be woken or dropped during a step: its calls hold that.
 #[derive(Drop)]
 pub struct LatestCore<T, N: Protocol<T> = Unruled> {
     state: Latest<T, TaskWaker>,
@@ -26,9 +27,6 @@ pub struct LatestCore<T, N: Protocol<T> = Unruled> {
 
 /// Contracts see the state, and its life. Its value keeps the rule.
 impl<T, N: Protocol<T>> Model for LatestCore<T, N> {
-    ghost use Rattle.async_cell_wakers.specs.declared.task_waker.TaskWaker.{TaskWaker};
-    ghost use Rattle.async_cell_latest_sync.specs.Life.{Desk, IsOf};
-
     ghost Value = { Desk T TaskWaker };
 
     ghost view = { λ c. record { state = c.state; life = c.values } };
@@ -38,14 +36,6 @@ impl<T, N: Protocol<T>> Model for LatestCore<T, N> {
 
 #[tactic(auto, using(crate::proofs::Keeping::of_written, crate::proofs::Keeping::open_life, crate::proofs::Keeping::full_life))]
 impl<T: Drop, N: Protocol<T>> LatestCore<T, N> {
-    /// Makes a state of this value, and of one writer, without a name.
-    pub(crate) fn new(alloc: Global, value: T) -> Self
-        requires unnamed { N.named ≡ None }
-        requires may { N.may [] value }
-    {
-        LatestCore::begin(alloc, value, Blank::new())
-    }
-
     /// Makes a state of this value, and of one writer, whose list this begins.
     pub(crate) fn begin(alloc: Global, value: T, blank: Blank<T>) -> Self
         requires named { Fits N.named blank }
@@ -55,33 +45,6 @@ impl<T: Drop, N: Protocol<T>> LatestCore<T, N> {
         let state = Latest::new(alloc, value);
         let values = Values::begin(blank, &state);
         LatestCore { state, values }
-    }
-
-    /// Returns what comes next for who has seen this: a clone of the value if it was not seen yet,
-    /// or nothing if the state is closed. Otherwise, and then it has to wait, `Closed`.
-    #[inline(always)]
-    pub(crate) fn next(
-        &self,
-        seen: Witness<T, N>,
-    ) -> Deferred<Result<(Option<T>, Witness<T, N>), Refusal>>
-    where
-        T: Clone,
-        ensures next { IfOk result.answer (λ both. IsNext T.is_clone seen both.0 both.1) }
-        ensures refused { FailsWithMemoryOrClosed result.answer }
-    {
-        let mut now = seen.again();
-        now.learn(&self.values, self.state.version());
-        if self.state.is_unseen(seen.version()) {
-            let (_, value) = match self.state.get() {
-                Ok(shown) => shown,
-                Err(why) => return Deferred::of(Err(why)),
-            };
-            return Deferred::of(Ok((Some(value), now)));
-        }
-        if self.state.is_closed() {
-            return Deferred::of(Ok((None, now)));
-        }
-        Deferred::of(Err(Refusal::Closed))
     }
 
     /// Makes a witness of the whole life.
@@ -231,7 +194,7 @@ impl<T: Drop, N: Protocol<T>> LatestCore<T, N> {
         }
     }
 
-    /// No state with a name has it: a closure that returned `false` may have changed the value.
+    /// Not of a state with a name: a closure that returned `false` may have changed the value.
     pub(crate) fn modify_if<F: FnOnce(&mut T) -> bool + Drop>(
         &mut self,
         change: F,
@@ -278,8 +241,6 @@ impl<T: Drop, N: Protocol<T>> LatestCore<T, N> {
 }
 
 impl<T: Drop, N: Protocol<T>> Writes<T> for LatestCore<T, N> {
-    ghost use Rattle.std.specs.Prelude.{List};
-
     type Old = T;
 
     type Waker = TaskWaker;
@@ -296,9 +257,6 @@ impl<T: Drop, N: Protocol<T>> Writes<T> for LatestCore<T, N> {
 
 #[tactic(auto, using(crate::proofs::Keeping::of_stays))]
 impl<T: Drop, N: Protocol<T>> Room for LatestCore<T, N> {
-    ghost use Rattle.std.specs.Prelude.{◌≡◌, false};
-    ghost use Rattle.async_cell_latest.specs.State.{is_closed};
-
     ghost vacant = { λ core. is_closed core.state ≡ false };
 
     ghost waiting = { λ core. core.state.waiting };
@@ -351,5 +309,42 @@ impl<T: Drop, N: Protocol<T>> Room for LatestCore<T, N> {
     #[inline(always)]
     fn places(&self) -> usize {
         self.state.waiting()
+    }
+}
+
+/// Asks a state for what comes next for a witness: a clone of the value, if it was not seen yet, or
+/// nothing, if the state is closed.
+#[derive(Drop)]
+pub struct Next<T, N: Protocol<T>>(pub Witness<T, N>);
+
+impl<T: Clone, N: Protocol<T>> Query<LatestCore<T, N>> for Next<T, N> {
+    type Answer = (Option<T>, Witness<T, N>);
+
+    ghost gives = { λ asked both. IsNext T.is_clone asked.0 both.0 both.1 };
+
+    #[inline(always)]
+    fn must_wait(&self, core: &LatestCore<T, N>) -> bool {
+        !core.is_unseen(self.0.version()) && !core.is_closed()
+    }
+
+    #[inline(always)]
+    fn answer(
+        self,
+        core: &mut LatestCore<T, N>,
+    ) -> Deferred<Result<(Option<T>, Witness<T, N>), Refusal>> {
+        let Next(seen) = self;
+        let mut now = seen.again();
+        now.learn(&core.values, core.state.version());
+        if core.state.is_unseen(seen.version()) {
+            let (_, value) = match core.state.get() {
+                Ok(shown) => shown,
+                Err(why) => return Deferred::of(Err(why)),
+            };
+            return Deferred::of(Ok((Some(value), now)));
+        }
+        if core.state.is_closed() {
+            return Deferred::of(Ok((None, now)));
+        }
+        Deferred::of(Err(Refusal::Closed))
     }
 }

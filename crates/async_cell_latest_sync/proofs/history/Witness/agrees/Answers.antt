@@ -1,5 +1,5 @@
 use Rattle.async_cell_latest_sync.proofs.Lives.{one_goes_on}
-use Rattle.async_cell_latest_sync.proofs.history.witness.Witness.agrees.Goals as goal
+use Rattle.async_cell_latest_sync.proofs.history.Witness.agrees.Goals as goal
 
 -- the longer one is one of both, and the other one begins it
 pub returns : goal.returns
