@@ -5,10 +5,7 @@ ghost use Rattle.async_cell_model.specs.Refusal.{FailsWithMemory};
 ghost use Rattle.async_cell_step.specs.Rule.{IsCloneOfOne};
 ghost use Rattle.async_cell_unsync.specs.Names.{cell_of};
 
-use crate::get::Get;
-use crate::guarded_cell::GuardedCell;
-use crate::shared::Shared;
-use crate::take::Take;
+use crate::{Get, GuardedCell, Shared, Take};
 use async_cell_calls::CellStore;
 use async_cell_core::{Core, Place, Refusal, TaskWaker, Wakes};
 use async_cell_history::{CellCore, Free, Unruled};
@@ -20,13 +17,13 @@ use std::fmt;
 
 /// A cell of one thread. It holds an optional value, and futures wait on it for a value.
 ///
-/// Wakers are woken and values are dropped when the cell is consistent again, so whatever runs then
-/// may call it. No call waits. Dropping a cell wakes all waiters.
+/// A call wakes tasks and drops values when it is done with the cell, so the code that runs then
+/// may call the cell. No call waits. Dropping a cell wakes all waiters.
 ///
-/// **While a closure, a clone or a value's `Debug` runs, the value is taken out.** Calls from
-/// inside see an empty cell, and owners made or ended inside are counted. What `update` and
-/// `update_some` make, and the value that `try_get`, a get or `Debug` took out, is then stored over
-/// whatever came meanwhile. What `peek` took out is put back only if the cell is still empty.
+/// **While a closure, a clone or a value's `Debug` runs, the value is taken out**: calls see an
+/// empty cell. Owners made or ended then are counted. Afterwards the value, or what an update made
+/// of it, is stored over whatever was set meanwhile. `peek` instead puts the value back only if the
+/// cell is still empty.
 ///
 /// A future made by `with` holds one place in the wait list while it waits (see `With`), so the
 /// list is no longer than the number of such futures that were alive at once. Each poll of any
@@ -44,26 +41,7 @@ pub struct AsyncCell<T, N: Free<T, TaskWaker> = Unruled> {
 impl<T: Drop, N: Free<T, TaskWaker>> Drop for AsyncCell<T, N> {
     #[inline(always)]
     fn drop(self) {
-        let AsyncCell {
-            core,
-            source: _,
-            alloc: _,
-        } = self;
-        core.into_core().end();
-    }
-}
-
-impl<T: Drop, N: Free<T, TaskWaker>> AsyncCell<T, N> {
-    /// Wraps a core in a cell without a name.
-    pub(crate) fn of(alloc: Global, core: Core<T, TaskWaker>) -> Self
-        requires nameless { N.named ≡ None }
-        requires rule { IfSome (content core.cell) N.holds }
-    {
-        AsyncCell {
-            core: CellStore::nameless(core),
-            source: Source::new(),
-            alloc,
-        }
+        self.into_core().end();
     }
 }
 
@@ -101,6 +79,18 @@ impl<T: Drop, P: Rule<T>> AsyncCell<T, Ruled<P>> {
 }
 
 impl<T: Drop, N: Free<T, TaskWaker>> AsyncCell<T, N> {
+    /// Wraps a core in a cell without a name.
+    pub(crate) fn of(alloc: Global, core: Core<T, TaskWaker>) -> Self
+        requires nameless { N.named ≡ None }
+        requires rule { IfSome (content core.cell) N.holds }
+    {
+        AsyncCell {
+            core: CellStore::nameless(core),
+            source: Source::new(),
+            alloc,
+        }
+    }
+
     /// Makes the first counted owner of this cell. Fails with `Memory`, and then returns the cell.
     pub fn into_shared(self) -> Result<Shared<T, N>, (Refusal, AsyncCell<T, N>)>
         requires nameless { N.named ≡ None }
@@ -133,7 +123,7 @@ impl<T: Drop, N: Free<T, TaskWaker>> AsyncCell<T, N> {
         let _ = self.core.or_set(value, &OneThread);
     }
 
-    /// `or_set`, which returns an unused `value` in the error, also on a closed cell.
+    /// As `or_set`, but returns an unused `value` in the error, also on a closed cell.
     pub fn try_set(&self, value: T) -> Result<(), T>
         requires rule { N.holds value }
         ensures comes_back { IfErr result (λ back. back ≡ value) }
@@ -150,8 +140,8 @@ impl<T: Drop, N: Free<T, TaskWaker>> AsyncCell<T, N> {
         self.core.replace(value, &OneThread).unwrap_or(None)
     }
 
-    /// Calls the closure on the content and stores what it returns, over whatever calls made from
-    /// inside have left. Wakes all waiters if the closure returns a value.
+    /// Calls the closure on the content, and stores what it returns over whatever was set
+    /// meanwhile. Wakes all waiters if the closure returns a value.
     pub fn update<F: FnOnce(Option<T>) -> Option<T> + Drop>(&self, change: F)
         requires callable { F.IsAlwaysCallable change }
         requires rule { (saw put : Option T) → IfSome saw N.holds → F.post change saw put
@@ -162,7 +152,7 @@ impl<T: Drop, N: Free<T, TaskWaker>> AsyncCell<T, N> {
         }
     }
 
-    /// `update`, of a value: the closure is not called if there is none.
+    /// As `update`, but of a value: if there is none, the closure is not called.
     pub fn update_some<F: FnOnce(T) -> T + Drop>(&self, change: F)
         requires callable { F.IsAlwaysCallable change }
         requires rule { (old new : T) → N.holds old → F.post change old new → N.holds new }
@@ -180,7 +170,7 @@ impl<T: Drop, N: Free<T, TaskWaker>> AsyncCell<T, N> {
     }
 
     /// Returns a clone of the value, if there is one. If that fails with `Memory`, the value stays.
-    /// What the clone itself writes into the cell is overwritten (see `AsyncCell`).
+    /// What `clone` itself sets in the cell is overwritten.
     pub fn try_get(&self) -> Result<Option<T>, Refusal>
     where
         T: Clone,
@@ -228,10 +218,9 @@ impl<T: Drop, N: Free<T, TaskWaker>> AsyncCell<T, N> {
         Ok(format!(in self.alloc; "{self:?}")?)
     }
 
-    /// Lets go of the wakers that dropped futures left; the task of each of these is polled again.
-    ///
-    /// A waker keeps what its executor needs: call this where many waits end early and the cell
-    /// lives on. It needs no memory. The waker of a poll without a place stays (see `AsyncCell`).
+    /// Drops the wakers that dropped futures left: the task of each is polled once more. Call it
+    /// if many waits end early and the cell lives on: a waker keeps what its executor needs to wake
+    /// the task. Needs no memory. The waker of a poll without a place stays (see `AsyncCell`).
     pub fn purge(&self) {
         self.core.store.purge(&OneThread);
     }
@@ -256,6 +245,7 @@ impl<T: Drop, N: Free<T, TaskWaker>> AsyncCell<T, N> {
 
     /// Returns the core. Ensures what holds of every core.
     #[doc(hidden)]
+    #[inline(always)]
     pub fn into_core(self) -> Core<T, TaskWaker>
         ensures { IsSound ⟦<TaskWaker as Wakes>⟧.will_wake result }
     {
@@ -283,7 +273,7 @@ impl<T: Drop, N: Free<T, TaskWaker>> AsyncCell<T, N> {
         Get(self)
     }
 
-    /// Returns a guard that sets this value by its drop, if unreleased and the cell then is empty.
+    /// Returns a guard. Its drop sets this value if the cell then is empty, unless it was released.
     pub fn guard(&self, cancel: T) -> GuardedCell<T, &Self>
         requires rule { N.holds cancel }
         ensures of_this { result.pointer.now ≡ self.now }
@@ -319,8 +309,8 @@ impl<T: Drop, N: Free<T, TaskWaker>> AsyncCell<T, N> {
 }
 
 impl AsyncCell<()> {
-    /// Sets the value and wakes all waiters. One `wait` is ready: the first that is polled takes
-    /// the value, and the others wait on. A `get` leaves it, and is ready until somebody takes it.
+    /// Sets the value and wakes all waiters. The first `wait` that is polled takes the value, and
+    /// the others wait on. A `get` leaves it, and is ready until somebody takes it.
     pub fn notify(&self) {
         self.set(());
     }
@@ -347,7 +337,7 @@ impl<T: Drop, N: Free<T, TaskWaker>> Places<OneThread> for AsyncCell<T, N> {
 
 /// Prints `AsyncCell::Empty`, `AsyncCell::Pending` if a task waits, `AsyncCell::Full(..)` with the
 /// value's own text, or `AsyncCell::Closed`. The value is taken out while it prints, and then
-/// stored over whatever calls made from inside have left.
+/// stored over whatever was set meanwhile.
 impl<T: fmt::Debug + Drop, N: Free<T, TaskWaker>> fmt::Debug for AsyncCell<T, N> {
     fn fmt<F: fmt::Write>(&self, f: &mut fmt::Formatter<F>) -> fmt::Result {
         let Some(value) = self.try_take() else {

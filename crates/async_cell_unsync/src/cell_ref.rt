@@ -1,8 +1,7 @@
 ghost use Rattle.std.specs.Prelude.{◌≡◌, ℕ};
 ghost use Rattle.async_cell_unsync.specs.Source.{source_of};
 
-use crate::async_cell::AsyncCell;
-use crate::shared::Shared;
+use crate::{AsyncCell, Shared};
 use async_cell_core::TaskWaker;
 use async_cell_history::Free;
 use std::rc::Rc;

@@ -4,9 +4,7 @@ ghost use Rattle.futures.specs.Task.{Covers, Keeps};
 ghost use Rattle.async_cell_model.specs.Refusal.{FailsWithMemoryOrClosed};
 ghost use Rattle.async_cell_step.specs.Rule.{IsCloneOfOne};
 
-use crate::async_cell::AsyncCell;
-use crate::cell_ref::CellRef;
-use crate::with::With;
+use crate::{AsyncCell, CellRef, With};
 use async_cell_calls::Taking;
 use async_cell_core::Refusal;
 use async_cell_step::{At, OneThread, Polled, Request, poll};
@@ -14,10 +12,7 @@ use futures::future::Future;
 use futures::task::{Context, Poll};
 
 /// A future that clones the value of a cell. It may be polled again once ready: while the cell
-/// holds a value, it is ready at once.
-///
-/// **Each poll that waits adds a waker**, which stays until the next write or close. The future of
-/// `with`, or of an `Owner`, keeps one, and renews it.
+/// holds a value, it is ready at once. **Each poll that waits adds a waker** (see `Take`).
 #[derive(Clone, Copy, Drop)]
 #[derive_where(Debug)]
 pub struct Get<C>(#[derive_where(skip)] pub C);
@@ -35,12 +30,7 @@ impl<C: CellRef> Get<C> {
         ensures kept { Keeps cx.old cx.new }
         ensures refused { IfReady result FailsWithMemoryOrClosed }
     {
-        let cell = self.0.cell();
-        match poll(&cell.core.store, &cell.source, Taking, None, cx, &OneThread) {
-            Poll::Ready(Ok(value)) => Poll::Ready(cell.copy_back(value)),
-            Poll::Ready(Err(why)) => Poll::Ready(Err(why)),
-            Poll::Pending => Poll::Pending,
-        }
+        self.poll_at(None, cx, &OneThread)
     }
 
     /// Returns the future that holds one place in the wait list while it waits.

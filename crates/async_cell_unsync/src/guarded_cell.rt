@@ -1,13 +1,12 @@
 ghost use Rattle.std.specs.Prelude.{◌≡◌, ℕ, Some};
 ghost use Rattle.async_cell_unsync.specs.Source.{source_of};
 
-use crate::async_cell::AsyncCell;
-use crate::cell_ref::CellRef;
+use crate::{AsyncCell, CellRef};
 use async_cell_calls::Cancel;
 use async_cell_step::OneThread;
 
-/// A guard of a cell. Its drop sets its cancel value if the cell holds no value, unless the guard
-/// was released, and then drops its pointer: a guard that is an owner ends its owner.
+/// A guard of a cell. Its drop sets its cancel value if the cell holds none, unless the guard was
+/// released. It then drops its pointer to the cell: a guard that is an owner ends its owner.
 #[derive_where(Debug)]
 pub struct GuardedCell<T, C: CellRef<Value = T>> {
     #[derive_where(skip)]
@@ -17,7 +16,7 @@ pub struct GuardedCell<T, C: CellRef<Value = T>> {
     cancel: Option<Cancel<T, C::Rules>>,
 }
 
-/// The name of a guard that is made by `with` or by an `Owner`: every guard ends by its drop here.
+/// The same type, under the name that `async_cell_sync` has for a guard that ends by its drop.
 pub type Guard<T, C> = GuardedCell<T, C>;
 
 impl<T: Drop, C: CellRef<Value = T>> GuardedCell<T, C> {
@@ -77,10 +76,7 @@ impl<T: Drop, C: CellRef<Value = T>> GuardedCell<T, C> {
 impl<T: Drop, C: CellRef<Value = T>> Drop for GuardedCell<T, C> {
     fn drop(self) {
         let GuardedCell { pointer, cancel } = self;
-        let cancel = match cancel {
-            Some(cancel) => Some(cancel.into_value()),
-            None => None,
-        };
+        let cancel = cancel.map(|cancel| cancel.into_value());
         pointer.cell().core.end_guard(cancel, &OneThread);
     }
 }

@@ -14,7 +14,6 @@ mod shared;
 mod take;
 mod weak;
 mod weak_owner;
-mod with;
 
 pub use async_cell::AsyncCell;
 pub use async_cell_core::{Refusal, TaskWaker};
@@ -32,6 +31,5 @@ pub use owner::Owner;
 pub use reply::{Replier, Reply, reply_slot, reply_slot_of};
 pub use shared::Shared;
 pub use take::Take;
-pub use weak::{GetWeak, TakeWeak, Weak};
+pub use weak::{GetWeak, TakeWeak, Values, Weak, With};
 pub use weak_owner::WeakOwner;
-pub use with::{Values, With};

@@ -4,26 +4,20 @@ ghost use Rattle.async_cell_unsync.specs.Names.{NamesAtMost};
 ghost use Rattle.async_cell_unsync.specs.Owned.{cell_owned};
 ghost use Rattle.async_cell_unsync.specs.Source.{source_of};
 
-use crate::async_cell::AsyncCell;
-use crate::cell_ref::CellRef;
-use crate::get::Get;
-use crate::guarded_cell::{Guard, GuardedCell};
-use crate::shared::Shared;
-use crate::take::Take;
-use crate::weak::{GetWeak, TakeWeak};
-use crate::weak_owner::WeakOwner;
-use crate::with::With;
+use crate::{
+    AsyncCell, CellRef, Get, GetWeak, Guard, GuardedCell, Shared, Take, TakeWeak, WeakOwner, With,
+};
 use async_cell_core::{Refusal, TaskWaker};
 use async_cell_history::{Free, Unruled};
 use async_cell_step::{Rule, Ruled};
 use std::alloc::Global;
 use std::ops::Deref;
 
-/// One counted owner of a cell. It derefs to its cell, whose calls it has. It ends by its drop,
+/// One counted owner of a cell. It derefs to its cell, so it has its calls. It ends by its drop,
 /// also at `?` or an early `return`. Its futures hold places (see `With`). The end of the last
 /// owner closes the cell: the value is dropped, waiters are woken, and weak futures give `None`.
 ///
-/// `Shared` is the owner whose calls are made on its `cell()`, and whose futures hold no place
+/// A `Shared` is an owner, too: its calls are made on its `cell()`, and its futures hold no place
 /// until their `with` is called.
 #[derive(Drop)]
 #[derive_where(Debug)]
@@ -45,9 +39,8 @@ impl<T: Drop, N: Free<T, TaskWaker>> AsyncCell<T, N> {
 }
 
 impl<T: Drop> Owner<T> {
-    /// Makes a cell without a value, and its first owner. Fails with `Memory`.
-    ///
-    /// For a cell that you have already, call `AsyncCell::into_owner`.
+    /// Makes a cell without a value, and its first owner. Fails with `Memory`. For a cell that you
+    /// have already, call `AsyncCell::into_owner`.
     ///
     /// ```rust
     /// let slot = Owner::new(rt.alloc())?;
@@ -82,8 +75,7 @@ impl<T: Drop, P: Rule<T>> Owner<T, Ruled<P>> {
         Ok(owner.with())
     }
 
-    /// Makes a cell that holds a value, whose values keep the rule `P`, and its first owner. Fails
-    /// with `Memory`, and then drops the value.
+    /// As `ruled`, but the cell holds a value, which is dropped if this fails.
     pub fn ruled_with(alloc: Global, value: T) -> Result<Self, Refusal>
         requires rule { P.holds value }
         ensures refused { FailsWithMemory result }
@@ -134,8 +126,7 @@ impl<T: Drop, N: Free<T, TaskWaker>> Owner<T, N> {
         self.cell().take().with()
     }
 
-    /// Returns a future that clones the value and leaves it: polled again, it is ready at once. It
-    /// borrows this owner, which keeps the cell open.
+    /// As `take`, but clones the value and leaves it: polled again, it is ready at once.
     pub fn get(&self) -> With<Get<&AsyncCell<T, N>>>
     where
         T: Clone,
@@ -153,8 +144,7 @@ impl<T: Drop, N: Free<T, TaskWaker>> Owner<T, N> {
         Ok(Take(self.another()?).with())
     }
 
-    /// Returns a future that clones the value and is a new owner: while it waits the cell stays
-    /// open, so it waits forever if nobody sets a value. Fails as `another` does.
+    /// As `take_shared`, but clones the value and leaves it.
     pub fn get_shared(&self) -> Result<With<Get<Self>>, Refusal>
     where
         T: Clone,
@@ -172,8 +162,7 @@ impl<T: Drop, N: Free<T, TaskWaker>> Owner<T, N> {
         self.shared.take_weak().with()
     }
 
-    /// Returns a future that clones the value, leaves it, and is not an owner. It is `None` once
-    /// the last owner has ended.
+    /// As `take_weak`, but clones the value and leaves it.
     pub fn get_weak(&self) -> With<GetWeak<T, N>>
     where
         T: Clone,
@@ -185,13 +174,6 @@ impl<T: Drop, N: Free<T, TaskWaker>> Owner<T, N> {
     /// Makes this owner a guard: its drop sets this value, if the cell holds none, and ends the
     /// owner. The end of the last owner drops the value, so who waits for it has to be an owner, as
     /// a future of `take_shared` is. Needs no memory.
-    ///
-    /// ```rust
-    /// let slot = Owner::new(rt.alloc())?;
-    /// let reply = slot.take_shared()?;
-    /// drop(slot.into_guard(42));
-    /// println!(rt; "{}", block_on(&rt, reply)??)?; // prints 42
-    /// ```
     pub fn into_guard(self, cancel: T) -> Guard<T, Self>
         requires rule { N.holds cancel }
         ensures of_this { result.pointer ≡ self }

@@ -7,7 +7,7 @@ ghost use Rattle.async_cell_model.specs.Refusal.{FailsWithClosed, FailsWithMemor
 ghost use Rattle.async_cell_model.specs.declared.refusal.Refusal.TheVariants.{Closed};
 ghost use Rattle.async_cell_unsync.specs.Source.{source_of};
 
-use crate::async_cell::AsyncCell;
+use crate::AsyncCell;
 use async_cell_calls::Taking;
 use async_cell_core::{Core, Place, Refusal, TaskWaker};
 use async_cell_history::{Unruled, Unwitnessed};
@@ -32,12 +32,6 @@ pub struct Replier<T: Drop, N: Unwitnessed<T, TaskWaker> = Unruled> {
 ///
 /// If it is dropped before it was ready, the slot is closed: a value that was set is dropped, and
 /// one that is set later comes back. That wakes the task that polled it last.
-///
-/// ```rust
-/// let (replier, reply) = reply_slot::<u32>(rt.alloc())?;
-/// drop(replier);
-/// println!(rt; "{:?}", block_on(&rt, reply)?)?; // prints Err(Closed)
-/// ```
 #[derive_where(Debug)]
 pub struct Reply<T: Drop, N: Unwitnessed<T, TaskWaker> = Unruled> {
     /// `None` once it was ready.
@@ -47,7 +41,8 @@ pub struct Reply<T: Drop, N: Unwitnessed<T, TaskWaker> = Unruled> {
     place: Place,
 }
 
-/// Makes a reply slot: the side that replies, and the side that waits. Fails with `Memory`.
+/// Makes a reply slot: the side that replies, and the side that waits. Fails with `Memory`. The
+/// calls of each side have examples in `async_cell_sync`.
 ///
 /// ```rust
 /// let (replier, reply) = reply_slot(rt.alloc())?;
@@ -83,10 +78,8 @@ fn sides<T: Drop, N: Unwitnessed<T, TaskWaker>>(
         rc_value cell ≡ rc_value sides.0.cell)) }
     ensures refused { FailsWithMemory result }
 {
-    let Ok(cell) = Rc::new(
-        alloc,
-        ManuallyDrop::new(AsyncCell::of(alloc, Core::new(alloc))),
-    ) else {
+    let cell = ManuallyDrop::new(AsyncCell::of(alloc, Core::new(alloc)));
+    let Ok(cell) = Rc::new(alloc, cell) else {
         return Err(Refusal::Memory);
     };
     let reply = Reply {
@@ -99,12 +92,6 @@ fn sides<T: Drop, N: Unwitnessed<T, TaskWaker>>(
 impl<T: Drop, N: Unwitnessed<T, TaskWaker>> Replier<T, N> {
     /// Sets the value, and wakes the task that waits for it. The value stays until the `Reply`
     /// takes it or is dropped. If the `Reply` was dropped before, the value comes back.
-    ///
-    /// ```rust
-    /// let (replier, reply) = reply_slot(rt.alloc())?;
-    /// drop(reply);
-    /// println!(rt; "nobody waits: {:?}", replier.set(42))?; // prints nobody waits: Err(42)
-    /// ```
     pub fn set(self, value: T) -> Result<(), T>
         requires rule { N.holds value }
         ensures comes_back { IfErr result (λ back. back ≡ value) }
@@ -128,16 +115,8 @@ impl<T: Drop, N: Unwitnessed<T, TaskWaker>> Drop for Replier<T, N> {
 }
 
 impl<T: Drop, N: Unwitnessed<T, TaskWaker>> Reply<T, N> {
-    /// Takes the value, if it was set, without waiting. `Ok(None)` says that it may still come.
-    /// Fails with `Closed` if the `Replier` was dropped without a `set`, and after the reply was
-    /// taken.
-    ///
-    /// ```rust
-    /// let (replier, mut reply) = reply_slot(rt.alloc())?;
-    /// println!(rt; "{:?}", reply.try_take())?; // prints Ok(None)
-    /// let _ = replier.set(42);
-    /// println!(rt; "{:?}", reply.try_take())?; // prints Ok(Some(42))
-    /// ```
+    /// Takes the value without waiting. `Ok(None)` says that it may still come. Fails with `Closed`
+    /// if the `Replier` was dropped without a `set`, and once the reply was taken.
     pub fn try_take(&mut self) -> Result<Option<T>, Refusal>
         ensures rule { IfOk result (λ found. IfSome found N.holds) }
         ensures closed { self.old.cell ≡ None → result ≡ Err Refusal.Closed }
@@ -159,12 +138,6 @@ impl<T: Drop, N: Unwitnessed<T, TaskWaker>> Reply<T, N> {
 
     /// Closes the slot, and returns the value if it was set: where the wait has a limit, a reply
     /// that came too late is not lost. One that is set later comes back to the `Replier`.
-    ///
-    /// ```rust
-    /// let (replier, reply) = reply_slot(rt.alloc())?;
-    /// let _ = replier.set(42);
-    /// println!(rt; "{:?}", reply.close())?; // prints Some(42)
-    /// ```
     pub fn close(self) -> Option<T>
         ensures rule { IfSome result N.holds }
         ensures over { self.cell ≡ None → result ≡ None }
@@ -199,14 +172,8 @@ impl<T: Drop, N: Unwitnessed<T, TaskWaker>> Future for Reply<T, N> {
             return Poll::Ready(Err(Refusal::Closed));
         };
         let place = Some(&mut self.place);
-        let polled = poll(
-            &cell.core.store,
-            &cell.source,
-            Taking,
-            place,
-            cx,
-            &OneThread,
-        );
+        let (store, source) = (&cell.core.store, &cell.source);
+        let polled = poll(store, source, Taking, place, cx, &OneThread);
         match polled {
             Poll::Pending | Poll::Ready(Err(Refusal::Memory)) => {}
             Poll::Ready(_) => self.cell = None,

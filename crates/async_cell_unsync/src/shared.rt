@@ -3,12 +3,7 @@ ghost use Rattle.std.specs.Rc.{rc_value};
 ghost use Rattle.async_cell_model.specs.Refusal.{FailsWithMemory, IsOwnerRefusal};
 ghost use Rattle.async_cell_unsync.specs.Names.{cell_of, NamesAtMost};
 
-use crate::async_cell::AsyncCell;
-use crate::get::Get;
-use crate::guarded_cell::GuardedCell;
-use crate::owner::Owner;
-use crate::take::Take;
-use crate::weak::{GetWeak, TakeWeak, Weak};
+use crate::{AsyncCell, Get, GetWeak, GuardedCell, Owner, Take, TakeWeak, Weak};
 use async_cell_core::{Refusal, TaskWaker};
 use async_cell_history::{Anyone, Free, Nobody, OwnerPermit, Unruled};
 use async_cell_step::OneThread;

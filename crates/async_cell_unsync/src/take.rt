@@ -3,9 +3,7 @@ ghost use Rattle.futures.specs.Poll.{IfReady, OnPending};
 ghost use Rattle.futures.specs.Task.{Covers, Keeps};
 ghost use Rattle.async_cell_model.specs.Refusal.{FailsWithMemoryOrClosed};
 
-use crate::async_cell::AsyncCell;
-use crate::cell_ref::CellRef;
-use crate::with::With;
+use crate::{AsyncCell, CellRef, With};
 use async_cell_calls::Taking;
 use async_cell_core::Refusal;
 use async_cell_step::{At, OneThread, Polled, Request, poll};
@@ -15,7 +13,7 @@ use futures::task::{Context, Poll};
 /// A future that takes the value of a cell. It may be polled again once ready, for further values.
 ///
 /// **Each poll that waits adds a waker**, which stays until the next write or close. The future of
-/// `with`, or of an `Owner`, keeps one, and renews it.
+/// `with`, or of an `Owner`, keeps one waker, and renews it.
 #[derive(Clone, Copy, Drop)]
 #[derive_where(Debug)]
 pub struct Take<C>(#[derive_where(skip)] pub C);
@@ -30,8 +28,7 @@ impl<C: CellRef> Take<C> {
         ensures kept { Keeps cx.old cx.new }
         ensures refused { IfReady result FailsWithMemoryOrClosed }
     {
-        let cell = self.0.cell();
-        poll(&cell.core.store, &cell.source, Taking, None, cx, &OneThread)
+        self.poll_at(None, cx, &OneThread)
     }
 
     /// Returns the future that holds one place in the wait list while it waits.

@@ -3,21 +3,14 @@ ghost use Rattle.std.specs.Rc.{rc_value};
 ghost use Rattle.futures.specs.Poll.{IfReady, OnPending};
 ghost use Rattle.futures.specs.Task.{Covers, Keeps};
 ghost use Rattle.async_cell_model.specs.Refusal.{FailsWithMemory};
-ghost use Rattle.async_cell_unsync.specs.Names.{IsLost, NameAtMostTheSame, Names, NamesAtMost};
-ghost use Rattle.async_cell_unsync.specs.Names.{NameTheSame, OwnsNamed};
+ghost use Rattle.async_cell_unsync.specs.Names.{IsLost, NameAtMostTheSame, Names, NamesAtMost, NameTheSame, OwnsNamed};
 ghost use Rattle.async_cell_unsync.specs.Owned.{cell_owned};
 ghost use Rattle.async_cell_unsync.specs.Refused.{GivesWeakly};
 ghost use Rattle.async_cell_unsync.specs.Source.{source_of, IsSourceOf};
 ghost use Rattle.async_cell_step.specs.Rule.{IsCloneOfOne};
 ghost use Rattle.async_cell_step.specs.Upgrade.{FailsToUpgrade};
 
-use crate::async_cell::AsyncCell;
-use crate::get::Get;
-use crate::owner::Owner;
-use crate::shared::Shared;
-use crate::take::Take;
-use crate::weak_owner::WeakOwner;
-use crate::with::With;
+use crate::{AsyncCell, Get, Owner, Shared, Take, WeakOwner};
 use async_cell_calls::Taking;
 use async_cell_core::{Refusal, TaskWaker};
 use async_cell_history::{Free, Unruled};
@@ -26,6 +19,14 @@ use futures::future::Future;
 use futures::task::{Context, Poll};
 use std::alloc::AllocError;
 use std::rc::Rc;
+
+/// The future of a `Take`, a `Get`, a `TakeWeak` or a `GetWeak` that holds a place in the cell's
+/// wait list. Their `with` makes it, as do the calls of an `Owner` and a `WeakOwner`.
+pub type With<P> = async_cell_step::With<P, OneThread>;
+
+/// The stream of the values of a cell, which `values` of a future of a `TakeWeak` makes. **Several
+/// streams of a cell do not take turns**: one may get every value.
+pub type Values<T, N = Unruled> = async_cell_step::Values<TakeWeak<T, N>, OneThread>;
 
 /// A weak pointer to a cell. It does not count as an owner. `Shared::downgrade` makes one.
 /// `TakeWeak` and `GetWeak` make it a future, `with` makes it a `WeakOwner`.
@@ -41,8 +42,8 @@ impl<T: Drop, N: Free<T, TaskWaker>> Weak<T, N> {
     pub(crate) fn of(cell: &Rc<AsyncCell<T, N>>) -> Self
         ensures of_this { NamesAtMost result (rc_value cell.now) }
     {
-        let pointer: Result<_, _> = cell.clone();
-        Weak { cell: pointer.ok() }
+        let cell: Result<_, _> = cell.clone();
+        Weak { cell: cell.ok() }
     }
 
     /// Returns the cell. Fails with `Memory` if the pointer could not be counted when it was made.

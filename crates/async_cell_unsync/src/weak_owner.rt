@@ -4,9 +4,7 @@ ghost use Rattle.async_cell_unsync.specs.Owned.{cell_owned};
 ghost use Rattle.async_cell_model.specs.Refusal.{FailsWithMemory};
 ghost use Rattle.async_cell_step.specs.Upgrade.{FailsToUpgrade};
 
-use crate::owner::Owner;
-use crate::weak::{GetWeak, TakeWeak, Weak};
-use crate::with::With;
+use crate::{GetWeak, Owner, TakeWeak, Weak, With};
 use async_cell_core::{Refusal, TaskWaker};
 use async_cell_history::{Free, Unruled};
 use std::alloc::AllocError;
@@ -48,8 +46,7 @@ impl<T: Drop, N: Free<T, TaskWaker>> WeakOwner<T, N> {
         TakeWeak(self.weak.again()).with()
     }
 
-    /// Returns a future that clones the value and is no owner: `None` once the last owner has
-    /// ended. If the pointer cannot be counted, it fails with `Memory`.
+    /// As `take`, but clones the value and leaves it.
     pub fn get(&self) -> With<GetWeak<T, N>>
     where
         T: Clone,
