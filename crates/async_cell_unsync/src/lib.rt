@@ -13,7 +13,6 @@ mod reply;
 mod shared;
 mod take;
 mod weak;
-mod weak_owner;
 
 pub use async_cell::AsyncCell;
 pub use async_cell_core::{Refusal, TaskWaker};
@@ -31,5 +30,4 @@ pub use owner::Owner;
 pub use reply::{Replier, Reply, reply_slot, reply_slot_of};
 pub use shared::Shared;
 pub use take::Take;
-pub use weak::{GetWeak, TakeWeak, Values, Weak, With};
-pub use weak_owner::WeakOwner;
+pub use weak::{GetWeak, TakeWeak, Values, Weak, WeakOwner, With};
