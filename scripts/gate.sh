@@ -7,7 +7,7 @@
 # repository of its own, the snippets of the pages and docstrings, and what the calls cost, which
 # valgrind counts: without it the gate fails, but where WITHOUT_VALGRIND=yes says so. With the word
 # --all, as before a release, it tries the bugs of all crates, which it records, all cases of copies,
-# as root, and the programs of examples/tokio.
+# as root, and the program of examples/tokio.
 # Prints a line at least every minute. At the end comes a line for each step, with its seconds by
 # the clock, its minutes of processors and what it has shown, then how large the repository is, and
 # last 'N passed, M failed', with the totals of the tests, of `rt ci` and of the deliberate bugs. A
@@ -123,7 +123,7 @@ show 'the built program (scripts/program.py)' "$counts" python3 scripts/program.
 show 'misuse that must not compile (misuse/check.sh)' "$counts" bash misuse/check.sh
 show 'a project of its own (scripts/vendor_check.sh)' "$vendored" bash scripts/vendor_check.sh "$@"
 show 'the snippets of the pages (scripts/snippets.py)' "$counts" python3 scripts/snippets.py
-[ $# -eq 0 ] || show 'the examples (scripts/examples.sh)' "$counts" bash scripts/examples.sh
+[ $# -eq 0 ] || show 'the example on tokio (scripts/examples.sh)' "$counts" bash scripts/examples.sh
 if [ "${WITHOUT_VALGRIND:-}" = yes ] && ! command -v valgrind >/dev/null; then
     echo 'gate: what the calls cost is not counted, as there is no valgrind' >>"$work/shown"
 else
