@@ -1,39 +1,33 @@
 #!/usr/bin/env bash
-# The whole gate, which CI runs too: a look at the deliberate bugs, the pages, the docstrings and
-# what changed for users since the last release, all tests without a proof, `rt ci`, the check of
-# the script that tries deliberate bugs, those of bugs.txt (of crates that are not in the record, and
-# of one that is), the built program, also with each request for memory refused, the cases of misuse
-# that must not compile, copies of the crates in hostile places, and the first program in a
-# repository of its own, the snippets of the pages and docstrings, and what the calls cost, which
-# valgrind counts: without it the gate fails, but where WITHOUT_VALGRIND=yes says so. With the word
-# --all, as before a release, it tries the bugs of all crates, which it records, all cases of copies,
-# as root, and the program of examples/tokio.
+# The whole gate, which CI runs too: the steps below. With the word --all, as before a release, it
+# tries the bugs of all crates, which it records, all cases of copies, as root, and the program of
+# examples/tokio. Without valgrind it fails, but where WITHOUT_VALGRIND=yes says so.
 # Prints a line at least every minute. At the end comes a line for each step, with its seconds by
-# the clock, its minutes of processors and what it has shown, then how large the repository is, and
-# last 'N passed, M failed', with the totals of the tests, of `rt ci` and of the deliberate bugs. A
-# step fails if its status is not 0, or if its last line is not as it has to be. The first one that
-# fails ends the gate, whose status is then not 0. A failure of a step that is not among the totals
-# counts as one.
+# the clock, its minutes of processors and its last line, then how large the repository is, and last
+# 'N passed, M failed', with the totals of the tests, of `rt ci` and of the deliberate bugs. A step
+# fails if its status is not 0, or if its last line is not as it has to be. The first one that fails
+# ends the gate, whose status is then not 0. A failure of a step that is not among the totals counts
+# as one.
 set -u
 [ $# -eq 0 ] || [ "$*" = --all ] || { echo 'gate.sh [--all]' >&2 && exit 2; }
 cd "$(dirname "$0")/.." || exit 1
 work=$(mktemp -d)
-ticker=
-trap '[ -z "$ticker" ] || kill "$ticker"; rm -rf "$work"' EXIT
-trap 'exit 1' INT TERM
 TIMEFORMAT='%U %S'
 passed=0
 failed=0
 
-# Says every 45 seconds what the step has last printed. It has begun once there is the file
-# "ticking": before that a signal would meet the traps of the gate itself.
+# Says every 45 seconds what the step has last printed.
 tick() {
-    local begun=$SECONDS
     trap 'kill "$!"; exit' TERM
-    while sleep 45 & : >"$work/ticking" && wait "$!"; do
-        echo "gate: $1, $(((SECONDS - begun) / 60)) min: $(tail -n 1 "$work/log" | cut -c 1-160)"
+    while sleep 45 & wait "$!"; do
+        echo "gate: $(cat "$work/name"), at $((SECONDS / 60)) min:" \
+            "$(tail -n 1 "$work/log" | cut -c 1-160)"
     done
 }
+tick &
+ticker=$!
+trap 'kill "$ticker"; rm -rf "$work"' EXIT
+trap 'exit 1' INT TERM
 
 # Says how large the repository is, and which crate has the most functions, but for callers.
 size() {
@@ -64,16 +58,9 @@ step() {
     local name=$1 wanted=$2 status spent begun=$SECONDS
     shift 2
     echo "gate: $name"
-    : >"$work/log"
-    tick "$name" &
-    ticker=$!
+    echo "$name" >"$work/name"
     { time "$@" 2>&1 </dev/null | tee "$work/log"; status=${PIPESTATUS[0]}; } 2>"$work/time"
     spent=$(awk 'END { printf "%.1f", ($1 + $2) / 60 }' "$work/time")
-    until [ -e "$work/ticking" ]; do sleep 0.05; done
-    rm "$work/ticking"
-    kill "$ticker"
-    wait "$ticker" 2>/dev/null
-    ticker=
     last=$(tail -n 1 "$work/log")
     echo "gate: $name, $((SECONDS - begun)) s, $spent min of processors: $last" >>"$work/shown"
     [ "$status" -eq 0 ] && [[ $last =~ $wanted ]]
