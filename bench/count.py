@@ -1,17 +1,12 @@
 #!/usr/bin/env python3
-"""Counts what the calls cost, and tells what has risen since the table of bench/README.md.
+"""Counts what the calls cost, by callgrind: `count.py [--write]`.
 
-    count.py [--write]
-
-It takes the programs crates/bench_cells and bench_pair, proved and built as users' are (`rt ci` has
-built them; one that is not there, or older than a source, `rt run` builds), and counts the
-instructions of each operation by callgrind. It prints each figure that has risen or fallen by more
-than 2 per cent. The status is 0 if none has risen by more than 5 per cent, and the figures are
-those of the table.
-
---write writes the table anew, and the picture that bench/tables.py draws of it.
+It runs the programs crates/bench_cells and bench_pair, proved and built as users' are (`rt run`
+builds one that is not there, or older than a source). It prints each figure that has risen or fallen
+by more than 2 per cent since the table of bench/README.md. The status is 0 if none has risen by
+more than 5 per cent, and the figures are those of the table. --write writes the table anew, and the
+picture that bench/tables.py draws of it.
 """
-import glob
 import os
 import platform
 import re
@@ -21,8 +16,9 @@ import sys
 from concurrent.futures import ThreadPoolExecutor
 
 import tables
+from lay_out import read, write
+from try_kit import program_of
 
-TOP = os.path.dirname(tables.FOLDER)
 # The rows: the program of each, its word for it, and the operations that it has.
 ALL = ("reply", "watch", "fan", "again", "stream")
 ROWS = {
@@ -52,18 +48,6 @@ COLUMNS = [
 POLLS = 4096
 
 
-def built(name):
-    """Returns the path of a program, which it builds if need be."""
-    folder = f"{TOP}/crates/bench_{name}"
-    program = f"{folder}/out/bench_{name}"
-    sources = glob.glob(f"{TOP}/crates/*/src/**/*.rt", recursive=True)
-    if not os.path.isfile(program) or max(map(os.path.getmtime, sources)) > os.path.getmtime(program):
-        ran = subprocess.run(["rt", "run"], cwd=folder, capture_output=True, text=True, check=False)
-        if ran.returncode:
-            sys.exit(f"count: bench_{name} was not built:\n{(ran.stdout + ran.stderr)[-3000:]}")
-    return program
-
-
 def collected(program, words, rounds, waiters):
     """Returns the instructions of a run, which has to count what it is asked for."""
     command = [program, *words, str(rounds), str(waiters)]
@@ -87,7 +71,7 @@ def instructions(programs, row, operation, waiters):
 
 def counted():
     """Counts each figure of the table, as many side by side as there are processors."""
-    programs = {it: built(it) for it in ("cells", "pair")}
+    programs = {it: program_of(f"bench_{it}") for it in ("cells", "pair")}
     fields = [
         (row, title, operation, waiters)
         for row, (_, operations) in ROWS.items()
@@ -114,8 +98,8 @@ def main(words):
     if not shutil.which("valgrind"):
         sys.exit("count: there is no valgrind, which counts the instructions")
     now = counted()
-    page = tables.text_of(tables.PAGE)
-    said, table = tables.read(page)
+    page = read(tables.PAGE)
+    said, table = tables.table_of(page)
     others = {it: table.pop(it) for it in [*table] if it in tables.OTHERS}
     if said != conditions():
         print(f"the table is of {said}, and this is {conditions()}")
@@ -123,11 +107,8 @@ def main(words):
     print("\n".join(told))
     if words:
         columns, whole = [it[0] for it in COLUMNS], {**now, **others}
-        texts = {tables.PAGE: tables.written(page, conditions(), columns, whole)}
-        texts[tables.PICTURE] = tables.drawn(whole)
-        for path, text in texts.items():
-            with open(path, "w", encoding="utf-8") as file:
-                file.write(text)
+        write(tables.PAGE, tables.written(page, conditions(), columns, whole))
+        write(tables.PICTURE, tables.drawn(whole))
     figures = sum(map(len, now.values()))
     print(f"count: {figures} counted, {faults} rose by more than {tables.FAILS} % or are not there")
     return 1 if faults and not words else 0

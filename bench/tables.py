@@ -5,9 +5,12 @@ A line above the table says how it was counted. A field without a figure is empt
 """
 import os
 import re
+import sys
 from html import escape
 
 FOLDER = os.path.dirname(os.path.abspath(__file__))
+# (for count.py, which builds the programs by scripts/try_kit.py)
+sys.path.append(f"{os.path.dirname(FOLDER)}/scripts")
 PAGE, PICTURE = f"{FOLDER}/README.md", f"{FOLDER}/counts.svg"
 TABLE = re.compile(
     r"(?<=<!-- made by tables\.py -->\n\n)Counted with (.*?)\.\n\n(.*?\n)\n(?=<!-- end)", re.S
@@ -25,12 +28,7 @@ OTHERS = [*THEIRS[:4], *THEIRS[5:], "oneshot of futures", "Notify of tokio + Mut
           "event-listener + Mutex", "Mutex + Vec of wakers"]
 
 
-def text_of(path):
-    with open(path, encoding="utf-8") as file:
-        return file.read()
-
-
-def read(page):
+def table_of(page):
     """Returns what is said of the table, and its figures by row and column."""
     said, table = TABLE.search(page).groups()
     lines = [[it.strip() for it in line.split("|")[1:-1]] for line in table.splitlines()]

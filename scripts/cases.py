@@ -1,13 +1,12 @@
 #!/usr/bin/env python3
 """Plays the cases of tests/cases on every kind of holder that they name.
 
-The player is the program tests/player. It is laid out with the crates that it plays in a temporary
-project, built once, without a proof, and plays the cases twice: as they are, and with each request
-for memory of each case refused in turn. Prints a line for each thing that came out otherwise than a
-case says, and last `N passed, M failed`. Words name the files of cases to play. Without any, all are
-played, and random ones: so many of each sort as --random says, from the seed --seed on, which is
-another after each commit, and of a tenth of them each request is refused. One that fails is printed,
-to be pasted into tests/cases.
+The player, tests/player, is built once, without a proof, in a temporary project. It plays the cases
+as they are, and then with each request for memory of each case refused in turn. Prints a line for
+each thing that came out otherwise than a case says, and last `N passed, M failed`. Words name the
+files of cases to play. Without any, all are played, and random ones: so many of each sort as
+--random says, from the seed --seed on, which is another after each commit; of a tenth of them each
+request is refused. One that fails is printed, to be pasted into tests/cases.
 """
 import argparse
 import os

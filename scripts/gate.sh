@@ -29,19 +29,11 @@ ticker=$!
 trap 'kill "$ticker"; rm -rf "$work"' EXIT
 trap 'exit 1' INT TERM
 
-# Says how large the repository is, and which crate has the most functions, but for callers.
-size() {
-    git grep -cI '' | awk -F : '{ n += $NF } END { print n " lines in " NR " files" }'
-    git grep -cE '^ *(pub(\([a-z]+\))? )?(const )?(unsafe )?fn [a-z]' -- 'crates/*/src/*' \
-        ':!*_callers/*' | awk -F '[:/]' '
-        { n[$2] += $NF } n[$2] > n[most] { most = $2 } END { print n[most] " functions in " most }'
-}
-
 # Ends the gate, with what each step has shown, how large all is, and the time that it took.
 finish() {
     echo
     [ ! -e "$work/shown" ] || cat "$work/shown"
-    size | sed 's/^/gate: /'
+    git grep -cI '' | awk -F : '{ n += $NF } END { print "gate: " n " lines in " NR " files" }'
     times >"$work/times"
     awk -F '[ms ]+' '{ n += $1 + $2 / 60 + $3 + $4 / 60 }
         END { printf "gate: %.1f min of processors, ", n }' "$work/times"
@@ -86,19 +78,16 @@ count() {
     finish 1
 }
 
-# The last line of a step that counts, and those of six that do not.
+# The last line of a step that counts.
 counts='^([a-z]+: )?[1-9][0-9]* passed, 0 failed$'
-applied='^[1-9][0-9]* deliberate bugs, 0 of which cannot be applied$'
-read='^pages: [1-9][0-9]* read, 0 faults; '
-documented='^api: [1-9][0-9]* public items, 0 faults$'
-vendored='^vendor_check: .* runs in a repository of its own: .'
-named='^clauses: [1-9][0-9]* facts, [0-9]+ changed, 0 faults$'
-counted='^count: [1-9][0-9]* counted, 0 rose '
 
-show 'the deliberate bugs can be applied' "$applied" python3 scripts/bugs.py --list
-show 'the pages (scripts/pages.py)' "$read" python3 scripts/pages.py
-show 'the docstrings (scripts/api.py)' "$documented" python3 scripts/api.py --check
-show 'what changed for users (scripts/clauses.py)' "$named" python3 scripts/clauses.py
+show 'the deliberate bugs can be applied' \
+    '^[1-9][0-9]* deliberate bugs, 0 of which cannot be applied$' python3 scripts/bugs.py --list
+show 'the pages (scripts/pages.py)' '^pages: [1-9][0-9]* read, 0 faults; ' python3 scripts/pages.py
+show 'the docstrings (scripts/api.py)' '^api: [1-9][0-9]* public items, 0 faults$' \
+    python3 scripts/api.py --check
+show 'what changed for users (scripts/clauses.py)' \
+    '^clauses: [1-9][0-9]* facts, [0-9]+ changed, 0 faults$' python3 scripts/clauses.py
 count 'all tests, without a proof (scripts/tests.sh)' bash scripts/tests.sh
 count 'proofs, programs, and the bugs of must-fail/ (rt ci)' rt ci
 # (it passes an edit of which the prover said no more than that a proof names what it took away, or
@@ -108,12 +97,14 @@ count 'proofs, programs, and the bugs of must-fail/ (rt ci)' rt ci
 count 'the bugs of bugs.txt (scripts/bugs.py)' python3 scripts/bugs.py ${1:+--record --all}
 show 'the built program (scripts/program.py)' "$counts" python3 scripts/program.py
 show 'misuse that must not compile (misuse/check.sh)' "$counts" bash misuse/check.sh
-show 'a project of its own (scripts/vendor_check.sh)' "$vendored" bash scripts/vendor_check.sh "$@"
+show 'a project of its own (scripts/vendor_check.sh)' \
+    '^vendor_check: .* runs in a repository of its own: .' bash scripts/vendor_check.sh "$@"
 show 'the snippets of the pages (scripts/snippets.py)' "$counts" python3 scripts/snippets.py
 [ $# -eq 0 ] || show 'the example on tokio (scripts/examples.sh)' "$counts" bash scripts/examples.sh
 if [ "${WITHOUT_VALGRIND:-}" = yes ] && ! command -v valgrind >/dev/null; then
     echo 'gate: what the calls cost is not counted, as there is no valgrind' >>"$work/shown"
 else
-    show 'what the calls cost (bench/count.py)' "$counted" python3 bench/count.py
+    show 'what the calls cost (bench/count.py)' '^count: [1-9][0-9]* counted, 0 rose ' \
+        python3 bench/count.py
 fi
 finish 0

@@ -1,12 +1,10 @@
-"""Lays the tests out, those of BOTH once more as tests of the cells of one thread."""
+"""Lays the tests out as scripts/lay_out.py does, those of the cells once more for one thread."""
 import os
 import re
 
 import lay_out
 from lay_out import read, write
 
-# The modules whose text is of the cells that threads share, and of those of one thread as well.
-BOTH = ("cells",)
 # What stands otherwise in a text of cells of one thread: no right to wait for a lock is taken, and
 # owners end by their drop. What follows such a comment, up to an empty line, is left out.
 WITHOUT_LOCK = [
@@ -31,12 +29,11 @@ def without_lock(text):
 
 
 def lay_both(folder, modules):
-    """Lays out these modules of the tests, or all, as lay_out.py does, and those of BOTH among them
-    a second time, as `cells_unsync` and so on."""
+    """Lays out these modules of the tests, or all, and `cells`, if it is among them, a second time,
+    as `cells_unsync`."""
     lay_out.lay_out(folder, modules)
     source = f"{folder}/crates/tests/src"
-    both = [it for it in BOTH if os.path.isfile(f"{source}/{it}.rt")]
-    for it in both:
-        write(f"{source}/{it}_unsync.rt", without_lock(read(f"{source}/{it}.rt")))
-    more = "".join(f"#[cfg(test)]\nmod {it}_unsync;\n" for it in both)
-    write(f"{source}/lib.rt", read(f"{source}/lib.rt") + more)
+    if os.path.isfile(f"{source}/cells.rt"):
+        write(f"{source}/cells_unsync.rt", without_lock(read(f"{source}/cells.rt")))
+        root = f"{source}/lib.rt"
+        write(root, f"{read(root)}#[cfg(test)]\nmod cells_unsync;\n")

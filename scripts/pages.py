@@ -1,16 +1,13 @@
 #!/usr/bin/env python3
-"""Looks over the pages, in a second: `python3 scripts/pages.py [PAGE..]`; none: all *.md that git has.
+"""Looks over the pages: `python3 scripts/pages.py [PAGE..]`; none: all *.md that git has.
 
-It finds a row of a table without a header (a blank line ends a table); a link to a file or to a
-heading that is not there, also with a title, by a reference or in HTML; written as code or in a
-shell's block, a path of the repository where nothing lies, the name of a crate that is not there,
-or an option that its script does not know; a path of a machine, or the number of an issue; and a
-figure that is typed by hand in a section on instructions. On the pages NAMED each name that is
-written as code has to stand in the sources, and each label of CONTRIBUTING's table in a clause.
-Then it compares what stands around the libraries with their sources: the lines of tests, scripts,
-bench and misuse may be at most MOST times as many. No crate has more functions than FUNCTIONS says.
-Prints a line for each fault, and last how many pages it read, how many faults it found, and both
-sums; the status is 0 if there is no fault.
+Finds rows of a table without a header, links to nothing, and, written as code or in a shell's
+block, paths where nothing lies, crates that are not there, and options that a script does not know;
+paths of a machine, numbers of issues, and figures typed by hand in a section on instructions. On
+the pages NAMED each name written as code has to stand in the sources, and each label of
+CONTRIBUTING's table in a clause. Then it compares what stands around the libraries with MOST, and
+the functions of each crate with FUNCTIONS. Prints a line for each fault, and last how many pages it
+read, how many faults it found, and both sums; the status is 0 if there is no fault.
 """
 import functools
 import glob

@@ -1,14 +1,12 @@
 #!/usr/bin/env python3
 """Runs the built `cellrun`, and has it proved and built first if a source is newer.
 
-Plays the scripts of program.txt and the calls of its usage, gives it arguments, and has it read and
-write streams that are closed, full, interrupted, fail, or come by parts: what the proof of `script`
-does not say. It also runs it with each request for memory refused in turn. What is wanted is worked
-out by hand from CALLING.md. Prints each case that failed, and last 'N passed, M failed'; the status
-is 0 if none failed.
+Plays the scripts of program.txt and the calls of its usage, gives it arguments, refuses each request
+for memory in turn, and has it read and write streams that are closed, full, interrupted, fail, or
+come by parts: what the proof of `script` does not say. What is wanted is worked out by hand from
+CALLING.md. Prints each case that failed, and last 'N passed, M failed'; the status is 0 if none did.
 """
 import fcntl
-import glob
 import itertools
 import os
 import pty
@@ -22,26 +20,15 @@ import tempfile
 import time
 
 import try_kit
+from lay_out import TOP, read
 
-FOLDER = os.path.dirname(os.path.abspath(__file__))
-CRATES = f"{FOLDER}/../crates"
-PROGRAM = f"{CRATES}/cellrun/out/cellrun"
+PROGRAM = try_kit.program_of("cellrun")
 # How long the cases of one kind may take.
 SECONDS = 30
 # Answers that are longer together than the pipes and sockets below hold.
 LONG = b"set -9223372036854775808\n" + 1_300 * b"debug\n"
 ANSWERS = b"done\n" + 1_300 * b"AsyncCell::Full(-9223372036854775808)\n"
 COUNTS = {True: 0, False: 0}
-
-
-def build():
-    """Has the program proved and built, if it is not there or a source is newer."""
-    made = os.path.getmtime(PROGRAM) if os.path.exists(PROGRAM) else 0
-    sources = glob.glob(f"{CRATES}/*/src/**/*.rt", recursive=True)
-    if max(map(os.path.getmtime, sources)) > made:
-        ran = subprocess.run(["rt", "run"], cwd=f"{CRATES}/cellrun", input=b"", capture_output=True)
-        if ran.returncode:
-            sys.exit((ran.stdout + ran.stderr).decode()[-2_000:] + "\nprogram: it is not built")
 
 
 def same(name, got, wanted):
@@ -81,8 +68,7 @@ def run(script, command=(PROGRAM,)):
 
 def scripts():
     """The cases of program.txt, whose head says how they are written."""
-    with open(f"{FOLDER}/program.txt", encoding="ascii") as file:
-        text = re.sub(r"^#.*\n", "", file.read(), flags=re.MULTILINE).replace("\n  ", " ")
+    text = re.sub(r"(?m)^#.*\n", "", read(f"{TOP}/scripts/program.txt")).replace("\n  ", " ")
     for script, printed, bad in re.findall(r"^(.*)\n-> ?(.*?)(?: ?! (\d+))?$", text, re.MULTILINE):
         given, wanted = ("".join(f"{it}\n" for it in said.split(" / ") if it).encode()
                          for said in (script, printed))
@@ -123,8 +109,7 @@ def wait_for_state(program, wanted):
     state = None
     while state != wanted:
         time.sleep(0.002)
-        with open(f"/proc/{program.pid}/stat", encoding="ascii") as stat:
-            state = stat.read().rpartition(")")[2].split()[0]
+        state = read(f"/proc/{program.pid}/stat").rpartition(")")[2].split()[0]
 
 
 def interrupt(program):
@@ -231,8 +216,8 @@ def memory():
         program = start(stdout=subprocess.DEVNULL)
         send(program, b"set -9223372036854775808\n" + lines * b"debug\n")
         wait_for_state(program, "S")
-        with open(f"/proc/{program.pid}/status", encoding="ascii") as status:
-            peaks.append(int(re.search(r"VmHWM:\s+(\d+)", status.read())[1]))
+        status = read(f"/proc/{program.pid}/status")
+        peaks.append(int(re.search(r"VmHWM:\s+(\d+)", status)[1]))
         same("it ends", ended(program, b""), (b"", b"", 0))
     same("at most a megabyte more", peaks[1] - peaks[0] <= 1_024, True)
 
@@ -247,7 +232,7 @@ def no_memory():
     refused = (0, four[:16] + b"refused memory\n" + four[24:] + b"done woke 1\n" + rest)
     seen, is_refused = [], True
     with tempfile.TemporaryDirectory() as room:
-        refuse = try_kit.compiled(f"{FOLDER}/refuse.c", f"{room}/refuse.so", "-DPRELOADED")
+        refuse = try_kit.compiled(f"{TOP}/scripts/refuse.c", f"{room}/refuse.so", "-DPRELOADED")
         for number in itertools.count(1):
             with tempfile.TemporaryFile() as told:
                 env = {"LD_PRELOAD": refuse, "REFUSE": f"{number}", "TELL": f"{told.fileno()}"}
@@ -267,8 +252,8 @@ def no_memory():
 
 def usage():
     """Arguments are refused, and each call prints on each cell what the usage says of it."""
-    with open(f"{CRATES}/cellrun/src/main.rt", encoding="ascii") as file:
-        text = re.search(r'USAGE: &str = "\\\n(.*?)";', file.read(), re.DOTALL)[1]
+    source = read(f"{TOP}/crates/cellrun/src/main.rt")
+    text = re.search(r'USAGE: &str = "\\\n(.*?)";', source, re.DOTALL)[1]
     for arguments in (["--help"], ["program.txt"], [""], [b"\xff"], ["-", "-"]):
         got = run(b"own\nsett\n", (PROGRAM, *arguments))
         same(f"arguments {arguments}", got, (b"", text.encode(), 2))
@@ -291,7 +276,6 @@ def main():
     """Runs all, each in turn: one that does not end has failed, and the others go on."""
     signal.signal(signal.SIGPIPE, signal.SIG_IGN)
     signal.signal(signal.SIGALRM, late)
-    build()
     for check in (
         scripts, usage, failing_streams, readers_that_leave, interrupted_streams, writes_that_fail,
         reads_by_parts, memory, no_memory,

@@ -21,16 +21,13 @@ LOOKS_OF_A_STATE = ["read", "peek", "has_changed", "is_closed", *MARKS]
 class Maker:
     """Writes a case down, call by call."""
 
-    # What is looked at inside a drop.
-    LOOK = "debug"
+    # Its kinds, the model of them, and what is looked at inside a drop.
+    KINDS, MODEL, LOOK = "owners", Cell, "debug"
 
-    def __init__(self, seed, kinds, holder):
-        self.random = random.Random(f"{kinds} {seed}")
-        self.cell = holder
-        self.lines = [f"# Random calls on {kinds}, seed {seed}", f"on {kinds}"]
-        self.made = {}
-        self.count = 0
-        self.owners = []
+    def __init__(self, seed):
+        self.random = random.Random(f"{self.KINDS} {seed}")
+        self.cell, self.made, self.count, self.owners = self.MODEL(), {}, 0, ["it"]
+        self.lines = [f"# Random calls on {self.KINDS}, seed {seed}", f"on {self.KINDS}"]
 
     def some(self, choices):
         return self.random.choice(list(choices))
@@ -88,10 +85,9 @@ class Maker:
 
     def end(self, name):
         """Drops or cancels a future or a stream."""
-        _, place, kind = self.made.pop(name)
-        word = self.some(["cancel", "drop"])
-        self.cell.leave(word, place)
-        if kind == "owner":
+        future, word = self.made.pop(name), self.some(["cancel", "drop"])
+        self.cell.leave(word, future[1])
+        if future[2] == "owner":
             self.cell.end_owner()
         self.line(f"{word} {name}")
 
@@ -99,9 +95,10 @@ class Maker:
 class Cells(Maker):
     """A cell or an owner, beside futures that are kept."""
 
+    KINDS = "cells owners"
+
     def __init__(self, seed):
-        super().__init__(seed, "cells owners", Cell())
-        self.owners = ["it"]
+        super().__init__(seed)
         self.line("new")
 
     def step(self):
@@ -126,15 +123,14 @@ class Owners(Maker):
     """All that owners make: more owners, weak ones, guards, futures and streams."""
 
     def __init__(self, seed):
-        super().__init__(seed, "owners", Cell())
-        self.owners, self.weak, self.guards = ["it"], ["w"], {}
+        super().__init__(seed)
+        self.weak, self.guards = ["w"], {}
         self.line("new")
         self.line("weak w")
 
     def add(self):
         """Makes one more thing."""
-        owner = self.some(self.owners)
-        word = self.some(MAKES)
+        owner, word = self.some(self.owners), self.some(MAKES)
         name = self.name(word[0])
         shared = word in ("own", "guard", "take_shared", "get_shared")
         self.cell.owners += shared
@@ -218,9 +214,11 @@ class Owners(Maker):
 class Slots(Maker):
     """Reply slots, one after the other: `it` replies, the other side waits."""
 
+    KINDS = "slots"
+
     def __init__(self, seed):
-        super().__init__(seed, "slots", Cell())
-        self.sides = []
+        super().__init__(seed)
+        self.owners, self.sides = [], []
 
     def begin(self):
         self.cell.owners, self.reply, self.is_over = 1, [True, None], False
@@ -276,13 +274,12 @@ class Slots(Maker):
 class States(Maker):
     """Owners and followers of a latest state. A follower lends itself to one future at a time."""
 
-    KIND, LOOK = "states", "peek"
+    KINDS, MODEL, LOOK = "states", State, "peek"
 
     def __init__(self, seed):
-        super().__init__(seed, self.KIND, State())
+        super().__init__(seed)
         self.cell.content, self.version = 1, 1
-        self.owners, self.seen, self.lent = ["it"], {"f": 1}, {}
-        self.witnessed = {"f": 1}
+        self.seen, self.witnessed, self.lent = {"f": 1}, {"f": 1}, {}
         self.line("new 1")
         self.line("follow f")
 
@@ -380,11 +377,9 @@ class States(Maker):
         self.line(f"{'next' if kind == 'states' else 'poll'} {name} by {task}", reply)
 
     def end(self, name):
-        place, word = self.made.pop(name)[1], self.some(["drop", "cancel"])
         self.lent.pop(name)
         self.seen.pop(name, None)
-        self.cell.leave(word, place)
-        self.line(f"{word} {name}")
+        super().end(name)
 
     def own(self):
         """Adds an owner, or ends one."""
@@ -420,7 +415,7 @@ class States(Maker):
 class StatesAs(States):
     """Such a state, whose calls extend a witness. A stream goes on from what that has seen."""
 
-    KIND = "states_as"
+    KINDS = "states_as"
 
     def seen_before(self, of):
         return self.witnessed[of]

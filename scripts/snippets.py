@@ -1,19 +1,13 @@
 #!/usr/bin/env python3
-"""Runs each Rust snippet of the pages and the docstrings.
-
-    python3 scripts/snippets.py [PAGE..]
+"""Runs each Rust snippet of the pages and the docstrings: `python3 scripts/snippets.py [PAGE..]`.
 
 A snippet of a page is whole: with its `use` lines it is a program, or the body of its `main`, or
 items alone, which only have to compile. An example in a docstring is the body of a `main`, and has
-the exports of its crate and IMPORTS. All are modules of one program in a temporary project beside
-copies of the crates that they use, which `rt try` builds and runs, and proves nothing. What one
-prints has to be what its comments `// prints TEXT` say, or the text block after it that `It prints`
-introduces. A comment before a snippet may say that it is a copy of lines of a file, in their order,
-which the gate compiles and proves, and then no more is looked at:
-
-    <!-- snippet of crates/NAME/src/FILE.rt -->
-
-The last line is 'N passed, M failed'; the status is 0 if none failed.
+the exports of its crate and IMPORTS. All are modules of one program in a temporary project, which
+`rt try` builds and runs, and proves nothing. What one prints has to be what its comments
+`// prints TEXT` say, or the text block after it that `It prints` introduces. Of one below the
+comment `<!-- snippet of crates/NAME/src/FILE.rt -->` it is only seen that its lines stand in that
+file, in their order. The last line is 'N passed, M failed'; the status is 0 if none failed.
 """
 import glob
 import os
