@@ -65,7 +65,7 @@ def play(project, inputs, random_text):
 def of_commit():
     """Returns the first seed of the last commit: 0 where there is none."""
     asked = ["git", "-C", TOP, "rev-parse", "HEAD"]
-    ran = subprocess.run(asked, stdout=subprocess.PIPE, stderr=subprocess.DEVNULL, text=True)
+    ran = subprocess.run(asked, capture_output=True, text=True, check=False)
     return int(ran.stdout[:6], 16) if ran.returncode == 0 else 0
 
 
