@@ -34,17 +34,9 @@ ROWS = {
     "oneshot of the kit": ("pair oneshot", ALL[:1]),
 }
 # The columns: title, operation, and how many wait at once.
-COLUMNS = [
-    ("reply slot", "reply", 1),
-    ("watcher", "watch", 1),
-    ("fan-out 1", "fan", 1),
-    ("fan-out 8", "fan", 8),
-    ("fan-out 64", "fan", 64),
-    ("fan-out 1,024", "fan", 1024),
-    ("fan-out 100,000", "fan", 100_000),
-    ("poll again", "again", 1),
-    ("stream", "stream", 1),
-]
+COLUMNS = [("reply slot", "reply", 1), ("watcher", "watch", 1)]
+COLUMNS += [(f"fan-out {it:,}", "fan", it) for it in (1, 8, 64, 1024, 100_000)]
+COLUMNS += [("poll again", "again", 1), ("stream", "stream", 1)]
 POLLS = 4096
 
 

@@ -3,11 +3,10 @@
 
 A fact is a public item of the crates of README's table, a clause, a line of crates.txt, or a
 definition of specs/ or a type of a part that a clause names, also in turn. Prints what went (-) and
-came (+) since the last line of RELEASES, or COMMIT, and a fault for each that the first section of
-CHANGELOG does not name in backquotes: the call; of an impl, or of what went or came whole, the
-type; the definition or its file. So is a line of RELEASES that does not fit its commit, and an item
-of the Rust crate that neither both cells have, nor DIFFERENCES names in backquotes. The last line
-is 'clauses: N facts, M changed, K faults'.
+came (+) since the last line of RELEASES, or COMMIT. Faults are: one whose call, type or definition
+the first section of CHANGELOG does not name in backquotes; a line of RELEASES that does not fit its
+commit; and an item of the Rust crate that neither both cells have, nor DIFFERENCES names so. The
+last line is 'clauses: N facts, M changed, K faults'.
 """
 import pathlib
 import re

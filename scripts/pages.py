@@ -180,16 +180,12 @@ def faults_of(page):
 def main(pages):
     os.chdir(TOP)
     pages = pages or git_files("*.md")
-    faults = [(page, at + 1, why) for page in pages for at, why in faults_of(page)]
-    for page, line, why in faults:
-        print(f"{page}:{line}: {why}")
-    large = [*crowded()]
-    print(*large, sep="\n", end="\n" * bool(large))
-    around, sources = sums()
-    failed = len(faults) + len(large) + (around > sources * MOST)
-    said = f"{around} lines around the libraries, {sources} of their sources"
-    print(f"pages: {len(pages)} read, {failed} faults; {said}")
-    return 1 if failed or not pages else 0
+    faults = [f"{page}:{at + 1}: {why}" for page in pages for at, why in faults_of(page)]
+    around, of_sources = sums()
+    said = f"{around} lines around the libraries, {of_sources} of their sources"
+    faults += [*crowded(), *[f"too many: {said}"] * (around > of_sources * MOST)]
+    print(*faults, f"pages: {len(pages)} read, {len(faults)} faults; {said}", sep="\n")
+    return 1 if faults or not pages else 0
 
 
 if __name__ == "__main__":

@@ -1,10 +1,9 @@
-/* Refuses requests for memory. Linked into a program that is tried, it stands in the place of the
-   three functions by which the kit's programs ask for memory, and refuses the Nth request, where N
-   is the value of REFUSE, and tells of it on the file descriptor that is the value of TELL. Compiled
-   with PLAYER, the player of cases says by calls which requests are counted, and which of them, or
-   all, are refused. Compiled with PRELOADED, it is preloaded into a program that was built: malloc
-   and realloc are all that one asks by. It takes no header, so that the kit's own compiler can build
-   it. */
+/* Refuses requests for memory, in place of the three functions by which the kit's programs ask for
+   it: the one whose number is the value of REFUSE, which it tells on the file descriptor that is the
+   value of TELL. Compiled with PLAYER, the player of cases says by calls which are counted, and
+   which of them, or all, are refused. Compiled with PRELOADED, it is preloaded into a program that
+   was built, which asks by malloc and realloc. The kit's own compiler, which builds it, has no
+   headers. */
 typedef __SIZE_TYPE__ size;
 
 #ifdef PLAYER
