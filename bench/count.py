@@ -2,10 +2,10 @@
 """Counts what the calls cost, by callgrind: `count.py [--write]`.
 
 It runs the programs crates/bench_cells and bench_pair, proved and built as users' are (`rt run`
-builds one that is not there, or older than a source). It prints each figure that has risen or fallen
-by more than 2 per cent since the table of bench/README.md. The status is 0 if none has risen by
-more than 5 per cent, and the figures are those of the table. --write writes the table anew, and the
-picture that bench/tables.py draws of it.
+builds one that is not there, or older than a source). It prints each figure that rose or fell by
+more than 2 per cent since the table of bench/README.md. The status is 0 if none rose by more than 5
+per cent, and the figures are those of the table. --write writes the table anew, and the picture
+that bench/tables.py draws of it.
 """
 import os
 import platform

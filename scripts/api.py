@@ -6,10 +6,10 @@
 
 A page has the public items of a crate, also those that it exports from crates below it, and first
 those that GUIDE names first: each with its declaration, its docstring and its contract, folded away
-under the labels (that of a law is shown). What is `doc(hidden)`, or has a docstring that begins with
-"Internal", is left out. Prints a line for each public item, variant or field without a docstring,
-export that is not found, and item of a form that is not known here. The last line is 'api: N public
-items, M faults', and the status is 0 if M is.
+under the labels (that of a law is shown). What is `doc(hidden)`, or has a docstring that begins
+with "Internal", is left out. Prints a line for each public item, variant or field without a
+docstring, export that is not found, and item of a form that is not known here. The last line is
+'api: N public items, M faults', and the status is 0 if M is.
 """
 import functools
 import glob

@@ -12,8 +12,7 @@ set -u
 cd "$(dirname "$0")/.." || exit 1
 work=$(mktemp -d)
 TIMEFORMAT='%U %S'
-passed=0
-failed=0
+passed=0 failed=0
 
 # Says every 45 seconds what the step has last printed.
 tick() {

@@ -1,10 +1,11 @@
 #!/usr/bin/env python3
 """Runs the built `cellrun`, and has it proved and built first if a source is newer.
 
-Plays the scripts of program.txt and the calls of its usage, gives it arguments, refuses each request
-for memory in turn, and has it read and write streams that are closed, full, interrupted, fail, or
-come by parts: what the proof of `script` does not say. What is wanted is worked out by hand from
-CALLING.md. Prints each case that failed, and last 'N passed, M failed'; the status is 0 if none did.
+Plays the scripts of program.txt and the calls of its usage, gives it arguments, refuses each
+request for memory in turn, and has it read and write streams that are closed, full, interrupted,
+fail, or come by parts: what the proof of `script` does not say. What is wanted is worked out by
+hand from CALLING.md. Prints each case that failed, and last 'N passed, M failed'; the status is 0
+if none failed.
 """
 import fcntl
 import itertools

@@ -1,9 +1,9 @@
 /* Refuses requests for memory, in place of the three functions by which the kit's programs ask for
-   it: the one whose number is the value of REFUSE, which it tells on the file descriptor that is the
-   value of TELL. Compiled with PLAYER, the player of cases says by calls which are counted, and
+   it: the one whose number is the value of REFUSE, which it tells on the file descriptor that is
+   the value of TELL. Compiled with PLAYER, the player of cases says by calls which are counted, and
    which of them, or all, are refused. Compiled with PRELOADED, it is preloaded into a program that
-   was built, which asks by malloc and realloc. The kit's own compiler, which builds it, has no
-   headers. */
+   was built, which asks by malloc and realloc. The kit's compiler, which builds it, has no headers.
+*/
 typedef __SIZE_TYPE__ size;
 
 #ifdef PLAYER

@@ -6,12 +6,13 @@
 #     bash scripts/vendor.sh --program NAME FOLDER   makes a program there, a copy of the reply slot
 #     bash scripts/vendor.sh --to RELEASE ..         each of these, at another release than the last
 #
-# FOLDER is the project's `crates`. RELEASE is one of RELEASES, or a commit; without it, the last that
-# is not withdrawn, or if there is none, the last commit. Crates come with those that they stand on.
-# Each call brings all of the copy to one release, which FOLDER/railyarrow/VERSION names, and
-# finishes one that was cut off. If a file was changed there, it tells which, and writes nothing. It
-# keeps its part of crates.txt; HANDLES and .gitignore are written, or what they lack is printed. By
-# .gitattributes of a crate a call knows of which tree it was, and git keeps its lines.
+# FOLDER is the project's `crates`. RELEASE is one of RELEASES, or a commit; without it, the last
+# that is not withdrawn, or if there is none, the last commit. Crates come with those that they
+# stand on, without deliberate bugs. Each call brings all of the copy to one release, which
+# FOLDER/railyarrow/VERSION names, and finishes one that was cut off. If a file was changed there, it
+# tells which, and writes nothing. It keeps its part of crates.txt; HANDLES and .gitignore are
+# written, or what they lack is printed. By .gitattributes of a crate a call knows of which tree it
+# was, and git keeps its lines.
 set -eu
 [ "${BASH_VERSION:-}" ] || { echo 'vendor: call it by bash' >&2 && exit 2; }
 set -o pipefail
