@@ -64,12 +64,7 @@ def instructions(programs, row, operation, waiters):
 def counted():
     """Counts each figure of the table, as many side by side as there are processors."""
     programs = {it: program_of(f"bench_{it}") for it in ("cells", "pair")}
-    fields = [
-        (row, title, operation, waiters)
-        for row, (_, operations) in ROWS.items()
-        for title, operation, waiters in COLUMNS
-        if operation in operations
-    ]
+    fields = [(row, *it) for row, (_, has) in ROWS.items() for it in COLUMNS if it[1] in has]
     with ThreadPoolExecutor(len(os.sched_getaffinity(0))) as pool:
         ran = pool.map(lambda it: instructions(programs, it[0], *it[2:]), fields)
         made = {row: {} for row in ROWS}

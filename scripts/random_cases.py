@@ -21,13 +21,14 @@ LOOKS_OF_A_STATE = ["read", "peek", "has_changed", "is_closed", *MARKS]
 class Maker:
     """Writes a case down, call by call."""
 
-    # Its kinds, the model of them, and what is looked at inside a drop.
-    KINDS, MODEL, LOOK = "owners", Cell, "debug"
+    # Its kinds, the model of them, what is looked at inside a drop, and its first calls.
+    KINDS, MODEL, LOOK, FIRST = "owners", Cell, "debug", ["new"]
 
     def __init__(self, seed):
         self.random = random.Random(f"{self.KINDS} {seed}")
         self.cell, self.made, self.count, self.owners = self.MODEL(), {}, 0, ["it"]
         self.lines = [f"# Random calls on {self.KINDS}, seed {seed}", f"on {self.KINDS}"]
+        self.lines += self.FIRST
 
     def some(self, choices):
         return self.random.choice(list(choices))
@@ -97,10 +98,6 @@ class Cells(Maker):
 
     KINDS = "cells owners"
 
-    def __init__(self, seed):
-        super().__init__(seed)
-        self.line("new")
-
     def step(self):
         chosen = self.random.randrange(8)
         if self.random.random() < 0.05:
@@ -122,11 +119,11 @@ class Cells(Maker):
 class Owners(Maker):
     """All that owners make: more owners, weak ones, guards, futures and streams."""
 
+    FIRST = ["new", "weak w"]
+
     def __init__(self, seed):
         super().__init__(seed)
         self.weak, self.guards = ["w"], {}
-        self.line("new")
-        self.line("weak w")
 
     def add(self):
         """Makes one more thing."""
@@ -214,7 +211,7 @@ class Owners(Maker):
 class Slots(Maker):
     """Reply slots, one after the other: `it` replies, the other side waits."""
 
-    KINDS = "slots"
+    KINDS, FIRST = "slots", []
 
     def __init__(self, seed):
         super().__init__(seed)
@@ -274,14 +271,12 @@ class Slots(Maker):
 class States(Maker):
     """Owners and followers of a latest state. A follower lends itself to one future at a time."""
 
-    KINDS, MODEL, LOOK = "states", State, "peek"
+    KINDS, MODEL, LOOK, FIRST = "states", State, "peek", ["new 1", "follow f"]
 
     def __init__(self, seed):
         super().__init__(seed)
         self.cell.content, self.version = 1, 1
         self.seen, self.witnessed, self.lent = {"f": 1}, {"f": 1}, {}
-        self.line("new 1")
-        self.line("follow f")
 
     def write(self, on=""):
         value, old = self.value(), self.cell.content
@@ -333,8 +328,7 @@ class States(Maker):
         self.line(f"{word} {name}", reply)
 
     def ask(self):
-        """Asks an owner for the state or for the places of those who wait, or has those that were
-        left let go."""
+        """Asks an owner for the state or for those who wait, or lets go of what was left."""
         word = self.some(["waiting", "purge", "peek", "read"])
         reply = self.cell.cloned("some") if word == "read" else self.cell.look(word)
         self.line(f"{word} {self.some(self.owners)}", reply)
