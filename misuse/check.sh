@@ -1,14 +1,13 @@
 #!/usr/bin/env bash
 # Tries what must not compile: `bash misuse/check.sh [TEXT..]` (none: all texts of this folder). A
-# text is added as a module to a copy of each crate that its first line names, and read. As a module
-# of the crate it may use what is private there. A line that ends in `//~ ERROR` has to be refused
-# by that error, and no other line by any. An error of one kind hides those that are looked for
-# after it: so functions that were refused are left out, and the rest is read again, until nothing
-# is refused: then its tests have to pass. Over libraries that are built (by `rt ci`, say) the kit's
-# compiler reads it, asked to check a function that is not there: it says so once it has read all.
-# Where a library is not built, or has changed, and for tests, it is `rt try --test`, which reads
-# the libraries' sources too and takes six times as long. Prints what came of each line, and at the
-# end how many passed and failed; the status is 0 if none failed.
+# text is added as a module to a copy of each crate that its first line names: so it may use what is
+# private there. A line that ends in `//~ ERROR` has to be refused by that error, and no other line
+# by any. An error of one kind hides those that are looked for after it: so functions that were
+# refused are left out, and the rest is read again, until nothing is refused: then its tests have to
+# pass. Over libraries that are built (by `rt ci`, say) the kit's compiler reads it, asked to check
+# a function that is not there: it says so once it has read all. Else, and for tests, it is
+# `rt try --test`, which takes six times as long. Prints what came of each line, and at the end how
+# many passed and failed; the status is 0 if none failed.
 set -u
 top=$(cd "$(dirname "$0")/.." && pwd)
 [ $# -gt 0 ] || set -- $(cd "$top/misuse" && basename -s .txt ./*.txt)
@@ -22,8 +21,7 @@ log=$work/log passed=0 failed=0
 mkdir "$work/crates"
 cp "$top/HANDLES" "$top/crates.txt" "$work/"
 git init -q "$work"
-(cd "$top/crates" && cp -r --parents */src "$work/crates/")
-(cd "$top/crates" && cp -r --parents */specs */proofs "$work/crates/")
+(cd "$top/crates" && cp -r --parents */src */specs */proofs "$work/crates/")
 
 # Whether what the crate stands on is built. If so, `reads` are the words that read it: CRATE
 is_over_built() {
