@@ -70,10 +70,7 @@ impl<T: Clone, R: Wait + Copy, N: Protocol<T>> Follower<T, R, N> {
 
 /// The future of `Follower::changed`.
 ///
-/// While it waits it holds one place in the wait list, and each poll renews the waker there: the
-/// task that polled it last is woken. **Dropping it may wait for the lock**, and wakes nobody. The
-/// place is then free for the next such future, and the task that polled the dropped one may be
-/// woken once more.
+/// It waits, and may be dropped, as `With`: **its drop may wait for the lock**.
 #[derive_where(Debug)]
 pub struct Changed<'a, T: Drop, R: Wait + Drop, N: Protocol<T> = Unruled> {
     #[derive_where(skip)]
@@ -83,10 +80,7 @@ pub struct Changed<'a, T: Drop, R: Wait + Drop, N: Protocol<T> = Unruled> {
 }
 
 impl<T: Drop, R: Wait + Drop, N: Protocol<T>> Changed<'_, T, R, N> {
-    /// Drops the future and the waker that it left in the state: the task that polled it last is
-    /// polled once more. A waker that stays keeps what its executor needs to wake the task. So call
-    /// this where a wait ends early, as after a timeout, and the state is written seldom. May wait
-    /// for the lock.
+    /// As `With::cancel`. Call it on a state that is written seldom: a write removes the waker, too.
     pub fn cancel(self) {
         let Changed { follower, place } = self;
         follower.cell.core.cancel(place, &follower.rt);

@@ -138,8 +138,7 @@ impl<T: Drop, R: Wait + Drop, N: Protocol<T>> Owner<T, R, N> {
         Ok(self.cell.get(&self.rt)?.1)
     }
 
-    /// Calls the closure on the value, and returns what it returns. The lock is held meanwhile: a
-    /// closure that calls its own state waits forever.
+    /// Calls the closure on the value, under the lock, and returns what it returns.
     ///
     /// ```rust
     /// let name = Owner::new(rt.alloc(), "Ada".to_string(rt.alloc())?, rt)?;
@@ -185,9 +184,8 @@ impl<T: Drop, R: Wait + Drop, N: Protocol<T>> Owner<T, R, N> {
         end_and_wake(step, written)
     }
 
-    /// Calls the closure on the value, sets the one that it returns, and drops the old one. Wakes
-    /// all followers that wait. No other call comes in between: the lock is held meanwhile, so a
-    /// closure that calls its own state waits forever.
+    /// Calls the closure on the value, under the lock, sets the one that it returns, and drops the
+    /// old one. Wakes all followers that wait.
     pub fn update<F: FnOnce(&T) -> T>(&self, change: F)
         requires callable { F.IsAlwaysCallable change }
         requires may { (before : List T) (old new : T) → N.holds old
@@ -200,10 +198,9 @@ impl<T: Drop, R: Wait + Drop, N: Protocol<T>> Owner<T, R, N> {
     }
 
     /// Calls the closure on the value, which it may change in place, and returns what it returns.
-    /// Wakes all followers that wait. No other call comes in between: the lock is held meanwhile,
-    /// so a closure that calls its own state, or drops a value that does, waits forever.
-    ///
-    /// Fails with `Closed` if the state takes no further write; the closure is then not called.
+    /// Wakes all followers that wait. The lock is held meanwhile: a value that the closure drops
+    /// must not call the state, either. Fails with `Closed` if the state takes no further write,
+    /// and then does not call the closure.
     ///
     /// ```rust
     /// let setting = Owner::new(rt.alloc(), 1u32, rt)?;
@@ -255,9 +252,7 @@ impl<T: Drop, R: Wait + Drop, N: Protocol<T>> Owner<T, R, N> {
         self.cell.core.places(&self.rt)
     }
 
-    /// Sets the value, drops the old one and wakes all followers that wait. If the state takes no
-    /// further write, as it has had 18,446,744,073,709,551,615 values, the value is returned in the
-    /// error.
+    /// `set`. If the state takes no further write, the value is returned in the error.
     pub fn set_as(&self, seen: &mut Witness<T, N>, value: T) -> Result<(), T>
         requires may { MayWrite N.may seen.old value }
         ensures linearized { OnOk result (IsWritten seen.old value seen.new) }
@@ -289,9 +284,7 @@ impl<T: Drop, R: Wait + Drop, N: Protocol<T>> Owner<T, R, N> {
         end_and_wake(step, replaced)
     }
 
-    /// Calls the closure on the last value, and sets the one that it returns: no other write comes
-    /// in between. The lock is held meanwhile, so a closure that calls its own state waits forever.
-    /// If the state takes no further write, as at `set_as`, the new value is returned in the error.
+    /// `update`. If the state takes no further write, the new value is returned in the error.
     #[tactic(auto, using(crate::proofs::Showing::may_update, crate::proofs::Showing::updated, crate::proofs::Showing::goes_further))]
     pub fn update_as<F: FnOnce(&T) -> T>(
         &self,
