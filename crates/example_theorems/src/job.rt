@@ -3,12 +3,10 @@ ghost use Rattle.std.specs.Prelude.{◌≡◌, Some, IfOk, IfSome};
 ghost use Rattle.async_cell_model.specs.Machine.{content};
 ghost use Rattle.async_cell_history.specs.History.{IsTake, OnlyMakes, Took};
 
+use crate::Host;
 use async_cell_sync::{Author, Blank, Kept, Owner, Protocol, Refusal, TaskWaker, Witness, laws};
-use std::alloc::AllocGlobal;
 use std::marker::Brand;
-use std::random::RandomSource;
-use std::sync::Wait;
-use std::thread::{Threads, join};
+use std::thread::join;
 
 /// The number that the first taker signs with.
 struct First;
@@ -25,9 +23,7 @@ impl Author for Second {
 }
 
 /// Two threads ask for one job. Never do both get it.
-pub fn share<R>(rt: R) -> Result<(Option<u64>, Option<u64>), Refusal>
-where
-    R: Threads + Wait + RandomSource + AllocGlobal + Copy + Send + Sync,
+pub fn share<R: Host>(rt: R) -> Result<(Option<u64>, Option<u64>), Refusal>
     ensures once { IfOk result (λ both. IfSome both.0 (λ _. IfSome both.1 (λ _. ⊥))) }
 {
     let job = Blank::new(rt.alloc(), Some(7));
@@ -35,13 +31,10 @@ where
 }
 
 /// Does so on the cell that `N` names.
-fn share_named<N, R>(
+fn share_named<N: Protocol<u64, TaskWaker> + Send + Sync, R: Host>(
     rt: R,
     job: Blank<u64, TaskWaker>,
 ) -> Result<(Option<u64>, Option<u64>), Refusal>
-where
-    N: Protocol<u64, TaskWaker> + Send + Sync,
-    R: Threads + Wait + RandomSource + AllocGlobal + Copy + Send + Sync,
     requires named { N.named ≡ Some job }
     requires rule { IfSome (content job.start.cell) N.holds }
     requires only { OnlyMakes N.may IsTake }
@@ -73,10 +66,10 @@ where
 }
 
 /// Takes the job, if it is there.
-fn ask<N, R>(owner: &Owner<u64, R, N>, seen: &mut Witness<u64, TaskWaker, N>) -> Option<u64>
-where
-    N: Protocol<u64, TaskWaker>,
-    R: Wait + Drop,
+fn ask<N: Protocol<u64, TaskWaker>, R: Host>(
+    owner: &Owner<u64, R, N>,
+    seen: &mut Witness<u64, TaskWaker, N>,
+) -> Option<u64>
     requires may { N.may Kept.TryTake }
     ensures took { IfSome result (λ v. Took seen.old.author v seen.new) }
 {

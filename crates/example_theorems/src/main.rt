@@ -1,6 +1,6 @@
-//! Programs of two threads that share a cell, and tell witnesses of its history. Each has a theorem
-//! in its contracts: of what the two threads returned, on every schedule, or of whom a call of one
-//! wakes. The cell is named by a type, `N`, which a call at `Brand` picks in the proofs.
+//! Programs of two threads that share a cell. The contracts of each have a theorem: what the two
+//! threads return on every schedule, or whom a call of one wakes. A type `N` names the cell. Calls
+//! are made at `Brand`, and the `Invariants.antt` of the caller picks what `N` names.
 #![tactic(auto)]
 
 mod job;
@@ -9,6 +9,15 @@ mod startup;
 mod watcher;
 
 use anyhow::Result;
+use std::alloc::AllocGlobal;
+use std::random::RandomSource;
+use std::sync::Wait;
+use std::thread::Threads;
+
+/// The runtime of a program of several threads that wait.
+trait Host: AllocGlobal + Copy + RandomSource + Send + Sync + Threads + Wait {}
+
+impl<R: AllocGlobal + Copy + RandomSource + Send + Sync + Threads + Wait> Host for R {}
 
 fn main(rt: HostRuntime) -> Result<()> {
     let (first, second) = startup::start(rt)?;

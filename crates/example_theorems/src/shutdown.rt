@@ -5,33 +5,25 @@ ghost use Rattle.async_cell_model.specs.History.{IsCovered};
 ghost use Rattle.async_cell_history.specs.History.{IsLinearized, StillWaits, start_of};
 ghost use Rattle.async_cell_sync.specs.declared.TaskWaker.{TaskWaker as Waker};
 
+use crate::Host;
 use async_cell_model::Reply;
 use async_cell_sync::{Blank, Kept, Owner, Protocol, Refusal, TaskWaker, Wakes, Witness, laws};
 use futures::executor::block_on;
-use std::alloc::AllocGlobal;
 use std::io;
 use std::marker::Brand;
-use std::random::RandomSource;
-use std::sync::Wait;
-use std::thread::{Threads, join};
+use std::thread::join;
 
 /// One thread stops the server of the other, which waits until it is told to stop.
-pub fn run<R>(rt: R) -> Result<(Result<(), ()>, io::Result<()>), Refusal>
-where
-    R: Threads + Wait + RandomSource + AllocGlobal + Copy + Send + Sync,
-{
+pub fn run<R: Host>(rt: R) -> Result<(Result<(), ()>, io::Result<()>), Refusal> {
     let over = Blank::new(rt.alloc(), None);
     run_named::<Brand, R>(rt, over)
 }
 
 /// Does so on the cell that `N` names.
-fn run_named<N, R>(
+fn run_named<N: Protocol<(), TaskWaker> + Send + Sync, R: Host>(
     rt: R,
     over: Blank<(), TaskWaker>,
 ) -> Result<(Result<(), ()>, io::Result<()>), Refusal>
-where
-    N: Protocol<(), TaskWaker> + Send + Sync,
-    R: Threads + Wait + RandomSource + AllocGlobal + Copy + Send + Sync,
     requires named { N.named ≡ Some over }
     requires rule { IfSome (content over.start.cell) N.holds }
     requires may { N.may (Kept.Set tt) }
@@ -48,10 +40,10 @@ where
 }
 
 /// Says that all is over. It wakes the waker of each poll that waits, or one that would wake it.
-fn stop<N, R>(owner: &Owner<(), R, N>, seen: &mut Witness<(), TaskWaker, N>) -> Result<(), ()>
-where
-    N: Protocol<(), TaskWaker>,
-    R: Wait + Drop,
+fn stop<N: Protocol<(), TaskWaker>, R: Host>(
+    owner: &Owner<(), R, N>,
+    seen: &mut Witness<(), TaskWaker, N>,
+) -> Result<(), ()>
     requires may { N.may (Kept.Set tt) }
     ensures wakes { OnOk result ((told : IsLinearized ⟦<TaskWaker as Wakes>⟧ N.named
         seen.old.calls (Kept.Set tt) Reply.Done seen.new.calls)

@@ -5,19 +5,15 @@ ghost use Rattle.async_cell_model.specs.declared.entry.Kept.TheVariants.{TryGet}
 ghost use Rattle.async_cell_model.specs.declared.reply.Reply.TheVariants.{Value};
 ghost use Rattle.async_cell_history.specs.History.{HasEntry, IsOrSet, OnlyMakes};
 
+use crate::Host;
 use async_cell_sync::{Blank, Kept, Owner, Protocol, Refusal, TaskWaker, Witness, laws};
 use futures::executor::block_on;
-use std::alloc::AllocGlobal;
 use std::io;
 use std::marker::Brand;
-use std::random::RandomSource;
-use std::sync::Wait;
-use std::thread::{Threads, join};
+use std::thread::join;
 
 /// Two threads get one and the same value, if both get one.
-pub fn start<R>(rt: R) -> Result<(io::Result<u64>, io::Result<u64>), Refusal>
-where
-    R: Threads + Wait + RandomSource + AllocGlobal + Copy + Send + Sync,
+pub fn start<R: Host>(rt: R) -> Result<(io::Result<u64>, io::Result<u64>), Refusal>
     ensures alike { IfOk result (λ both. IfOk both.0 (λ v. IfOk both.1 (λ w. v ≡ w))) }
 {
     let value = Blank::new(rt.alloc(), None);
@@ -25,13 +21,10 @@ where
 }
 
 /// Does so on the cell that `N` names: values are set where there is none, and in no other way.
-fn start_named<N, R>(
+fn start_named<N: Protocol<u64, TaskWaker> + Send + Sync, R: Host>(
     rt: R,
     value: Blank<u64, TaskWaker>,
 ) -> Result<(io::Result<u64>, io::Result<u64>), Refusal>
-where
-    N: Protocol<u64, TaskWaker> + Send + Sync,
-    R: Threads + Wait + RandomSource + AllocGlobal + Copy + Send + Sync,
     requires named { N.named ≡ Some value }
     requires rule { IfSome (content value.start.cell) N.holds }
     requires only { OnlyMakes N.may IsOrSet }
@@ -60,15 +53,12 @@ where
 }
 
 /// Sets this value if there is none, and gets the one that is there.
-fn offer<N, R>(
+fn offer<N: Protocol<u64, TaskWaker>, R: Host>(
     value: u64,
     rt: R,
     owner: &Owner<u64, R, N>,
     seen: &mut Witness<u64, TaskWaker, N>,
 ) -> io::Result<u64>
-where
-    N: Protocol<u64, TaskWaker>,
-    R: Wait + RandomSource + AllocGlobal + Copy,
     requires may { N.may (Kept.OrSet value) }
     ensures got { IfOk result (λ v. HasEntry seen.new.calls TryGet (Value (Some v))) }
 {

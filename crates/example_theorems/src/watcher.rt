@@ -3,19 +3,15 @@ ghost use Rattle.std.specs.Prelude.{◌≡◌, ◌≤◌, ℕ, true, nat_le, Opt
 ghost use Rattle.async_cell_model.specs.Machine.{content};
 ghost use Rattle.async_cell_history.specs.History.{GoesOn, OnlyMakes};
 
+use crate::Host;
 use async_cell_sync::{Blank, Kept, Owner, Protocol, Refusal, TaskWaker, Witness, laws};
 use futures::executor::block_on;
-use std::alloc::AllocGlobal;
 use std::io;
 use std::marker::Brand;
-use std::random::RandomSource;
-use std::sync::Wait;
-use std::thread::{Threads, join};
+use std::thread::join;
 
 /// One thread raises a level, and the other sees it twice. It does not fall meanwhile.
-pub fn watch<R>(rt: R) -> Result<io::Result<(u64, u64)>, Refusal>
-where
-    R: Threads + Wait + RandomSource + AllocGlobal + Copy + Send + Sync,
+pub fn watch<R: Host>(rt: R) -> Result<io::Result<(u64, u64)>, Refusal>
     ensures rises { IfOk result (λ looks. IfOk looks (λ both. both.0 ≤ both.1)) }
 {
     let level = Blank::new(rt.alloc(), None);
@@ -26,7 +22,7 @@ where
 fn watch_named<N, R>(rt: R, level: Blank<u64, TaskWaker>) -> Result<io::Result<(u64, u64)>, Refusal>
 where
     N: Protocol<u64, TaskWaker> + Send + Sync,
-    R: Threads + Wait + RandomSource + AllocGlobal + Copy + Send + Sync,
+    R: Host,
     requires named { N.named ≡ Some level }
     requires rule { IfSome (content level.start.cell) N.holds }
     requires only { OnlyMakes N.may (GoesOn (λ old new. nat_le old new ≡ true)) }
@@ -55,10 +51,7 @@ where
 }
 
 /// Raises the level to this one, if it is lower. It tells nobody.
-fn raise<N, R>(level: u64, owner: &Owner<u64, R, N>)
-where
-    N: Protocol<u64, TaskWaker>,
-    R: Wait + Drop,
+fn raise<N: Protocol<u64, TaskWaker>, R: Host>(level: u64, owner: &Owner<u64, R, N>)
     requires may { (old : Option ℕ) (new : ℕ) → IfSome old (λ level. level ≤ new)
         → N.may (Kept.Update old (Some new)) }
     requires may_fail { N.may (Kept.Update None None) }
@@ -70,14 +63,11 @@ where
 }
 
 /// Returns two levels, one after the other.
-fn look_twice<N, R>(
+fn look_twice<N: Protocol<u64, TaskWaker>, R: Host>(
     rt: R,
     owner: &Owner<u64, R, N>,
     seen: Witness<u64, TaskWaker, N>,
 ) -> io::Result<(u64, u64)>
-where
-    N: Protocol<u64, TaskWaker>,
-    R: Wait + RandomSource + AllocGlobal + Copy,
     requires may { OnlyMakes N.may (GoesOn (λ old new. nat_le old new ≡ true)) }
     ensures rises { IfOk result (λ both. both.0 ≤ both.1) }
 {
