@@ -10,6 +10,4 @@ sum_counts [] [] each = refl
 sum_counts [] (s ∷ shares) each = absurd each
 sum_counts (a ∷ answered) [] each = absurd each
 sum_counts (a ∷ answered) (s ∷ shares) each =
-    let here = each.0 in
-    let rest = sum_counts answered shares each.1 in
-    omega (arith, sum_by-cons (λ (x : ShareState). x.count) s shares, sum_by-cons (λ (x : ℕ). x) a answered, here, rest)
+    omega (arith, sum_by-cons (λ (x : ShareState). x.count) s shares, sum_by-cons (λ (x : ℕ). x) a answered, each.0, sum_counts answered shares each.1)

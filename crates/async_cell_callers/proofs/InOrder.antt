@@ -1,6 +1,7 @@
 -- Two looks, one after the other, and a rule of neighbours.
 use Rattle.std.proofs.Common.{◌≡◌, ℕ, ◌≤◌, List, [], ◌∷◌, ◌++◌, refl, sym, ap, subst, ◌∙◌, append_assoc}
 use Rattle.std.proofs.Math.Nat.{le_trans}
+use Rattle.std.proofs.lemmas.List.{same_from_push}
 use Rattle.async_cell_latest_sync.specs.Life.{Life, Agree, IsShown, IsShownNext, IsLawful, MayUpdate}
 use Rattle.async_cell_callers.specs.InOrder.{AreInOrder, NeverFalls}
 
@@ -22,19 +23,10 @@ module _ {T : Type 0} (is_clone : T → T → Type 0) where
         shown_second = next.clone;
       }
 
--- one list has one last value
-one_last : (xs ys : List ℕ) (x y : ℕ) → xs ++ x ∷ [] ≡ ys ++ y ∷ [] → x ≡ y
-one_last [] [] x y is = cc is
-one_last [] (b ∷ []) x y is = absurd (cc is)
-one_last [] (b ∷ c ∷ ys) x y is = absurd (cc is)
-one_last (a ∷ []) [] x y is = absurd (cc is)
-one_last (a ∷ c ∷ xs) [] x y is = absurd (cc is)
-one_last (a ∷ xs) (b ∷ ys) x y is = one_last xs ys x y (cc is)
-
 -- what is no less than the last value may be written after it
 pub may_rise : (may : List ℕ → ℕ → Type 0) (seen : Life ℕ) (P : ℕ → ℕ → Type 0) → Agree may NeverFalls → ((old new : ℕ) → P old new → old ≤ new) → MayUpdate may seen P
 may_rise may seen P rule rises = λ before old new begins lawful made.
-    (rule (before ++ old ∷ []) new).1 (λ last ends. subst (λ l. l ≤ new) (one_last before ends.0 old last ends.1) (rises old new made))
+    (rule (before ++ old ∷ []) new).1 (λ last ends. subst (λ l. l ≤ new) (same_from_push before ends.0 old last ends.1).1 (rises old new made))
 
 -- by that rule a later value is no less
 climbs : (front between later : List ℕ) (x y : ℕ) → ((before after : List ℕ) → (value : ℕ) → front ++ x ∷ (between ++ y ∷ later) ≡ before ++ value ∷ after → NeverFalls before value) → x ≤ y

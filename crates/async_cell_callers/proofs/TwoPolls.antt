@@ -1,14 +1,11 @@
 -- Two polls of one follower, with calls of others in between, are in one history.
 use Rattle.std.proofs.Common.{◌≤◌, ◌<◌, ℕ, Bool, List, [], ◌∷◌, ◌++◌, refl}
-use Rattle.async_cell_model.specs.Taken.{IsSubsequence, none, skip, both}
+use Rattle.async_cell_model.specs.Taken.{IsSubsequence, both}
+use Rattle.async_cell_model.proofs.Once.{IsSubsequence-append, IsSubsequence-nil, IsSubsequence-same}
 use Rattle.async_cell_latest.specs.State.{State}
 use Rattle.async_cell_latest.specs.Step.{PollChanged, Shown}
 use Rattle.async_cell_latest.specs.History.{History, IsLegal, Runs}
 use Rattle.async_cell_latest.specs.Follower.{IsFollower, IsRising}
-
-skips : {A : Type 0} {xs ys : List A} (zs : List A) → IsSubsequence xs ys → IsSubsequence xs (zs ++ ys)
-skips [] part = part
-skips (z ∷ zs) part = skip (skips zs part)
 
 module _ {T W : Type 0} (will_wake : W → W → Bool) (sure : Bool) where
   -- a poll that showed this version
@@ -23,5 +20,5 @@ module _ {T W : Type 0} (will_wake : W → W → Bool) (sure : Bool) where
       → seen ≤ b.version → (seen < first) × (first < second)
   two_rise join rise b s t u seen first second w h woken before between then below =
       let all = join b t u _ _ _ _ (join b s t _ h _ woken before between) then in
-      let rising = rise b _ (record { call = PollChanged seen w; reply = Shown first b.value } ∷ record { call = PollChanged first w; reply = Shown second t.value } ∷ []) seen all.legal (both (skips h (both none))) (refl, (refl, tt)) below in
+      let rising = rise b _ (record { call = PollChanged seen w; reply = Shown first b.value } ∷ record { call = PollChanged first w; reply = Shown second t.value } ∷ []) seen all.legal (both (IsSubsequence-append [] h _ _ (IsSubsequence-nil h) (IsSubsequence-same _))) (refl, (refl, tt)) below in
       (rising.0, rising.1.0)

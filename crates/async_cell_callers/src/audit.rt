@@ -3,15 +3,17 @@ ghost use Rattle.std.specs.Prelude.{◌≡◌, length, IfOk};
 ghost use Rattle.std.specs.List.{sum};
 ghost use Rattle.async_cell_recorded.specs.Recording.{IsRecorded};
 
+use crate::put::Put;
 use async_cell_recorded::{History, Pick, Recorded, Refusal, Session, Share, with_recorded};
 use std::alloc::Global;
 use std::sync::Wait;
 use std::thread::Threads;
 
-/// How many calls each thread makes.
+/// How many values each thread puts in.
 const CALLS: u64 = 100;
 
 /// Each of the threads puts its own values into the cell, and replaces those of the others.
+/// Then it makes two edits.
 #[derive(Drop)]
 struct Replacing;
 
@@ -35,6 +37,8 @@ impl Session for Replacing {
                 woken.wake_all();
             }
         }
+        let _ = cell.update(share, Put(4), rt);
+        let _ = cell.update_some(share, Put(5), rt);
         share.count()
     }
 }

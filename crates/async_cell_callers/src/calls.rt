@@ -7,11 +7,8 @@ use crate::put::Put;
 use async_cell_core::{Core, Named, Wakes};
 use async_cell_driver::{Driver, Event};
 use async_cell_latest::Latest;
-use async_cell_recorded::{Pick, Recorded, Refusal, Session, Share, with_recorded};
 use std::alloc::Global;
 use std::mem;
-use std::sync::Wait;
-use std::thread::Threads;
 
 /// A waker that would wake every other.
 #[derive(Clone, Copy, Debug)]
@@ -60,32 +57,4 @@ pub fn of_driver(alloc: Global, edits: Vec<Event<u64, Put>>) -> Option<Vec<Event
     let mut driver: Driver<u64> = Driver::new(alloc, None);
     let _ = driver.update(Put(4));
     driver.apply(edits).err()
-}
-
-/// A session that edits, and describes nothing.
-#[derive(Drop)]
-struct Editing;
-
-impl Session for Editing {
-    type Value = u64;
-
-    type Outcome = bool;
-
-    fn run<M: Pick<u64>, R: Wait>(
-        &self,
-        rt: &R,
-        cell: &Recorded<u64, M>,
-        share: &mut Share<M>,
-    ) -> bool {
-        cell.update(share, Put(4), rt).is_ok() && cell.update_some(share, Put(5), rt).is_ok()
-    }
-}
-
-/// Runs it. Says whether both edits were made.
-pub fn of_recorded<R: Threads + Wait + Sync>(
-    rt: &R,
-    alloc: Global,
-) -> Result<Option<bool>, Refusal> {
-    let (mut edited, _) = with_recorded(rt, alloc, 1, &Editing)?;
-    Ok(edited.pop())
 }

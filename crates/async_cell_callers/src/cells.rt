@@ -1,7 +1,7 @@
 //! Calls of both cells: the same words, with the right to wait for those of `sync`. Each is the
 //! body of a function, whose module imports the names.
 
-/// What is given a closure, and what clones the value, of a cell, an owner or a locked core.
+/// Calls that take a closure or clone the value: of a cell, an owner or a locked core.
 macro_rules! content {
     ($cell:expr $(, $right:expr)?) => {{
         let cell = $cell;
@@ -36,8 +36,8 @@ macro_rules! waits {
     }};
 }
 
-/// An owner and a cell of even values: what a write puts in is even, and so what is taken. `$ruled`
-/// makes the owner of a cell that holds 2.
+/// An owner and a cell of even values: each write puts in an even value, so what is taken is even.
+/// `$ruled` makes the owner of a cell that holds 2.
 macro_rules! ruled {
     ($rt:ident, $ruled:expr $(, $right:expr)?) => {{
         let owner = $ruled?;

@@ -5,7 +5,7 @@ ghost use Rattle.async_cell_driver.specs.Log.{is_ready};
 use async_cell_driver::{Driver, Kind, Refusal};
 use std::alloc::Global;
 
-/// A turn polls what is ready, and what the tasks got is collected.
+/// Polls the ready tasks, turn by turn, and collects what they got.
 #[derive(Drop)]
 pub struct Executor {
     driver: Driver<u64>,

@@ -1,14 +1,14 @@
 //! Callers of `async_cell_latest_sync`, under the name of the facade.
 ghost use Rattle.std.specs.Prelude.{◌≡◌, ◌%◌, IfOk};
 
-use crate::{Host, half};
+use crate::{Even, Host, half};
 use async_cell::Refusal;
-use async_cell::latest::{Owner, Rule, Ruled};
+use async_cell::latest::{Owner, Ruled};
 use futures::StreamExt;
 use futures::executor::block_on;
 use std::mem;
 
-/// What is given a closure, and what clones the value.
+/// Calls of an owner that take a closure or clone the value.
 pub fn of_owner<R: Host>(rt: R) -> Result<(), Refusal> {
     let owner = Owner::new(rt.alloc(), 1u32, rt)?;
     owner.update(half);
@@ -19,7 +19,7 @@ pub fn of_owner<R: Host>(rt: R) -> Result<(), Refusal> {
     Ok(())
 }
 
-/// Looks of a follower, and its futures and stream, each of which is ready.
+/// Reads of a follower, its futures, and its stream. Each is ready.
 pub fn of_follower<R: Host>(rt: R) -> Result<(), Refusal> {
     let owner = Owner::new(rt.alloc(), 1u32, rt)?;
     let mut follower = owner.follow()?;
@@ -34,15 +34,6 @@ pub fn of_follower<R: Host>(rt: R) -> Result<(), Refusal> {
     let mut states = follower.states();
     let _ = block_on(&rt, states.next());
     Ok(())
-}
-
-/// A rule of values: each is even.
-struct Even;
-
-impl Rule<u32> for Even {
-    ghost use Rattle.std.specs.Prelude.{◌≡◌, ◌%◌};
-
-    ghost holds = { λ value. value % 2 ≡ 0 };
 }
 
 /// Each write of a state whose values are even, and a read.

@@ -3,27 +3,21 @@ ghost use Rattle.std.specs.Prelude.{◌≡◌, ◌<◌, ◌≤◌, ℕ, List, So
 ghost use Rattle.async_cell_latest_sync.specs.Life.{Agree};
 ghost use Rattle.async_cell_callers.specs.InOrder.{AreInOrder, NeverFalls};
 
+use crate::Host;
 use anyhow::Result;
 use async_cell::latest::{Blank, Follower, Owner, Protocol, Witness};
 use futures::executor::block_on;
-use std::alloc::AllocGlobal;
 use std::marker::Brand;
-use std::random::RandomSource;
-use std::sync::Wait;
 use std::thread::{Threads, join};
 
 /// Is shown a value, and then an unseen one, unless the state is closed before: of all values of
 /// the state, the second was written after the first.
 #[tactic(auto, using(crate::proofs::InOrder::in_order))]
-pub fn watch<T, R, N>(
+pub fn watch<T: Clone, R: Host, N: Protocol<T>>(
     rt: R,
     follower: &mut Follower<T, R, N>,
     seen: Witness<T, N>,
 ) -> Result<(T, Option<T>, Witness<T, N>)>
-where
-    T: Clone,
-    R: Wait + RandomSource + AllocGlobal + Copy,
-    N: Protocol<T>,
     ensures in_order { IfOk result (λ shown. IfSome shown.1 (λ next.
         AreInOrder T.is_clone shown.0 next shown.2.values)) }
 {
@@ -34,9 +28,7 @@ where
 }
 
 /// Writes a gauge in one thread, always below this limit, and watches it in another.
-pub fn watch_gauge<R>(rt: R, limit: u64) -> Result<u64>
-where
-    R: Threads + Wait + RandomSource + AllocGlobal + Copy + Send + Sync,
+pub fn watch_gauge<R: Host + Threads + Send + Sync>(rt: R, limit: u64) -> Result<u64>
     requires limit { 0 < limit }
     ensures below { IfOk result (λ value. value < limit) }
 {
@@ -48,7 +40,7 @@ where
 fn watch_named<N, R>(rt: R, limit: u64, blank: Blank<u64>) -> Result<u64>
 where
     N: Protocol<u64> + Send + Sync,
-    R: Threads + Wait + RandomSource + AllocGlobal + Copy + Send + Sync,
+    R: Host + Threads + Send + Sync,
     requires limit { 0 < limit }
     requires named { N.named ≡ Some blank }
     requires may { (before : List ℕ) (value : ℕ) → value < limit → N.may before value }
@@ -86,10 +78,10 @@ fn one_more(value: &u64) -> u64
 
 /// Raises a gauge that never falls, whoever else writes it. Returns whether it took the value.
 #[tactic(auto, using(crate::proofs::InOrder::may_rise))]
-pub fn raise<R, N>(owner: &Owner<u64, R, N>, seen: &mut Witness<u64, N>) -> bool
-where
-    R: Wait + Drop,
-    N: Protocol<u64>,
+pub fn raise<R: Host, N: Protocol<u64>>(
+    owner: &Owner<u64, R, N>,
+    seen: &mut Witness<u64, N>,
+) -> bool
     requires may { Agree N.may NeverFalls }
 {
     owner.update_as(seen, one_more).is_ok()
@@ -97,14 +89,11 @@ where
 
 /// What is shown later of a gauge that never falls is no less.
 #[tactic(auto, using(crate::proofs::InOrder::rises))]
-pub fn watch_rise<R, N>(
+pub fn watch_rise<R: Host, N: Protocol<u64>>(
     rt: R,
     follower: &mut Follower<u64, R, N>,
     seen: Witness<u64, N>,
 ) -> Result<(u64, u64)>
-where
-    R: Wait + RandomSource + AllocGlobal + Copy,
-    N: Protocol<u64>,
     requires may { Agree N.may NeverFalls }
     ensures rises { IfOk result (λ shown. shown.0 ≤ shown.1) }
 {

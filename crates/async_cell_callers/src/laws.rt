@@ -1,13 +1,14 @@
-//! Callers of the laws, which are proved for every type, at types of a program: one whose clone is
-//! its source, one whose clone is another piece of memory, and one that can't be cloned.
+//! Calls of the laws that no other caller here calls. They are proved for every type, and called at
+//! three: one whose clone is its source, one whose clone is another piece of memory, and one that
+//! cannot be cloned.
 use crate::put::Put;
 use async_cell_model::laws;
 use async_cell_model::laws::exact;
 
-/// A value that can't be cloned.
+/// A value that cannot be cloned.
 struct Uncloned;
 
-/// The laws of histories, at texts.
+/// The laws of histories and of wait lists.
 pub fn of_histories() {
     laws::only_a_vacant_cell_keeps_waiting::<String, u64>();
     laws::a_pending_waker_stays_covered::<String, u64>();
@@ -18,8 +19,10 @@ pub fn of_histories() {
     laws::a_history_ends_in_a_sound_state::<String, u64>();
     laws::a_refused_call_changes_nothing::<String, u64>();
     laws::a_fill_or_close_ends_all_waiting::<String, u64>();
-    laws::with_exact_clones_a_history_is_exact::<i64, u64>();
     laws::a_step_is_the_machines::<String, u64>();
+    laws::the_first_waker_skips_all_that_it_would_wake::<u64>();
+    laws::no_waker_waits_twice::<Uncloned, u64>();
+    laws::the_room_goes_by_one::<Uncloned, u64>();
 }
 
 /// The laws of exact histories.
@@ -36,13 +39,6 @@ pub fn of_exact_histories() {
     exact::a_step_is_the_machines::<Uncloned, u64>();
 }
 
-/// The laws of wait lists.
-pub fn of_wait_lists() {
-    laws::the_first_waker_skips_all_that_it_would_wake::<u64>();
-    laws::no_waker_waits_twice::<Uncloned, u64>();
-    laws::the_room_goes_by_one::<Uncloned, u64>();
-}
-
 /// The laws of lists of calls, and of the logs of a driver.
 pub fn of_lists() {
     async_cell_core::laws::two_runs_are_one::<String, u64, Put>();
@@ -55,11 +51,8 @@ pub fn of_lists() {
 
 /// The laws of latest states.
 pub fn of_latest_states() {
-    async_cell_latest::laws::the_versions_of_a_follower_rise::<Uncloned, u64>();
     async_cell_latest::laws::a_poll_shows_the_last_state::<Uncloned, u64>();
-    async_cell_latest::laws::the_last_state_stays::<Uncloned, u64>();
     async_cell_latest::laws::a_version_names_one_value::<Uncloned, u64>();
     async_cell_latest::laws::no_waiting_follower_is_forgotten::<Uncloned, u64>();
-    async_cell_latest::laws::two_histories_are_one::<Uncloned, u64>();
     async_cell_latest::laws::a_history_ends_in_a_sound_state::<Uncloned, u64>();
 }

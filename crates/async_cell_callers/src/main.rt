@@ -1,9 +1,10 @@
-//! Callers of all libraries, at types of a program. Each call here requires something, or is proved
-//! of every closure, clone, edit, waker, pointer, marker or future: that a program can meet what it
-//! is proved from is proved here. The public modules are what another project would prove of
-//! `Core`, `Latest`, a driver and a recorded cell: their contracts follow from those that they
-//! call. What a library calls, without requiring as much of its own callers, needs no call here;
-//! what calls do is for cases and tests.
+//! Calls of the libraries, at types of a program: they prove that preconditions can be met. A
+//! function is called here if it requires something, or takes a closure, clone, edit, waker,
+//! pointer, marker or future of its caller's. One that a library calls, without requiring as much
+//! of its own callers, needs no call here. What calls do is for cases and tests.
+//!
+//! The public modules prove more, as another project would, of `Core`, `Latest`, a driver and a
+//! recorded cell: their contracts follow from those of the functions that they call.
 #![tactic(auto)]
 
 ghost use Rattle.std.specs.Prelude.{◌≡◌, ◌%◌};
@@ -52,8 +53,7 @@ fn main(rt: HostRuntime) -> Result<()> {
     sync::all(rt)?;
     unsync::all(rt)?;
     takers::all(rt)?;
-    pointers::at_near(rt);
-    pointers::at_far(rt);
+    pointers::all(rt);
     latest::of_owner(rt)?;
     latest::of_follower(rt)?;
     latest::of_ruled(rt)?;

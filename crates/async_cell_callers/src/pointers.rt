@@ -38,15 +38,11 @@ impl sync::TakeRef for Far<'_> {
     ghost takes = { λ _ _. tt };
 }
 
-/// Futures over a pointer of one thread, and over one to that.
-pub fn at_near<R: Host>(rt: R) {
+/// Futures over each of these pointers, and over a reference to it.
+pub fn all<R: Host>(rt: R) {
     let cell = unsync::AsyncCell::new_with(rt.alloc(), 1u32);
     let _ = block_on(&rt, unsync::Get(Near(&cell)));
     let _ = block_on(&rt, unsync::Take(&Near(&cell)).with());
-}
-
-/// Futures over a pointer that threads share, and over one to that.
-pub fn at_far<R: Host>(rt: R) {
     let cell = sync::AsyncCell::new_with(rt.alloc(), 1u32);
     let _ = block_on(&rt, sync::Get(Far(&cell)).with(rt));
     let _ = block_on(&rt, sync::Take(&Far(&cell)).with(rt));

@@ -12,8 +12,6 @@ use async_cell_model::laws::with_exact_clones_a_history_is_exact;
 pub struct Put(pub u64);
 
 impl Edit<u64> for Put {
-    ghost use Rattle.std.specs.Prelude.{◌≡◌, Some};
-
     ghost edit = { λ put content. Some put.0 };
 
     ghost edit_some = { λ put value. put.0 };

@@ -11,21 +11,15 @@ use futures::StreamExt;
 use futures::executor::block_on;
 use futures::test::MockTask;
 
-fn cell<R: Host>(rt: R) {
-    content!(AsyncCell::new_with(rt.alloc(), 1), &rt)
-}
-
-fn locked_core<R: Host>(rt: R) {
+fn contents<R: Host>(rt: R) -> Result<(), Refusal> {
+    content!(AsyncCell::new_with(rt.alloc(), 1), &rt);
+    content!(Owner::new_with(rt.alloc(), 1, rt)?);
     let core: Core<u32, Named> = Core::new_with(rt.alloc(), 1);
     let core = LockedCore::new(core);
     let _ = core.poll_get(&Named(1), &rt);
     let _ = core.take_inner(&rt);
     let _ = core.end_owner(&rt);
-    content!(core, &rt)
-}
-
-fn owner<R: Host>(rt: R) -> Result<(), Refusal> {
-    content!(Owner::new_with(rt.alloc(), 1, rt)?);
+    content!(core, &rt);
     Ok(())
 }
 
@@ -57,9 +51,7 @@ fn polls<R: Host>(rt: R) -> anyhow::Result<()> {
 
 /// Makes each of them.
 pub fn all<R: Host>(rt: R) -> anyhow::Result<()> {
-    cell(rt);
-    locked_core(rt);
-    owner(rt)?;
+    contents(rt)?;
     waits(rt)?;
     let _ = ruled(rt)?;
     polls(rt)

@@ -61,7 +61,7 @@ fn fill<N: Protocol<u64, TaskWaker>, R: Wait + Copy>(
     set
 }
 
-/// Makes each call that extends a witness, on the cell that `N` names.
+/// Makes each call that extends a witness, and a get that extends none, on the cell that `N` names.
 fn all_named<N: Protocol<u64, TaskWaker>, R: Host>(
     rt: R,
     blank: Blank<u64, TaskWaker>,
@@ -84,20 +84,7 @@ fn all_named<N: Protocol<u64, TaskWaker>, R: Host>(
     owner.set(4);
     let (_, one) = block_on(&rt, owner.get_as(one))??;
     let (_, one) = block_on(&rt, owner.take_as(one))??;
-    let _ = one.longer(&other);
-    Ok(())
-}
-
-/// Gets by a future that extends no witness, and by a weak owner's, on the cell that `N` names.
-fn weak_named<N: Protocol<u64, TaskWaker>, R: Host>(
-    rt: R,
-    blank: Blank<u64, TaskWaker>,
-) -> anyhow::Result<()>
-    requires named { N.named ≡ Some blank }
-    requires rule { IfSome (content blank.start.cell) N.holds }
-    requires may { (call : Called ℕ Waker) → N.may call }
-{
-    let (owner, one) = Owner::<u64, R, N>::witnessed(rt.alloc(), blank, rt)?;
+    let one = one.longer(&other);
     owner.set(1);
     let _ = block_on(&rt, owner.get())??;
     let weak = owner.downgrade();
@@ -111,7 +98,5 @@ fn weak_named<N: Protocol<u64, TaskWaker>, R: Host>(
 /// Makes them, on a cell of which any call may be made.
 pub fn all<R: Host>(rt: R) -> anyhow::Result<()> {
     let blank = Blank::new(rt.alloc(), None);
-    all_named::<Brand, R>(rt, blank)?;
-    let blank = Blank::new(rt.alloc(), None);
-    weak_named::<Brand, R>(rt, blank)
+    all_named::<Brand, R>(rt, blank)
 }

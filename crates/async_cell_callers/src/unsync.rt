@@ -8,11 +8,8 @@ use async_cell::unsync::{AsyncCell, Owner, Ruled, reply_slot};
 use futures::StreamExt;
 use futures::executor::block_on;
 
-fn cell<R: Host>(rt: R) {
-    content!(AsyncCell::new_with(rt.alloc(), 1))
-}
-
 fn waits<R: Host>(rt: R) -> Result<(), Refusal> {
+    content!(AsyncCell::new_with(rt.alloc(), 1));
     waits!(rt)
 }
 
@@ -33,7 +30,6 @@ fn shared<R: Host>(rt: R) -> Result<(), Refusal> {
 
 /// Makes each of them.
 pub fn all<R: Host>(rt: R) -> Result<(), Refusal> {
-    cell(rt);
     waits(rt)?;
     let _ = ruled(rt)?;
     shared(rt)
