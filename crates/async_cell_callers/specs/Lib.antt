@@ -1,3 +1,4 @@
 pub mod Calls
 pub mod InOrder
 pub mod Taken
+pub mod Waits

@@ -25,6 +25,7 @@ mod sync;
 pub mod taken;
 mod takers;
 mod unsync;
+mod waits;
 
 use anyhow::Result;
 use async_cell_sync::Rule;
@@ -53,6 +54,7 @@ fn main(rt: HostRuntime) -> Result<()> {
     sync::all(rt)?;
     unsync::all(rt)?;
     takers::all(rt)?;
+    waits::all(rt);
     pointers::all(rt);
     latest::of_owner(rt)?;
     latest::of_follower(rt)?;

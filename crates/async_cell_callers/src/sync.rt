@@ -17,6 +17,7 @@ fn contents<R: Host>(rt: R) -> Result<(), Refusal> {
     let core: Core<u32, Named> = Core::new_with(rt.alloc(), 1);
     let core = LockedCore::new(core);
     let _ = core.poll_get(&Named(1), &rt);
+    let _ = core.poll_take(&Named(1), &rt);
     let _ = core.take_inner(&rt);
     let _ = core.end_owner(&rt);
     content!(core, &rt);

@@ -1,0 +1,52 @@
+//! A poll of a cell with a history: it is not forgotten.
+ghost use Rattle.std.specs.Prelude.{◌≡◌, Some, Ok, IfSome, IsOk};
+ghost use Rattle.async_cell_model.specs.declared.entry.Kept.{Kept as Called};
+ghost use Rattle.async_cell_model.specs.declared.reply.Reply.TheVariants.{Done};
+ghost use Rattle.async_cell_model.specs.Machine.{content};
+ghost use Rattle.async_cell_callers.specs.Waits.{IsNotForgotten};
+
+use crate::Host;
+use async_cell_core::Named;
+use async_cell_model::Kept;
+use async_cell_sync::{
+    Anyone, Blank, LockedCore, Poll, PollTake, Protocol, Refusal, Set, Wakes, Witness, laws,
+};
+use std::marker::Brand;
+use std::sync::Wait;
+
+/// Polls a cell, which other threads may call too, and then sets 1. Where the poll has to wait, its
+/// waker is not forgotten.
+fn poll_then_set<N: Protocol<u64, W>, W: Wakes, R: Wait>(
+    cell: &LockedCore<u64, W, N>,
+    seen: &mut Witness<u64, W, N>,
+    waker: &W,
+    rt: &R,
+) -> (Result<Poll<Option<u64>>, Refusal>, Result<(), u64>)
+    requires polls { N.may (Kept.PollTake waker.now) }
+    requires sets { N.may (Kept.Set 1) }
+    ensures woken { result.0 ≡ Ok Poll.Pending → IsOk result.1
+        → IsNotForgotten W.Wakes N.named waker.now (Kept.Set 1) Done seen.new.calls }
+{
+    let polled = cell.make(PollTake(waker), &Anyone, seen, rt);
+    let set = cell.make(Set(1), &Anyone, seen, rt);
+    seen.lawful();
+    laws::a_set_wakes_who_waits::<u64, W, N>();
+    (polled, set)
+}
+
+/// Does so on the cell that `N` names.
+fn all_named<N: Protocol<u64, Named>, R: Host>(rt: R, blank: Blank<u64, Named>)
+    requires named { N.named ≡ Some blank }
+    requires rule { IfSome (content blank.start.cell) N.holds }
+    requires may { (call : Called ℕ Named) → N.may call }
+{
+    let (cell, mut seen, permit) = LockedCore::<u64, Named, N>::of_blank(blank);
+    let _ = poll_then_set(&cell, &mut seen, &Named(1), &rt);
+    let _ = cell.end_counted(permit, &rt);
+}
+
+/// Does so, on a cell of which any call may be made.
+pub fn all<R: Host>(rt: R) {
+    let blank = Blank::new(rt.alloc(), None);
+    all_named::<Brand, R>(rt, blank);
+}
