@@ -4,9 +4,10 @@
 
 mod asked;
 mod calls;
-mod cells;
 mod kind;
 mod latest;
+mod sync;
+mod unsync;
 mod workloads;
 
 use crate::asked::{Asked, Hidden};
@@ -16,10 +17,10 @@ use std::io;
 fn main(rt: HostRuntime) -> io::Result<()> {
     let asked = Asked::read(&rt)?;
     let counted = match asked.kind.as_str() {
-        "sync" => run::<cells::Shared, HostRuntime>(&asked, &rt)?,
-        "sync_owner" => run::<cells::SharedOwner<HostRuntime>, HostRuntime>(&asked, &rt)?,
-        "unsync" => run::<cells::Plain, HostRuntime>(&asked, &rt)?,
-        "unsync_owner" => run::<cells::PlainOwner, HostRuntime>(&asked, &rt)?,
+        "sync" => run::<sync::Locked, HostRuntime>(&asked, &rt)?,
+        "sync_owner" => run::<sync::Owned<HostRuntime>, HostRuntime>(&asked, &rt)?,
+        "unsync" => run::<unsync::Lent, HostRuntime>(&asked, &rt)?,
+        "unsync_owner" => run::<unsync::Owned, HostRuntime>(&asked, &rt)?,
         "latest" => run::<latest::Followed<HostRuntime>, HostRuntime>(&asked, &rt)?,
         _ => calls::count(&asked, Hidden::make(rt.alloc())?, rt),
     };

@@ -27,29 +27,37 @@ struct UnsyncPair;
 /// The kit's `oneshot`.
 struct Oneshot;
 
-/// Each slot by the call that makes its two sides, and by that which replies.
-macro_rules! slots_of {
-    ($($slot:ident: ($alloc:ident, $rt:ident) $pair:expr, $reply:ident;)+) => {
-        $(impl<R: Wait + Copy> Slot<R> for $slot {
-            fn reply($alloc: Global, cx: &mut Context<'_>, value: u64, $rt: &R) -> Option<u64> {
-                let (replier, mut reply) = $pair.ok()?;
-                if reply.poll(cx).is_ready() {
-                    return None;
-                }
-                replier.$reply(value).ok()?;
-                match reply.poll(cx) {
-                    Poll::Ready(Ok(value)) => Some(value),
-                    _ => None,
-                }
-            }
-        })+
-    };
+/// Waits, replies by a call of the pair, and takes what was replied.
+macro_rules! replied {
+    ($pair:expr, $reply:ident, $cx:ident, $value:ident) => {{
+        let (replier, mut reply) = $pair.ok()?;
+        if reply.poll($cx).is_ready() {
+            return None;
+        }
+        replier.$reply($value).ok()?;
+        match reply.poll($cx) {
+            Poll::Ready(Ok(value)) => Some(value),
+            _ => None,
+        }
+    }};
 }
 
-slots_of! {
-    SyncPair: (alloc, rt) async_cell_sync::reply_slot(alloc, *rt), set;
-    UnsyncPair: (alloc, _rt) async_cell_unsync::reply_slot(alloc), set;
-    Oneshot: (alloc, _rt) oneshot::channel(alloc), send;
+impl<R: Wait + Copy> Slot<R> for SyncPair {
+    fn reply(alloc: Global, cx: &mut Context<'_>, value: u64, rt: &R) -> Option<u64> {
+        replied!(async_cell_sync::reply_slot(alloc, *rt), set, cx, value)
+    }
+}
+
+impl<R: Wait> Slot<R> for UnsyncPair {
+    fn reply(alloc: Global, cx: &mut Context<'_>, value: u64, _: &R) -> Option<u64> {
+        replied!(async_cell_unsync::reply_slot(alloc), set, cx, value)
+    }
+}
+
+impl<R: Wait> Slot<R> for Oneshot {
+    fn reply(alloc: Global, cx: &mut Context<'_>, value: u64, _: &R) -> Option<u64> {
+        replied!(oneshot::channel(alloc), send, cx, value)
+    }
 }
 
 /// Each slot waits, and takes the value that is replied, which the compiler does not know.
