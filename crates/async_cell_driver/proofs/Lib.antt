@@ -1,11 +1,5 @@
-pub mod CellCalls
-pub mod ChangedTask
-pub mod FewNames
-pub mod JoinedLogs
-pub mod KeptResult
-pub mod Lines
-pub mod PolledTask
-pub mod ReadyNow
+pub mod CoreCalls
+pub mod Logs
 pub mod Settled
-pub mod WokenTasks
+pub mod TaskList
 pub mod Words

@@ -1,9 +1,33 @@
 -- Polls of all that are ready, one by one.
-use Rattle.async_cell_driver.proofs.Words.{◌≡◌, ◌<◌, ◌≤◌, ◌+◌, ◌-◌, ℕ, zero, suc, true, false, ◌||◌, List, [], ◌∷◌, ◌++◌, Option, Some, None, Ok, Err, map, length, reverse, refl, ap, sym, ◌∙◌, arith, append-nil, append_assoc, length-append, add-one, slice_get, is_some, nat_eq, filter, Result, MatchResult, if◌then◌else◌, nat_tests, slice_get_past, filter-append, map-append, length-map, reverse-append, Refusal, is_vacant, Poll, Told, Ready, DriverState, Task, result_at, change, with_result, Line, Log, is_ready, waits, was_refused, line_of, Drives, ResultsStay, NoneForgotten, numbers, events_of, has_refused, got_by, got_or, Keeps, Settles, SettlesOne}
+use Rattle.async_cell_driver.proofs.Words.{is_ready_mark, DriverState, NamesMatch, change, mark_at, result_at, result_of, with_result, Drives, NoneForgotten, ResultsStay, line_of, Line, Log, is_ready, kinds, waits, Keeps, Settles, SettlesOne, events_of, got_or, has_refused, numbers, Poll, Ready, Told, Task, is_vacant, Refusal, List, None, Option, Some, [], add-one, ap, append-nil, append_assoc, arith, false, length, length-append, map, refl, suc, sym, true, zero, ℕ, ◌++◌, ◌+◌, ◌-◌, ◌<◌, ◌||◌, ◌∙◌, ◌∷◌, ◌≡◌, ◌≢◌, ◌≤◌, nat_tests, filter-append, length-map, map-append, reverse-append, slice_get_past, option_map, Err, Ok, filter, if◌then◌else◌, is_some, nat_eq, reverse, slice_get}
 use Rattle.async_cell_driver.specs.declared.event.Told.TheVariants as told
-use Rattle.async_cell_driver.proofs.{JoinedLogs.drives_join, ReadyNow.ready_now, ReadyNow.started_now, PolledTask.poll_steps}
-use Rattle.async_cell_driver.proofs.KeptResult.{keeping, mark-keeping, ready-keeping, result-keeping_other}
-use Rattle.async_cell_driver.proofs.WokenTasks.{slice_get-change_same, map-change}
+use Rattle.async_cell_driver.proofs.{Logs.drives_join, CoreCalls.poll_steps}
+use Rattle.async_cell_driver.proofs.TaskList.{ready_now, started_now, says_same, map-change, slice_get-change_same, slice_get-change_other}
+
+module _ {T : Type 0} where
+  -- the state with what is kept for task i
+  abbrev pub keeping : ℕ → Option (Option T) → DriverState T → DriverState T
+  keeping i result at = record { core = at.core; tasks = change (with_result result) i at.tasks }
+
+  pub mark-keeping : (i j : ℕ) (result : Option (Option T)) (tasks : List (Task T)) → mark_at (change (with_result result) i tasks) j ≡ mark_at tasks j
+  mark-keeping i j result tasks = says_same (option_map (λ task. task.mark)) (with_result result) (λ t. grind arith) i j tasks
+
+  pub covered_keeping : (i : ℕ) (result : Option (Option T)) (at : DriverState T) → NamesMatch at → NamesMatch (keeping i result at)
+  covered_keeping i result at covered = grind (arith, mark-keeping, covered.0, covered.1)
+
+  pub ready-keeping : (i j : ℕ) (result : Option (Option T)) (at : DriverState T) → is_ready (keeping i result at) [] j ≡ is_ready at [] j
+  ready-keeping i j result at = ready_now (keeping i result at) j ∙ (ap is_ready_mark (mark-keeping i j result at.tasks) ∙ sym (ready_now at j))
+
+  -- where a log leads, something may be kept
+  pub drives_keeping : (is_clone : T → T → Type 0) (i : ℕ) (result : Option (Option T)) (from at : DriverState T) (log : Log T) → Drives is_clone from log at
+      → Drives is_clone from log (keeping i result at)
+  drives_keeping is_clone i result from at log drives = grind (arith, map-change, mark-keeping, ready-keeping)
+
+  pub result-forgotten : (i : ℕ) (tasks : List (Task T)) → result_at (change (with_result None) i tasks) i ≡ None
+  result-forgotten i tasks = grind (arith, slice_get-change_same)
+
+  pub result-keeping_other : (i j : ℕ) (result : Option (Option T)) (tasks : List (Task T)) → i ≢ j → result_at (change (with_result result) i tasks) j ≡ result_at tasks j
+  result-keeping_other i j result tasks other = ap result_of (slice_get-change_other (with_result result) i j tasks other)
 
 -- the numbers below one begin those below another
 begin_numbers : (d m n : ℕ) → n ≡ d + m → (rest : List ℕ) × (numbers n ≡ numbers m ++ rest)
@@ -25,9 +49,6 @@ module _ {T : Type 0} where
   numbers_more : (from : DriverState T) (i : ℕ) → filter (is_ready from []) (numbers (i + 1)) ≡ filter (is_ready from []) (numbers i) ++ filter (is_ready from []) (i ∷ [])
   numbers_more from i = rw (add-one i) (filter-append (is_ready from []) (numbers i) (i ∷ []))
 
-  with_ready : (from : DriverState T) (i : ℕ) → is_ready from [] i ≡ true → filter (is_ready from []) (numbers (i + 1)) ≡ filter (is_ready from []) (numbers i) ++ i ∷ []
-  with_ready from i ready = grind (arith, numbers_more)
-
   pub so_far_nil : (is_clone : T → T → Type 0) (from : DriverState T) → Drives is_clone from [] from → SoFar is_clone from 0 0 [] from
   so_far_nil is_clone from drives = record { drives = drives; events = refl; none_refused = refl; counts = refl; keeps = λ i. refl }
 
@@ -45,7 +66,7 @@ module _ {T : Type 0} where
   -- the events after the poll of a ready task
   events_then : (is_clone : T → T → Type 0) (from at : DriverState T) (i polls : ℕ) (log : Log T) (answer : Told T) → SoFar is_clone from i polls log at → is_ready from [] i ≡ true
       → events_of (line_of at (Poll i) answer ∷ log) ≡ map Poll (filter (is_ready from []) (numbers (i + 1)))
-  events_then is_clone from at i polls log answer here ready = grind (arith, events-more, map-append, with_ready)
+  events_then is_clone from at i polls log answer here ready = grind (arith, events-more, map-append, numbers_more)
 
   -- a ready task is polled
   pub so_far_more : (is_clone : T → T → Type 0) (from at to : DriverState T) (i polls : ℕ) (log : Log T) (answer : Told T) → SoFar is_clone from i polls log at → is_ready from [] i ≡ true
@@ -54,7 +75,7 @@ module _ {T : Type 0} where
     drives = drives_join is_clone from at to log (_ ∷ []) here.drives one.drives;
     events = events_then is_clone from at i polls log answer here ready;
     none_refused = ap (λ b. b || has_refused log) one.told ∙ here.none_refused;
-    counts = grind (arith, length-append, with_ready);
+    counts = grind (arith, length-append, numbers_more);
     keeps = keeps_more from at to log (line_of at (Poll i) answer) here.keeps one.keeps;
   }
 
@@ -82,16 +103,10 @@ module _ {T : Type 0} where
       → Keeps from (line_of from (Poll i) (told.Polled (Ready value)) ∷ []) (keeping i (Some value) at)
   keeps_one from at i value ready kinds stay j = grind (arith, started_now, append-nil, keeps_over, stay)
 
-  -- a poll that gets nothing
-  settles_quiet : (is_clone : T → T → Type 0) (from at : DriverState T) (i : ℕ) (result : Result (Unit {0}) Refusal) (answer : Told T) → got_by answer ≡ None
-      → MatchResult result (λ done. was_refused answer ≡ false) (λ why. answer ≡ told.Refused why) → ResultsStay from at
-      → Drives is_clone from (line_of from (Poll i) answer ∷ []) at → SettlesOne is_clone from i result answer at
-  settles_quiet is_clone from at i result answer none is stay drives = grind (arith, stay)
-
   -- where the poll is refused
   pub one_refused : (is_clone : T → T → Type 0) (from at : DriverState T) (i : ℕ) (why : Refusal) → ResultsStay from at
       → Drives is_clone from (line_of from (Poll i) (told.Refused why) ∷ []) at → SettlesOne is_clone from i (Err why) (told.Refused why) at
-  one_refused is_clone from at i why stay drives = settles_quiet is_clone from at i (Err why) (told.Refused why) refl refl stay drives
+  one_refused is_clone from at i why stay drives = grind (arith, stay)
 
   pub size_kept : (from at : DriverState T) (i : ℕ) (result : Option (Option T)) → map (λ task. task.kind) at.tasks ≡ map (λ task. task.kind) from.tasks ++ []
       → length (change (with_result result) i at.tasks) ≡ length from.tasks
@@ -109,3 +124,6 @@ module _ {T : Type 0} where
 
 -- what the tactics use in `Driver::poll_and_keep`
 pub ruleset keep_steps = (poll_steps, mark-keeping, ready-keeping, size_kept)
+
+-- what the tactics use in `Driver::result`
+pub ruleset result_steps = (result-forgotten, result-keeping_other)

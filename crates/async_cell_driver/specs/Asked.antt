@@ -5,8 +5,8 @@ use Rattle.async_cell_wakers.specs.declared.named.Named.{Named}
 use Rattle.async_cell_model.specs.declared.refusal.Refusal.{Refusal}
 use Rattle.async_cell_model.specs.Machine.{content, is_vacant, State}
 use Rattle.async_cell_core.specs.Polled.{IsCloneOf}
-use Rattle.async_cell_driver.specs.declared.{task.Mark.Mark, event.Polled.Polled}
-use Rattle.async_cell_driver.specs.declared.task.Mark.TheVariants as mark
+use Rattle.async_cell_driver.specs.declared.{tasks.Mark.Mark, event.Polled.Polled}
+use Rattle.async_cell_driver.specs.declared.tasks.Mark.TheVariants as mark
 use Rattle.async_cell_driver.specs.declared.event.Polled.TheVariants as polled
 
 module _ {T : Type 0} where

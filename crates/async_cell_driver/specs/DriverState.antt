@@ -3,7 +3,7 @@ use Rattle.std.specs.Prelude.{◌≡◌, ℕ, zero, suc, Bool, true, List, [], �
 use Rattle.std.specs.{List.list_any, Option.option_map}
 use Rattle.async_cell_wakers.specs.declared.named.Named.{Named}
 use Rattle.async_cell_model.specs.Machine.{State}
-use Rattle.async_cell_driver.specs.declared.{task.Kind.Kind, task.Mark.Mark, task.Mark.TheVariants.Waiting, task.Task.Task}
+use Rattle.async_cell_driver.specs.declared.{event.Kind.Kind, tasks.Mark.Mark, tasks.Mark.TheVariants.Waiting, tasks.Task.Task}
 use Rattle.async_cell_driver.specs.Mark.{woken}
 
 pub record DriverState (T : Type 0) : Type 0 where

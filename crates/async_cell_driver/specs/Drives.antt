@@ -1,14 +1,13 @@
 -- What a driver promises: which log runs from one state of it to another.
 use Rattle.std.specs.Prelude.{◌≡◌, ℕ, Bool, true, false, List, [], ◌∷◌, Option, ⊤, map, length, MatchOption}
-use Rattle.std.specs.Option.{IsSomeAnd}
 use Rattle.async_cell_wakers.specs.Named.{same_name}
 use Rattle.async_cell_wakers.specs.declared.named.Named.{Named}
-use Rattle.async_cell_model.specs.declared.{refusal.Refusal.TheVariants.Memory, cell.Cell.Cell, reply.Reply.Reply}
-use Rattle.async_cell_model.specs.{Machine.content, Machine.is_vacant, Machine.next, Machine.reply as model_reply, Machine.State, History.cell_after, Legal.RunsUpTo}
+use Rattle.async_cell_model.specs.declared.{refusal.Refusal.TheVariants.Memory, cell.Cell.Cell}
+use Rattle.async_cell_model.specs.{Machine.content, Machine.is_vacant, Machine.State, History.cell_after, Legal.RunsUpTo}
 use Rattle.async_cell_driver.specs.declared.{event.Event.Event, event.Event.TheVariants.Start, event.Event.TheVariants.Poll, event.Told.Told, event.Polled.TheVariants.NotReady}
 use Rattle.async_cell_driver.specs.declared.event.Told.TheVariants as told
 use Rattle.async_cell_driver.specs.{DriverState.DriverState, DriverState.result_at, Log.Log, Log.kinds, Log.is_done, Log.waits, Log.is_ready}
-use Rattle.async_cell_driver.specs.History.{call_of, history, handed_out, line_of}
+use Rattle.async_cell_driver.specs.History.{history, handed_out, line_of}
 
 -- The outcome and the woken names that an event may have, if this many tasks were started and these
 -- are ready. The outcome of a start is the number of tasks before it. A poll returns `NotReady`
@@ -59,13 +58,6 @@ abbrev pub Happens : {T : Type 0} → (T → T → Type 0) → DriverState T
     → Event T (Option T → Option T) → Told T → DriverState T → Type 0
 Happens is_clone from event answer to = Drives is_clone from (line_of from event answer ∷ []) to
 
--- what a call on the cell replies and leaves is the model's
-abbrev pub Replies : {T : Type 0} → State T Named → Event T (Option T → Option T) → Reply T
-    → State T Named → Type 0
-Replies from event reply to = IsSomeAnd (call_of [] from.cell event) (λ call.
-    (reply ≡ model_reply from.cell call)
-    × (to.cell ≡ next from.cell (record { call = call; reply = reply })))
-
 -- If the event polls a task of a full cell and is refused, the clone of the value can fail. A poll
 -- of a closed cell is not refused.
 abbrev pub IsSpared : {T : Type 0} → (T → Type 0) → Cell T
@@ -74,7 +66,7 @@ IsSpared is_infallible c (Poll i) (told.Refused why) = is_vacant c ≡ false
     → MatchOption (content c) ⊥ (λ value. is_infallible value → ⊥)
 IsSpared is_infallible c event answer = ⊤
 
--- this holds of each line
+-- `IsSpared` holds of each line
 abbrev pub AllSpared : {T : Type 0} → (T → Type 0) → DriverState T → Log T → Type 0
 AllSpared is_infallible from [] = ⊤
 AllSpared is_infallible from (line ∷ earlier) =

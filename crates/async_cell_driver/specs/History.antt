@@ -6,10 +6,9 @@ use Rattle.async_cell_model.specs.declared.{cell.Cell.Cell, cell.Cell.TheVariant
 use Rattle.async_cell_model.specs.declared.entry.Kept.TheVariants as kept
 use Rattle.async_cell_model.specs.declared.reply.Reply.TheVariants as reply
 use Rattle.async_cell_model.specs.{Machine.State, Machine.reply as model_reply, History.History, History.cell_after, Legal.woken_by}
-use Rattle.async_cell_driver.specs.declared.{task.Kind.Kind, task.Kind.TheVariants.Get, event.Event.Event, event.Told.Told, event.Polled.Polled}
 use Rattle.async_cell_driver.specs.declared.event.Event.TheVariants.{Start, Poll, Set, OrSet, Replace, Update, TryTake, AddOwner, EndOwner}
+use Rattle.async_cell_driver.specs.declared.{event.Kind.Kind, event.Kind.TheVariants.Get, event.Event.Event, event.Told.Told, event.Polled.Polled, event.Polled.TheVariants.Ready, event.Polled.TheVariants.Pending, event.Polled.TheVariants.NotReady}
 use Rattle.async_cell_driver.specs.declared.event.Told.TheVariants as told
-use Rattle.async_cell_driver.specs.declared.event.Polled.TheVariants.{Ready, Pending, NotReady}
 use Rattle.async_cell_driver.specs.{DriverState.DriverState, DriverState.name_of, Log.Line, Log.Log, Log.kinds}
 
 module _ {T : Type 0} where

@@ -1,12 +1,12 @@
 -- What happened to a driver, line by line, and what the lines say of a task.
 use Rattle.std.specs.Prelude.{ℕ, ◌++◌, Bool, true, false, not, ◌&&◌, ◌||◌, List, [], ◌∷◌, Option, map, reverse, nat_eq, is_some, slice_get, if◌then◌else◌}
 use Rattle.async_cell_wakers.specs.declared.named.Named.{Named}
-use Rattle.async_cell_driver.specs.declared.{task.Kind.Kind, event.Event.Event, event.Told.Told, event.Polled.TheVariants.Ready, event.Polled.TheVariants.Pending, event.Polled.TheVariants.NotReady}
-use Rattle.async_cell_driver.specs.declared.event.Event.TheVariants.{Start, Poll, Set, OrSet, Replace, Update, TryTake, AddOwner, EndOwner}
+use Rattle.async_cell_driver.specs.declared.{event.Kind.Kind, event.Event.Event, event.Told.Told, event.Polled.TheVariants.Ready, event.Polled.TheVariants.Pending, event.Polled.TheVariants.NotReady}
 use Rattle.async_cell_driver.specs.declared.event.Told.TheVariants as told
+use Rattle.async_cell_driver.specs.declared.event.Event.TheVariants.{Start, Poll, Set, OrSet, Replace, Update, TryTake, AddOwner, EndOwner}
 use Rattle.async_cell_driver.specs.{Mark.is_done_mark, Mark.waits_mark, Mark.is_due_mark, DriverState.DriverState, DriverState.mark_at, DriverState.is_named}
 
--- an event, in which an update is the function of its edit; its outcome; and the names that it woke
+-- an event, its outcome, and the names that it woke; an update stands as the function of its edit
 pub record Line (T : Type 0) : Type 0 where
   pub event : Event T (Option T → Option T)
   pub told : Told T

@@ -1,6 +1,6 @@
 -- What the mark of a task says.
 use Rattle.std.specs.Prelude.{Bool, true, false, Option, Some, None}
-use Rattle.async_cell_driver.specs.declared.{task.Mark.Mark, task.Mark.TheVariants.Ready, task.Mark.TheVariants.Waiting, task.Mark.TheVariants.Woken, task.Mark.TheVariants.Done}
+use Rattle.async_cell_driver.specs.declared.{tasks.Mark.Mark, tasks.Mark.TheVariants.Ready, tasks.Mark.TheVariants.Waiting, tasks.Mark.TheVariants.Woken, tasks.Mark.TheVariants.Done}
 
 -- a poll of the task was ready
 abbrev pub is_done_mark : Option Mark → Bool

@@ -1,23 +1,19 @@
-ghost use Rattle.std.specs.Prelude.{◌≡◌, ◌≢◌, ◌≤◌, ℕ, [], length, true, false, Some, None, Ok, ◌↔◌, IsTrue, IsOk, IfOk, IfErr, OnOk, OnErr, MatchOption};
+ghost use Rattle.std.specs.Prelude.{◌≡◌, ◌≢◌, ◌≤◌, ℕ, List, [], map, length, vec_len, true, false, Some, None, Ok, ◌↔◌, IsTrue, IsOk, IfOk, IfErr, OnOk, OnErr, MatchOption};
 ghost use Rattle.async_cell_model.specs.Machine.{content, is_closed, is_vacant, may_refuse, DoesUpTo};
 ghost use Rattle.async_cell_model.specs.Refusal.{FailsWithMemory};
 ghost use Rattle.async_cell_core.specs.Polled.{IsCloneOf, IsReadyWith, poll_reply};
-ghost use Rattle.async_cell_driver.specs.DriverState.{is_named, kind_at};
-ghost use Rattle.async_cell_driver.specs.Log.{is_ready, waits};
-ghost use Rattle.async_cell_driver.specs.History.{poll_of, told_of};
-ghost use Rattle.async_cell_driver.specs.Drives.{Happens, ResultsStay};
-ghost use Rattle.async_cell_wakers.specs.Named.{same_name};
+ghost use Rattle.async_cell_wakers.specs.{Named.same_name, declared.named.Named.Named as Name};
 ghost use Rattle.async_cell_driver.specs.Asked.{ClonesContent, TakesContent, waiting_when, mark_after, polled_of};
+ghost use Rattle.async_cell_driver.specs.{DriverState.is_named, DriverState.kind_at, DriverState.result_at, History.poll_of, History.told_of};
+ghost use Rattle.async_cell_driver.specs.Drives.{AllSpared, Drives, Happens, IsSpared, ResultsStay};
+ghost use Rattle.async_cell_driver.specs.Log.{Log, is_ready, waits, log_of, with_edit};
+ghost use Rattle.async_cell_driver.specs.{Settle.Settles, Settle.SettlesOne, declared.event.Told.Told as Answer};
 
-mod apply;
-mod call;
-mod settle;
-mod writes;
+mod calls;
 
-use crate::event::{Event, Polled, Told};
-use crate::task::{Kind, Mark};
-use crate::tasks::Tasks;
-use async_cell_core::{Core, Named, Poll, Refusal};
+use crate::event::{Event, Kind, Polled, Told};
+use crate::tasks::{Mark, Tasks};
+use async_cell_core::{Core, Edit, Named, Poll, Refusal};
 use async_cell_model::Cell;
 use std::alloc::Global;
 use std::marker::Model;
@@ -62,7 +58,7 @@ impl<T: Clone> Driver<T> {
 
     /// Starts a task and returns its number, which is the number of tasks before it. Fails with
     /// `Memory` if there is no memory for it.
-    #[tactic(auto, using(crate::proofs::Lines::results_stay))]
+    #[tactic(auto, using(crate::proofs::Logs::results_stay))]
     pub fn start(&mut self, kind: Kind) -> Result<usize, Refusal>
         ensures started { IfOk result (λ number.
             Happens T.is_clone self.old (Event.Start kind) (Told.Started number) self.new) }
@@ -80,7 +76,7 @@ impl<T: Clone> Driver<T> {
     /// Polls a task that is ready. Returns `NotReady`, without a poll, for a task that is done, not
     /// ready or not there. Fails with `Memory` if there is no memory for the waker's place or for a
     /// clone of the value. The task is then still ready.
-    #[tactic(auto, using(crate::proofs::PolledTask::poll_steps))]
+    #[tactic(auto, using(crate::proofs::CoreCalls::poll_steps))]
     pub fn poll(&mut self, i: usize) -> Result<Polled<T>, Refusal>
         ensures drives { Happens T.is_clone self.old (Event.Poll i) (told_of result) self.new }
 
@@ -138,24 +134,24 @@ impl<T: Clone> Driver<T> {
         self.core.reserve(additional)
     }
 
-    /// Returns whether a task is ready: it was started, is not done, and was never polled, or its
-    /// last poll was refused, or its name was woken since.
-    #[tactic(auto, using(crate::proofs::ReadyNow::ready_now))]
+    /// Returns whether a task is ready. A task that was started and is not done is ready if it was
+    /// never polled, its last poll was refused, or its name was woken since.
+    #[tactic(auto, using(crate::proofs::TaskList::ready_now))]
     pub fn is_ready(&self, i: usize) -> bool
         ensures { result ≡ is_ready self.now [] i }
     {
         self.tasks.ready(i).is_some()
     }
 
-    /// Returns whether a task waits: its last poll returned `Pending`. Whenever the cell is full or
-    /// closed, it is also ready.
+    /// Returns whether a task waits: its last poll returned `Pending`. A task that waits is also
+    /// ready whenever the cell is full or closed.
     pub fn waits(&self, i: usize) -> bool
         ensures log { result ≡ waits self.now [] i }
         ensures none_forgotten { IsTrue result
             → is_vacant self.now.core.cell ≡ false → is_ready self.now [] i ≡ true }
     {
         self.core.soundness();
-        matches!(self.tasks.get(i), Some((_, mark)) if mark.waits())
+        matches!(self.tasks.get(i), Some((_, Mark::Waiting | Mark::Woken)))
     }
 
     /// Returns how many wakers wait for a value of the cell: at most as many as tasks were started,
@@ -167,11 +163,120 @@ impl<T: Clone> Driver<T> {
         self.core.soundness();
         self.core.waiting()
     }
+
+    /// Takes out what `settle` got for a task: `Some(Some(v))`, or `Some(None)` from a closed cell.
+    /// Returns `None` if there is nothing, or if it was taken out already.
+    #[tactic(auto, using(crate::proofs::Settled::result_steps))]
+    pub fn result(&mut self, i: usize) -> Option<Option<T>>
+        ensures gives { result ≡ result_at self.old.tasks i }
+        ensures once { result_at self.new.tasks i ≡ None }
+        ensures others { (j : ℕ) → j ≢ i → result_at self.new.tasks j ≡ result_at self.old.tasks j }
+        ensures nothing_else { Drives T.is_clone self.old [] self.new }
+    {
+        self.core.soundness();
+        self.tasks.replace_result(i, None)
+    }
+
+    /// Polls each task that is ready now once, in order of number, and returns the number of these
+    /// polls. Stores what a poll is ready with for `result`. A refused poll ends the call: its task
+    /// and the ready tasks after it are still ready. The call visits every task that was ever
+    /// started, since done tasks stay in the list.
+    #[tactic(auto, using(crate::proofs::CoreCalls::poll_steps))]
+    pub fn settle(&mut self) -> Result<usize, Refusal>
+        ensures settles { (log : Log T) × Settles T.is_clone self.old result log self.new }
+        ensures none_ready { OnOk result ((i : ℕ) → is_ready self.new [] i ≡ false) }
+        ensures none_waits { OnOk result
+            (is_vacant self.new.core.cell ≡ false → (i : ℕ) → waits self.new [] i ≡ false) }
+        ensures if_infallible { is_vacant self.new.core.cell ≡ false
+            → MatchOption (content self.new.core.cell) (IsOk result)
+            (λ value. T.is_infallible value → IsOk result) }
+    {
+        self.core.soundness();
+        let mut polls = 0;
+        for i in 0..self.tasks.len() {
+            if !self.is_ready(i) {
+                continue;
+            }
+            self.poll_and_keep(i)?;
+            polls += 1;
+        }
+        Ok(polls)
+    }
+
+    /// Polls a task that is ready, and stores what the poll is ready with.
+    #[tactic(auto, using(crate::proofs::Settled::keep_steps))]
+    fn poll_and_keep(&mut self, i: usize) -> Result<(), Refusal>
+        requires { is_ready self.old [] i ≡ true }
+        ensures settles { (answer : Answer T)
+            × SettlesOne T.is_clone self.old i result answer self.new }
+        ensures ready_no_more { OnOk result (is_ready self.new [] i ≡ false) }
+        ensures others_stay { (j : ℕ) → j ≢ i → is_ready self.new [] j ≡ is_ready self.old [] j }
+        ensures size { length self.new.tasks ≡ length self.old.tasks }
+        ensures if_infallible { is_vacant self.new.core.cell ≡ false
+            → MatchOption (content self.new.core.cell) (IsOk result)
+            (λ value. T.is_infallible value → IsOk result) }
+    {
+        if let Polled::Ready(content) = self.poll(i)? {
+            drop(self.tasks.replace_result(i, Some(content)));
+        }
+        Ok(())
+    }
+
+    /// Makes the events happen in order, and returns one outcome for each. The outcome of a refused
+    /// event is its refusal, and the events after it happen. Room for the outcomes is reserved
+    /// first. If there is no memory for it, nothing is done and the list is returned in the error.
+    /// An empty list needs no memory.
+    pub fn apply<E: Edit<T> + Drop>(
+        &mut self,
+        events: Vec<Event<T, E>>,
+    ) -> Result<Vec<Told<T>>, Vec<Event<T, E>>>
+        ensures empty_ok { events.items ≡ [] → IsOk result }
+        ensures one_each { IfOk result (λ told. vec_len told ≡ vec_len events) }
+        ensures drives { IfOk result (λ told.
+            (names : List (List Name)) × (length names ≡ vec_len events)
+            × Drives T.is_clone self.old
+            (log_of (map (with_edit E.edit) events.items) told.items names) self.new
+            × AllSpared T.is_infallible self.old
+            (log_of (map (with_edit E.edit) events.items) told.items names)) }
+        ensures results_stay { ResultsStay self.old self.new }
+        ensures comes_back { IfErr result (λ back. back ≡ events) }
+        ensures unchanged { OnErr result (self.new ≡ self.old) }
+    {
+        self.core.soundness();
+        let mut told = Vec::new(*events.allocator());
+        if told.reserve_exact(events.len()).is_err() {
+            return Err(events);
+        }
+        for event in events {
+            told.push_reserved(self.happen(event));
+        }
+        Ok(told)
+    }
+
+    /// Makes one event happen, and returns its outcome.
+    fn happen<E: Edit<T> + Drop>(&mut self, event: Event<T, E>) -> Told<T>
+        ensures drives { Happens T.is_clone self.old (with_edit E.edit event) result self.new }
+        ensures spared { IsSpared T.is_infallible self.old.core.cell
+            (with_edit E.edit event) result }
+        ensures results_stay { ResultsStay self.old self.new }
+    {
+        match event {
+            Event::Start(kind) => match self.start(kind) {
+                Ok(number) => Told::Started(number),
+                Err(why) => Told::Refused(why),
+            },
+            Event::Poll(i) => match self.poll(i) {
+                Ok(polled) => Told::Polled(polled),
+                Err(why) => Told::Refused(why),
+            },
+            event => Told::Reply(self.call(event)),
+        }
+    }
 }
 
-/// Polls the core for a task of this kind, whose name does not wait. So a poll that has to wait
-/// adds it without a look at those that do.
-#[tactic(auto, using(crate::proofs::PolledTask::sure_anyway, async_cell_model::proofs::Machine::does_up_to))]
+/// Polls the core for a task of this kind. The task's name is not in the wait list, so a poll that
+/// has to wait adds it without looking for it there.
+#[tactic(auto, using(crate::proofs::CoreCalls::sure_anyway, async_cell_model::proofs::Machine::does_up_to))]
 fn ask<T: Clone>(
     core: &mut Core<T, Named>,
     kind: Kind,
@@ -207,7 +312,7 @@ fn ask<T: Clone>(
     }
 }
 
-/// Returns the mark of a task that was polled, and what the poll of the task returns.
+/// Returns the mark of a task after this poll of the core, and what `poll` returns for it.
 fn outcome<T: Drop>(asked: Result<Poll<Option<T>>, Refusal>) -> (Mark, Result<Polled<T>, Refusal>)
     ensures mark { result.0 ≡ mark_after asked }
     ensures polled { result.1 ≡ polled_of asked }

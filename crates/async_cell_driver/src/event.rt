@@ -1,4 +1,13 @@
-use crate::{Kind, Refusal, Reply};
+use crate::{Refusal, Reply};
+
+/// How a task polls the cell.
+#[derive(Clone, Copy, Debug, PartialEq, Eq)]
+pub enum Kind {
+    /// Takes the value.
+    Take,
+    /// Clones the value and leaves it.
+    Get,
+}
 
 /// What can happen to a driver, as an item of a list of events. `E` is the type of the edits.
 #[derive(Clone, Copy, Debug, Drop, PartialEq, Eq)]

@@ -2,17 +2,15 @@
 ghost use Rattle.std.specs.Prelude.{◌≡◌, [], true, ◌++◌, List, Option, map, length};
 ghost use Rattle.std.specs.List.{list_any};
 ghost use Rattle.async_cell_wakers.specs.declared.named.Named.{Named as Name};
-ghost use Rattle.async_cell_model.specs.Legal.{Runs, copies, wakes_after};
+ghost use Rattle.async_cell_model.specs.{Legal.Runs, Legal.copies, Legal.wakes_after};
 ghost use Rattle.async_cell_core.specs.Polled.{IsExact};
 ghost use Rattle.async_cell_driver.specs.declared.{event.Event.Event, event.Told.Told};
-ghost use Rattle.async_cell_driver.specs.{DriverState.DriverState, Drives.Drives};
-ghost use Rattle.async_cell_driver.specs.Log.{Log, log_of, with_edit};
-ghost use Rattle.async_cell_driver.specs.History.{history, handed_out};
+ghost use Rattle.async_cell_driver.specs.{DriverState.DriverState, Drives.Drives, Log.Log, Log.log_of, Log.with_edit, History.history, History.handed_out};
 ghost use Rattle.async_cell_wakers.specs.Named.{same_name};
 
 /// Two logs are one, if the second starts from the state in which the first ends. So what each call
-/// promises holds of any number of calls, one after the other. The last line of a log comes first,
-/// so the later log does.
+/// promises holds of any number of calls, one after the other. A log has its last line first, so
+/// the later log comes first.
 pub fn two_logs_are_one<T: Clone>()
     ensures { (from at to : DriverState T) (earlier later : Log T)
         → Drives T.is_clone from earlier at → Drives T.is_clone at later to
@@ -23,6 +21,7 @@ pub fn two_logs_are_one<T: Clone>()
 /// are joined in the same way. The log of the joined list is that of the second in front of that of
 /// the first. So two calls of `apply`, one after the other, promise what one call with the joined
 /// list does.
+#[tactic(auto, using(crate::proofs::Logs::joined_lists))]
 pub fn two_lists_are_one<T, E>()
     ensures joined { (events more : List (Event T (Option T → Option T)))
         (told others : List (Told T)) (handed later : List (List Name))

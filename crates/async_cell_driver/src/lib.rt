@@ -4,10 +4,8 @@
 mod driver;
 mod event;
 pub mod laws;
-mod task;
 mod tasks;
 
 pub use async_cell_core::{Edit, Named, Refusal, Reply};
 pub use driver::Driver;
-pub use event::{Event, Polled, Told};
-pub use task::Kind;
+pub use event::{Event, Kind, Polled, Told};

@@ -1,12 +1,53 @@
 ghost use Rattle.std.specs.Prelude.{◌≡◌, ◌<◌, [], ◌∷◌, ◌++◌, length, slice_get, IfOk, IfErr, IfSome, IfNone, true, false};
 ghost use Rattle.std.specs.Option.{option_map};
-ghost use Rattle.async_cell_driver.specs.Mark.{is_ready_mark};
+ghost use Rattle.async_cell_driver.specs.Mark.{woken, is_ready_mark};
 ghost use Rattle.async_cell_driver.specs.DriverState.{mark_at, kind_at, result_at, change, with_mark, with_result, wake, wake_each};
 
-use crate::task::{Kind, Mark, Task};
+use crate::Kind;
 use async_cell_core::{Named, Refusal, Wakers};
 use std::alloc::Global;
 use std::marker::Model;
+
+/// The progress of a task.
+#[derive(Clone, Copy, Debug, PartialEq, Eq)]
+pub(crate) enum Mark {
+    /// It was never polled, or its last poll was refused.
+    Ready,
+    /// Its last poll returned `Pending`, and its name waits in the cell.
+    Waiting,
+    /// Its last poll returned `Pending`, and its name was woken since.
+    Woken,
+    /// A poll of it was ready.
+    Done,
+}
+
+impl Mark {
+    /// Returns the mark of a task after its name is woken.
+    pub fn woken(self) -> Mark
+        ensures { result ≡ woken self }
+    {
+        match self {
+            Mark::Waiting => Mark::Woken,
+            mark => mark,
+        }
+    }
+
+    /// Returns whether the task is to be polled.
+    pub fn is_ready(self) -> bool
+        ensures { result ≡ is_ready_mark (Some self) }
+    {
+        matches!(self, Mark::Ready | Mark::Woken)
+    }
+}
+
+/// A numbered task.
+#[derive(Drop)]
+pub(crate) struct Task<T> {
+    pub kind: Kind,
+    pub mark: Mark,
+    /// What `settle` got for it, until `result` returns it.
+    pub result: Option<Option<T>>,
+}
 
 /// The tasks that were started, by number.
 #[derive(Drop)]
@@ -17,7 +58,7 @@ pub(crate) struct Tasks<T> {
 /// Contracts see the list of the tasks.
 impl<T> Model for Tasks<T> {
     ghost use Rattle.std.specs.Prelude.{List};
-    ghost use Rattle.async_cell_driver.specs.declared.task.Task.{Task};
+    ghost use Rattle.async_cell_driver.specs.declared.tasks.Task.{Task};
 
     ghost Value = { List (Task T) };
 
@@ -79,7 +120,7 @@ impl<T: Drop> Tasks<T> {
     }
 
     /// Marks a task, if it was started.
-    #[tactic(auto, using(crate::proofs::ChangedTask::change_past, crate::proofs::ChangedTask::marked_within))]
+    #[tactic(auto, using(crate::proofs::TaskList::change_past, crate::proofs::TaskList::marked_within))]
     pub fn set_mark(&mut self, i: usize, mark: Mark)
         ensures { self.new ≡ change (with_mark mark) i self.old }
     {
@@ -89,29 +130,17 @@ impl<T: Drop> Tasks<T> {
         }
     }
 
-    /// Stores what was got for a task, if it was started.
-    #[tactic(auto, using(crate::proofs::ChangedTask::change_past, crate::proofs::ChangedTask::kept_within))]
-    pub fn keep(&mut self, i: usize, content: Option<T>)
-        ensures { self.new ≡ change (with_result (Some content)) i self.old }
-    {
-        if i < self.tasks.len() {
-            let task = &mut self.tasks[i];
-            let given = task.result.replace(content);
-            drop(given);
-        }
-    }
-
-    /// Takes out what was stored for a task.
-    #[tactic(auto, using(crate::proofs::ChangedTask::change_past, crate::proofs::ChangedTask::result_within, crate::proofs::ChangedTask::kept_within))]
-    pub fn take_result(&mut self, i: usize) -> Option<Option<T>>
+    /// Stores this result of a task, if it was started, and returns the one that was stored before.
+    #[tactic(auto, using(crate::proofs::TaskList::change_past, crate::proofs::TaskList::result_within, crate::proofs::TaskList::kept_within))]
+    pub fn replace_result(&mut self, i: usize, content: Option<Option<T>>) -> Option<Option<T>>
         ensures gives { result ≡ result_at self.old i }
-        ensures once { self.new ≡ change (with_result None) i self.old }
+        ensures once { self.new ≡ change (with_result content) i self.old }
     {
         if i >= self.tasks.len() {
             return None;
         }
         let task = &mut self.tasks[i];
-        task.result.take()
+        std::mem::replace(&mut task.result, content)
     }
 
     /// Wakes the tasks of these names: those that wait are then ready.
@@ -124,7 +153,7 @@ impl<T: Drop> Tasks<T> {
     }
 
     /// Wakes one task, if it was started.
-    #[tactic(auto, using(crate::proofs::ChangedTask::change_past, crate::proofs::ChangedTask::woken_within))]
+    #[tactic(auto, using(crate::proofs::TaskList::change_past, crate::proofs::TaskList::woken_within))]
     fn wake_one(&mut self, i: usize)
         ensures { self.new ≡ change wake i self.old }
     {

@@ -1,4 +1,4 @@
-use Rattle.async_cell_driver.proofs.Words.{exact_told, same_name, history, handed_out, true}
+use Rattle.async_cell_driver.proofs.Words.{handed_out, history, exact_told, same_name, true}
 use Rattle.async_cell_driver.proofs.laws.a_log_is_exact_where_clones_are.Goals as goal
 
 pub returns : goal.returns

@@ -1,4 +1,4 @@
-use Rattle.async_cell_driver.proofs.JoinedLogs.{drives_join}
+use Rattle.async_cell_driver.proofs.Logs.{drives_join}
 use Rattle.async_cell_driver.proofs.laws.two_logs_are_one.Goals as goal
 
 pub returns : goal.returns

@@ -1,5 +1,5 @@
-use Rattle.async_cell_driver.proofs.Words.{◌≡◌, [], rules, arith, refl, sym, ◌∙◌, append_assoc, append-nil, length-append, nil_from_length, common_steps, into_iter_items, DriverState}
-use Rattle.async_cell_driver.proofs.JoinedLogs.{drives_nil, happen_more}
+use Rattle.async_cell_driver.proofs.Words.{DriverState, [], append-nil, append_assoc, arith, length-append, refl, rules, sym, ◌∙◌, ◌≡◌, common_steps, nil_from_length, into_iter_items}
+use Rattle.async_cell_driver.proofs.Logs.{drives_nil, happen_more}
 use Rattle.async_cell_driver.proofs.driver.Driver.apply.Goals as goal
 
 pub loop-event-init : goal.loop-event-init

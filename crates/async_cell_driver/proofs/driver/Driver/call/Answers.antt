@@ -1,4 +1,4 @@
-use Rattle.async_cell_driver.proofs.CellCalls.{is_call-with_edit, call_drives, covered_called}
+use Rattle.async_cell_driver.proofs.CoreCalls.{is_call-with_edit, call_drives, covered_called}
 use Rattle.async_cell_driver.proofs.driver.Driver.call.Goals as goal
 
 pub invariant_of-self : goal.invariant_of-self

@@ -1,5 +1,5 @@
 use Rattle.async_cell_driver.proofs.Words.{◌≡◌, true, false, [], ◌∷◌, subst, sym, ◌∙◌, Drives, line_of, Poll, told_of, polled_of, mark_after, change, with_mark, model_up_to, same_name, is_ready_mark, DriverState, mark_at}
-use Rattle.async_cell_driver.proofs.{ReadyNow.ready_now, Lines.not_polled, PolledTask.covered_polled, PolledTask.poll_drives, PolledTask.ready_no_more, PolledTask.others_stay}
+use Rattle.async_cell_driver.proofs.{TaskList.ready_now, Logs.not_polled, CoreCalls.covered_polled, CoreCalls.poll_drives, CoreCalls.ready_no_more, CoreCalls.others_stay}
 use Rattle.async_cell_driver.proofs.driver.Driver.poll.Goals as goal
 
 pub returns-in_default-clause-drives : goal.returns-in_default-clause-drives

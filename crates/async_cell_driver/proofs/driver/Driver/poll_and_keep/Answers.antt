@@ -1,12 +1,11 @@
-use Rattle.async_cell_driver.proofs.Words.{[], ◌∷◌, Some, refl, ap, sym, subst, ◌∙◌, err_from_is_err_and, DriverState, result_at, line_of, Drives, Poll, Ready}
+use Rattle.async_cell_driver.proofs.Words.{DriverState, result_at, Drives, line_of, Poll, Ready, Some, [], ap, refl, subst, sym, ◌∙◌, ◌∷◌, err_from_is_err_and}
 use Rattle.async_cell_driver.specs.declared.event.Told.TheVariants as told
-use Rattle.async_cell_driver.proofs.{KeptResult.covered_keeping, KeptResult.drives_keeping, Settled.keeps_one, Settled.one_refused}
+use Rattle.async_cell_driver.proofs.{Settled.covered_keeping, Settled.drives_keeping, Settled.keeps_one, Settled.one_refused}
 use Rattle.async_cell_driver.proofs.driver.Driver.poll_and_keep.Goals as goal
 
 pub invariant_of-self : goal.invariant_of-self
 invariant_of-self g c =
-    let at : DriverState g.row.T.Denot = record { core = c.self.inside.core; tasks = c.self.inside.tasks } in
-    rw c.keep.ensures (covered_keeping c.args.i (Some c.in-Ready.content) at c.self.invariant)
+    rw c.replace_result.ensures.once (covered_keeping c.args.i (Some c.in-Ready.content) (record { core = c.self.inside.core; tasks = c.self.inside.tasks }) c.self.invariant)
 
 pub returns-in-Ready-clause-settles : goal.returns-in-Ready-clause-settles
 returns-in-Ready-clause-settles g c =
@@ -18,9 +17,9 @@ returns-in-Ready-clause-settles g c =
     ((rw c.in-Ready.is at c.in_ok-content.ensures.drives)) in (
       answer,
       record {
-        drives = rw c.keep.ensures (drives_keeping E c.args.i (Some c.in-Ready.content) c.args.self.now at _ polled);
+        drives = rw c.replace_result.ensures.once (drives_keeping E c.args.i (Some c.in-Ready.content) c.args.self.now at _ polled);
         told = refl;
-        keeps = rw c.keep.ensures (keeps_one c.args.self.now at c.args.i c.in-Ready.content c.requires polled.kinds_are
+        keeps = rw c.replace_result.ensures.once (keeps_one c.args.self.now at c.args.i c.in-Ready.content c.requires polled.kinds_are
             (λ j. ap (λ (s : DriverState g.row.T.Denot). result_at s.tasks j) c.self.view_is ∙ c.in_ok-content.ensures.results_stay j));
       },
     )

@@ -1,5 +1,5 @@
-use Rattle.async_cell_driver.proofs.Words.{◌≡◌, [], true, false, arith, rules, refl, sym, ◌∙◌, below_more, err_from_is_err_and, DriverState, is_ready}
-use Rattle.async_cell_driver.proofs.{JoinedLogs.drives_nil, Settled.so_far_nil, Settled.so_far_skip, Settled.so_far_more, Settled.settles_refused}
+use Rattle.async_cell_driver.proofs.Words.{DriverState, is_ready, [], arith, below_more, false, refl, rules, sym, true, ◌∙◌, ◌≡◌, err_from_is_err_and, if◌then◌else◌}
+use Rattle.async_cell_driver.proofs.{Logs.drives_nil, Settled.so_far_nil, Settled.so_far_skip, Settled.so_far_more, Settled.settles_refused}
 use Rattle.async_cell_driver.proofs.driver.Driver.settle.Goals as goal
 
 pub loop-i-init : goal.loop-i-init

@@ -1,4 +1,4 @@
-use Rattle.async_cell_driver.proofs.Words.{◌≡◌, ◌≤◌, ◌<◌, ℕ, [], false, length, Log, is_ready}
+use Rattle.async_cell_driver.proofs.Words.{Log, is_ready, [], false, length, ℕ, ◌<◌, ◌≡◌, ◌≤◌}
 use Rattle.async_cell_driver.proofs.Settled.{SoFar}
 use Rattle.async_cell_driver.proofs.driver.Driver.settle.Given as goal
 

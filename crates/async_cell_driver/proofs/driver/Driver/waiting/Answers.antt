@@ -1,5 +1,5 @@
 use Rattle.async_cell_driver.proofs.Words.{arith}
-use Rattle.async_cell_driver.proofs.FewNames.{waiting_few}
+use Rattle.async_cell_driver.proofs.TaskList.{waiting_few}
 use Rattle.async_cell_driver.proofs.driver.Driver.waiting.Goals as goal
 
 pub returns-clause-at_most : goal.returns-clause-at_most

@@ -1,4 +1,4 @@
-use Rattle.async_cell_driver.proofs.Words.{◌≡◌, length, wake_each}
+use Rattle.async_cell_driver.proofs.Words.{wake_each, length, ◌≡◌}
 use Rattle.async_cell_driver.proofs.tasks.Tasks.wake.Given as goal
 
 -- what is left to wake leads where all of them do

@@ -1,14 +1,54 @@
--- Logs joined line by line.
-use Rattle.async_cell_driver.proofs.Words.{◌≡◌, ℕ, zero, suc, Bool, true, false, not, ◌&&◌, ◌||◌, List, [], ◌∷◌, ◌++◌, Option, map, length, refl, ap, sym, ◌∙◌, subst, arith, append_assoc, append-nil, length-append, ◌+◌, slice_get, is_some, if◌then◌else◌, option_to_list, option_map, eqb-true, or-true, map-append, length-map, reverse-append, Named, Cell, History, cell_after, IsSound, UpToClones, cell_after-append, Runs-nil, RunsUpTo, Runs-join-by, up_to_clones, Kind, Event, Told, DriverState, is_named, NamesMatch, Line, Log, lines, log_of, with_edit, kinds, is_started, is_done, waits, is_due, is_ready, is_poll_of, was_ready, was_pending, was_refused, started, line_of, history, handed_out, call_of, reply_of, entry_of, Drives, FitsTold, IsLegal, IsSpared, AllSpared, same_name}
-use Rattle.async_cell_driver.proofs.ReadyNow.{awake, started_now}
+-- Where one line leads, and logs joined line by line.
+use Rattle.async_cell_driver.proofs.Words.{DriverState, NamesMatch, result_at, AllSpared, Drives, FitsTold, IsLegal, IsSpared, handed_out, history, line_of, Line, Log, is_done, is_due, is_poll_of, is_ready, is_started, kinds, lines, log_of, started, waits, with_edit, Event, Poll, Start, Kind, NotReady, Refused, Started, Told, Task, cell_after-append, Runs-join-by, Runs-nil, up_to_clones, History, cell_after, RunsUpTo, IsSound, UpToClones, Cell, Refusal, Memory, same_name, Named, Bool, List, None, Option, Some, [], ap, append-nil, append_assoc, arith, false, inl, inr, length, length-append, map, refl, subst, suc, sym, true, zero, ℕ, ◌++◌, ◌+◌, ◌∙◌, ◌∷◌, ◌≡◌, ◌⊎◌, or-true, eqb-true, length-map, map-append, reverse-append, IfErr, IfOk, Result, is_some, slice_get}
+use Rattle.async_cell_driver.specs.declared.{tasks.Mark.TheVariants.Ready, event.Told.TheVariants.Polled}
+use Rattle.async_cell_driver.proofs.TaskList.{awake, started_now}
+
+module _ {T : Type 0} where
+  -- a task that was just started
+  abbrev pub fresh : Kind → Task T
+  fresh kind = record { kind = kind; mark = Ready; result = None }
+
+  -- a task is as it was, or is the new one, and was not there
+  with_fresh : (tasks : List (Task T)) (kind : Kind) (i : ℕ)
+      → (slice_get (tasks ++ fresh kind ∷ []) i ≡ slice_get tasks i) ⊎ ((slice_get tasks i ≡ None) × (slice_get (tasks ++ fresh kind ∷ []) i ≡ Some (fresh kind)))
+  with_fresh [] kind zero = inr (refl, refl)
+  with_fresh [] kind (suc i) = inl refl
+  with_fresh (t ∷ tasks) kind zero = inl refl
+  with_fresh (t ∷ tasks) kind (suc i) = with_fresh tasks kind i
+
+  -- a new task waits for nothing
+  pub covered_with_fresh : (from : DriverState T) (kind : Kind) → NamesMatch from → NamesMatch (record from { tasks = from.tasks ++ fresh kind ∷ [] })
+  covered_with_fresh from kind covered = grind (arith, with_fresh, covered.0, covered.1)
+
+  -- where a task is not polled
+  pub not_polled : (from : DriverState T) (i : ℕ) (is_clone : T → T → Type 0) → IsSound same_name from.core → NamesMatch from → is_ready from [] i ≡ false
+      → Drives is_clone from (line_of from (Poll i) (Polled NotReady) ∷ []) from
+  not_polled from i is_clone sound covered not_ready = grind (arith, up_to_clones, Runs-nil, append-nil, awake, covered.0, covered.1)
+
+  -- Where a task is started, or the start is refused. The new task and its number are known by what
+  -- they equal.
+  pub starts_as : (is_clone : T → T → Type 0) (from : DriverState T) (kind : Kind) (tasks : List (Task T)) (number : ℕ) → IsSound same_name from.core → NamesMatch from
+      → number ≡ length from.tasks → tasks ≡ from.tasks ++ fresh kind ∷ []
+      → Drives is_clone from (line_of from (Start kind) (Started number) ∷ []) (record { core = from.core; tasks = tasks })
+  starts_as is_clone from kind tasks number sound covered counts made =
+      let leads = up_to_clones is_clone same_name true from.core from.core [] [] (Runs-nil same_name true from.core sound) in
+      let none_forgotten = awake _ sound (covered_with_fresh from kind covered).0 in
+      rw (counts, made) (grind (arith, with_fresh, length-map, map-append, leads, none_forgotten))
+
+  pub start_refused_as : (is_clone : T → T → Type 0) (from : DriverState T) (kind : Kind) (tasks : List (Task T)) (why : Refusal) → IsSound same_name from.core → NamesMatch from
+      → why ≡ Memory → tasks ≡ from.tasks → Drives is_clone from (line_of from (Start kind) (Refused why) ∷ []) (record { core = from.core; tasks = tasks })
+  start_refused_as is_clone from kind tasks why sound covered for_memory same = grind (arith, up_to_clones, Runs-nil, append-nil, awake, covered.0, covered.1)
+
+  -- a start, refused or not, leaves the results
+  pub results_stay : (before now : List (Task T)) (kind : Kind) (i : ℕ) (result : Result ℕ Refusal)
+      → IfOk result (λ number. (number ≡ length before) × (now ≡ before ++ fresh kind ∷ [])) → IfErr result (λ why. (why ≡ Memory) × (now ≡ before))
+      → result_at now i ≡ result_at before i
+  results_stay before now kind i result started refused = grind (arith, with_fresh)
 
 some_before : {A : Type 0} (xs ys : List A) (i : ℕ) → is_some (slice_get (xs ++ ys) i) ≡ false → is_some (slice_get xs i) ≡ false
 some_before [] ys i none = refl
 some_before (x ∷ xs) ys zero none = none
 some_before (x ∷ xs) ys (suc i) none = some_before xs ys i none
-
-due_step : (p s d f n u : Bool) → (p ≡ true → (s && (not d && u)) ≡ true) → s ≡ false → u ≡ true → (if p then f else (n || u)) ≡ true
-due_step p s d f n u ready gone is = grind (arith, ready)
 
 module _ {T : Type 0} where
   -- no line leads nowhere
@@ -33,8 +73,8 @@ module _ {T : Type 0} where
   unstarted_due from [] i legal gone = grind (arith, started_now)
   unstarted_due from (line ∷ earlier) i legal gone =
       let before : is_started from earlier i ≡ false = some_before (kinds from earlier) (started line.event line.told) i gone in
-      due_step (is_poll_of i line.event line.told) (is_started from earlier i) (is_done from earlier i) (was_refused line.told) (is_named i line.names) (is_due from earlier i)
-      (polled_ready _ _ line.event line.told line.names i legal.0) before (unstarted_due from earlier i legal.1 before)
+      let due = unstarted_due from earlier i legal.1 before in
+      grind (arith, polled_ready, legal.0, before, due)
 
 module _ {T : Type 0} where
   -- what one line says of a task, where two logs agree on it
@@ -47,13 +87,10 @@ module _ {T : Type 0} where
   kinds_join from at earlier [] same = same
   kinds_join from at earlier (line ∷ later) same = ap (λ all. all ++ started line.event line.told) (kinds_join from at earlier later same)
 
-  done_join : (from at : DriverState T) (earlier later : Log T) (i : ℕ) → is_done at [] i ≡ is_done from earlier i → is_done at later i ≡ is_done from (later ++ earlier) i
-  done_join from at earlier [] i same = same
-  done_join from at earlier (line ∷ later) i same = ap (λ done. (is_poll_of i line.event line.told && was_ready line.told) || done) (done_join from at earlier later i same)
-
-  waits_join : (from at : DriverState T) (earlier later : Log T) (i : ℕ) → waits at [] i ≡ waits from earlier i → waits at later i ≡ waits from (later ++ earlier) i
-  waits_join from at earlier [] i same = same
-  waits_join from at earlier (line ∷ later) i same = ap (λ w. if is_poll_of i line.event line.told then was_pending line.told else w) (waits_join from at earlier later i same)
+  says_join : (from at : DriverState T) (earlier later : Log T) (i : ℕ) → is_done at [] i ≡ is_done from earlier i → waits at [] i ≡ waits from earlier i
+      → (is_done at later i ≡ is_done from (later ++ earlier) i) × (waits at later i ≡ waits from (later ++ earlier) i)
+  says_join from at earlier [] i done waiting = (done, waiting)
+  says_join from at earlier (line ∷ later) i done waiting = let before = says_join from at earlier later i done waiting in grind (arith, before.0, before.1)
 
   -- the later lines fit the earlier ones too, and leave the same tasks ready
   ready_join : (is_clone : T → T → Type 0) (from at : DriverState T) (earlier later : Log T) → Drives is_clone from earlier at → IsLegal at later
@@ -67,20 +104,8 @@ module _ {T : Type 0} where
               (subst (λ (all : List Kind). FitsTold (length all) (is_ready at later) line.event line.told line.names) same legal.0),
           rest.0,
         ),
-        λ i. ready_line from at (later ++ earlier) later line i rest.0 legal.1 same (done_join from at earlier later i (first.done_is i)) (rest.1 i),
+        λ i. ready_line from at (later ++ earlier) later line i rest.0 legal.1 same (says_join from at earlier later i (first.done_is i) (first.waits_is i)).0 (rest.1 i),
       )
-
-  cell_join : (from at : DriverState T) (earlier later : Log T) → at.core.cell ≡ cell_after from.core.cell (history from earlier)
-      → history from (later ++ earlier) ≡ history from earlier ++ history at later
-      → cell_after at.core.cell (history at later) ≡ cell_after from.core.cell (history from (later ++ earlier))
-  cell_join from at earlier later cell_is joined = grind (arith, cell_after-append)
-
-  -- the core's call that a later line is
-  entry_join : (from at : DriverState T) (earlier later : Log T) (line : Line T) → kinds at later ≡ kinds from (later ++ earlier)
-      → cell_after at.core.cell (history at later) ≡ cell_after from.core.cell (history from (later ++ earlier))
-      → entry_of (call_of (kinds from (later ++ earlier)) (cell_after from.core.cell (history from (later ++ earlier))) line.event) (reply_of line.told)
-      ≡ entry_of (call_of (kinds at later) (cell_after at.core.cell (history at later)) line.event) (reply_of line.told)
-  entry_join from at earlier later line same_kinds same_cell = λ k. entry_of (call_of (sym same_kinds k) (sym same_cell k) line.event) (reply_of line.told)
 
   -- the core's calls, and what they handed out
   core_join : (from at : DriverState T) (earlier later : Log T) → map (λ task. task.kind) at.tasks ≡ kinds from earlier → at.core.cell ≡ cell_after from.core.cell (history from earlier)
@@ -88,10 +113,8 @@ module _ {T : Type 0} where
   core_join from at earlier [] same_kinds cell_is = (sym (append-nil (history from earlier)), sym (append-nil (handed_out from earlier)))
   core_join from at earlier (line ∷ later) same_kinds cell_is =
       let before = core_join from at earlier later same_kinds cell_is in
-      let entry = entry_join from at earlier later line (kinds_join from at earlier later same_kinds) (cell_join from at earlier later cell_is before.0) in (
-        (λ k. before.0 k ++ option_to_list (entry k)) ∙ append_assoc (history from earlier) (history at later) _,
-        (λ k. before.1 k ++ option_to_list (option_map (λ x. line.names) (entry k))) ∙ append_assoc (handed_out from earlier) (handed_out at later) _,
-      )
+      let kinds_are = kinds_join from at earlier later same_kinds in
+      grind (arith, before.0, before.1, kinds_are, cell_is, cell_after-append, append_assoc)
 
   -- a log, and another from where it leads
   pub drives_join : (is_clone : T → T → Type 0) (from at to : DriverState T) (earlier later : Log T) → Drives is_clone from earlier at → Drives is_clone at later to
@@ -105,8 +128,8 @@ module _ {T : Type 0} where
             (subst (λ (names : List (List Named)). RunsUpTo same_name true is_clone from.core (history from earlier ++ history at later) names to.core) (sym joined.1)
             (Runs-join-by (UpToClones is_clone) same_name true from.core at.core to.core _ _ _ _ first.core_leads second.core_leads));
         kinds_are = second.kinds_are ∙ kinds_join from at earlier later first.kinds_are;
-        done_is = λ i. second.done_is i ∙ done_join from at earlier later i (first.done_is i);
-        waits_is = λ i. second.waits_is i ∙ waits_join from at earlier later i (first.waits_is i);
+        done_is = λ i. second.done_is i ∙ (says_join from at earlier later i (first.done_is i) (first.waits_is i)).0;
+        waits_is = λ i. second.waits_is i ∙ (says_join from at earlier later i (first.done_is i) (first.waits_is i)).1;
         ready_is = λ i. second.ready_is i ∙ fits.1 i;
         none_forgotten = second.none_forgotten;
       }
@@ -121,35 +144,34 @@ module _ {T : Type 0} where
   lines-append events more answers others handed later same same' = absurd (omega arith)
 
   -- the log of joined lists
-  pub log_of-append : (events more : List (Event T (Option T → Option T))) (answers others : List (Told T)) (handed later : List (List Named))
+  pub log_of_append : (events more : List (Event T (Option T → Option T))) (answers others : List (Told T)) (handed later : List (List Named))
       → length answers ≡ length events → length handed ≡ length events
       → log_of (events ++ more) (answers ++ others) (handed ++ later) ≡ log_of more others later ++ log_of events answers handed
-  log_of-append events more answers others handed later same same' = grind (arith, lines-append, reverse-append)
+  log_of_append events more answers others handed later same same' = grind (arith, lines-append, reverse-append)
 
-  -- the same, where the edits of the updates are functions by name
-  pub log_of-append-edits : {E : Type 0} (edit : E → Option T → Option T) (events more : List (Event T E)) (answers others : List (Told T))
-      (handed later : List (List Named)) → length answers ≡ length events → length handed ≡ length events
-      → log_of (map (with_edit edit) (events ++ more)) (answers ++ others) (handed ++ later) ≡ log_of (map (with_edit edit) more) others later ++ log_of (map (with_edit edit) events) answers handed
-  log_of-append-edits edit events more answers others handed later same same' = grind (arith, length-map, map-append, log_of-append)
+  -- these events happened, with these outcomes
+  abbrev pub Happened : {E : Type 0} → (E → Option T → Option T) → (T → T → Type 0) → (T → Type 0) → DriverState T → List (Event T E) → List (Told T) → DriverState T → Type 0
+  Happened edit is_clone is_infallible from events answers to = (handed : List (List Named)) × (length handed ≡ length events)
+      × Drives is_clone from (log_of (map (with_edit edit) events) answers handed) to × AllSpared is_infallible from (log_of (map (with_edit edit) events) answers handed)
 
-  -- events that happened, and one more
+  -- and one more
   pub happen_more : {E : Type 0} (edit : E → Option T → Option T) (is_clone : T → T → Type 0) (is_infallible : T → Type 0) (from at to : DriverState T)
       (events : List (Event T E)) (answers : List (Told T)) (event : Event T E) (answer : Told T)
-      → length answers ≡ length events
-      → (handed : List (List Named)) × (length handed ≡ length events) × Drives is_clone from (log_of (map (with_edit edit) events) answers handed) at
-      × AllSpared is_infallible from (log_of (map (with_edit edit) events) answers handed)
+      → length answers ≡ length events → Happened edit is_clone is_infallible from events answers at
       → Drives is_clone at (line_of at (with_edit edit event) answer ∷ []) to → IsSpared is_infallible at.core.cell (with_edit edit event) answer
-      → (handed : List (List Named)) × (length handed ≡ length (events ++ event ∷ [])) × Drives is_clone from (log_of (map (with_edit edit) (events ++ event ∷ [])) (answers ++ answer ∷ []) handed) to
-      × AllSpared is_infallible from (log_of (map (with_edit edit) (events ++ event ∷ [])) (answers ++ answer ∷ []) handed)
+      → Happened edit is_clone is_infallible from (events ++ event ∷ []) (answers ++ answer ∷ []) to
   happen_more edit is_clone is_infallible from at to events answers event answer same before one spared =
       let line : Line T = line_of at (with_edit edit event) answer in
       let mapped = length-map events (with_edit edit) in
       let log_is : log_of (map (with_edit edit) (events ++ event ∷ [])) (answers ++ answer ∷ []) (before.0 ++ line.names ∷ []) ≡ line ∷ log_of (map (with_edit edit) events) answers before.0 =
       ap (λ es. log_of es (answers ++ answer ∷ []) (before.0 ++ line.names ∷ [])) (map-append (with_edit edit) events (event ∷ []))
-      ∙ log_of-append (map (with_edit edit) events) (line.event ∷ []) answers (line.told ∷ []) before.0 (line.names ∷ []) (same ∙ sym mapped) (before.1 ∙ sym mapped) in (
+      ∙ log_of_append (map (with_edit edit) events) (line.event ∷ []) answers (line.told ∷ []) before.0 (line.names ∷ []) (same ∙ sym mapped) (before.1 ∙ sym mapped) in (
         before.0 ++ line.names ∷ [],
         length-append before.0 (line.names ∷ []) ∙ (ap (λ n. n + 1) before.1 ∙ sym (length-append events (event ∷ []))),
         subst (λ (l : Log T). Drives is_clone from l to) (sym log_is) (drives_join is_clone from at to _ (line ∷ []) before.2 one),
         subst (λ (l : Log T). AllSpared is_infallible from l) (sym log_is)
             (subst (λ (c : Cell T). IsSpared is_infallible c (with_edit edit event) answer) before.2.core_leads.cell_is spared, before.3),
       )
+
+-- what the tactics use where lists of events are joined
+pub ruleset joined_lists = (length-map, map-append, log_of_append)

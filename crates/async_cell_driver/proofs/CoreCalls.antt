@@ -1,0 +1,242 @@
+-- Where a call on the cell leads, and where a poll does.
+use Rattle.async_cell_driver.proofs.Words.{IsReadyWith, poll_reply, IsPolledWith, mark_after, polled_of, waiting_when, is_done_mark, is_due_mark, is_ready_mark, waits_mark, AllNamed, AllWaiting, DriverState, NamesMatch, change, is_named, kind_at, mark_at, name_of, result_at, result_of, wake_each, with_mark, Drives, FitsTold, is_call, call_of, entry_of, handed_out, history, line_of, names_by, poll_of, reply_of, told_of, Line, is_poll_of, is_ready, kinds, started, was_pending, was_ready, was_refused, with_edit, Event, Kind, Told, Mark, Task, model_of, Runs-sound, up_to_clones, StepsUpTo, woken_by, Does, IsSound, State, ends_waiting, waker_of, Cell, Entry, Kept, Refusal, Memory, Reply, same_name, Named, Bool, List, None, Option, Some, [], ap, append-nil, arith, false, length, map, not, refl, subst, sym, true, ℕ, ◌&&◌, ◌++◌, ◌||◌, ◌∙◌, ◌∷◌, ◌≡◌, ◌≢◌, or-false, or-true, nat_tests, eq-eqb, eqb-true, IsSomeAnd, option_map, Err, IfErr, IfOk, IsOk, MatchOption, Ok, OnOk, Result, if◌then◌else◌, is_some, nat_eq, option_to_list}
+use Rattle.futures.specs.declared.{task.Poll.Poll, task.Poll.TheVariants.Ready, task.Poll.TheVariants.Pending}
+use Rattle.async_cell_driver.specs.declared.tasks.Mark.TheVariants as mark
+use Rattle.async_cell_driver.specs.declared.event.Event.TheVariants as event
+use Rattle.async_cell_driver.specs.declared.event.Told.TheVariants as told
+use Rattle.async_cell_driver.specs.declared.event.Polled.TheVariants as polled
+use Rattle.async_cell_driver.proofs.TaskList.{awake, kinds-wake_each, map-change, mark-wake_each, named-append, named-wait_list, ready_by, ready_now, says_same, slice_get-change_other, slice_get-change_same, started_now, woken_if}
+
+done_woken : (named : Bool) (m : Option Mark) → is_done_mark (woken_if named m) ≡ is_done_mark m
+done_woken named m = grind arith
+
+waits_woken : (named : Bool) (m : Option Mark) → waits_mark (woken_if named m) ≡ waits_mark m
+waits_woken named m = grind arith
+
+ready_woken : (named : Bool) (m : Option Mark) → is_ready_mark (woken_if named m) ≡ (is_some m && (not (is_done_mark m) && (named || is_due_mark m)))
+ready_woken named m = grind arith
+
+from_some : {A : Type 0} (o : Option A) (P : A → Type 0) → IsSomeAnd o P → (x : A) × (o ≡ Some x) × P x
+from_some None P has = absurd has
+from_some (Some x) P has = (x, refl, has)
+
+module _ {T : Type 0} where
+  -- the names are those that the entry wakes
+  pub names_are : (from to : State T Named) (call : Kept T Named) (r : Reply T) (names : List Named) → Does same_name true from (record { call = call; reply = r }) names to
+      → names ≡ woken_by from (record { call = call; reply = r })
+  names_are from to call r names answers = answers.woken_are ∙ ap (λ (c : Cell T). if ends_waiting from.cell c then from.waiting else []) answers.cell_is
+
+  -- where a history leads another begins
+  pub begins_there : (from to : State T Named) (call : Kept T Named) (r : Reply T) (names : List Named) → Does same_name true from (record { call = call; reply = r }) names to → IsSound same_name to
+  begins_there from to call r names answers =
+      Runs-sound (λ (x y : T). y ≡ x) same_name true from to _ _ (up_to_clones _ same_name true from to _ _ (model_of same_name true from to call r names answers))
+
+  -- each waiting name still stands in the waiting list, or was woken
+  named_after : (from to : State T Named) (call : Kept T Named) (r : Reply T) (names : List Named) (tasks : List (Task T)) → Does same_name true from (record { call = call; reply = r }) names to
+      → AllNamed (record { core = from; tasks = tasks }) → AllNamed (record { core = to; tasks = wake_each names tasks })
+  named_after from to call r names tasks answers covered i stands = grind (arith, model_of, names_are, mark-wake_each, named-wait_list, named-append, covered)
+
+  no_poll : (i : ℕ) (event : Event T (Option T → Option T)) (r : Reply T) → is_call event ≡ true → is_poll_of i event (told.Reply r) ≡ false
+  no_poll i event r is = grind arith
+
+  no_start : (event : Event T (Option T → Option T)) (r : Reply T) → is_call event ≡ true → started event (told.Reply r) ≡ []
+  no_start event r is = grind arith
+
+  fits_any : (count : ℕ) (ready : ℕ → Bool) (event : Event T (Option T → Option T)) (r : Reply T) (names : List Named) → is_call event ≡ true → FitsTold count ready event (told.Reply r) names
+  fits_any count ready event r names is = grind arith
+
+  call_any : (all : List Kind) (c : Cell T) (event : Event T (Option T → Option T)) (call : Kept T Named) → is_call event ≡ true → call_of [] c event ≡ Some call → call_of all c event ≡ Some call
+  call_any all c event call is is_call = grind arith
+
+  -- the core's call of an event, with its reply and the names that it wakes
+  abbrev pub CallsAs : Event T (Option T → Option T) → State T Named → Reply T → List Named → State T Named → Type 0
+  CallsAs event from r names to = IsSomeAnd (call_of [] from.cell event) (λ call. Does same_name true from (record { call = call; reply = r }) names to)
+
+  no_waker : (c : Cell T) (event : Event T (Option T → Option T)) (call : Kept T Named) → is_call event ≡ true → call_of [] c event ≡ Some call → waker_of call ≡ None
+  no_waker c event call is is_call = grind arith
+
+  pub is_call-with_edit : {E : Type 0} (edit : E → Option T → Option T) (event : Event T E) → is_call event ≡ true → is_call (with_edit edit event) ≡ true
+  is_call-with_edit edit event is = grind arith
+
+  -- Where the call of an event leads, with the tasks woken whose names it wakes.
+  pub call_drives : (is_clone : T → T → Type 0) (from : DriverState T) (core : State T Named) (names : List Named) (event : Event T (Option T → Option T)) (r : Reply T)
+      → is_call event ≡ true → NamesMatch from → CallsAs event from.core r names core
+      → Drives is_clone from (line_of from event (told.Reply r) ∷ []) (record { core = core; tasks = wake_each names from.tasks })
+  call_drives is_clone from core names event r is_event covered made =
+      let (call, is, answers) = from_some _ _ made in
+      let e : Entry T Named = record { call = call; reply = r } in
+      let line : Line T = record { event = event; told = told.Reply r; names = names } in
+      let entry : entry_of (call_of (map (λ task. task.kind) from.tasks) from.core.cell event) (Some r) ≡ Some e =
+      rw (call_any (map (λ task. task.kind) from.tasks) from.core.cell event call is_event is) refl in
+      let line_is : line_of from event (told.Reply r) ≡ line =
+      λ k. record { event = event; told = told.Reply r; names = (ap (names_by from.core) entry ∙ sym (names_are from.core core call r names answers)) k } in
+      let is_history : history from (line ∷ []) ≡ e ∷ [] = ap option_to_list entry in
+      let is_handed : handed_out from (line ∷ []) ≡ names ∷ [] = ap (λ (o : Option (Entry T Named)). option_to_list (option_map (λ x. names) o)) entry in
+      rw line_is record {
+        legal = (fits_any (length (kinds from [])) (is_ready from []) event r names is_event, tt);
+        core_leads = up_to_clones is_clone same_name true from.core core _ _ (rw (is_history, is_handed) (model_of same_name true from.core core call r names answers));
+        kinds_are = grind (arith, kinds-wake_each, append-nil, no_start);
+        done_is = λ i. grind (arith, mark-wake_each, no_poll, done_woken);
+        waits_is = λ i. grind (arith, mark-wake_each, no_poll, waits_woken);
+        ready_is = λ i. grind (arith, ready_now, mark-wake_each, no_poll, no_start, ready_woken, append-nil, started_now);
+        none_forgotten = awake _ (begins_there from.core core call r names answers) (named_after from.core core call r names from.tasks answers covered.0);
+      }
+
+  -- a call that does not wait adds no name, and each that stays in the list is that of a task that
+  -- is not woken
+  waiting_after : (from to : State T Named) (call : Kept T Named) (r : Reply T) (names : List Named) (tasks : List (Task T)) → waker_of call ≡ None
+      → Does same_name true from (record { call = call; reply = r }) names to
+      → AllWaiting (record { core = from; tasks = tasks }) → AllWaiting (record { core = to; tasks = wake_each names tasks })
+  waiting_after from to call r names tasks silent answers waiting_all i named = grind (arith, model_of, names_are, mark-wake_each, named-wait_list, append-nil, waiting_all)
+
+  pub covered_called : (from : DriverState T) (core : State T Named) (names : List Named) (event : Event T (Option T → Option T)) (r : Reply T)
+      → is_call event ≡ true → NamesMatch from → CallsAs event from.core r names core → NamesMatch (record { core = core; tasks = wake_each names from.tasks })
+  covered_called from core names event r is_event covered made =
+      let (call, is_call, answers) = from_some _ _ made in
+      let silent = no_waker from.core.cell event call is_event is_call in
+      grind (arith, named_after, waiting_after, covered.0, covered.1)
+
+module _ {T : Type 0} where
+  -- a poll wakes none
+  poll_wakes_none : (core : State T Named) (kind : Option Kind) (i : ℕ) (r : Option (Reply T)) → names_by core (entry_of (Some (poll_of kind i)) r) ≡ []
+  poll_wakes_none core kind i r = grind arith
+
+-- the mark of a task that is marked if it is polled
+abbrev pub marked_if : Bool → Mark → Option Mark → Option Mark
+marked_if true m old = option_map (λ _. m) old
+marked_if false m old = old
+
+done_polled : (polled : Bool) (m : Mark) (old : Option Mark) (r : Bool) → (polled ≡ true → is_ready_mark old ≡ true) → r ≡ is_done_mark (Some m)
+    → is_done_mark (marked_if polled m old) ≡ ((polled && r) || is_done_mark old)
+done_polled polled m old r ready says = grind (arith, or-false, ready)
+
+waits_polled : (polled : Bool) (m : Mark) (old : Option Mark) (p : Bool) → (polled ≡ true → is_ready_mark old ≡ true) → p ≡ waits_mark (Some m)
+    → waits_mark (marked_if polled m old) ≡ (if polled then p else waits_mark old)
+waits_polled polled m old p ready says = grind (arith, ready)
+
+ready_polled : (polled : Bool) (m : Mark) (old : Option Mark) (r f : Bool) → (polled ≡ true → is_ready_mark old ≡ true) → r ≡ is_done_mark (Some m) → f ≡ is_due_mark (Some m)
+    → is_ready_mark (marked_if polled m old) ≡ (is_some old && (not ((polled && r) || is_done_mark old) && (if polled then f else is_due_mark old)))
+ready_polled polled m old r f ready says due = grind (arith, ready_by, or-false, ready)
+
+unmarked : (b : Bool) (m : Mark) (old : Option Mark) → (m ≡ mark.Waiting → ⊥) → marked_if b m old ≡ Some mark.Waiting → old ≡ Some mark.Waiting
+unmarked b m old otherwise stands = grind (arith, otherwise)
+
+named_or_asked : (i j : ℕ) (b : Bool) → nat_eq i j ≡ b → (l : List Named) (old : Option Mark) → (old ≡ Some mark.Waiting → is_named j l ≡ true) → marked_if b mark.Waiting old ≡ Some mark.Waiting
+    → is_named j (l ++ name_of i ∷ []) ≡ true
+named_or_asked i j b is l old covered stands = grind (arith, named-append, or-true, covered)
+
+-- a name that was in the list before a poll is not the task's own, and its task waits as before
+waiting_beside : (b : Bool) (m : Mark) (old : Option Mark) → (b ≡ true → is_ready_mark old ≡ true) → old ≡ Some mark.Waiting → marked_if b m old ≡ Some mark.Waiting
+waiting_beside b m old ready stands = grind (arith, ready)
+
+-- a name in the list after a poll that waits is the task's own, or was there before
+waiting_or_asked : (i j : ℕ) (b : Bool) → nat_eq i j ≡ b → (l : List Named) (old : Option Mark) → (b ≡ true → is_ready_mark old ≡ true) → (is_named j l ≡ true → old ≡ Some mark.Waiting)
+    → is_named j (l ++ name_of i ∷ []) ≡ true → marked_if b mark.Waiting old ≡ Some mark.Waiting
+waiting_or_asked i j b is l old ready waits named = grind (arith, named-append, or-false, ready, waits)
+
+module _ {T : Type 0} where
+  pub mark-marked : (m : Mark) (i j : ℕ) (tasks : List (Task T)) → mark_at (change (with_mark m) i tasks) j ≡ marked_if (nat_eq i j) m (mark_at tasks j)
+  mark-marked m i j tasks = grind (arith, nat_tests, slice_get-change_same, slice_get-change_other)
+
+  -- what a task of the same number says
+  this_ready : (i j : ℕ) (tasks : List (Task T)) → is_ready_mark (mark_at tasks i) ≡ true → nat_eq i j ≡ true → is_ready_mark (mark_at tasks j) ≡ true
+  this_ready i j tasks ready same = subst (λ k. is_ready_mark (mark_at tasks k) ≡ true) (eqb-true i j same) ready
+
+  -- what the outcome of a poll says of the task, its mark says
+  record Says (i : ℕ) (asked : Result (Poll (Option T)) Refusal) : Type 0 where
+    replies : reply_of (told_of (polled_of asked)) ≡ Some (poll_reply asked)
+    polls : (j : ℕ) → is_poll_of j (event.Poll i) (told_of (polled_of asked)) ≡ nat_eq i j
+    done : was_ready (told_of (polled_of asked)) ≡ is_done_mark (Some (mark_after asked))
+    waits : was_pending (told_of (polled_of asked)) ≡ waits_mark (Some (mark_after asked))
+    due : was_refused (told_of (polled_of asked)) ≡ is_due_mark (Some (mark_after asked))
+
+  says_polled : (i : ℕ) (asked : Result (Poll (Option T)) Refusal) → Says i asked
+  says_polled i asked = grind arith
+
+  fits_polled : (count : ℕ) (ready : ℕ → Bool) (i : ℕ) (asked : Result (Poll (Option T)) Refusal) → ready i ≡ true → IfErr asked (λ why. why ≡ Memory)
+      → FitsTold count ready (event.Poll i) (told_of (polled_of asked)) []
+  fits_polled count ready i asked is for_memory = grind arith
+
+  -- each waiting name is still in the wait list, and so is that of the polled task, if it waits
+  named_polled : (from : DriverState T) (core : State T Named) (i : ℕ) (asked : Result (Poll (Option T)) Refusal) → AllNamed from
+      → IfErr asked (λ why. (why ≡ Memory) × (core.cell ≡ from.core.cell) × (core.waiting ≡ from.core.waiting)) → IfOk asked (λ p. core.waiting ≡ waiting_when p (name_of i) from.core.waiting)
+      → AllNamed (record { core = core; tasks = change (with_mark (mark_after asked)) i from.tasks })
+  named_polled from core i (Ok (Ready value)) covered refused waits j stands =
+      ap (is_named j) waits ∙ covered j (unmarked (nat_eq i j) mark.Done (mark_at from.tasks j) (λ no. cc) (sym (mark-marked mark.Done i j from.tasks) ∙ stands))
+  named_polled from core i (Ok Pending) covered refused waits j stands =
+      ap (is_named j) waits ∙ named_or_asked i j (nat_eq i j) refl from.core.waiting (mark_at from.tasks j) (covered j) (sym (mark-marked mark.Waiting i j from.tasks) ∙ stands)
+  named_polled from core i (Err why) covered refused waits j stands =
+      ap (is_named j) refused.2 ∙ covered j (unmarked (nat_eq i j) mark.Ready (mark_at from.tasks j) (λ no. cc) (sym (mark-marked mark.Ready i j from.tasks) ∙ stands))
+
+  -- and each name there is still that of a task that waits
+  waiting_polled : (from : DriverState T) (core : State T Named) (i : ℕ) (asked : Result (Poll (Option T)) Refusal) → AllWaiting from → is_ready_mark (mark_at from.tasks i) ≡ true
+      → IfErr asked (λ why. (why ≡ Memory) × (core.cell ≡ from.core.cell) × (core.waiting ≡ from.core.waiting)) → IfOk asked (λ p. core.waiting ≡ waiting_when p (name_of i) from.core.waiting)
+      → AllWaiting (record { core = core; tasks = change (with_mark (mark_after asked)) i from.tasks })
+  waiting_polled from core i asked all ready refused waits j named = grind (arith, mark-marked, waiting_beside, this_ready, waiting_or_asked, all)
+
+  pub covered_polled : (from : DriverState T) (core : State T Named) (i : ℕ) (asked : Result (Poll (Option T)) Refusal) → NamesMatch from → is_ready_mark (mark_at from.tasks i) ≡ true
+      → IfErr asked (λ why. (why ≡ Memory) × (core.cell ≡ from.core.cell) × (core.waiting ≡ from.core.waiting)) → IfOk asked (λ p. core.waiting ≡ waiting_when p (name_of i) from.core.waiting)
+      → NamesMatch (record { core = core; tasks = change (with_mark (mark_after asked)) i from.tasks })
+  covered_polled from core i asked covered ready refused waits = grind (arith, named_polled, waiting_polled, covered.0, covered.1)
+
+  -- where the poll of a ready task leads
+  pub poll_drives : (is_clone : T → T → Type 0) (from : DriverState T) (core : State T Named) (i : ℕ) (kind : Kind) (asked : Result (Poll (Option T)) Refusal)
+      → IsSound same_name core → NamesMatch from → kind_at from.tasks i ≡ Some kind → is_ready_mark (mark_at from.tasks i) ≡ true
+      → (StepsUpTo same_name true is_clone from.core (poll_of (Some kind) i) (poll_reply asked) [] core)
+      → IfErr asked (λ why. (why ≡ Memory) × (core.cell ≡ from.core.cell) × (core.waiting ≡ from.core.waiting)) → IfOk asked (λ p. core.waiting ≡ waiting_when p (name_of i) from.core.waiting)
+      → Drives is_clone from (line_of from (event.Poll i) (told_of (polled_of asked)) ∷ []) (record { core = core; tasks = change (with_mark (mark_after asked)) i from.tasks })
+  poll_drives is_clone from core i kind asked sound covered is_kind ready answers refused waits =
+      let answer : Told T = told_of (polled_of asked) in
+      let line : Line T = record { event = event.Poll i; told = answer; names = [] } in
+      let line_is : line_of from (event.Poll i) answer ≡ line =
+      λ k. record { event = event.Poll i; told = answer; names = poll_wakes_none from.core (kind_at from.tasks i) i (reply_of answer) k } in
+      let says = says_polled i asked in
+      rw line_is record {
+        legal = (fits_polled (length (kinds from [])) (is_ready from []) i asked (ready_now from i ∙ ready) (grind arith), tt);
+        core_leads = rw (is_kind, says.replies) answers;
+        kinds_are = grind (arith, map-change, append-nil);
+        done_is = λ j. grind (arith, says.polls, says.done, mark-marked, done_polled, this_ready);
+        waits_is = λ j. grind (arith, says.polls, says.waits, mark-marked, waits_polled, this_ready);
+        ready_is = λ j. grind (arith, says.polls, says.done, says.due, ready_now, mark-marked, ready_polled, this_ready, append-nil, started_now);
+        none_forgotten = awake _ sound (named_polled from core i asked covered.0 refused waits);
+      }
+
+  -- what holds anyway holds for each content
+  pub sure_anyway : (o : Option T) (P : Type 0) (Q : T → Type 0) → P → MatchOption o P (λ value. Q value → P)
+  sure_anyway o P Q holds = grind arith
+
+  ok_polled : (asked : Result (Poll (Option T)) Refusal) → IsOk asked → IsOk (polled_of asked)
+  ok_polled asked ok = grind arith
+
+  -- where the core's answer cannot fail, the task's poll cannot
+  pub sure_polled : (o : Option T) (Q : T → Type 0) (asked : Result (Poll (Option T)) Refusal) → MatchOption o (IsOk asked) (λ value. Q value → IsOk asked)
+      → MatchOption o (IsOk (polled_of asked)) (λ value. Q value → IsOk (polled_of asked))
+  sure_polled o Q asked sure = grind (arith, ok_polled)
+
+  -- what the core's answer says, the task's poll says
+  pub ok_as_polled : (asked : Result (Poll (Option T)) Refusal) (P : Type 0) → OnOk asked P → OnOk (polled_of asked) P
+  ok_as_polled asked P holds = grind arith
+
+  pub ready_as_polled : (asked : Result (Poll (Option T)) Refusal) (P : Option T → Type 0) → IfOk asked (IsReadyWith P) → IfOk (polled_of asked) (IsPolledWith P)
+  ready_as_polled asked P holds = grind arith
+
+  -- a poll leaves the results
+  pub results-marked : (m : Mark) (i j : ℕ) (tasks : List (Task T)) → result_at (change (with_mark m) i tasks) j ≡ result_at tasks j
+  results-marked m i j tasks = says_same result_of (with_mark m) (λ t. grind arith) i j tasks
+
+  marked_same : (m : Mark) (i : ℕ) (tasks : List (Task T)) → is_ready_mark (mark_at tasks i) ≡ true → mark_at (change (with_mark m) i tasks) i ≡ Some m
+  marked_same m i tasks ready = grind (arith, mark-marked, eq-eqb)
+
+  -- a task whose poll was not refused is not ready
+  pub ready_no_more : (core : State T Named) (i : ℕ) (asked : Result (Poll (Option T)) Refusal) (tasks : List (Task T)) → is_ready_mark (mark_at tasks i) ≡ true
+      → OnOk (polled_of asked) (is_ready (record { core = core; tasks = change (with_mark (mark_after asked)) i tasks }) [] i ≡ false)
+  ready_no_more core i asked tasks ready = grind (arith, ready_now, marked_same)
+
+  -- the others are as ready as before
+  pub others_stay : (core : State T Named) (from : DriverState T) (m : Mark) (i j : ℕ) → i ≢ j → is_ready (record { core = core; tasks = change (with_mark m) i from.tasks }) [] j ≡ is_ready from [] j
+  others_stay core from m i j other =
+      ready_now (record { core = core; tasks = change (with_mark m) i from.tasks }) j
+      ∙ (ap (λ t. is_ready_mark (option_map (λ task. task.mark) t)) (slice_get-change_other (with_mark m) i j from.tasks other) ∙ sym (ready_now from j))
+
+-- what the tactics use where a task is polled
+pub ruleset poll_steps = (ready_now, sure_anyway, sure_polled, ok_as_polled, ready_as_polled, results-marked)

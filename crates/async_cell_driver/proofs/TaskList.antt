@@ -1,0 +1,138 @@
+-- What the marks of tasks say, what a change does to a list of tasks, and whose names wait.
+use Rattle.async_cell_driver.proofs.Words.{is_done_mark, is_due_mark, is_ready_mark, waits_mark, woken, AllNamed, DriverState, NamesMatch, change, is_named, mark_at, name_of, result_at, result_of, wake, wake_each, with_mark, with_result, NoneForgotten, is_ready, Mark, Waiting, Task, wait_list-distinct, IsSound, skips, wait_list, with_one_more, same_name, Named, Bool, List, Option, Some, [], ap, arith, false, get_or, length, map, not, refl, set, subst, suc, sym, true, zero, ℕ, ◌&&◌, ◌++◌, ◌<◌, ◌||◌, ◌∙◌, ◌∷◌, ◌≡◌, ◌≢◌, ◌≤◌, nat_tests, eq-eqb, eqb-true, list_any-append, get_or-map, length-map, IsDistinct-from_apart, length-le_from_distinct_below, slice_get_past, IsDistinct, list_any, option_map, AllPairs, fold, if◌then◌else◌, is_some, nat_eq, slice_get}
+
+pub ready_by : (mark : Option Mark) → (is_some mark && (not (is_done_mark mark) && is_due_mark mark)) ≡ is_ready_mark mark
+ready_by mark = grind arith
+
+woken_by : (mark : Option Mark) → waits_mark mark ≡ true → (mark ≡ Some Waiting → ⊥) → is_ready_mark mark ≡ true
+woken_by mark stands otherwise = grind (arith, otherwise)
+
+module _ {T : Type 0} where
+  -- a task was started exactly if it has a mark
+  pub started_now : (i : ℕ) (tasks : List (Task T)) → is_some (slice_get (map (λ task. task.kind) tasks) i) ≡ is_some (mark_at tasks i)
+  started_now i [] = refl
+  started_now zero (t ∷ tasks) = refl
+  started_now (suc i) (t ∷ tasks) = started_now i tasks
+
+  -- a task is ready exactly if its mark says so
+  pub ready_now : (at : DriverState T) (i : ℕ) → is_ready at [] i ≡ is_ready_mark (mark_at at.tasks i)
+  ready_now at i = rw (started_now i at.tasks) (ready_by (mark_at at.tasks i))
+
+  -- where each waiting name stands in the waiting list, no task is forgotten
+  pub awake : (at : DriverState T) → IsSound same_name at.core → AllNamed at → NoneForgotten at
+  awake at sound covered not_vacant i stands = grind (arith, ready_now, woken_by, covered, sound.waits_vacant)
+
+  -- within the list one task is written
+  change_within : (f : Task T → Task T) (i : ℕ) (tasks : List (Task T)) (task : Task T) → i < length tasks → task ≡ get_or tasks i task → set tasks i (f task) ≡ change f i tasks
+  change_within f i [] task within is = absurd (omega arith)
+  change_within f zero (t ∷ tasks) task within is = ap (λ (x : Task T). f x ∷ tasks) is
+  change_within f (suc i) (t ∷ tasks) task within is = ap (λ (xs : List (Task T)). t ∷ xs) (change_within f i tasks task (omega arith) is)
+
+  pub marked_within : (mark : Mark) (i : ℕ) (tasks : List (Task T)) (task : Task T) → i < length tasks → task ≡ get_or tasks i task
+      → set tasks i (record task { mark = mark }) ≡ change (with_mark mark) i tasks
+  marked_within mark i tasks task within is = change_within (with_mark mark) i tasks task within is
+
+  pub woken_within : (i : ℕ) (tasks : List (Task T)) (task : Task T) → i < length tasks → task ≡ get_or tasks i task → set tasks i (wake task) ≡ change wake i tasks
+  woken_within i tasks task within is = change_within wake i tasks task within is
+
+  pub kept_within : (result : Option (Option T)) (i : ℕ) (tasks : List (Task T)) (task : Task T) → i < length tasks → task ≡ get_or tasks i task
+      → set tasks i (record task { result = result }) ≡ change (with_result result) i tasks
+  kept_within result i tasks task within is = change_within (with_result result) i tasks task within is
+
+  -- past its end none is
+  pub change_past : (f : Task T → Task T) (i : ℕ) (tasks : List (Task T)) → length tasks ≤ i → change f i tasks ≡ tasks
+  change_past f i [] past = refl
+  change_past f zero (t ∷ tasks) past = absurd (omega arith)
+  change_past f (suc i) (t ∷ tasks) past = ap (λ (xs : List (Task T)). t ∷ xs) (change_past f i tasks (omega arith))
+
+  -- what was kept for a task within the list
+  pub result_within : (i : ℕ) (tasks : List (Task T)) (task : Task T) → i < length tasks → task ≡ get_or tasks i task → task.result ≡ result_at tasks i
+  result_within i [] task within is = absurd (omega arith)
+  result_within zero (t ∷ tasks) task within is = ap (λ (x : Task T). x.result) is
+  result_within (suc i) (t ∷ tasks) task within is = result_within i tasks task (omega arith) is
+
+  pub slice_get-change_same : (f : Task T → Task T) (i : ℕ) (tasks : List (Task T)) → slice_get (change f i tasks) i ≡ option_map f (slice_get tasks i)
+  slice_get-change_same f i [] = refl
+  slice_get-change_same f zero (t ∷ tasks) = refl
+  slice_get-change_same f (suc i) (t ∷ tasks) = slice_get-change_same f i tasks
+
+  pub slice_get-change_other : (f : Task T → Task T) (n i : ℕ) (tasks : List (Task T)) → n ≢ i → slice_get (change f n tasks) i ≡ slice_get tasks i
+  slice_get-change_other f n i [] other = refl
+  slice_get-change_other f zero zero (t ∷ tasks) other = absurd (other refl)
+  slice_get-change_other f (suc n) (suc i) (t ∷ tasks) other = slice_get-change_other f n i tasks (λ same. other (ap suc same))
+  slice_get-change_other f n i tasks other = refl
+
+  -- what a change leaves alone is as it was
+  pub says_same : {A : Type 0} (says : Option (Task T) → A) (f : Task T → Task T) → ((t : Option (Task T)) → says (option_map f t) ≡ says t)
+      → (n i : ℕ) (tasks : List (Task T)) → says (slice_get (change f n tasks) i) ≡ says (slice_get tasks i)
+  says_same says f same n i [] = refl
+  says_same says f same zero zero (t ∷ tasks) = same (Some t)
+  says_same says f same (suc n) (suc i) (t ∷ tasks) = says_same says f same n i tasks
+  says_same says f same n i tasks = refl
+
+  pub map-change : {A : Type 0} (says : Task T → A) (f : Task T → Task T) → ((t : Task T) → says (f t) ≡ says t) → (n : ℕ) (tasks : List (Task T)) → map says (change f n tasks) ≡ map says tasks
+  map-change says f same n [] = refl
+  map-change says f same zero (t ∷ tasks) = ap (λ x. x ∷ map says tasks) (same t)
+  map-change says f same (suc n) (t ∷ tasks) = ap (λ xs. says t ∷ xs) (map-change says f same n tasks)
+
+  pub kinds-wake_each : (names : List Named) (tasks : List (Task T)) → map (λ task. task.kind) (wake_each names tasks) ≡ map (λ task. task.kind) tasks
+  kinds-wake_each [] tasks = refl
+  kinds-wake_each (n ∷ names) tasks = kinds-wake_each names (change wake n.0 tasks) ∙ map-change (λ task. task.kind) wake (λ t. refl) n.0 tasks
+
+  pub results_woken : (names : List Named) (tasks : List (Task T)) (i : ℕ) → result_at (wake_each names tasks) i ≡ result_at tasks i
+  results_woken [] tasks i = refl
+  results_woken (n ∷ names) tasks i = results_woken names (change wake n.0 tasks) i ∙ says_same result_of wake (λ t. grind arith) n.0 i tasks
+
+-- the mark of a task that is woken if it is named
+abbrev pub woken_if : Bool → Option Mark → Option Mark
+woken_if true mark = option_map woken mark
+woken_if false mark = mark
+
+module _ {T : Type 0} where
+  pub mark-wake_each : (names : List Named) (tasks : List (Task T)) (i : ℕ) → mark_at (wake_each names tasks) i ≡ woken_if (is_named i names) (mark_at tasks i)
+  mark-wake_each [] tasks i = refl
+  mark-wake_each (n ∷ names) tasks i =
+      let rest = mark-wake_each names (change wake n.0 tasks) i in grind (arith, nat_tests, slice_get-change_same, slice_get-change_other, rest)
+
+pub named-append : (i : ℕ) (xs ys : List Named) → is_named i (xs ++ ys) ≡ (is_named i xs || is_named i ys)
+named-append i xs ys = list_any-append (λ name. nat_eq name.0 i) xs ys
+
+-- a name that is skipped stands in the list
+named_if : (i : ℕ) (l : List Named) (w : Named) (b : Bool) → skips same_name l w ≡ b → is_named i (if b then l else l ++ w ∷ []) ≡ (is_named i l || nat_eq w.0 i)
+named_if i l w b is = grind (arith, eqb-true, named-append)
+
+named_each : (i : ℕ) (l names : List Named) → is_named i (fold (with_one_more same_name) l names) ≡ (is_named i l || is_named i names)
+named_each i l [] = grind arith
+named_each i l (w ∷ rest) = let here = named_each i (with_one_more same_name l w) rest in grind (arith, here, named_if)
+
+-- the names in the wait list are those that registered
+pub named-wait_list : (i : ℕ) (names : List Named) → is_named i (wait_list same_name names) ≡ is_named i names
+named-wait_list i names = named_each i [] names
+
+numbers_apart : (a b : Named) → a ≢ b → nat_eq a.0 b.0 ≡ false
+numbers_apart a b other = grind (arith, nat_tests, other)
+
+numbers_distinct : (names : List Named) → AllPairs (λ u v. u ≢ v) names → IsDistinct nat_eq (map (λ (name : Named). name.0) names)
+numbers_distinct names distinct = IsDistinct-from_apart nat_eq (map (λ (name : Named). name.0) names) (λ i j d before within.
+    let high : j < length names = rw length-map at within in
+    let low : i < length names = omega arith in
+    rw (get_or-map (λ (name : Named). name.0) names i (name_of d) d low, get_or-map (λ (name : Named). name.0) names j (name_of d) d high)
+    (numbers_apart (get_or names i (name_of d)) (get_or names j (name_of d)) (distinct i j (name_of d) before high)))
+
+named_number : (q : ℕ) (names : List Named) → list_any (nat_eq q) (map (λ (name : Named). name.0) names) ≡ is_named q names
+named_number q [] = refl
+named_number q (n ∷ names) = let rest = named_number q names in grind (arith, nat_tests, rest)
+
+-- a task that has a mark was started
+marked_started : {T : Type 0} (i : ℕ) (tasks : List (Task T)) (mark : Mark) → mark_at tasks i ≡ Some mark → i < length tasks
+marked_started i tasks mark is = grind (arith, slice_get_past)
+
+-- no more wakers wait than there are tasks
+pub waiting_few : {T : Type 0} (at : DriverState T) → IsSound same_name at.core → NamesMatch at → length at.core.waiting ≤ length at.tasks
+waiting_few at sound covered =
+    let distinct : AllPairs (λ (u v : Named). u ≢ v) at.core.waiting =
+    subst (λ (l : List Named). AllPairs (λ (u v : Named). u ≢ v) l) sound.none_skipped (wait_list-distinct same_name at.core.waiting (λ w. eq-eqb w.0 w.0 refl)) in
+    let few =
+    length-le_from_distinct_below (map (λ (name : Named). name.0) at.core.waiting) (length at.tasks) (numbers_distinct at.core.waiting distinct)
+    (λ q has. marked_started q at.tasks Waiting (covered.1 q (sym (named_number q at.core.waiting) ∙ has))) in
+    rw length-map at few
