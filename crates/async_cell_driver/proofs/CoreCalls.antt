@@ -20,87 +20,6 @@ from_some : {A : Type 0} (o : Option A) (P : A → Type 0) → IsSomeAnd o P →
 from_some None P has = absurd has
 from_some (Some x) P has = (x, refl, has)
 
-module _ {T : Type 0} where
-  -- the names are those that the entry wakes
-  pub names_are : (from to : State T Named) (call : Kept T Named) (r : Reply T) (names : List Named) → Does same_name true from (record { call = call; reply = r }) names to
-      → names ≡ woken_by from (record { call = call; reply = r })
-  names_are from to call r names answers = answers.woken_are ∙ ap (λ (c : Cell T). if ends_waiting from.cell c then from.waiting else []) answers.cell_is
-
-  -- where a history leads another begins
-  pub begins_there : (from to : State T Named) (call : Kept T Named) (r : Reply T) (names : List Named) → Does same_name true from (record { call = call; reply = r }) names to → IsSound same_name to
-  begins_there from to call r names answers =
-      Runs-sound (λ (x y : T). y ≡ x) same_name true from to _ _ (up_to_clones _ same_name true from to _ _ (model_of same_name true from to call r names answers))
-
-  -- each waiting name still stands in the waiting list, or was woken
-  named_after : (from to : State T Named) (call : Kept T Named) (r : Reply T) (names : List Named) (tasks : List (Task T)) → Does same_name true from (record { call = call; reply = r }) names to
-      → AllNamed (record { core = from; tasks = tasks }) → AllNamed (record { core = to; tasks = wake_each names tasks })
-  named_after from to call r names tasks answers covered i stands = grind (arith, model_of, names_are, mark-wake_each, named-wait_list, named-append, covered)
-
-  no_poll : (i : ℕ) (event : Event T (Option T → Option T)) (r : Reply T) → is_call event ≡ true → is_poll_of i event (told.Reply r) ≡ false
-  no_poll i event r is = grind arith
-
-  no_start : (event : Event T (Option T → Option T)) (r : Reply T) → is_call event ≡ true → started event (told.Reply r) ≡ []
-  no_start event r is = grind arith
-
-  fits_any : (count : ℕ) (ready : ℕ → Bool) (event : Event T (Option T → Option T)) (r : Reply T) (names : List Named) → is_call event ≡ true → FitsTold count ready event (told.Reply r) names
-  fits_any count ready event r names is = grind arith
-
-  call_any : (all : List Kind) (c : Cell T) (event : Event T (Option T → Option T)) (call : Kept T Named) → is_call event ≡ true → call_of [] c event ≡ Some call → call_of all c event ≡ Some call
-  call_any all c event call is is_call = grind arith
-
-  -- the core's call of an event, with its reply and the names that it wakes
-  abbrev pub CallsAs : Event T (Option T → Option T) → State T Named → Reply T → List Named → State T Named → Type 0
-  CallsAs event from r names to = IsSomeAnd (call_of [] from.cell event) (λ call. Does same_name true from (record { call = call; reply = r }) names to)
-
-  no_waker : (c : Cell T) (event : Event T (Option T → Option T)) (call : Kept T Named) → is_call event ≡ true → call_of [] c event ≡ Some call → waker_of call ≡ None
-  no_waker c event call is is_call = grind arith
-
-  pub is_call-with_edit : {E : Type 0} (edit : E → Option T → Option T) (event : Event T E) → is_call event ≡ true → is_call (with_edit edit event) ≡ true
-  is_call-with_edit edit event is = grind arith
-
-  -- Where the call of an event leads, with the tasks woken whose names it wakes.
-  pub call_drives : (is_clone : T → T → Type 0) (from : DriverState T) (core : State T Named) (names : List Named) (event : Event T (Option T → Option T)) (r : Reply T)
-      → is_call event ≡ true → NamesMatch from → CallsAs event from.core r names core
-      → Drives is_clone from (line_of from event (told.Reply r) ∷ []) (record { core = core; tasks = wake_each names from.tasks })
-  call_drives is_clone from core names event r is_event covered made =
-      let (call, is, answers) = from_some _ _ made in
-      let e : Entry T Named = record { call = call; reply = r } in
-      let line : Line T = record { event = event; told = told.Reply r; names = names } in
-      let entry : entry_of (call_of (map (λ task. task.kind) from.tasks) from.core.cell event) (Some r) ≡ Some e =
-      rw (call_any (map (λ task. task.kind) from.tasks) from.core.cell event call is_event is) refl in
-      let line_is : line_of from event (told.Reply r) ≡ line =
-      λ k. record { event = event; told = told.Reply r; names = (ap (names_by from.core) entry ∙ sym (names_are from.core core call r names answers)) k } in
-      let is_history : history from (line ∷ []) ≡ e ∷ [] = ap option_to_list entry in
-      let is_handed : handed_out from (line ∷ []) ≡ names ∷ [] = ap (λ (o : Option (Entry T Named)). option_to_list (option_map (λ x. names) o)) entry in
-      rw line_is record {
-        legal = (fits_any (length (kinds from [])) (is_ready from []) event r names is_event, tt);
-        core_leads = up_to_clones is_clone same_name true from.core core _ _ (rw (is_history, is_handed) (model_of same_name true from.core core call r names answers));
-        kinds_are = grind (arith, kinds-wake_each, append-nil, no_start);
-        done_is = λ i. grind (arith, mark-wake_each, no_poll, done_woken);
-        waits_is = λ i. grind (arith, mark-wake_each, no_poll, waits_woken);
-        ready_is = λ i. grind (arith, ready_now, mark-wake_each, no_poll, no_start, ready_woken, append-nil, started_now);
-        none_forgotten = awake _ (begins_there from.core core call r names answers) (named_after from.core core call r names from.tasks answers covered.0);
-      }
-
-  -- a call that does not wait adds no name, and each that stays in the list is that of a task that
-  -- is not woken
-  waiting_after : (from to : State T Named) (call : Kept T Named) (r : Reply T) (names : List Named) (tasks : List (Task T)) → waker_of call ≡ None
-      → Does same_name true from (record { call = call; reply = r }) names to
-      → AllWaiting (record { core = from; tasks = tasks }) → AllWaiting (record { core = to; tasks = wake_each names tasks })
-  waiting_after from to call r names tasks silent answers waiting_all i named = grind (arith, model_of, names_are, mark-wake_each, named-wait_list, append-nil, waiting_all)
-
-  pub covered_called : (from : DriverState T) (core : State T Named) (names : List Named) (event : Event T (Option T → Option T)) (r : Reply T)
-      → is_call event ≡ true → NamesMatch from → CallsAs event from.core r names core → NamesMatch (record { core = core; tasks = wake_each names from.tasks })
-  covered_called from core names event r is_event covered made =
-      let (call, is_call, answers) = from_some _ _ made in
-      let silent = no_waker from.core.cell event call is_event is_call in
-      grind (arith, named_after, waiting_after, covered.0, covered.1)
-
-module _ {T : Type 0} where
-  -- a poll wakes none
-  poll_wakes_none : (core : State T Named) (kind : Option Kind) (i : ℕ) (r : Option (Reply T)) → names_by core (entry_of (Some (poll_of kind i)) r) ≡ []
-  poll_wakes_none core kind i r = grind arith
-
 -- the mark of a task that is marked if it is polled
 abbrev pub marked_if : Bool → Mark → Option Mark → Option Mark
 marked_if true m old = option_map (λ _. m) old
@@ -135,6 +54,76 @@ waiting_or_asked : (i j : ℕ) (b : Bool) → nat_eq i j ≡ b → (l : List Nam
 waiting_or_asked i j b is l old ready waits named = grind (arith, named-append, or-false, ready, waits)
 
 module _ {T : Type 0} where
+  -- the names are those that the entry wakes
+  pub names_are : (from to : State T Named) (call : Kept T Named) (r : Reply T) (names : List Named) → Does same_name true from (record { call = call; reply = r }) names to
+      → names ≡ woken_by from (record { call = call; reply = r })
+  names_are from to call r names answers = answers.woken_are ∙ ap (λ (c : Cell T). if ends_waiting from.cell c then from.waiting else []) answers.cell_is
+
+  -- where a history leads another begins
+  pub begins_there : (from to : State T Named) (call : Kept T Named) (r : Reply T) (names : List Named) → Does same_name true from (record { call = call; reply = r }) names to → IsSound same_name to
+  begins_there from to call r names answers =
+      Runs-sound (λ (x y : T). y ≡ x) same_name true from to _ _ (up_to_clones _ same_name true from to _ _ (model_of same_name true from to call r names answers))
+
+  no_poll : (i : ℕ) (event : Event T (Option T → Option T)) (r : Reply T) → is_call event ≡ true → is_poll_of i event (told.Reply r) ≡ false
+  no_poll i event r is = grind arith
+
+  no_start : (event : Event T (Option T → Option T)) (r : Reply T) → is_call event ≡ true → started event (told.Reply r) ≡ []
+  no_start event r is = grind arith
+
+  fits_any : (count : ℕ) (ready : ℕ → Bool) (event : Event T (Option T → Option T)) (r : Reply T) (names : List Named) → is_call event ≡ true → FitsTold count ready event (told.Reply r) names
+  fits_any count ready event r names is = grind arith
+
+  call_any : (all : List Kind) (c : Cell T) (event : Event T (Option T → Option T)) (call : Kept T Named) → is_call event ≡ true → call_of [] c event ≡ Some call → call_of all c event ≡ Some call
+  call_any all c event call is is_call = grind arith
+
+  -- the core's call of an event, with its reply and the names that it wakes
+  abbrev pub CallsAs : Event T (Option T → Option T) → State T Named → Reply T → List Named → State T Named → Type 0
+  CallsAs event from r names to = IsSomeAnd (call_of [] from.cell event) (λ call. Does same_name true from (record { call = call; reply = r }) names to)
+
+  no_waker : (c : Cell T) (event : Event T (Option T → Option T)) (call : Kept T Named) → is_call event ≡ true → call_of [] c event ≡ Some call → waker_of call ≡ None
+  no_waker c event call is is_call = grind arith
+
+  pub is_call-with_edit : {E : Type 0} (edit : E → Option T → Option T) (event : Event T E) → is_call event ≡ true → is_call (with_edit edit event) ≡ true
+  is_call-with_edit edit event is = grind arith
+
+  -- each waiting name still stands in the wait list, or was woken; a call that does not wait adds none
+  pub covered_called : (from : DriverState T) (core : State T Named) (names : List Named) (event : Event T (Option T → Option T)) (r : Reply T)
+      → is_call event ≡ true → NamesMatch from → CallsAs event from.core r names core → NamesMatch (record { core = core; tasks = wake_each names from.tasks })
+  covered_called from core names event r is_event covered made =
+      let (call, is_call, answers) = from_some _ _ made in
+      let silent = no_waker from.core.cell event call is_event is_call in (
+        λ i stands. grind (arith, model_of, names_are, mark-wake_each, named-wait_list, named-append, covered.0),
+        λ i named. grind (arith, model_of, names_are, mark-wake_each, named-wait_list, append-nil, covered.1),
+      )
+
+  -- Where the call of an event leads, with the tasks woken whose names it wakes.
+  pub call_drives : (is_clone : T → T → Type 0) (from : DriverState T) (core : State T Named) (names : List Named) (event : Event T (Option T → Option T)) (r : Reply T)
+      → is_call event ≡ true → NamesMatch from → CallsAs event from.core r names core
+      → Drives is_clone from (line_of from event (told.Reply r) ∷ []) (record { core = core; tasks = wake_each names from.tasks })
+  call_drives is_clone from core names event r is_event covered made =
+      let (call, is, answers) = from_some _ _ made in
+      let e : Entry T Named = record { call = call; reply = r } in
+      let line : Line T = record { event = event; told = told.Reply r; names = names } in
+      let entry : entry_of (call_of (map (λ task. task.kind) from.tasks) from.core.cell event) (Some r) ≡ Some e =
+      rw (call_any (map (λ task. task.kind) from.tasks) from.core.cell event call is_event is) refl in
+      let line_is : line_of from event (told.Reply r) ≡ line =
+      λ k. record { event = event; told = told.Reply r; names = (ap (names_by from.core) entry ∙ sym (names_are from.core core call r names answers)) k } in
+      let is_history : history from (line ∷ []) ≡ e ∷ [] = ap option_to_list entry in
+      let is_handed : handed_out from (line ∷ []) ≡ names ∷ [] = ap (λ (o : Option (Entry T Named)). option_to_list (option_map (λ x. names) o)) entry in
+      rw line_is record {
+        legal = (fits_any (length (kinds from [])) (is_ready from []) event r names is_event, tt);
+        core_leads = up_to_clones is_clone same_name true from.core core _ _ (rw (is_history, is_handed) (model_of same_name true from.core core call r names answers));
+        kinds_are = grind (arith, kinds-wake_each, append-nil, no_start);
+        done_is = λ i. grind (arith, mark-wake_each, no_poll, done_woken);
+        waits_is = λ i. grind (arith, mark-wake_each, no_poll, waits_woken);
+        ready_is = λ i. grind (arith, ready_now, mark-wake_each, no_poll, no_start, ready_woken, append-nil, started_now);
+        none_forgotten = awake _ (begins_there from.core core call r names answers) (covered_called from core names event r is_event covered made).0;
+      }
+
+  -- a poll wakes none
+  poll_wakes_none : (core : State T Named) (kind : Option Kind) (i : ℕ) (r : Option (Reply T)) → names_by core (entry_of (Some (poll_of kind i)) r) ≡ []
+  poll_wakes_none core kind i r = grind arith
+
   pub mark-marked : (m : Mark) (i j : ℕ) (tasks : List (Task T)) → mark_at (change (with_mark m) i tasks) j ≡ marked_if (nat_eq i j) m (mark_at tasks j)
   mark-marked m i j tasks = grind (arith, nat_tests, slice_get-change_same, slice_get-change_other)
 

@@ -3,6 +3,11 @@ use Rattle.async_cell_driver.proofs.Words.{DriverState, NamesMatch, result_at, A
 use Rattle.async_cell_driver.specs.declared.{tasks.Mark.TheVariants.Ready, event.Told.TheVariants.Polled}
 use Rattle.async_cell_driver.proofs.TaskList.{awake, started_now}
 
+some_before : {A : Type 0} (xs ys : List A) (i : ℕ) → is_some (slice_get (xs ++ ys) i) ≡ false → is_some (slice_get xs i) ≡ false
+some_before [] ys i none = refl
+some_before (x ∷ xs) ys zero none = none
+some_before (x ∷ xs) ys (suc i) none = some_before xs ys i none
+
 module _ {T : Type 0} where
   -- a task that was just started
   abbrev pub fresh : Kind → Task T
@@ -45,12 +50,6 @@ module _ {T : Type 0} where
       → result_at now i ≡ result_at before i
   results_stay before now kind i result started refused = grind (arith, with_fresh)
 
-some_before : {A : Type 0} (xs ys : List A) (i : ℕ) → is_some (slice_get (xs ++ ys) i) ≡ false → is_some (slice_get xs i) ≡ false
-some_before [] ys i none = refl
-some_before (x ∷ xs) ys zero none = none
-some_before (x ∷ xs) ys (suc i) none = some_before xs ys i none
-
-module _ {T : Type 0} where
   -- no line leads nowhere
   pub drives_nil : (is_clone : T → T → Type 0) (from : DriverState T) → IsSound same_name from.core → NamesMatch from → Drives is_clone from [] from
   drives_nil is_clone from sound covered = record {
@@ -76,7 +75,6 @@ module _ {T : Type 0} where
       let due = unstarted_due from earlier i legal.1 before in
       grind (arith, polled_ready, legal.0, before, due)
 
-module _ {T : Type 0} where
   -- what one line says of a task, where two logs agree on it
   ready_line : (from at : DriverState T) (earlier later : Log T) (line : Line T) (i : ℕ) → IsLegal from earlier → IsLegal at later
       → kinds at later ≡ kinds from earlier → is_done at later i ≡ is_done from earlier i → is_ready at later i ≡ is_ready from earlier i
@@ -162,10 +160,8 @@ module _ {T : Type 0} where
       → Happened edit is_clone is_infallible from (events ++ event ∷ []) (answers ++ answer ∷ []) to
   happen_more edit is_clone is_infallible from at to events answers event answer same before one spared =
       let line : Line T = line_of at (with_edit edit event) answer in
-      let mapped = length-map events (with_edit edit) in
       let log_is : log_of (map (with_edit edit) (events ++ event ∷ [])) (answers ++ answer ∷ []) (before.0 ++ line.names ∷ []) ≡ line ∷ log_of (map (with_edit edit) events) answers before.0 =
-      ap (λ es. log_of es (answers ++ answer ∷ []) (before.0 ++ line.names ∷ [])) (map-append (with_edit edit) events (event ∷ []))
-      ∙ log_of_append (map (with_edit edit) events) (line.event ∷ []) answers (line.told ∷ []) before.0 (line.names ∷ []) (same ∙ sym mapped) (before.1 ∙ sym mapped) in (
+      grind (arith, same, before.1, length-map, map-append, log_of_append) in (
         before.0 ++ line.names ∷ [],
         length-append before.0 (line.names ∷ []) ∙ (ap (λ n. n + 1) before.1 ∙ sym (length-append events (event ∷ []))),
         subst (λ (l : Log T). Drives is_clone from l to) (sym log_is) (drives_join is_clone from at to _ (line ∷ []) before.2 one),

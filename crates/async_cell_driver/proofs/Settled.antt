@@ -4,6 +4,14 @@ use Rattle.async_cell_driver.specs.declared.event.Told.TheVariants as told
 use Rattle.async_cell_driver.proofs.{Logs.drives_join, CoreCalls.poll_steps}
 use Rattle.async_cell_driver.proofs.TaskList.{ready_now, started_now, says_same, map-change, slice_get-change_same, slice_get-change_other}
 
+-- the numbers below one begin those below another
+begin_numbers : (d m n : ℕ) → n ≡ d + m → (rest : List ℕ) × (numbers n ≡ numbers m ++ rest)
+begin_numbers zero m n same = let is : n ≡ m = omega arith in ([], rw is (sym (append-nil (numbers m))))
+begin_numbers (suc d) m zero same = absurd (omega arith)
+begin_numbers (suc d) m (suc n) same =
+    let before = begin_numbers d m n (omega arith) in
+    (before.0 ++ n ∷ [], ap (λ l. l ++ n ∷ []) before.1 ∙ append_assoc (numbers m) before.0 (n ∷ []))
+
 module _ {T : Type 0} where
   -- the state with what is kept for task i
   abbrev pub keeping : ℕ → Option (Option T) → DriverState T → DriverState T
@@ -29,15 +37,6 @@ module _ {T : Type 0} where
   pub result-keeping_other : (i j : ℕ) (result : Option (Option T)) (tasks : List (Task T)) → i ≢ j → result_at (change (with_result result) i tasks) j ≡ result_at tasks j
   result-keeping_other i j result tasks other = ap result_of (slice_get-change_other (with_result result) i j tasks other)
 
--- the numbers below one begin those below another
-begin_numbers : (d m n : ℕ) → n ≡ d + m → (rest : List ℕ) × (numbers n ≡ numbers m ++ rest)
-begin_numbers zero m n same = let is : n ≡ m = omega arith in ([], rw is (sym (append-nil (numbers m))))
-begin_numbers (suc d) m zero same = absurd (omega arith)
-begin_numbers (suc d) m (suc n) same =
-    let before = begin_numbers d m n (omega arith) in
-    (before.0 ++ n ∷ [], ap (λ l. l ++ n ∷ []) before.1 ∙ append_assoc (numbers m) before.0 (n ∷ []))
-
-module _ {T : Type 0} where
   -- what the polls of the tasks below i came to
   pub record SoFar (is_clone : T → T → Type 0) (from : DriverState T) (i polls : ℕ) (log : Log T) (at : DriverState T) : Type 0 where
     pub drives : Drives is_clone from log at

@@ -1,19 +1,19 @@
-use Rattle.async_cell_driver.proofs.Words.{◌≡◌, true, false, [], ◌∷◌, subst, sym, ◌∙◌, Drives, line_of, Poll, told_of, polled_of, mark_after, change, with_mark, model_up_to, same_name, is_ready_mark, DriverState, mark_at}
+use Rattle.async_cell_driver.proofs.Words.{mark_after, polled_of, DriverState, change, with_mark, Drives, line_of, told_of, Poll, model_up_to, same_name, [], subst, sym, true, ◌∙◌, ◌∷◌}
 use Rattle.async_cell_driver.proofs.{TaskList.ready_now, Logs.not_polled, CoreCalls.covered_polled, CoreCalls.poll_drives, CoreCalls.ready_no_more, CoreCalls.others_stay}
 use Rattle.async_cell_driver.proofs.driver.Driver.poll.Goals as goal
 
 pub returns-in_default-clause-drives : goal.returns-in_default-clause-drives
 returns-in_default-clause-drives g c =
     let at : DriverState g.row.T.Denot = record { core = c.self.inside.core; tasks = c.self.inside.tasks } in
-    let not_ready : is_ready_mark (mark_at at.tasks c.args.i) ≡ false = rw c.in_default.is at c.ready.ensures.not_ready in
+    let not_ready = rw c.in_default.is at c.ready.ensures.not_ready in
     rw (← c.self.view_is) (not_polled at c.args.i g.T.Clone.is_clone c.soundness.ensures c.self.invariant (ready_now at c.args.i ∙ not_ready))
 
 pub invariant_of-self : goal.invariant_of-self
 invariant_of-self g c =
-    let at : DriverState g.row.T.Denot = record { core = c.self.inside.core; tasks = c.self.inside.tasks } in
     let ready = rw c.in-Some.is at c.ready.ensures.kind in
     rw (c.set_mark.ensures, c.outcome-mark.ensures.mark)
-    (covered_polled at c.ask-asked.new.core c.args.i c.ask-asked.result c.self.invariant ready.1 c.ask-asked.ensures.refused c.ask-asked.ensures.waiting)
+    (covered_polled (record { core = c.self.inside.core; tasks = c.self.inside.tasks }) c.ask-asked.new.core c.args.i c.ask-asked.result
+    c.self.invariant ready.1 c.ask-asked.ensures.refused c.ask-asked.ensures.waiting)
 
 pub returns-clause-drives : goal.returns-clause-drives
 returns-clause-drives g c =
@@ -35,5 +35,5 @@ returns-clause-ready_no_more g c =
 
 pub returns-clause-others_stay : goal.returns-clause-others_stay
 returns-clause-others_stay g c j other =
-    let at : DriverState g.row.T.Denot = record { core = c.self.inside.core; tasks = c.self.inside.tasks } in
-    rw (c.set_mark.ensures, ← c.self.view_is) (others_stay c.ask-asked.new.core at c.outcome-mark.result.0 c.args.i j (λ same. other (sym same)))
+    rw (c.set_mark.ensures, ← c.self.view_is)
+    (others_stay c.ask-asked.new.core (record { core = c.self.inside.core; tasks = c.self.inside.tasks }) c.outcome-mark.result.0 c.args.i j (λ same. other (sym same)))
