@@ -1,6 +1,4 @@
 mod Counted
-mod KeptEntry
-mod OneMoreEntry
+mod Histories
 mod PlainHistories
-mod Serials
 mod Words

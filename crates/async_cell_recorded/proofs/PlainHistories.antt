@@ -3,7 +3,7 @@ use Rattle.async_cell_recorded.proofs.Words.{◌≡◌, ◌<◌, ◌+◌, ℕ, s
 use Rattle.async_cell_recorded.proofs.Words.{All-map, Named, History, is_memory, Entry, Recording, PlainRecording, IsRecorded, IsPlain, plain_entry, without_shares, of_one_share, with_one_share}
 use Rattle.async_cell_recorded.proofs.Words.{made_by, serials_of, numbers_below}
 use Rattle.async_cell_model.specs.declared.entry.Entry as model
-use Rattle.async_cell_recorded.proofs.Serials.{serials_more, made_by-snoc}
+use Rattle.async_cell_recorded.proofs.Histories.{serials_more, made_by-snoc}
 
 module _ {T : Type 0} where
   abbrev IsAnswered : model.Entry T Named → Type 0

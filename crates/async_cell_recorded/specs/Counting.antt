@@ -2,7 +2,7 @@
 use Rattle.std.specs.Prelude.{◌≡◌, ◌+◌, ◌<◌, ℕ, suc, zero, Bool, List, [], ◌∷◌, ◌++◌, length, map, slice_index, if◌then◌else◌}
 use Rattle.async_cell_wakers.specs.declared.named.Named.{Named}
 use Rattle.async_cell_model.specs.{Machine.State, History.after, Legal.woken_by}
-use Rattle.async_cell_recorded.specs.declared.entry.Entry.{Entry}
+use Rattle.async_cell_recorded.specs.declared.history.Entry.{Entry}
 use Rattle.async_cell_recorded.specs.Recording.{Recording, plain_entry, start, state, made_by, IsRecorded}
 use Rattle.async_cell_wakers.specs.Named.{same_name}
 

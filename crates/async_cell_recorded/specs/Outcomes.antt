@@ -4,21 +4,10 @@ use Rattle.std.specs.List.{AllZip, sum_by}
 use Rattle.async_cell_recorded.specs.declared.session.Seat.{Seat}
 use Rattle.async_cell_recorded.specs.{Counting.ShareState, Counting.Test, Counting.picked, Recording.Recording, Recording.numbers_below}
 
-module _ {O : Type 0} where
-  -- the share of a seat, under the number that it had before its thread ran
-  abbrev pub share_of : Seat ShareState O → ShareState
-  share_of seat = record seat.share { number = seat.number }
-
-  -- a seat whose thread has not run: the share is new
-  pub record IsNew (seat : Seat ShareState O) : Type 0 where
-    pub number_is : seat.share.number ≡ seat.number
-    pub count_is : seat.share.count ≡ 0
-    pub picked_is : seat.share.picked ≡ 0
-
 module _ {O : Type 0} (describes : O → ShareState → Type 0) where
   -- a seat whose thread has ended: there is an outcome, which describes the share
   pub record HasEnded (seat : Seat ShareState O) : Type 0 where
-    pub given : IsSomeAnd seat.outcome (λ outcome. describes outcome (share_of seat))
+    pub given : IsSomeAnd seat.outcome (λ outcome. describes outcome seat.share)
 
   -- These are the outcomes of this many shares, in the order of their numbers, and the history of
   -- their cell. Each outcome describes its share. The history has as many entries as the shares
@@ -31,3 +20,8 @@ module _ {O : Type 0} (describes : O → ShareState → Type 0) where
     pub described : AllZip describes outcomes shares
     pub counted : length history.entries ≡ sum_by (λ share. share.count) shares
     pub picked_is : picked test history ≡ sum_by (λ share. share.picked) shares
+
+-- a share with which no call was made
+pub record IsNew (share : ShareState) : Type 0 where
+  pub count_is : share.count ≡ 0
+  pub picked_is : share.picked ≡ 0

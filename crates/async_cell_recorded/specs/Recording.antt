@@ -6,7 +6,7 @@ use Rattle.async_cell_wakers.specs.declared.named.Named.{Named}
 use Rattle.async_cell_model.specs.declared.cell.Cell.TheVariants.{Open}
 use Rattle.async_cell_model.specs.declared.entry.Entry as model
 use Rattle.async_cell_model.specs.{Machine.owners_limit, Machine.is_memory, Machine.State, History.History, History.after, Legal.IsLegal}
-use Rattle.async_cell_recorded.specs.declared.entry.Entry.{Entry}
+use Rattle.async_cell_recorded.specs.declared.history.Entry.{Entry}
 
 -- the numbers 0, 1, 2, .. below n, in order
 abbrev pub numbers_below : ℕ → List ℕ

@@ -1,11 +1,33 @@
 ghost use Rattle.std.specs.Prelude.{◌≡◌, ◌↔◌, [], false, IsTrue, IfOk, IfErr, length, map};
 ghost use Rattle.async_cell_model.specs.Taken.{IsDistinct, put_in, taken_out, has_update};
 ghost use Rattle.async_cell_model.specs.Refusal.{FailsWithMemory};
-ghost use Rattle.async_cell_recorded.specs.Recording.{IsRecorded, plain_entry, without_shares, with_one_share};
+ghost use Rattle.async_cell_recorded.specs.Recording.{Recording, IsRecorded, plain_entry, without_shares, with_one_share};
 
-use crate::{Entry, Named, Plain, PlainHistory, Refusal};
+use crate::{Named, PlainHistory, Refusal, Reply};
 use async_cell_model::laws::exact::a_value_is_taken_once;
 use std::marker::Model;
+
+/// A call as a history stores it: an update with what its edit saw and what it returned.
+pub type Kept<T> = async_cell_model::Kept<T, Named>;
+
+/// A call of a recorded cell and its reply, without the share that made it.
+pub type Plain<T> = async_cell_model::Entry<T, Named>;
+
+/// A call of a recorded cell and its reply, with the share that made it.
+#[derive(Clone, Copy, Debug, Drop, PartialEq, Eq)]
+pub struct Entry<T> {
+    /// The number of the share that made the call.
+    pub share: u32,
+
+    /// How many calls the share made before this one: its calls are numbered 0, 1, 2, .. in order.
+    pub serial: u64,
+
+    /// The call, with what its edit saw and returned if it has one.
+    pub call: Kept<T>,
+
+    /// The reply of the cell. A refusal of the cell is a reply, too.
+    pub reply: Reply<T>,
+}
 
 /// The calls that were made on a recorded cell, in the order in which they took effect, each with
 /// its reply.
@@ -17,10 +39,6 @@ pub struct History<T> {
 
 /// Contracts see the number of owners at the start, and the list of the entries.
 impl<T> Model for History<T> {
-    ghost use Rattle.std.specs.Prelude.{◌≡◌};
-    ghost use Rattle.async_cell_model.specs.Refusal.{FailsWithMemory};
-    ghost use Rattle.async_cell_recorded.specs.Recording.{Recording, IsRecorded};
-
     ghost Value = { Recording T };
 
     ghost view = { λ h. record { begin = h.begin; entries = h.entries.items } };
@@ -59,10 +77,8 @@ impl<T> History<T> {
         self.entries.as_slice()
     }
 
-    /// A value that a call took is taken by no other. If no call is an update, and the values that
-    /// the calls put in all differ, then the values that the replies move out all differ too. A get
-    /// moves none out.
-    ///
+    /// No value is taken twice: if no call is an update, and the values that the calls put in all
+    /// differ, then the values that the replies move out all differ, too. A get moves none out.
     /// Does nothing: its contract is the law.
     pub fn a_value_is_taken_once(&self)
         ensures law { has_update (map plain_entry self.now.entries) ≡ false

@@ -1,17 +1,18 @@
-ghost use Rattle.std.specs.Prelude.{◌≡◌, ◌≢◌, ◌↔◌, ◌⊎◌, ◌≤◌, ◌++◌, ◌∷◌, [], length, vec_len};
+ghost use Rattle.std.specs.Prelude.{◌≡◌, ◌≢◌, ◌↔◌, ◌⊎◌, ◌≤◌, ◌<◌, ◌^◌, ◌+◌, ◌++◌, ◌∷◌, ℕ, []};
+ghost use Rattle.std.specs.Prelude.{length, vec_len, replicate, slice_index, slice_set};
 ghost use Rattle.std.specs.{Prelude.IfOk, Prelude.IfErr, Prelude.OnErr, List.sum_by};
 ghost use Rattle.async_cell_model.specs.{Machine.reply, Legal.woken_by, Refusal.FailsWithMemory};
 ghost use Rattle.async_cell_core.specs.Kept.{kept_call};
-ghost use Rattle.async_cell_recorded.specs.Recording.{IsRecorded, state, plain_entry, made_by};
-ghost use Rattle.async_cell_recorded.specs.Counting.{new_shares, share_after, picked};
+ghost use Rattle.async_cell_recorded.specs.Recording.{Recording, IsRecorded, state, plain_entry, made_by};
+ghost use Rattle.async_cell_recorded.specs.Counting.{IsJournal, Totals, new_shares, share_after, picked};
 
-use crate::books::{self, Books};
 use crate::made::make;
-use crate::marker::ShareCount;
-use crate::{Blanks, Call, Edit, Entry, History, Named, Pick, Refusal, Share, Wakers};
+use crate::share::{CallsLedger, PickedLedger, ShareCount};
+use crate::{Blanks, Call, Edit, Entry, History, Marker, Named, Pick, Refusal, Share, Wakers};
 use async_cell_core::Core;
-use std::alloc::Global;
+use std::alloc::{AllocError, Global};
 use std::marker::Model;
+use std::sync::ledger::{self, Ledger};
 
 /// The value under the lock of a recorded cell: the cell, its history, and the books of what the
 /// shares count. `M` names the cell.
@@ -26,9 +27,6 @@ pub struct Journal<T, M: Pick<T>> {
 /// Contracts see the history. It is legal, the serials of each share's entries are 0, 1, 2, .. in
 /// order, it leads to the cell and its wait list, and it has as many entries as the books count.
 impl<T, M: Pick<T>> Model for Journal<T, M> {
-    ghost use Rattle.std.specs.Prelude.{◌≡◌};
-    ghost use Rattle.async_cell_recorded.specs.{Recording.Recording, Counting.IsJournal};
-
     ghost Value = { Recording T };
 
     ghost view = { λ j. record { begin = j.count.shares; entries = j.entries.items } };
@@ -41,7 +39,7 @@ impl<T, M: Pick<T>> Model for Journal<T, M> {
 impl<T: Copy, M: Pick<T>> Journal<T, M> {
     /// Makes an open cell without a value, with an owner for each share, and its shares, numbered
     /// from 0. Fails with `Memory` if there is no memory.
-    #[tactic(auto, using(crate::proofs::OneMoreEntry::journal_new, crate::proofs::Counted::length_new_shares))]
+    #[tactic(auto, using(crate::proofs::Counted::length_new_shares))]
     pub fn new(alloc: Global, shares: u32, blanks: Blanks) -> Result<(Self, Vec<Share<M>>), Refusal>
         requires some { 1 ≤ shares }
         requires shares { shares ≡ M.shares }
@@ -62,12 +60,13 @@ impl<T: Copy, M: Pick<T>> Journal<T, M> {
         Ok((journal, made))
     }
 
-    /// Makes a call. Returns its entry, and the wakers that are to be woken by the caller. The
-    /// entry has the number of the share, and the share's count before the call as its serial. A
-    /// refusal of the cell is a reply, and has an entry. The call itself fails, and leaves no
-    /// entry, in two cases. It fails with `OutOfTurn`, which is checked first, if the share's count
-    /// is not the number of its entries in the history. It fails with `Memory` if there is no
-    /// memory.
+    /// Makes a call. Returns its entry, and the wakers that the caller must wake. The entry has the
+    /// number of the share, and the share's count before the call as its serial. A refusal of the
+    /// cell is a reply, and has an entry.
+    ///
+    /// A call that fails leaves no entry. It fails with `OutOfTurn`, which is checked first, if the
+    /// share's count is not the number of its entries in the history, and with `Memory` if there is
+    /// no memory.
     pub fn step<E: Edit<T> + Drop>(
         &mut self,
         share: &mut Share<M>,
@@ -108,12 +107,11 @@ impl<T: Copy, M: Pick<T>> Journal<T, M> {
         };
         self.entries.push_reserved(entry);
         let answer = (entry, woken);
-        books::count(&mut self.books, share, &answer);
+        count(&mut self.books, share, &answer);
         Ok(answer)
     }
 
-    /// Takes all shares back, and returns the history. It has as many entries as the shares count.
-    /// As many of its entries pass the test as results were picked over all shares.
+    /// Takes all shares back, and returns the history.
     pub(crate) fn close(self, shares: Vec<Share<M>>) -> History<T>
         requires { vec_len shares ≡ M.shares }
         ensures history { result ≡ self }
@@ -122,10 +120,134 @@ impl<T: Copy, M: Pick<T>> Journal<T, M> {
         ensures counted { length self.entries ≡ sum_by (λ s. s.count) shares.items }
         ensures picked { picked M.pick self ≡ sum_by (λ s. s.picked) shares.items }
     {
-        self.books.close(shares);
+        let books = self.books;
+        let Books {
+            mut calls,
+            mut picked,
+            mut calls_left,
+            mut picked_left,
+            next_serials: _,
+        } = books;
+        for share in shares {
+            calls_left.merge(share.calls);
+            picked_left.merge(share.picked);
+        }
+        calls.audit(&mut calls_left);
+        picked.audit(&mut picked_left);
         History {
             begin: self.count.shares,
             entries: self.entries,
         }
     }
 }
+
+/// The books of what a cell's shares count, each beside the part of its ledger that no share has,
+/// and the serial of the next call of each share.
+#[derive(Drop)]
+struct Books<M: Marker> {
+    calls: ledger::Book<CallsLedger<M>>,
+    picked: ledger::Book<PickedLedger<M>>,
+    calls_left: ledger::Share<CallsLedger<M>>,
+    picked_left: ledger::Share<PickedLedger<M>>,
+    next_serials: Vec<u64>,
+}
+
+/// Contracts see what the shares add up to, and the serials.
+impl<M: Marker> Model for Books<M> {
+    ghost Value = { Totals };
+
+    ghost view = { λ b. record {
+      calls = b.calls.total;
+      picked = b.picked.total;
+      next_serials = b.next_serials.items;
+    } };
+
+    ghost invariant = { λ b.
+        (b.calls_left.parts ≡ 0) × (b.calls_left.amount ≡ 0)
+        × (b.picked_left.parts ≡ 0) × (b.picked_left.amount ≡ 0)
+        × (vec_len b.next_serials ≡ M.shares) };
+}
+
+impl<M: Marker> Books<M> {
+    /// Makes new books, and the shares. Fails if there is no memory, which is checked first.
+    fn open(
+        alloc: Global,
+        shares: u32,
+        blanks: Blanks,
+    ) -> Result<(Self, Vec<Share<M>>), AllocError>
+        requires calls { (blanks.calls.name ≡ M.calls) × (blanks.calls.parts ≡ M.shares) }
+        requires picked { (blanks.picked.name ≡ M.picked) × (blanks.picked.parts ≡ M.shares) }
+        requires shares { shares ≡ M.shares }
+        ensures empty { IfOk result (λ new.
+            new.0 ≡ record { calls = 0; picked = 0; next_serials = replicate shares 0 }) }
+        ensures new_shares { IfOk result (λ new. new.1.items ≡ new_shares shares) }
+    {
+        let mut made = Vec::new(alloc);
+        made.reserve_exact(shares as usize)?;
+        let next_serials = Vec::from_elem(alloc, 0, shares as usize)?;
+        let Blanks { calls, picked } = blanks;
+        let (calls, mut calls_left) = calls.open::<CallsLedger<M>>();
+        let (picked, mut picked_left) = picked.open::<PickedLedger<M>>();
+        for number in 0..shares {
+            made.push_reserved(Share {
+                number,
+                count: 0,
+                calls: calls_left.split_off(1, 0),
+                picked: picked_left.split_off(1, 0),
+            });
+        }
+        let books = Books {
+            calls,
+            picked,
+            calls_left,
+            picked_left,
+            next_serials,
+        };
+        Ok((books, made))
+    }
+
+    /// Returns the serial of the next call of this share.
+    fn next_serial(&self, share: &Share<M>) -> u64
+        ensures serial { result ≡ slice_index self.now.next_serials share.now.number }
+        ensures shares { length self.now.next_serials ≡ M.shares }
+        ensures of_shares { share.now.number < M.shares }
+    {
+        self.next_serials[share.number as usize]
+    }
+}
+
+/// Counts a call. The amount that is added to what was picked depends on the call's answer alone,
+/// and only contracts know it.
+fn count<T, M: Marker>(
+    books: &mut Books<M>,
+    share: &mut Share<M>,
+    answer: &(Entry<T>, Wakers<Named>),
+)
+    ghost amount: { ℕ }
+    requires { share.old.count + 1 < 2 ^ 64 }
+    ensures books { books.new ≡ record {
+      calls = books.old.calls + 1;
+      picked = books.old.picked + amount;
+      next_serials = slice_set books.old.next_serials share.old.number (share.old.count + 1);
+    } }
+    ensures share { share.new ≡ record share.old {
+      count = share.old.count + 1;
+      picked = share.old.picked + amount;
+    } }
+{
+    let _ = answer;
+    books.calls.add(&mut share.calls, 1);
+    share.count += 1;
+    books.next_serials[share.number as usize] = share.count;
+    add_unseen(&mut books.picked, &mut share.picked);
+}
+
+/// Adds an amount to a share and to its book, as `Book::add` does. The amount is not a number of
+/// the program: the caller's proof picks it. Does nothing at run time.
+fn add_unseen<L: Ledger>(book: &mut ledger::Book<L>, share: &mut ledger::Share<L>)
+    ghost amount: { ℕ }
+    requires { 0 < share.old.parts }
+    ensures total { book.new.total ≡ book.old.total + amount }
+    ensures amount { share.new.amount ≡ share.old.amount + amount }
+    ensures parts { share.new.parts ≡ share.old.parts }
+{}

@@ -3,7 +3,7 @@ ghost use Rattle.std.specs.Prelude.{◌≡◌, true, false, IfOk, OnErr};
 ghost use Rattle.async_cell_model.specs.Machine.{is_memory, Does};
 ghost use Rattle.async_cell_core.specs.Kept.{kept_call};
 ghost use Rattle.async_cell_wakers.specs.Named.{same_name};
-ghost use Rattle.async_cell_recorded.specs.Keeping.{kept_before, kept_after};
+ghost use Rattle.async_cell_recorded.specs.Answering.{kept_before, kept_after};
 
 use crate::{Call, Edit, Kept, Named, Plain, Refusal, Reply, Wakers};
 use async_cell_core::{Answer, Core, step_copied};
@@ -41,9 +41,9 @@ fn answered<T: Copy>(kept: Kept<T>, put: Option<T>) -> Kept<T>
     }
 }
 
-/// Makes the call. Returns it with its reply, and the wakers that are to be woken by the caller.
-/// Fails if the core refuses a poll because there is no memory.
-#[tactic(auto, using(crate::proofs::KeptEntry::got_content, crate::proofs::KeptEntry::refused_unchanged, crate::proofs::KeptEntry::kept_made))]
+/// Makes the call. Returns it with its reply, and the wakers that the caller must wake. Fails if
+/// the core refuses a poll because there is no memory.
+#[tactic(auto, using(crate::proofs::Histories::got_content, crate::proofs::Histories::refused_unchanged, crate::proofs::Histories::kept_made))]
 pub(crate) fn make<T: Copy, E: Edit<T> + Drop>(
     core: &mut Core<T, Named>,
     call: Call<T, Named, E>,

@@ -1,7 +1,7 @@
 ghost use Rattle.std.specs.Prelude.{◌≡◌, ◌↔◌, [], IsTrue, length};
-ghost use Rattle.async_cell_recorded.specs.Recording.{IsPlain};
+ghost use Rattle.async_cell_recorded.specs.Recording.{PlainRecording, IsPlain};
 
-use crate::entry::Plain;
+use crate::Plain;
 use std::marker::Model;
 
 /// A recorded history without the shares that made the calls: the calls in the order in which they
@@ -14,9 +14,6 @@ pub struct PlainHistory<T> {
 
 /// Contracts see the number of owners at the start, and the list of the entries.
 impl<T> Model for PlainHistory<T> {
-    ghost use Rattle.std.specs.Prelude.{◌≡◌};
-    ghost use Rattle.async_cell_recorded.specs.Recording.{PlainRecording, IsPlain};
-
     ghost Value = { PlainRecording T };
 
     ghost view = { λ h. record { begin = h.begin; entries = h.entries.items } };

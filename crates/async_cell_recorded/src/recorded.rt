@@ -2,11 +2,11 @@ ghost use Rattle.std.specs.Prelude.{◌≡◌, ◌↔◌, ◌≤◌, ◌⊎◌, 
 ghost use Rattle.std.specs.{Prelude.IsOk, Prelude.IfOk, Prelude.IfErr, List.sum_by};
 ghost use Rattle.async_cell_model.specs.Refusal.{FailsWithMemory};
 ghost use Rattle.async_cell_recorded.specs.Recording.{IsRecorded, plain_entry};
-ghost use Rattle.async_cell_recorded.specs.{Answering.IsCallResult, Fitting.Fits};
+ghost use Rattle.async_cell_recorded.specs.Answering.{Fits, IsCallResult};
 ghost use Rattle.async_cell_core.specs.Kept.{kept_call};
 ghost use Rattle.async_cell_recorded.specs.Counting.{new_shares, picked};
 
-use crate::marker::ShareCount;
+use crate::share::ShareCount;
 use crate::{
     Blanks, Call, Edit, Entry, History, Journal, Named, Pick, Refusal, Reply, Share, Wakers,
 };
@@ -18,21 +18,19 @@ use std::sync::{Mutex, Wait};
 /// reference, and each makes its calls with a share of its own. `M` names the cell.
 ///
 /// A call waits for the cell's lock, and then makes one step of its journal. It returns its entry,
-/// and the wakers that are to be woken: the caller must wake them. A call that fails leaves no
-/// entry. It fails with `Memory`, or with `OutOfTurn` if the share's count is not the number of its
-/// entries in the history. No contract says that the latter never happens; tests see none with a
-/// share of the cell.
+/// and the names of the wakers that its caller must wake. A refusal of the cell, such as `Closed`,
+/// is the reply of an entry.
 ///
-/// An edit is called, and dropped, while the lock is held: one that calls its own cell waits
-/// forever.
+/// A call that fails leaves no entry. It fails with `Memory`, or with `OutOfTurn` if the share's
+/// count is not the number of its entries in the history: no test sees that, but no contract
+/// excludes it. An edit runs under the lock. If it calls its own cell, it waits forever.
 #[derive(Drop)]
 pub struct Recorded<T, M: Pick<T>> {
     journal: Mutex<Journal<T, M>>,
     count: ShareCount<M>,
 }
 
-/// The result of a recorded call: its entry, with the names that it wakes, or why there is no
-/// entry.
+/// The result of a recorded call: its entry and the names to wake, or why there is no entry.
 pub type CallResult<T> = Result<(Entry<T>, Wakers<Named>), Refusal>;
 
 /// A call that takes no edit.
@@ -63,7 +61,6 @@ impl<T> Edit<T> for NoEdit {
 impl<T: Copy, M: Pick<T>> Recorded<T, M> {
     /// Makes an open cell without a value, with an owner for each share, and its shares, numbered
     /// from 0. Fails with `Memory` if there is no memory.
-    #[tactic(auto, using(crate::proofs::Counted::length_new_shares))]
     pub fn new(alloc: Global, shares: u32, blanks: Blanks) -> Result<(Self, Vec<Share<M>>), Refusal>
         requires some { 1 ≤ shares }
         requires shares { shares ≡ M.shares }
@@ -81,10 +78,10 @@ impl<T: Copy, M: Pick<T>> Recorded<T, M> {
         Ok((cell, made))
     }
 
-    /// Takes the cell and all of its shares, in any order, and returns the history. The history is
+    /// Takes the cell and all of its shares, in any order, and returns the history. If a share is
+    /// missing, the cell and the shares are returned in the error as they were. The history is
     /// legal, and has as many entries as the shares count. As many of its entries pass the marker's
-    /// test as results were picked over all shares. If a share is missing, the cell and the shares
-    /// are returned in the error as they were. Takes no lock and no memory.
+    /// test as results of the shares were picked. Takes no lock and no memory.
     pub fn finish(
         self,
         shares: Vec<Share<M>>,
@@ -104,8 +101,8 @@ impl<T: Copy, M: Pick<T>> Recorded<T, M> {
         Ok(self.journal.into_inner().close(shares))
     }
 
-    /// Makes a call while the lock is held.
-    #[tactic(auto, using(crate::proofs::KeptEntry::fits))]
+    /// Makes a call under the lock.
+    #[tactic(auto, using(crate::proofs::Histories::fits))]
     fn call<E: Edit<T> + Drop>(
         &self,
         share: &mut Share<M>,
@@ -120,8 +117,8 @@ impl<T: Copy, M: Pick<T>> Recorded<T, M> {
         self.journal.lock(rt).step(share, call)
     }
 
-    /// Sets the value. Returns the waiting wakers, to be woken by the caller. A closed cell refuses
-    /// the value, and the reply has it.
+    /// Sets the value, and returns the waiting wakers. A closed cell refuses the value, and the
+    /// reply has it.
     pub fn set(&self, share: &mut Share<M>, value: T, rt: &impl Wait) -> CallResult<T>
         ensures call { IsCallResult M.pick (λ _. Kept.Set value) share.old result share.new }
         ensures replied { IfOk result (λ answer.
@@ -131,9 +128,8 @@ impl<T: Copy, M: Pick<T>> Recorded<T, M> {
         self.call(share, NoEditCall::<T>::Set(value), rt)
     }
 
-    /// Sets the value if the cell holds none, and then returns the waiting wakers, to be woken by
-    /// the caller. Otherwise the reply has the value, and so it does if the cell is closed and
-    /// refuses.
+    /// Sets the value if the cell holds none, and then returns the waiting wakers. Otherwise the
+    /// reply has the value. A closed cell refuses it, and the reply has it, too.
     pub fn or_set(&self, share: &mut Share<M>, value: T, rt: &impl Wait) -> CallResult<T>
         ensures call { IsCallResult M.pick (λ _. Kept.OrSet value) share.old result share.new }
         ensures replied { IfOk result (λ answer.
@@ -144,8 +140,8 @@ impl<T: Copy, M: Pick<T>> Recorded<T, M> {
         self.call(share, NoEditCall::<T>::OrSet(value), rt)
     }
 
-    /// Sets the value, and replies with the old one. Returns the waiting wakers, to be woken by the
-    /// caller. A closed cell refuses the value, and the reply has it.
+    /// Sets the value, replies with the old one, and returns the waiting wakers. A closed cell
+    /// refuses the value, and the reply has it.
     pub fn replace(&self, share: &mut Share<M>, value: T, rt: &impl Wait) -> CallResult<T>
         ensures call { IsCallResult M.pick (λ _. Kept.Replace value) share.old result share.new }
         ensures replied { IfOk result (λ answer.
@@ -156,8 +152,7 @@ impl<T: Copy, M: Pick<T>> Recorded<T, M> {
     }
 
     /// Makes the new content of the old one. If that puts a value into an empty cell, returns the
-    /// waiting wakers, to be woken by the caller. A closed cell refuses, and the edit is not
-    /// called.
+    /// waiting wakers. A closed cell refuses, and the edit is not called.
     pub fn update<E: Edit<T> + Drop>(
         &self,
         share: &mut Share<M>,
@@ -255,7 +250,7 @@ impl<T: Copy, M: Pick<T>> Recorded<T, M> {
     }
 
     /// Ends one owner. The last one closes the cell: the reply has its value, and the waiting
-    /// wakers are returned, to be woken by the caller.
+    /// wakers are returned.
     pub fn end_owner(&self, share: &mut Share<M>, rt: &impl Wait) -> CallResult<T>
         ensures call { IsCallResult M.pick (λ _. Kept.EndOwner) share.old result share.new }
         ensures replied { IfOk result (λ answer.
@@ -266,7 +261,7 @@ impl<T: Copy, M: Pick<T>> Recorded<T, M> {
     }
 
     /// Closes the cell if it has one owner: the reply has its value, and the waiting wakers are
-    /// returned, to be woken by the caller.
+    /// returned. Otherwise the cell refuses.
     pub fn take_inner(&self, share: &mut Share<M>, rt: &impl Wait) -> CallResult<T>
         ensures call { IsCallResult M.pick (λ _. Kept.TakeInner) share.old result share.new }
         ensures replied { IfOk result (λ answer.

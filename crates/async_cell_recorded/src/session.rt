@@ -3,7 +3,7 @@ ghost use Rattle.std.specs.Prelude.{◌≡◌, ◌≤◌, ⊤, false, [], length
 ghost use Rattle.std.specs.{Prelude.IfOk, List.All, List.AllZip};
 ghost use Rattle.async_cell_model.specs.Refusal.{FailsWithMemory};
 ghost use Rattle.async_cell_recorded.specs.Counting.{ShareState, Test, new_shares};
-ghost use Rattle.async_cell_recorded.specs.Outcomes.{AreOutcomes, HasEnded, IsNew, share_of};
+ghost use Rattle.async_cell_recorded.specs.Outcomes.{AreOutcomes, HasEnded, IsNew};
 ghost use Rattle.async_cell_recorded.specs.Recording.{IsRecorded};
 
 use crate::{Blanks, History, Marker, Pick, Recorded, Refusal, Share};
@@ -23,12 +23,12 @@ pub trait Session {
     /// Which results of calls are picked, as [`Pick`] says. If you leave it out, none is.
     ghost pick: { Test Self.Value } = { λ _ _. false };
 
-    /// What an outcome says of the share of its thread: of its number, of how many calls it counts,
-    /// and of how many of their results were picked. If you leave it out, it says nothing.
+    /// What an outcome says of the share of its thread: of its number, its count, and how many of
+    /// its results were picked. If you leave it out, it says nothing.
     ghost describes: { Self.Outcome → ShareState → Type 0 } = { λ _ _. ⊤ };
 
-    /// What one thread does with the cell, through its share, which is new. The number of the share
-    /// distinguishes the threads.
+    /// What one thread does with the cell, through its share, which is new. Each thread has a share
+    /// with another number.
     fn run<M: Pick<Self::Value>, R: Wait>(
         &self,
         rt: &R,
@@ -40,19 +40,17 @@ pub trait Session {
         ensures described { describes result (record share.new { number = share.old.number }) };
 }
 
-/// Runs a session on a new cell, in a thread for each share. Makes an open cell without a value,
-/// with an owner for each share, runs the session once for each share, each in a thread of its own,
-/// and finishes the cell once all have ended.
+/// Runs a session on a new cell, once for each share, each run in a thread of its own. The cell
+/// begins open, without a value and with an owner for each share. It is finished once all have
+/// ended.
 ///
-/// Returns what the threads returned, in the order of the shares' numbers, and the history. What
-/// `Session::describes` says relates each outcome to its share: its number, its count, and how many
-/// of its results were picked. The history has as many entries as the shares count, and as many of
-/// its entries are picked, each with the names that it wakes.
+/// Returns what the threads returned, in the order of the shares' numbers, and the history. Each
+/// outcome is related to its share as `Session::describes` says. The history has as many entries as
+/// the shares count. As many of its entries pass the test as results of the shares were picked.
 ///
 /// Fails with `Memory` if there is no memory for the cell, its shares or the outcomes. All of that
-/// is allocated before the first run begins, so no refusal comes after it. Refusals of a run's own
-/// calls are for its outcome to report. If no thread can be made, the runs come one after another,
-/// so none may wait for another one to come.
+/// is allocated before the first run begins. If calls of a run fail, its outcome may say so. If no
+/// thread can be made, the runs come one after another, so none may wait for another.
 pub fn with_recorded<
     T: Copy + Send,
     O: Send + Drop,
@@ -71,7 +69,6 @@ pub fn with_recorded<
 }
 
 /// Does the same for a cell that is named by `M`.
-#[tactic(auto, using(crate::proofs::Counted::length_new_shares))]
 fn run_marked<
     T: Copy + Send,
     O: Send + Drop,
@@ -111,10 +108,9 @@ fn run_marked<
     }
 }
 
-/// A share with its number, and what its thread returned, once it has ended.
+/// A share, and what its thread returned, once it has ended.
 #[derive(Drop)]
 struct Seat<S, O> {
-    number: u32,
     share: S,
     outcome: Option<O>,
 }
@@ -124,17 +120,14 @@ fn seated<O: Drop, M: Marker>(
     alloc: Global,
     shares: Vec<Share<M>>,
 ) -> Result<Vec<Seat<Share<M>, O>>, AllocError>
-    requires { All (λ share. (share.count ≡ 0) × (share.picked ≡ 0)) shares.items }
     ensures one_each { IfOk result (λ seats. vec_len seats ≡ vec_len shares) }
-    ensures new { IfOk result (λ seats. All IsNew seats.items) }
-    ensures numbers { IfOk result (λ seats.
-        map (λ seat. seat.number) seats.items ≡ map (λ share. share.number) shares.items) }
+    ensures shares { IfOk result (λ seats.
+        map (λ seat. seat.share) seats.items ≡ shares.items) }
 {
     let mut seats = Vec::new(alloc);
     seats.reserve_exact(shares.len())?;
     for share in shares {
         seats.push_reserved(Seat {
-            number: share.number(),
             share,
             outcome: None,
         });
@@ -151,9 +144,10 @@ fn in_threads<
     M: Pick<T> + Send + Sync,
 >(rt: &R, cell: &Recorded<T, M>, seats: &mut [Seat<Share<M>, O>], session: &S)
     requires pick { M.pick ≡ S.pick }
-    requires new { All IsNew seats.old }
+    requires new { All (λ seat. IsNew seat.share) seats.old }
     ensures one_each { length seats.new ≡ length seats.old }
-    ensures numbers { map (λ seat. seat.number) seats.new ≡ map (λ seat. seat.number) seats.old }
+    ensures numbers { map (λ share. share.number) (map (λ seat. seat.share) seats.new)
+        ≡ map (λ share. share.number) (map (λ seat. seat.share) seats.old) }
     ensures ended { All (HasEnded S.describes) seats.new }
 {
     let threads = seats.len().max(1);
@@ -165,7 +159,7 @@ fn in_threads<
     );
 }
 
-/// Runs the session for one share.
+/// Runs the session for one share, whose number stays, whatever the session does with the share.
 fn run_one<T: Copy, O: Drop, S: Session<Value = T, Outcome = O>, R: Wait, M: Pick<T>>(
     rt: &R,
     cell: &Recorded<T, M>,
@@ -173,11 +167,13 @@ fn run_one<T: Copy, O: Drop, S: Session<Value = T, Outcome = O>, R: Wait, M: Pic
     session: &S,
 )
     requires pick { M.pick ≡ S.pick }
-    requires new { IsNew seat.old }
-    ensures number { seat.new.number ≡ seat.old.number }
+    requires new { IsNew seat.old.share }
+    ensures number { seat.new.share.number ≡ seat.old.share.number }
     ensures ended { HasEnded S.describes seat.new }
 {
+    let given = seat.share.number;
     let outcome = session.run::<M, R>(rt, cell, &mut seat.share);
+    seat.share.number = given;
     seat.outcome = Some(outcome);
 }
 
@@ -193,11 +189,11 @@ fn part<O: Drop, S: Session<Outcome = O>, M: Marker>(
         × (vec_len seats ≤ vec_capacity shares.old) }
     ensures outcomes { vec_len outcomes.new ≡ vec_len seats }
     ensures one_each { vec_len shares.new ≡ vec_len seats }
-    ensures described { AllZip S.describes outcomes.new.items (map share_of seats.items) }
+    ensures described { AllZip S.describes outcomes.new.items shares.new.items }
     ensures shares { shares.new.items ≡ map (λ seat. seat.share) seats.items }
 {
     for seat in seats {
-        let Seat { share, outcome, .. } = seat;
+        let Seat { share, outcome } = seat;
         let Some(outcome) = outcome else {
             unreachable!();
         };

@@ -1,5 +1,5 @@
 use Rattle.async_cell_recorded.proofs.Words.{◌≡◌, true, false, rules, is_memory, same_name}
-use Rattle.async_cell_recorded.proofs.KeptEntry.{kept_made, refused_unchanged}
+use Rattle.async_cell_recorded.proofs.Histories.{kept_made, refused_unchanged}
 use Rattle.async_cell_recorded.proofs.made.make.Goals as goal
 
 pub returns-clause-kept : goal.returns-clause-kept

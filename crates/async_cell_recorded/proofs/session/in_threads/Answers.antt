@@ -14,5 +14,5 @@ returns-clause-numbers g c =
     let len : length c.for_each_mut.new.s ≡ length c.args.seats.now = search rules in
     same_numbers c.args.seats.now c.for_each_mut.new.s len (λ k d below.
     let one = (c.for_each_mut.ensures k d below).1 in
-    let made : one.after_call.now.number ≡ one.argument.now.number = let call = one.call in search rules in
-    ap (λ (s : Seat ShareState g.row.O.Denot). s.number) (sym one.left) ∙ (made ∙ ap (λ (s : Seat ShareState g.row.O.Denot). s.number) one.argument_is))
+    let made : one.after_call.now.share.number ≡ one.argument.now.share.number = let call = one.call in search rules in
+    ap (λ (s : Seat ShareState g.row.O.Denot). s.share.number) (sym one.left) ∙ (made ∙ ap (λ (s : Seat ShareState g.row.O.Denot). s.share.number) one.argument_is))

@@ -1,4 +1,4 @@
-use Rattle.async_cell_recorded.proofs.Words.{◌∷◌, [], arith, length-append, map-append, All-head, All-tail, HasEnded, share_of, all_zipped_more}
+use Rattle.async_cell_recorded.proofs.Words.{◌∷◌, [], arith, length-append, map-append, All-head, All-tail, HasEnded, all_zipped_more}
 use Rattle.async_cell_recorded.proofs.session.part.Goals as goal
 
 pub loop-seat-preserved : goal.loop-seat-preserved
@@ -16,6 +16,6 @@ loop-seat-preserved g c =
       room_outcomes = omega (arith, first.len, first.capacity, kept.room_outcomes, taken.1);
       room_shares = omega (arith, second.len, second.capacity, kept.room_shares, taken.1);
       ended = All-tail (HasEnded g.S.Session.describes) _ _ ended;
-      described = rw (first.items, map-append share_of c.loop-seat.yielded (c.in-Some.seat ∷ [])) (all_zipped_more g.S.Session.describes _ _ _ _ kept.described one);
+      described = rw (first.items, second.items) (all_zipped_more g.S.Session.describes _ _ _ _ kept.described one);
       left = simp length-append (omega (arith, kept.left, taken.1));
     }

@@ -1,4 +1,4 @@
-use Rattle.async_cell_recorded.proofs.OneMoreEntry.{journal_new}
+use Rattle.async_cell_recorded.proofs.Histories.{journal_new}
 use Rattle.async_cell_recorded.proofs.journal.Journal.new.Goals as goal
 
 pub invariant_of-journal : goal.invariant_of-journal

@@ -1,5 +1,5 @@
-use Rattle.async_cell_recorded.proofs.Words.{refl, ◌≡◌, ◌<◌, arith, count_by-le-length, is_of, made_by}
-use Rattle.async_cell_recorded.proofs.OneMoreEntry.{journal_more, journal_same, step_replies}
+use Rattle.async_cell_recorded.proofs.Words.{refl, ◌≡◌, ◌<◌, ◌+◌, ◌^◌, arith, rules, count_by-le-length, is_of, made_by}
+use Rattle.async_cell_recorded.proofs.Histories.{journal_more, journal_same, step_replies}
 use Rattle.async_cell_recorded.proofs.journal.Journal.step.Goals as goal
 
 pub invariant_of-self-2 : goal.invariant_of-self-2
@@ -16,7 +16,8 @@ pub count-requires-3 : goal.count-requires-3
 count-requires-3 g c =
     let counted = c.self.invariant.counts_each c.args.share.now.number (omega (arith, c.next_serial.ensures.of_shares, c.self.inside.count.all)) in
     let few = count_by-le-length (is_of c.args.share.now.number) c.self.inside.entries.items in
-    omega (arith, c.count.ensures, c.if-count-next_serial.false, c.next_serial.ensures.serial, counted, few)
+    let room : c.args.share.now.count + 1 < 2 ^ 64 = omega (arith, c.count.ensures, c.if-count-next_serial.false, c.next_serial.ensures.serial, counted, few) in
+    search rules
 
 pub invariant_of-self-in_err-made : goal.invariant_of-self-in_err-made
 invariant_of-self-in_err-made g c =

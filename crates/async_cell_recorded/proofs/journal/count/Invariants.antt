@@ -1,4 +1,4 @@
-use Rattle.async_cell_recorded.proofs.books.add_picked.Given as goal
+use Rattle.async_cell_recorded.proofs.journal.count.Given as goal
 
 abbrev pub ghost-add_unseen : goal.ghost-add_unseen
 ghost-add_unseen g a = g.amount

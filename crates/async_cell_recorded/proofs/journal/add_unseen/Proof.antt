@@ -1,8 +1,8 @@
 -- The book's row and the share's row are set in one opening of the ledger's invariant, to an amount that contracts alone know.
-use Rattle.async_cell_recorded.proofs.Words.{refl, sym, subst, List, [], ◌∷◌, ℕ, ◌+◌, arith}
+use Rattle.async_cell_recorded.proofs.Words.{refl, sym, subst, List, [], ◌∷◌, ◌+◌, arith}
 use seplogic.Ra.Ura.{Ura}
 use mir.{MapTy.inst_fn, Syntax.Fn, Syntax.Dict, Syntax.dcons, Syntax.dnil, Syntax.a_type, Val.Val, Val.vunit, Val.vptr}
-use base.{Fml.Fml, Fml.ftrue, Fml.flft, Logic.SProp, Logic.ent, Logic.via, Logic.fst∗, Logic.snd∗}
+use base.{Fml.ftrue, Fml.flft, Logic.SProp, Logic.ent, Logic.via, Logic.fst∗, Logic.snd∗}
 use prog.{Model.Model, Wp.WpFn}
 use contract.{Monad.fact_use, Running.Running, Running.MachineTables, Running.tables, Running.tables_of}
 use sound.WpLaws.{WpFn-mono}
@@ -18,10 +18,10 @@ use Rattle.core.specs.contracts.ledger.Book as book
 use Rattle.core.specs.contracts.ledger.Share as share
 use Rattle.core.proofs.ledger.Steps as steps
 use Rattle.core.proofs.ledger.{Sums.Audited, Walks.hears, Walks.hears_last, Walks.tells, Walks.tells_last}
-use Rattle.async_cell_recorded.specs.contracts.ledger.add_unseen.{ended, clauses}
-use Rattle.async_cell_recorded.specs.contracts.ledger.add_unseen.Key.{name as #self}
-use Rattle.async_cell_recorded.proofs.ledger.add_unseen.Statement as stated
-use Rattle.async_cell_recorded.proofs.ledger.add_unseen.Code as code
+use Rattle.async_cell_recorded.specs.contracts.journal.add_unseen.{ended, clauses}
+use Rattle.async_cell_recorded.specs.contracts.journal.add_unseen.Key.{name as #self}
+use Rattle.async_cell_recorded.proofs.journal.add_unseen.Statement as stated
+use Rattle.async_cell_recorded.proofs.journal.add_unseen.Code as code
 
 module _ (Y : RattleType) (g : Ghosts Y.Denot) (d : Dict) {M : Type 1} {𝓤 : Ura M} (𝓛 : Logic 𝓤) (𝓜 : Model 𝓤 𝓛.H) (𝓡 : Running 𝓤 𝓛.H 𝓜) where
   open 𝓛 use {H}
@@ -56,16 +56,6 @@ module _ (Y : RattleType) (g : Ghosts Y.Denot) (d : Dict) {M : Type 1} {𝓤 : U
         ent 𝓤 ((walk_of 𝓛 (ended Y g d) stayed held).pre (At vss))
         (WpFn 𝓤 H 𝓣.C 𝓣.Λ function ((walk_of 𝓛 (ended Y g d) stayed held).args (At vss)) ((walk_of 𝓛 (ended Y g d) stayed held).post (At vss)))
 
-    abbrev a : A.Denot
-    a = z.0.3.0.now
-
-    abbrev b : B.Denot
-    b = z.0.3.1.0.now
-
-    -- the amount that is added
-    abbrev n : ℕ
-    n = z.1
-
     abbrev u : Val
     u = vptr z.0.3.0.ref_ptr.0 z.0.3.0.ref_ptr.1
 
@@ -75,17 +65,15 @@ module _ (Y : RattleType) (g : Ghosts Y.Denot) (d : Dict) {M : Type 1} {𝓤 : U
     abbrev passed : Vss
     passed = (u ∷ [], (v ∷ [], tt))
 
-    abbrev args : Fml
-    args = owns (types_at (ended Y g d).signature.params z.0.0) z.0.3 passed
-
     abbrev asked : SProp 𝓤
     asked = (held z.0.0 z.0.3).requires z.1
 
     walks : Goes passed
     walks =
-        let r = z.0.3.0 in let s = z.0.3.1.0 in let a' : A.Denot = record { marker = a.marker; total = a.total + n } in
-        let b' : B.Denot = record { marker = b.marker; parts = b.parts; amount = b.amount + n } in
-        qed 𝓛 (((‵ (flft z.0.0.0 z.0.1.0) ⊛ ‵ (flft z.0.0.1.0 z.0.1.1.0) ⊛ ‵ (flft z.0.0.1.1.0 z.0.1.1.1.0) ⊛ ‵ ftrue) ⊛ ‵ args) ∷ raw asked ∷ []) ∵
+        let r = z.0.3.0 in let s = z.0.3.1.0 in let a : A.Denot = r.now in let b : B.Denot = s.now in
+        let a' : A.Denot = record { marker = a.marker; total = a.total + z.1 } in
+        let b' : B.Denot = record { marker = b.marker; parts = b.parts; amount = b.amount + z.1 } in
+        qed 𝓛 (((‵ (flft z.0.0.0 z.0.1.0) ⊛ ‵ (flft z.0.0.1.0 z.0.1.1.0) ⊛ ‵ (flft z.0.0.1.1.0 z.0.1.1.1.0) ⊛ ‵ ftrue) ⊛ ‵ (owns (types_at (ended Y g d).signature.params z.0.0) z.0.3 passed)) ∷ raw asked ∷ []) ∵
         move ! (1 ∷ []) $ hears ! (λ _. hears_last ! (λ backed. split ! $ split ! $ move ! (1 ∷ []) $ split ! $ move ! (3 ∷ []) $ fsplit ! $ fsplit3 ! $ drop ! $
         move ! (2 ∷ []) $ fsplit ! $ fsplit3 ! $ drop ! $
         keep ! (3 ∷ 4 ∷ 7 ∷ 0 ∷ 1 ∷ 5 ∷ 6 ∷ []) $ enter ! 𝓣.C 𝓣.Λ function (u ∷ v ∷ []) _ $ alloc_all ! (λ l. pass_all ! refl ((tt, tt), ((tt, tt), tt)) $

@@ -1,5 +1,5 @@
 use Rattle.async_cell_recorded.proofs.Words.{◌≡◌, length, sum_by}
-use Rattle.async_cell_recorded.proofs.books.Books.close.Given as goal
+use Rattle.async_cell_recorded.proofs.journal.Journal.close.Given as goal
 
 -- the shares that were taken back, each with its part and its count
 abbrev pub invariant-loop-share : goal.invariant-loop-share

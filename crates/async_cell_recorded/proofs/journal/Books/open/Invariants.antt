@@ -1,5 +1,5 @@
 use Rattle.async_cell_recorded.proofs.Words.{◌≡◌, ◌≤◌, ◌+◌, vec_len, vec_capacity, new_shares}
-use Rattle.async_cell_recorded.proofs.books.Books.open.Given as goal
+use Rattle.async_cell_recorded.proofs.journal.Books.open.Given as goal
 
 -- a part of each ledger is left for each share that is still to be made
 abbrev pub invariant-loop-number : goal.invariant-loop-number
