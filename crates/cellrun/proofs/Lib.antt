@@ -1,7 +1,4 @@
-pub mod LineFeed
-pub mod Names
-pub mod Operand
-pub mod OutputContents
-pub mod ReplyText
-pub mod Written
+pub mod Calls
+pub mod Reading
 pub mod Words
+pub mod Written

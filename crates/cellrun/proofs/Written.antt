@@ -1,7 +1,17 @@
--- What a script has written, from one line to the next, and at its end.
-use Rattle.cellrun.proofs.Words.{State, Named, CallPrints, IsNext, after_line, Command, Call, Blank, Done, BadLine, Failed, arith, ◌≡◌, ℕ, ℤ, ◌+◌, List, [], ◌++◌, Option, Some, None, IfSome}
-use Rattle.cellrun.proofs.Words.{IfSome_then, Result, IsErr, refl, append_assoc, append-nil, Appends-nil, Appends-kept, Appends-trans, Keeps, Keeps-refl, Appends, append_known}
-use Rattle.cellrun.proofs.Words.{result_unwrap_or, ComesTo, EndsAs, past, first, Prints, StopsAt, Owes, new_cell, start, blank, called, Ended}
+-- The bytes of an output, and what a script has written, from one line to the next and at its end.
+use Rattle.cellrun.proofs.Words.{◌≡◌, ℕ, ◌+◌, List, take, drop, ◌++◌, Option, length, ◌≤◌, arith, append_assoc, take-append-drop, drop-drop, append_known-moved, drop-append-le, Keeps, Appends}
+use Rattle.cellrun.proofs.Words.{append_known, State, Named, CallPrints, IsNext, after_line, Command, Call, Blank, Done, BadLine, Failed, ℤ, [], Some, None, IfSome, IfSome_then, Result, IsErr, refl}
+use Rattle.cellrun.proofs.Words.{append-nil, Appends-nil, Appends-kept, Appends-trans, Keeps-refl, result_unwrap_or, ComesTo, EndsAs, past, first, Prints, StopsAt, Owes, new_cell, start, blank}
+use Rattle.cellrun.proofs.Words.{called, Ended}
+
+-- n bytes of what is not written yet are written
+pub moved : (old new : Option (List ℕ)) (gathered : List ℕ) (written n : ℕ) → Appends old new (take n (drop written gathered))
+    → Keeps (append_known old (drop written gathered)) (append_known new (drop (written + n) gathered))
+moved old new gathered written n more = grind (arith, drop-drop n written gathered, append_known-moved, take-append-drop n (drop written gathered))
+
+pub gathered_more : (held : Option (List ℕ)) (gathered items text : List ℕ) (written : ℕ) → written ≤ length gathered → items ≡ gathered ++ text
+    → Appends (append_known held (drop written gathered)) (append_known held (drop written items)) text
+gathered_more held gathered items text written within is = grind (arith, drop-append-le, append_assoc)
 
 -- What is left of the input begins with line n, the calls before it lead to the cell, and they print
 -- what the writer got since `before`, if its bytes are known.

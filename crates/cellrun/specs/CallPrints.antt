@@ -1,12 +1,12 @@
--- What a call prints.
-use Rattle.std.specs.Prelude.{◌≡◌, ◌+ℤ◌, ℕ, ℤ, true, List, [], ◌∷◌, ◌++◌, Option, Some, None, codes, decimal, if◌then◌else◌}
-use Rattle.std.specs.{Fmt.signed_decimal, Int.saturate_signed, Int.w64, Option.option_map}
+-- What a call prints, and the names that a session knows of the wakers that wait.
+use Rattle.std.specs.Prelude.{◌≡◌, ◌+ℤ◌, ℕ, ℤ, Bool, true, List, [], ◌∷◌, ◌++◌, Option, Some, None, codes, decimal, if◌then◌else◌}
+use Rattle.std.specs.{BTreeSet.BTreeSet, BTreeSet.contains, Fmt.signed_decimal, Int.saturate_signed, Int.w64, Option.option_map, Ordering.nat_cmp}
 use Rattle.async_cell_wakers.specs.{Named.same_name, declared.named.Named.Named}
 use Rattle.async_cell_model.specs.declared.{cell.Cell.Cell, entry.Kept.Kept, refusal.Refusal.Refusal, reply.Reply.Reply}
 use Rattle.async_cell_model.specs.declared.entry.Kept.TheVariants as kept
 use Rattle.async_cell_model.specs.declared.refusal.Refusal.TheVariants as why
 use Rattle.async_cell_model.specs.declared.reply.Reply.TheVariants.{Done, Value, Is, Pending, Ready, Refused}
-use Rattle.async_cell_model.specs.Machine.{content, is_closed, owners_of, State, Does}
+use Rattle.async_cell_model.specs.Machine.{content, is_closed, owners_of, skips, State, Does}
 use Rattle.cellrun.specs.declared.command.Command.{Command}
 use Rattle.cellrun.specs.declared.command.Command.TheVariants.{Set, OrSet, Replace, UpdatePut, UpdateNone, UpdateKeep, UpdateSomeAdd, Take, Get, TryTake, TryGet, Own, End, Inner, Debug}
 
@@ -61,10 +61,6 @@ abbrev pub value_text : List ℕ → List ℕ → Option ℤ → List ℕ
 value_text label none None = none
 value_text label none (Some v) = label ++ signed_decimal v
 
--- the number of owners
-abbrev pub owners_text : ℕ → List ℕ
-owners_text owners = codes "owners " ++ decimal owners
-
 -- the names of wakers, each after a space
 abbrev pub names_text : List Named → List ℕ
 names_text [] = []
@@ -79,8 +75,8 @@ end_text (name ∷ names) = codes " woke" ++ names_text (name ∷ names) ++ code
 abbrev pub reply_text : Reply ℤ → Command → ℕ → List ℕ
 reply_text (Value old) (Replace v) owners = value_text (codes "old ") (codes "old none") old
 reply_text (Value unused) (OrSet v) owners = codes "done"
-reply_text Done Own owners = owners_text owners
-reply_text (Value last) End owners = owners_text owners
+reply_text Done Own owners = codes "owners " ++ decimal owners
+reply_text (Value last) End owners = codes "owners " ++ decimal owners
 reply_text Done call owners = codes "done"
 reply_text (Value found) call owners = value_text (codes "some ") (codes "none") found
 reply_text (Is holds) call owners = if holds then codes "true" else codes "false"
@@ -95,3 +91,8 @@ CallPrints from Debug line to = to ≡ from
 CallPrints from call line to = (reply : Reply ℤ) × (woken : List Named)
     × Does same_name true from (record { call = kept_call from.cell call; reply = reply }) woken to
     × (line ≡ reply_text reply call (owners_of to.cell) ++ end_text woken)
+
+-- If `all` is true, the names that wait are among these.
+pub record KnowsNames (waiting : List Named) (names : BTreeSet ℕ) (all : Bool) : Type 0 where
+  pub each : all ≡ true → (name : ℕ) → skips same_name waiting (record { 0 = name }) ≡ true
+      → contains nat_cmp names name ≡ true

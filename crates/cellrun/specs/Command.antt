@@ -23,21 +23,15 @@ IsValue text = IsNumeral 10 (without_minus text) × FitsSigned w64 (number_of te
 abbrev pub IsDigits : List ℕ → Type 0
 IsDigits text = IsNumeral 10 text × (digits_value 10 text < 2 ^ 64)
 
--- the text writes the value
-abbrev pub WritesValue : List ℕ → ℤ → Type 0
-WritesValue text v = IsValue text × (v ≡ number_of text)
-
--- the text writes the waker's name
-abbrev pub WritesWaker : List ℕ → ℕ → Type 0
-WritesWaker text w = IsDigits text × (w ≡ digits_value 10 text)
-
 -- the line is these words and then a value
 abbrev pub EndsWithValue : List ℕ → List ℕ → ℤ → Type 0
-EndsWithValue words line v = (text : List ℕ) × (line ≡ words ++ text) × WritesValue text v
+EndsWithValue words line v =
+    (text : List ℕ) × (line ≡ words ++ text) × IsValue text × (v ≡ number_of text)
 
 -- the line is these words and then a waker's name
 abbrev pub EndsWithWaker : List ℕ → List ℕ → ℕ → Type 0
-EndsWithWaker words line w = (text : List ℕ) × (line ≡ words ++ text) × WritesWaker text w
+EndsWithWaker words line w =
+    (text : List ℕ) × (line ≡ words ++ text) × IsDigits text × (w ≡ digits_value 10 text)
 
 -- the line is the call
 abbrev pub Spells : List ℕ → Command → Type 0

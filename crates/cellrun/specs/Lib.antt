@@ -1,8 +1,5 @@
 pub mod CallPrints
 pub mod Command
-pub mod Ended
 pub mod Lines
-pub mod Names
-pub mod Next
 pub mod Output
-pub mod Written
+pub mod Script

@@ -1,47 +1,30 @@
 //! Parses a line into a call.
-ghost use Rattle.std.specs.Prelude.{◌≡◌, ◌≤◌, ℕ, ℤ, true, false, length, IsSome, IfSome, IfNone};
-ghost use Rattle.cellrun.specs.Command.{Spells, SpellsNone, EndsWithValue, EndsWithWaker, has_operand};
+ghost use Rattle.std.specs.Prelude.{◌≡◌, ◌≤◌, ℕ, ℤ, true, false, length, IsSome, IfSome, IfNone, SomeIff};
+ghost use Rattle.std.specs.Str.Parse.{digits_value};
+ghost use Rattle.cellrun.specs.Command.{Spells, SpellsNone, EndsWithValue, EndsWithWaker, has_operand, IsValue, IsDigits, number_of};
 ghost use Rattle.cellrun.specs.declared.command.Command.{Command};
-
-use crate::number::{digits, value};
 
 /// The greatest number of bytes in a line, not counting its line feed.
 pub const MAX_LINE: usize = 64;
 
-/// One call on the cell.
+/// One call on the cell. The program's usage has the line of each, and what it prints.
 #[derive(Clone, Copy, Debug, PartialEq, Eq)]
 pub enum Command {
-    /// `set V`
     Set(i64),
-    /// `or_set V`
     OrSet(i64),
-    /// `replace V`
     Replace(i64),
-    /// `update put V`
     UpdatePut(i64),
-    /// `update none`
     UpdateNone,
-    /// `update keep`
     UpdateKeep,
-    /// `update_some add V`
     UpdateSomeAdd(i64),
-    /// `take W`
     Take(u64),
-    /// `get W`
     Get(u64),
-    /// `try_take`
     TryTake,
-    /// `try_get`
     TryGet,
-    /// `is_set`
     IsSet,
-    /// `own`
     Own,
-    /// `end`
     End,
-    /// `inner`
     Inner,
-    /// `debug`
     Debug,
 }
 
@@ -126,4 +109,34 @@ fn waker_after(words: &[u8], line: &[u8]) -> Option<u64>
 {
     let text = line.strip_prefix(words)?;
     digits(text)
+}
+
+/// Reads a value: one or more decimal digits, and a minus before them if it is negative. Returns
+/// `None` for any other text, and for a number that does not fit an `i64`.
+fn value(text: &[u8]) -> Option<i64>
+    ensures { SomeIff result (IsValue text.now) (number_of text.now) }
+{
+    match text {
+        [b'-', rest @ ..] => 0_i64.checked_sub_unsigned(digits(rest)?),
+        _ => i64::try_from(digits(text)?).ok(),
+    }
+}
+
+/// Reads one or more decimal digits, which also name a waker. Returns `None` for any other text,
+/// and for a number that does not fit a `u64`.
+fn digits(text: &[u8]) -> Option<u64>
+    ensures { SomeIff result (IsDigits text.now) (digits_value 10 text.now) }
+{
+    if text.is_empty() {
+        return None;
+    }
+    let mut number: u64 = 0;
+    for byte in text {
+        if !byte.is_ascii_digit() {
+            return None;
+        }
+        let digit = *byte - b'0';
+        number = number.checked_mul(10)?.checked_add(digit as u64)?;
+    }
+    Some(number)
 }

@@ -3,7 +3,7 @@ ghost use Rattle.std.specs.Prelude.{◌≡◌, ◌<◌, ◌≤◌, ℕ, List, �
 ghost use Rattle.std.specs.{IoError.error_kind, List.position, List.position_or_len};
 ghost use Rattle.std.specs.Io.{Buffered.reader_buffer, Buffered.reader_remaining, KnownBytes.IsAtEnd, KnownBytes.Keeps};
 ghost use Rattle.arrayvec.specs.ArrayVec.{array_vec_len};
-ghost use Rattle.cellrun.specs.{Next.IsLine, Next.IsNext, Next.is_line_feed, Output.output_contents};
+ghost use Rattle.cellrun.specs.{Output.output_contents, Script.IsLine, Script.IsNext, Script.is_line_feed};
 
 use crate::command::{self, Command, MAX_LINE};
 use crate::output::Output;

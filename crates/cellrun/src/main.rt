@@ -3,9 +3,7 @@
 
 mod command;
 mod lines;
-mod number;
 mod output;
-mod reply;
 mod script;
 mod session;
 
@@ -46,7 +44,8 @@ a call ends the program with status 2, and standard error then has its number: b
 ";
 
 fn main(rt: HostRuntime) -> ExitCode {
-    if has_arguments(&rt) {
+    // Even one that is empty or not UTF-8 is an argument.
+    if !matches!(rt.arg(1, &mut []), Err(FillError::NotPresent)) {
         let _ = eprint!(rt; "{USAGE}");
         return ExitCode::from(2);
     }
@@ -59,9 +58,4 @@ fn main(rt: HostRuntime) -> ExitCode {
         }
         Ended::Failed => ExitCode::FAILURE,
     }
-}
-
-/// Returns whether the program was given an argument, even one that is empty or not UTF-8.
-fn has_arguments<R: Env>(rt: &R) -> bool {
-    !matches!(rt.arg(1, &mut []), Err(FillError::NotPresent))
 }

@@ -32,7 +32,7 @@ impl<W: Write + Drop> Output<W> {
     }
 
     /// Appends the text to the buffer. Fails if there is no memory for it.
-    #[tactic(auto, using(crate::proofs::OutputContents::gathered_more))]
+    #[tactic(auto, using(crate::proofs::Written::gathered_more))]
     pub fn gather(&mut self, text: &[u8]) -> Result<(), AllocError>
         ensures bytes { OnOk result
             (Appends (output_contents W.contents self.old) (output_contents W.contents self.new)

@@ -1,6 +1,6 @@
 //! Runs a script of calls on one cell.
 ghost use Rattle.std.specs.{Prelude.IfOk, Prelude.IfSome, Result.result_unwrap_or};
-ghost use Rattle.cellrun.specs.{Ended.EndsAs, Lines.bytes_left, Output.output_contents, Written.Owes};
+ghost use Rattle.cellrun.specs.{Lines.bytes_left, Output.output_contents, Script.EndsAs, Script.Owes};
 
 use crate::lines::{Lines, Next};
 use crate::output::Output;
@@ -23,15 +23,13 @@ pub enum Ended {
 }
 
 /// Makes the calls in the lines of `input` on a new cell, writes the result of each to `output`,
-/// and returns `output`. All output is written before more input is read, so a program at the other
-/// end sees the same as if each result were written before the next line is read.
+/// and returns `output`. All output is written before more input is read.
 ///
 /// The contract is about readers whose bytes contracts know, such as a slice. It promises nothing
 /// for any other reader, such as standard input. If contracts also know the bytes of the writer, as
-/// they do for a `Vec`, it holds at the end what it held before, and then the text that the model
-/// gives for the calls before the end or before the bad line. If the script failed, the writer
-/// holds a prefix of what it held before and then the text of some first lines. `debug` leaves the
-/// cell as it was; what is printed for it is left open.
+/// they do for a `Vec`, the writer gets the text that the model gives for the calls before the end
+/// or the bad line. If the script failed, it gets a prefix of the text of some first lines. `debug`
+/// leaves the cell as it was, and what it prints is left open.
 #[tactic(auto, using(crate::proofs::Written::owes_nothing, crate::proofs::Written::owes_kept))]
 pub fn script<R: Read + Drop, W: Write + Drop>(alloc: Global, input: R, output: W) -> (Ended, W)
     ensures ended { IfSome (R.remaining input) (λ bytes. EndsAs bytes result.0) }

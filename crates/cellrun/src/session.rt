@@ -1,15 +1,15 @@
-//! The cell that a script steps.
-ghost use Rattle.std.specs.Prelude.{◌≡◌, ℤ, [], true, false, OnOk, Some};
-ghost use Rattle.std.specs.{BTreeSet.contains, Ordering.nat_cmp};
+//! The cell that a script steps, and what its calls print.
+ghost use Rattle.std.specs.Prelude.{◌≡◌, ◌++◌, ℤ, [], true, false, OnOk, Option, Some, None, codes, decimal};
+ghost use Rattle.std.specs.{BTreeSet.contains, Fmt.signed_decimal, Ordering.nat_cmp};
 ghost use Rattle.async_cell_model.specs.{Machine.Does, Machine.skips, Machine.waker_of, declared.cell.Cell.Cell};
 ghost use Rattle.async_cell_wakers.specs.Named.{same_name};
 ghost use Rattle.async_cell_core.specs.Kept.{kept_call as listed_call};
-ghost use Rattle.cellrun.specs.CallPrints.{CallPrints, kept_call, edited, increased};
-ghost use Rattle.cellrun.specs.{Names.KnowsNames, Written.new_cell};
+ghost use Rattle.cellrun.specs.CallPrints.{CallPrints, KnowsNames, kept_call, edited, increased, reply_text, value_text, refusal_text, end_text};
+ghost use Rattle.cellrun.specs.Script.{new_cell};
 
 use crate::command::Command;
-use crate::reply::{replied, woke};
-use async_cell_core::{Answer, Call, Core, Edit, Named, Reply, Wakers, step_copied};
+use async_cell_core::{Answer, Call, Core, Edit, Named, Refusal, Reply, Wakers, step_copied};
+use itoa::Buffer;
 use std::alloc::{AllocError, Global};
 use std::collections::BTreeSet;
 use std::io::Write;
@@ -28,7 +28,7 @@ pub struct Session {
 
 impl Session {
     /// Makes an open cell without a value, with one owner.
-    #[tactic(auto, using(crate::proofs::Names::nobody))]
+    #[tactic(auto, using(crate::proofs::Calls::nobody))]
     pub fn new(alloc: Global) -> Session
         ensures { result.core ≡ new_cell }
     {
@@ -41,7 +41,7 @@ impl Session {
 
     /// Makes the call, and appends what it prints to `out`, which must be empty. Fails if there is
     /// no memory for the text.
-    #[tactic(auto, using(crate::proofs::ReplyText::prints))]
+    #[tactic(auto, using(crate::proofs::Calls::prints))]
     pub fn step(&mut self, command: Command, out: &mut Vec<u8>) -> Result<(), AllocError>
         requires { out.old.items ≡ [] }
         ensures { OnOk result (CallPrints self.old.core command out.new.items self.new.core) }
@@ -55,7 +55,7 @@ impl Session {
     }
 
     /// Makes the call.
-    #[tactic(auto, using(crate::proofs::Names::known_after))]
+    #[tactic(auto, using(crate::proofs::Calls::known_after))]
     fn call(&mut self, command: Command) -> Answer<i64, Named>
         ensures { Does same_name true self.old.core
             (record { call = kept_call self.old.core.cell command; reply = result.reply })
@@ -68,7 +68,7 @@ impl Session {
     }
 
     /// Makes a poll by this name.
-    #[tactic(auto, using(crate::proofs::Names::known_after))]
+    #[tactic(auto, using(crate::proofs::Calls::known_after))]
     fn poll(&mut self, name: u64, command: Command) -> Answer<i64, Named>
         requires { waker_of (kept_call self.old.core.cell command) ≡ Some (record { 0 = name }) }
         ensures { Does same_name true self.old.core
@@ -89,7 +89,7 @@ impl Session {
     }
 
     /// Adds the name to those that are known. Returns whether it is known to be none that waits.
-    #[tactic(auto, using(crate::proofs::Names::nobody, crate::proofs::Names::noted, crate::proofs::Names::not_known, crate::proofs::Names::no_skip))]
+    #[tactic(auto, using(crate::proofs::Calls::nobody, crate::proofs::Calls::noted, crate::proofs::Calls::not_known, crate::proofs::Calls::no_skip))]
     fn is_new(&mut self, name: u64) -> bool
         ensures core { self.new.core ≡ self.old.core }
         ensures none { result ≡ true
@@ -133,9 +133,6 @@ fn call_of(command: Command) -> Call<i64, Named, Command>
 }
 
 impl Edit<i64> for Command {
-    ghost use Rattle.std.specs.Prelude.{◌≡◌};
-    ghost use Rattle.cellrun.specs.CallPrints.{edited, increased};
-
     ghost edit = { edited };
 
     ghost edit_some = { increased };
@@ -158,4 +155,87 @@ impl Edit<i64> for Command {
             _ => value,
         }
     }
+}
+
+/// Appends the reply to a call, on a cell that then has this number of owners.
+#[tactic(auto, using(crate::proofs::Calls::done_text, crate::proofs::Calls::found_text))]
+fn replied(
+    out: &mut Vec<u8>,
+    command: Command,
+    reply: Reply<i64>,
+    owners: u32,
+) -> Result<(), AllocError>
+    ensures { OnOk result (out.new.items ≡ out.old.items ++ reply_text reply command owners) }
+{
+    match reply {
+        Reply::Done => match command {
+            Command::Own => owned(out, owners),
+            _ => out.extend_from_slice(b"done"),
+        },
+        Reply::Value(value) => match command {
+            Command::Replace(_) => labelled(out, b"old ", value, b"old none"),
+            Command::OrSet(_) => out.extend_from_slice(b"done"),
+            Command::End => owned(out, owners),
+            _ => labelled(out, b"some ", value, b"none"),
+        },
+        Reply::Is(true) => out.extend_from_slice(b"true"),
+        Reply::Is(false) => out.extend_from_slice(b"false"),
+        Reply::Pending => out.extend_from_slice(b"pending"),
+        Reply::Ready(value) => labelled(out, b"ready ", value, b"closed"),
+        Reply::Refused(why, _) => out.extend_from_slice(reason(why)),
+    }
+}
+
+/// Appends the label and the value, or what stands for no value.
+fn labelled(
+    out: &mut Vec<u8>,
+    label: &[u8],
+    value: Option<i64>,
+    none: &[u8],
+) -> Result<(), AllocError>
+    ensures { OnOk result (out.new.items ≡ out.old.items ++ value_text label.now none.now value) }
+{
+    match value {
+        Some(value) => {
+            out.extend_from_slice(label)?;
+            out.extend_from_slice(Buffer::new().format(value).as_bytes())
+        }
+        None => out.extend_from_slice(none),
+    }
+}
+
+/// Appends `owners` and the number of owners.
+fn owned(out: &mut Vec<u8>, owners: u32) -> Result<(), AllocError>
+    ensures { OnOk result (out.new.items ≡ out.old.items ++ codes "owners " ++ decimal owners) }
+{
+    out.extend_from_slice(b"owners ")?;
+    out.extend_from_slice(Buffer::new().format(owners).as_bytes())
+}
+
+/// Returns the text of a refusal.
+fn reason(why: Refusal) -> &'static [u8]
+    ensures { result.now ≡ refusal_text why }
+{
+    match why {
+        Refusal::Closed => b"refused closed",
+        Refusal::OwnersFull => b"refused owners",
+        Refusal::StillShared => b"refused shared",
+        Refusal::Memory | Refusal::OutOfTurn | Refusal::ShareMissing => b"refused memory",
+    }
+}
+
+/// Appends ` woke` and the names of the woken wakers, if there are any, and ends the line.
+#[tactic(auto, using(crate::proofs::Calls::some_named))]
+fn woke(out: &mut Vec<u8>, woken: Wakers<Named>) -> Result<(), AllocError>
+    ensures { OnOk result (out.new.items ≡ out.old.items ++ end_text woken) }
+{
+    if woken.is_empty() {
+        return out.extend_from_slice(b"\n");
+    }
+    out.extend_from_slice(b" woke")?;
+    for Named(name) in woken {
+        out.extend_from_slice(b" ")?;
+        out.extend_from_slice(Buffer::new().format(name).as_bytes())?;
+    }
+    out.extend_from_slice(b"\n")
 }

@@ -1,5 +1,5 @@
 use Rattle.cellrun.proofs.Words.{IsValue, number_of, None, Some, Decides-eqb, strip_prefix_is}
-use Rattle.cellrun.proofs.Operand.{read_some}
+use Rattle.cellrun.proofs.Reading.{read_some}
 use Rattle.cellrun.proofs.command.value_after.Goals as goal
 
 pub returns-in_err-text-clause-none : goal.returns-in_err-text-clause-none

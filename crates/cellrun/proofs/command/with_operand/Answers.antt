@@ -1,5 +1,5 @@
 use Rattle.cellrun.proofs.Words.{Spells}
-use Rattle.cellrun.proofs.Operand.{none_of}
+use Rattle.cellrun.proofs.Reading.{none_of}
 use Rattle.cellrun.proofs.command.with_operand.Goals as goal
 
 pub returns-clause-refused : goal.returns-clause-refused

@@ -1,5 +1,5 @@
 use Rattle.cellrun.proofs.Words.{◌<◌, ◌+◌, None, length, take, refl, sym, arith, rules, reader_buffer}
-use Rattle.cellrun.proofs.LineFeed.{place_joined, bad_next, line_next, end_next, position_found, position_none}
+use Rattle.cellrun.proofs.Reading.{place_joined, bad_next, line_next, end_next, position_found, position_none}
 use Rattle.cellrun.proofs.lines.Lines.look.Goals as goal
 
 pub invariant_of-self-in_default : goal.invariant_of-self-in_default

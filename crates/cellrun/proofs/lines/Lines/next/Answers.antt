@@ -1,5 +1,5 @@
 use Rattle.cellrun.proofs.Words.{arith}
-use Rattle.cellrun.proofs.LineFeed.{kept_next}
+use Rattle.cellrun.proofs.Reading.{kept_next}
 use Rattle.cellrun.proofs.lines.Lines.next.Goals as goal
 
 pub returns-in-Some-clause-next : goal.returns-in-Some-clause-next

@@ -1,5 +1,5 @@
 use Rattle.cellrun.proofs.Words.{arith, Keeps-trans, append_known-kept, length-drop, take_all}
-use Rattle.cellrun.proofs.OutputContents.{moved}
+use Rattle.cellrun.proofs.Written.{moved}
 use Rattle.cellrun.proofs.output.Output.flush.Goals as goal
 
 pub loop-preserved : goal.loop-preserved

@@ -1,5 +1,5 @@
 use Rattle.cellrun.proofs.Words.{None}
-use Rattle.cellrun.proofs.Names.{known_if, no_waker}
+use Rattle.cellrun.proofs.Calls.{known_if, no_waker}
 use Rattle.cellrun.proofs.session.Session.call.Goals as goal
 
 pub invariant_of-self : goal.invariant_of-self

@@ -1,5 +1,5 @@
 use Rattle.cellrun.proofs.Words.{State, waker_of, Named, kept_call, ℤ, ap, ◌∙◌, Some}
-use Rattle.cellrun.proofs.Names.{known_if}
+use Rattle.cellrun.proofs.Calls.{known_if}
 use Rattle.cellrun.proofs.session.Session.poll.Goals as goal
 
 pub invariant_of-self-2 : goal.invariant_of-self-2

@@ -1,5 +1,5 @@
 use Rattle.cellrun.proofs.Words.{names_text, ◌≡◌, ◌++◌}
-use Rattle.cellrun.proofs.reply.woke.Given as goal
+use Rattle.cellrun.proofs.session.woke.Given as goal
 
 -- the text so far and the names that are left make up the whole text
 abbrev pub invariant-loop-name : goal.invariant-loop-name

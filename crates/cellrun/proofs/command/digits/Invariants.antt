@@ -1,5 +1,5 @@
 use Rattle.cellrun.proofs.Words.{◌≡◌, ◌<◌, ◌^◌, take, AllDigits, digits_value}
-use Rattle.cellrun.proofs.number.digits.Given as goal
+use Rattle.cellrun.proofs.command.digits.Given as goal
 
 -- the bytes so far are digits, and write the number
 abbrev pub invariant-loop-byte : goal.invariant-loop-byte

@@ -1,5 +1,5 @@
 use Rattle.cellrun.proofs.Words.{arith, take_all, digit_at, digit_value_digit, digits_more, digits_value_more, digits_value-take-le, ◌+◌}
-use Rattle.cellrun.proofs.number.digits.Goals as goal
+use Rattle.cellrun.proofs.command.digits.Goals as goal
 
 pub returns-then-not-is_ascii_digit : goal.returns-then-not-is_ascii_digit
 returns-then-not-is_ascii_digit c = λ is. grind (arith, digit_at c.args.text.now c.loop-byte.byte-index is.0.1)

@@ -1,8 +1,20 @@
--- The index of the first line feed in joined bytes, and the next line that follows from it.
-use Rattle.cellrun.proofs.Words.{IsLine, IsNext, is_line_feed, first_line, after_line, Bad, ◌≡◌, ◌≢◌, ◌∷◌, refl, ℕ, ◌+◌, ◌<◌, ◌≤◌, Bool, List, [], ◌++◌, length, take, drop, Option, Some, None, IfSome}
-use Rattle.cellrun.proofs.Words.{if◌then◌else◌, arith, append_assoc, append-nil, take_all, take-append-drop, drop_all, take-append-le, length-append, length-take, Keeps, IsAtEnd, prepend_known}
-use Rattle.cellrun.proofs.Words.{nat_tests, position, position_or_len, Next, DropsConsumable, take-append-add, drop-append-add, prefix_len-append, prefix_len-le-length}
+-- What is read after the first words of a line, the first line feed in joined bytes, and the next line.
+use Rattle.cellrun.proofs.Words.{has_operand, Command, Set, OrSet, Replace, UpdatePut, UpdateSomeAdd, Take, Get, arith, ◌≡◌, ℕ, ℤ, List, ◌++◌, Option, None, Some, true, IfSome, SomeIff, IsLine}
+use Rattle.cellrun.proofs.Words.{IsNext, is_line_feed, first_line, after_line, Bad, ◌≢◌, ◌∷◌, refl, ◌+◌, ◌<◌, ◌≤◌, Bool, [], length, take, drop, if◌then◌else◌, append_assoc, append-nil, take_all}
+use Rattle.cellrun.proofs.Words.{take-append-drop, drop_all, take-append-le, length-append, length-take, Keeps, IsAtEnd, prepend_known, nat_tests, position, position_or_len, Next, DropsConsumable}
+use Rattle.cellrun.proofs.Words.{take-append-add, drop-append-add, prefix_len-append, prefix_len-le-length}
 use Rattle.cellrun.specs.declared.lines.Next.TheVariants.{End}
+
+-- the line ends with what is written after the words
+pub read_some : {V : Type 0} (words line rest : List ℕ) (Is : List ℕ → Type 0) (of : List ℕ → V) (read : Option V) → line ≡ words ++ rest → SomeIff read (Is rest) (of rest)
+    → IfSome read (λ v. (text : List ℕ) × (line ≡ words ++ text) × Is text × (v ≡ of text))
+read_some words line rest Is of None is read = tt
+read_some words line rest Is of (Some v) is read = (rest, is, read.0, read.1)
+
+-- a line that is none of these is no call with an operand
+pub none_of : (Is : Command → Type 0) → ((v : ℤ) → Is (Set v) → ⊥) → ((v : ℤ) → Is (OrSet v) → ⊥) → ((v : ℤ) → Is (Replace v) → ⊥) → ((v : ℤ) → Is (UpdatePut v) → ⊥)
+    → ((v : ℤ) → Is (UpdateSomeAdd v) → ⊥) → ((w : ℕ) → Is (Take w) → ⊥) → ((w : ℕ) → Is (Get w) → ⊥) → (call : Command) → has_operand call ≡ true → Is call → ⊥
+none_of Is set or_set replace put add take get call has is = grind (arith, set, or_set, replace, put, add, take, get)
 
 -- the place of the first line feed, or the length
 abbrev place : List ℕ → ℕ

@@ -1,11 +1,50 @@
--- What a script writes, by the bytes of its input.
-use Rattle.std.specs.Prelude.{◌≡◌, ◌≢◌, ℕ, ℤ, ◌+◌, List, [], ◌++◌, Option, Some, None, IfSome}
-use Rattle.std.specs.Io.KnownBytes.{append_known}
+-- The lines of a script, how it ends, and what it writes, by the bytes of its input.
+use Rattle.std.specs.Prelude.{◌≡◌, ◌≢◌, ℕ, ℤ, ◌+◌, ◌≤◌, Bool, List, [], ◌++◌, length, ◌==◌, Option, Some, None, IfSome, ⊤}
+use Rattle.std.specs.{Io.KnownBytes.append_known, List.before_first, List.after_first}
 use Rattle.async_cell_wakers.specs.declared.named.Named.{Named}
 use Rattle.async_cell_model.specs.{Machine.State, declared.cell.Cell.TheVariants.Open}
-use Rattle.cellrun.specs.{CallPrints.CallPrints, Next.IsLine, Next.after_line, Next.first_line, declared.command.Command.Command, declared.script.Ended.Ended}
-use Rattle.cellrun.specs.declared.lines.Next.TheVariants.{Call, Blank, Bad}
+use Rattle.cellrun.specs.{CallPrints.CallPrints, Command.Spells, Command.SpellsNone, declared.command.Command.Command, declared.lines.Next.Next, declared.script.Ended.Ended}
+use Rattle.cellrun.specs.declared.lines.Next.TheVariants.{Call, Blank, Bad, End}
 use Rattle.cellrun.specs.declared.script.Ended.TheVariants.{Done, BadLine, Failed}
+
+-- the byte ends a line
+abbrev pub is_line_feed : ℕ → Bool
+is_line_feed = λ byte. byte == 10
+
+-- the bytes before the first line feed, or all of them
+abbrev pub first_line : List ℕ → List ℕ
+first_line bytes = before_first is_line_feed bytes
+
+-- the bytes after the first line feed, or none
+abbrev pub after_line : List ℕ → List ℕ
+after_line bytes = after_first is_line_feed bytes
+
+-- what the line is: a call, nothing, or no call
+abbrev pub IsLine : List ℕ → Next → Type 0
+IsLine line (Call call) = Spells line call × (length line ≤ 64)
+IsLine line Blank = line ≡ []
+IsLine line Bad = (line ≢ []) × (length line ≤ 64 → SpellsNone line)
+IsLine line End = ⊥
+
+-- the next line or the end of the bytes, and the bytes after it, which are open after a bad line
+abbrev pub IsNext : List ℕ → Option (List ℕ) → Next → Type 0
+IsNext bytes left Bad = IsLine (first_line bytes) Bad
+IsNext bytes left End = bytes ≡ []
+IsNext bytes left next =
+    (bytes ≢ []) × IsLine (first_line bytes) next × (left ≡ Some (after_line bytes))
+
+-- rest begins with line n of the bytes, and each line before it is a call or empty
+pub data ComesTo (bytes : List ℕ) : ℕ → List ℕ → Type 0 where
+  first : ComesTo bytes 1 bytes
+  past : {n : ℕ} {rest : List ℕ} (next : Next) → ComesTo bytes n rest
+      → rest ≢ [] → next ≢ Bad → IsLine (first_line rest) next
+      → ComesTo bytes (n + 1) (after_line rest)
+
+-- done: every line is a call or empty; at a bad line: it is neither, and each before it is one
+abbrev pub EndsAs : List ℕ → Ended → Type 0
+EndsAs bytes Done = (n : ℕ) × ComesTo bytes n []
+EndsAs bytes (BadLine n) = (rest : List ℕ) × ComesTo bytes n rest × IsLine (first_line rest) Bad
+EndsAs bytes Failed = ⊤
 
 -- an open cell without a value and without wakers, with one owner
 abbrev pub new_cell : State ℤ Named

@@ -1,6 +1,8 @@
--- The names that a session knows, through each call.
+-- The names that a session knows, through each call, and what a call prints.
 use Rattle.cellrun.proofs.Words.{nat_tests, skips, State, waker_of, Does, Kept, Reply, same_name, Named, kept_call, Command, Take, Get, arith, ◌≡◌, ℕ, ℤ, Bool, true, false, List, [], ◌∷◌, ◌++◌}
-use Rattle.cellrun.proofs.Words.{Option, None, Some, IfSome, if◌then◌else◌, nat_cmp, BTreeSet, contains, Updates, list_any-append, Cell, KnowsNames}
+use Rattle.cellrun.proofs.Words.{Option, None, Some, IfSome, if◌then◌else◌, nat_cmp, BTreeSet, contains, Updates, list_any-append, Cell, KnowsNames, owners_of, CallPrints, reply_text, value_text}
+use Rattle.cellrun.proofs.Words.{names_text, end_text, Replace, OrSet, Own, End, Debug, codes, refl}
+use Rattle.async_cell_model.specs.declared.reply.Reply.TheVariants.{Done, Value}
 
 -- where nobody waits, any names will do
 pub nobody : (waiting : List Named) (names : BTreeSet ℕ) (all : Bool) → waiting ≡ [] → KnowsNames waiting names all
@@ -42,3 +44,19 @@ known_if from to call reply woken names all known does waker is has = grind (ari
 -- only a poll has a waker
 pub no_waker : (cell : Cell ℤ) (call : Command) → ((w : ℕ) → call ≡ Take w → ⊥) → ((w : ℕ) → call ≡ Get w → ⊥) → waker_of (kept_call cell call) ≡ None
 no_waker cell call take get = grind (arith, take, get)
+
+-- what a call prints that is no `debug`
+pub prints : (from to : State ℤ Named) (call : Command) (reply : Reply ℤ) (woken : List Named) (line : List ℕ) → (call ≡ Debug → ⊥)
+    → Does same_name true from (record { call = kept_call from.cell call; reply = reply }) woken to → line ≡ reply_text reply call (owners_of to.cell) ++ end_text woken → CallPrints from call line to
+prints from to Debug reply woken line other does is = absurd (other refl)
+prints from to call reply woken line other does is = (reply, woken, does, is)
+
+pub some_named : (woken : List Named) → (woken ≡ [] → ⊥) → end_text woken ≡ codes " woke" ++ names_text woken ++ codes "\n"
+some_named woken some = grind (arith, some)
+
+pub done_text : (call : Command) (owners : ℕ) → (call ≡ Own → ⊥) → reply_text Done call owners ≡ codes "done"
+done_text call owners other = grind (arith, other)
+
+pub found_text : (call : Command) (owners : ℕ) (found : Option ℤ) → ((v : ℤ) → call ≡ Replace v → ⊥) → ((v : ℤ) → call ≡ OrSet v → ⊥) → (call ≡ End → ⊥)
+    → reply_text (Value found) call owners ≡ value_text (codes "some ") (codes "none") found
+found_text call owners found replace or_set end = grind (arith, replace, or_set, end)
