@@ -4,7 +4,6 @@ use Rattle.futures.specs.declared.{task.Poll.Poll, task.Poll.TheVariants.Ready, 
 use Rattle.async_cell_driver.specs.declared.tasks.Mark.TheVariants as mark
 use Rattle.async_cell_driver.specs.declared.event.Event.TheVariants as event
 use Rattle.async_cell_driver.specs.declared.event.Told.TheVariants as told
-use Rattle.async_cell_driver.specs.declared.event.Polled.TheVariants as polled
 use Rattle.async_cell_driver.proofs.TaskList.{awake, kinds-wake_each, map-change, mark-wake_each, named-append, named-wait_list, ready_by, ready_now, says_same, slice_get-change_other, slice_get-change_same, started_now, woken_if}
 
 done_woken : (named : Bool) (m : Option Mark) → is_done_mark (woken_if named m) ≡ is_done_mark m

@@ -3,7 +3,7 @@ use Rattle.std.specs.Prelude.{◌≡◌, ℕ, Bool, true, false, List, [], ◌�
 use Rattle.async_cell_wakers.specs.Named.{same_name}
 use Rattle.async_cell_wakers.specs.declared.named.Named.{Named}
 use Rattle.async_cell_model.specs.declared.{refusal.Refusal.TheVariants.Memory, cell.Cell.Cell}
-use Rattle.async_cell_model.specs.{Machine.content, Machine.is_vacant, Machine.State, History.cell_after, Legal.RunsUpTo}
+use Rattle.async_cell_model.specs.{Machine.content, Machine.is_vacant, History.cell_after, Legal.RunsUpTo}
 use Rattle.async_cell_driver.specs.declared.{event.Event.Event, event.Event.TheVariants.Start, event.Event.TheVariants.Poll, event.Told.Told, event.Polled.TheVariants.NotReady}
 use Rattle.async_cell_driver.specs.declared.event.Told.TheVariants as told
 use Rattle.async_cell_driver.specs.{DriverState.DriverState, DriverState.result_at, Log.Log, Log.kinds, Log.is_done, Log.waits, Log.is_ready}

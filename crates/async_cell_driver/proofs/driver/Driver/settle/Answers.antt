@@ -1,4 +1,4 @@
-use Rattle.async_cell_driver.proofs.Words.{DriverState, is_ready, [], arith, below_more, false, refl, rules, sym, true, ◌∙◌, ◌≡◌, err_from_is_err_and, if◌then◌else◌}
+use Rattle.async_cell_driver.proofs.Words.{DriverState, is_ready, [], arith, below_more, false, refl, rules, sym, true, ◌∙◌, ◌≡◌, err_from_is_err_and}
 use Rattle.async_cell_driver.proofs.{Logs.drives_nil, Settled.so_far_nil, Settled.so_far_skip, Settled.so_far_more, Settled.settles_refused}
 use Rattle.async_cell_driver.proofs.driver.Driver.settle.Goals as goal
 
