@@ -20,11 +20,18 @@ not_forgotten {T} {W} rules named w v seen polled now poll told wakes =
     let e : Entry T W = record { call = PollTake w; reply = Pending } in
     let between : History T W = told.goes_on.0 in
     let still : has_fill_or_close (cell_after start polled) between ≡ false → StillWaits start w told.before = λ none. record {
-      before = poll.before; poll = e; later = between;
+      before = poll.before;
+      poll = e;
+      later = between;
       split = sym told.goes_on.1 ∙ ap (λ (h : History T W). h ++ between) poll.ends ∙ append_assoc poll.before (e ∷ []) between;
       pending = refl;
-      none = subst (λ (h : History T W). has_fill_or_close (cell_after start h) between ≡ false) poll.ends none } in
+      none = subst (λ (h : History T W). has_fill_or_close (cell_after start h) between ≡ false) poll.ends none;
+    } in
     record {
-      polled = polled; told = told; between = between; split = sym told.goes_on.1;
+      polled = polled;
+      told = told;
+      between = between;
+      split = sym told.goes_on.1;
       waits = record { before = poll.before; poll = e; later = []; split = poll.ends; pending = refl; none = refl };
-      woken = so_or (has_fill_or_close (cell_after start polled) between) (λ none. wakes (still none)) }
+      woken = so_or (has_fill_or_close (cell_after start polled) between) (λ none. wakes (still none));
+    }

@@ -170,11 +170,7 @@ impl<M: Marker> Model for Books<M> {
 
 impl<M: Marker> Books<M> {
     /// Makes new books, and the shares. Fails if there is no memory, which is checked first.
-    fn open(
-        alloc: Global,
-        shares: u32,
-        blanks: Blanks,
-    ) -> Result<(Self, Vec<Share<M>>), AllocError>
+    fn open(alloc: Global, shares: u32, blanks: Blanks) -> Result<(Self, Vec<Share<M>>), AllocError>
         requires calls { (blanks.calls.name ≡ M.calls) × (blanks.calls.parts ≡ M.shares) }
         requires picked { (blanks.picked.name ≡ M.picked) × (blanks.picked.parts ≡ M.shares) }
         requires shares { shares ≡ M.shares }
