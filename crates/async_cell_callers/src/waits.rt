@@ -48,8 +48,9 @@ fn sets<N: Protocol<u64, W>, W: Wakes, R: Wait>(
     }
 }
 
-/// Polls a cell, which other threads may call too, and then sets 1. If the poll has to wait, its
-/// waker is not forgotten.
+/// Polls a cell, which other threads may call too, and then sets 1. Returns whether the poll had to
+/// wait, and whether the cell was open. If both, the `set` woke its waker, or one that would wake
+/// it, unless another call filled or closed the cell in between.
 fn poll_then_set<N: Protocol<u64, W>, W: Wakes, R: Wait>(
     cell: &LockedCore<u64, W, N>,
     seen: &mut Witness<u64, W, N>,

@@ -41,7 +41,12 @@ pub struct AsyncCell<T, N: Free<T, TaskWaker> = Unruled> {
 impl<T: Drop, N: Free<T, TaskWaker>> Drop for AsyncCell<T, N> {
     #[inline(always)]
     fn drop(self) {
-        self.into_core().end();
+        let AsyncCell {
+            core,
+            source: _,
+            alloc: _,
+        } = self;
+        core.into_core().end();
     }
 }
 
@@ -245,7 +250,6 @@ impl<T: Drop, N: Free<T, TaskWaker>> AsyncCell<T, N> {
 
     /// Returns the core. Ensures what holds of every core.
     #[doc(hidden)]
-    #[inline(always)]
     pub fn into_core(self) -> Core<T, TaskWaker>
         ensures { IsSound ⟦<TaskWaker as Wakes>⟧.will_wake result }
     {

@@ -28,7 +28,8 @@ impl<C: CellRef> Take<C> {
         ensures kept { Keeps cx.old cx.new }
         ensures refused { IfReady result FailsWithMemoryOrClosed }
     {
-        self.poll_at(None, cx, &OneThread)
+        let cell = self.0.cell();
+        poll(&cell.core.store, &cell.source, Taking, None, cx, &OneThread)
     }
 
     /// Returns the future that holds one place in the wait list while it waits.
