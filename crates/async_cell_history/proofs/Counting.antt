@@ -1,7 +1,6 @@
 -- As many values come out, are dropped or are left as were there and went in.
-use Rattle.async_cell_history.proofs.Words.{◌≡◌, inl, inr, ◌+◌, ℕ, Bool, true, List, [], ◌∷◌, ◌++◌, Option, Some, None, refl, ap, sym, subst, ◌∙◌, arith, cond, option_to_list, count_by, cons_option, All, All-head, All-tail, Cell, Entry, Kept, Set, Reply, Refused, State, Exactly, FitsUpdate, content, may_refuse, next, reply, History, cell_after, IsLegalAfterBy, MayFollowBy, cell_after-append, IsAllowed, IsNoSet, come_out, comes_out, dropped, dropped_by, goes_in, gone_in}
+use Rattle.async_cell_history.proofs.Words.{◌≡◌, ◌+◌, ℕ, Bool, List, [], ◌∷◌, ◌++◌, Option, Some, None, refl, ap, subst, ◌∙◌, arith, cond, option_to_list, count_by, cons_option, All, All-head, All-tail, Cell, Entry, Kept, Reply, State, Exactly, content, next, History, cell_after, IsLegalAfterBy, MayFollowBy, cell_after-append, IsAllowed, IsNoSet, come_out, comes_out, dropped, dropped_by, goes_in, gone_in}
 use Rattle.std.proofs.lemmas.List.Sums.{sum_by-append}
-use Rattle.async_cell_model.specs.declared.refusal.Refusal.TheVariants as why
 
 module _ {T : Type 0} (test : T → Bool) where
   abbrev count : Option T → ℕ
@@ -16,18 +15,9 @@ module _ {T W : Type 0} (test : T → Bool) where
   abbrev Balances : Cell T → Kept T W → Reply T → Cell T → Type 0
   Balances c call answer after = count test (comes_out call answer) + count_by test (dropped_by c call) + count test (content after) ≡ count test (content c) + count test (goes_in call)
 
-  replied : (c : Cell T) (call : Kept T W) → FitsUpdate c call → Balances c call (reply c call) (next c (record { call = call; reply = reply c call }))
-  replied c call fits = grind arith
-
   module _ (will_wake : W → W → Bool) (sure : Bool) where
-    refused : (at : State T W) (call : Kept T W) → may_refuse will_wake sure at call ≡ true → Balances at.cell call (Refused why.Memory None) (next at.cell (record { call = call; reply = Refused why.Memory None }))
-    refused at call may = grind arith
-
     step : (at : State T W) (e : Entry T W) → MayFollowBy Exactly will_wake sure at e → Balances at.cell e.call e.reply (next at.cell e)
-    step at e may = elim may.replied [
-      | inl same ↦ subst (λ (r : Reply T). Balances at.cell e.call r (next at.cell (record { call = e.call; reply = r }))) (sym same) (replied at.cell e.call may.updated)
-      | inr memory ↦ subst (λ (r : Reply T). Balances at.cell e.call r (next at.cell (record { call = e.call; reply = r }))) (sym memory.0) (refused at e.call memory.1)
-    ]
+    step at e may = grind (arith, may.replied, may.updated)
 
     pub balance : (b : State T W) (g h : History T W) (c : Cell T) → cell_after b.cell g ≡ c → IsLegalAfterBy Exactly will_wake sure b g h
         → count_by test (come_out h) + count_by test (dropped c h) + count test (content (cell_after c h)) ≡ count test (content c) + count_by test (gone_in h)
@@ -39,8 +29,7 @@ module _ {T W : Type 0} (test : T → Bool) where
 
 module _ {T W : Type 0} where
   drops_none : (c : Cell T) (call : Kept T W) → IsAllowed IsNoSet call → dropped_by c call ≡ []
-  drops_none c (Set x) may = absurd (may refl)
-  drops_none c call may = refl
+  drops_none c call may = grind (arith, may)
 
   -- without a `set` none is dropped
   pub none_dropped : (c : Cell T) (h : History T W) → All (λ e. IsAllowed IsNoSet e.call) h → dropped c h ≡ []

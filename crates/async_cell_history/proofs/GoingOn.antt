@@ -1,6 +1,7 @@
--- What is got later follows what was got before, if each change of a full cell puts in a value that follows the one before it.
-use Rattle.async_cell_history.proofs.Words.{rules, ◌≡◌, ◌⊎◌, ◌++◌, ℕ, Bool, List, [], ◌∷◌, Contains, Option, Some, None, refl, ap, sym, subst, ◌∙◌, inl, inr, append_assoc, arith, ⊤, All, All-head, All-tail, All-weaker, All-contains, All-contains_itself, Contains-append_left, Contains-append_right, Contains-append_cases, Contains-push, IsPrefix, Cell, Closed, Open, Entry, Kept, Update, UpdateSome, TryGet, EndOwner, Reply, Value, State, Exactly, IsCloned, FitsUpdate, content, next, next_open, is_memory, History, cell_after, after, IsExact, IsLegalAfterBy, MayFollowBy, cell_after-append, WakerRules, Begun, GoesOn, HasEntry, IsAllowed, IsLawful, IsOrSet, IsLinearized, IsLinearizedUpTo, OnlyMakes, start_of}
-use Rattle.async_cell_history.proofs.Leading.{all_such, either, full_at}
+-- What is got later follows what was got before, if each change of a full cell puts in a value
+-- that follows the one before it.
+use Rattle.async_cell_history.proofs.Words.{rules, ◌≡◌, ◌⊎◌, ◌++◌, Bool, List, [], ◌∷◌, Contains, Option, Some, None, refl, sym, subst, ◌∙◌, inl, inr, append_assoc, arith, ⊤, All, All-head, All-tail, All-weaker, All-contains, All-contains_itself, Contains-append_left, Contains-append_right, Contains-append_cases, Contains-push, IsPrefix, Cell, Closed, Open, Entry, Kept, TryGet, Reply, Value, State, Exactly, UpToClones, FitsUpdate, content, next, History, cell_after, after, IsExact, IsLegalAfterBy, MayFollowBy, cell_after-append, WakerRules, Begun, GoesOn, HasEntry, IsAllowed, IsLawful, IsOrSet, IsLinearized, IsLinearizedUpTo, OnlyMakes, start_of}
+use Rattle.async_cell_history.proofs.Leading.{all_such}
 use Rattle.async_cell_history.proofs.Linearizing.{second}
 
 -- an element of a list is its head, or one of its tail
@@ -18,14 +19,11 @@ stays {T} {W} seen now call answer on has =
     record { there = subst (λ (h : History T W). Contains h e) on.1 (Contains-append_left seen on.0 e has.there) }
 
 -- where clones are exact, a get gave the machine's own reply
-own_if : {T : Type 0} (W : Type 0) (is_clone : T → T → Type 0) → IsExact is_clone → (own : Reply T) (v : T) → IsCloned {W = W} is_clone TryGet own (Value (Some v)) → own ≡ Value (Some v)
-own_if W is_clone exact (Value (Some a)) v cloned = ap (λ x. Value (Some x)) (sym (exact a v cloned))
-own_if W is_clone exact own v cloned = absurd cloned
+own_if : {T : Type 0} (W : Type 0) (is_clone : T → T → Type 0) → IsExact is_clone → (own : Reply T) (v : T) → UpToClones {W = W} is_clone TryGet own (Value (Some v)) → own ≡ Value (Some v)
+own_if W is_clone exact own v cloned = grind (arith, exact)
 
 pub exact_get : {T W : Type 0} (is_clone : T → T → Type 0) → IsExact is_clone → (rules : WakerRules W) (named : Option (Begun T W)) (seen now : History T W) (v : T) → IsLinearizedUpTo is_clone rules named seen TryGet (Value (Some v)) now → IsLinearized rules named seen TryGet (Value (Some v)) now
-exact_get {T} {W} is_clone exact rules named seen now v told =
-    let same : told.0 ≡ Value (Some v) = elim told.2 [ inl same ↦ sym same | inr cloned ↦ own_if W is_clone exact told.0 v cloned ] in
-    subst (λ r. IsLinearized rules named seen TryGet r now) same told.1
+exact_get {W} is_clone exact rules named seen now v told = subst (λ r. IsLinearized rules named seen TryGet r now) (own_if W is_clone exact told.0 v told.2) told.1
 
 module _ {T : Type 0} (Follows : T → T → Type 0) where
   -- the cell is closed, or holds a value that follows this one
@@ -33,9 +31,6 @@ module _ {T : Type 0} (Follows : T → T → Type 0) where
   Later x Closed = ⊤
   Later x (Open None n) = ⊥
   Later x (Open (Some y) n) = Follows x y
-
-  follows_there : (x w : T) (c : Cell T) → Later x c → content c ≡ Some w → Follows x w
-  follows_there x w c later is = grind arith
 
   later_here : (v : T) (c : Cell T) → Follows v v → content c ≡ Some v → Later v c
   later_here v c itself is = grind arith
@@ -52,37 +47,18 @@ module _ {T W : Type 0} where
   module _ (will_wake : W → W → Bool) (sure : Bool) (b : State T W) where
     -- a get that is legal after these calls finds its value
     full_if : (g : History T W) (e : Entry T W) (v : T) → MayFollowBy Exactly will_wake sure (after will_wake b g) e → e ≡ got v → content (cell_after b.cell g) ≡ Some v
-    full_if g e v may is =
-        let there : MayFollowBy Exactly will_wake sure (after will_wake b g) (got v) = subst (λ x. MayFollowBy Exactly will_wake sure (after will_wake b g) x) is may in
-        elim there.replied [
-          | inl same ↦ full_at W (cell_after b.cell g) v (inr same)
-          | inr refused ↦ absurd (cc refused.0)
-        ]
+    full_if g e v may is = grind (arith, may)
 
   module _ (Follows : T → T → Type 0) (on : (a b c : T) → Follows a b → Follows b c → Follows a c) where
-    next_later : (x y : T) (n : ℕ) (call : Kept T W) → Follows x y → IsAllowed (GoesOn Follows) call → FitsUpdate (Open (Some y) n) call → Later Follows x (next_open (Some y) n call)
-    next_later x y n (Update None put) follows may fits = absurd (cc fits)
-    next_later x y n (Update (Some old) None) follows may fits = absurd (may refl)
-    next_later x y n (Update (Some old) (Some new)) follows may fits =
-        let same : old ≡ y = cc fits in on x y new follows (subst (λ a. Follows a new) same (may refl))
-    next_later x y n (UpdateSome None put) follows may fits = absurd (cc (fits.0))
-    next_later x y n (UpdateSome (Some old) None) follows may fits = absurd (may refl)
-    next_later x y n (UpdateSome (Some old) (Some new)) follows may fits =
-        let same : old ≡ y = cc (fits.0) in on x y new follows (subst (λ a. Follows a new) same (may refl))
-    next_later x y n EndOwner follows may fits = either (Later Follows x) _ Closed (Open (Some y) _) tt follows
-    next_later x y n call follows may fits = search rules
-
     step_later : (x : T) (c : Cell T) (e : Entry T W) → Later Follows x c → IsAllowed (GoesOn Follows) e.call → FitsUpdate c e.call → Later Follows x (next c e)
-    step_later x Closed e later may fits = tt
-    step_later x (Open None n) e later may fits = absurd later
-    step_later x (Open (Some y) n) e later may fits = either (Later Follows x) (is_memory e.reply) (Open (Some y) n) (next_open (Some y) n e.call) later (next_later x y n e.call later may fits)
+    step_later x c e later may fits = grind (arith, on, may)
 
     module _ (will_wake : W → W → Bool) (sure : Bool) (b : State T W) where
       -- what is got in these calls follows what the cell held before them
       got_later : (x w : T) (g h : History T W) → Later Follows x (cell_after b.cell g) → IsLegalAfterBy Exactly will_wake sure b g h → All (λ e. IsAllowed (GoesOn Follows) e.call) h → Contains h (got w) → Follows x w
       got_later x w g [] later legal all is = absurd (omega (arith, is.1))
       got_later x w g (e ∷ rest) later legal all is = elim (cases e rest (got w) is) [
-        | inl here ↦ follows_there Follows x w (cell_after b.cell g) later (full_if will_wake sure b g e w legal.0 here)
+        | inl here ↦ grind (arith, later, full_if will_wake sure b g e w legal.0 here)
         | inr there ↦ got_later x w (g ++ e ∷ []) rest
             (subst (Later Follows x) (sym (cell_after-append b.cell g (e ∷ []))) (step_later x (cell_after b.cell g) e later (All-head (λ y. IsAllowed (GoesOn Follows) y.call) e rest all) legal.0.updated))
             legal.1 (All-tail (λ y. IsAllowed (GoesOn Follows) y.call) e rest all) there
@@ -131,10 +107,7 @@ module _ {T W : Type 0} (rules : WakerRules W) (may : Kept T W → Type 0) (name
       told.ends ∙ (rw (sym told.goes_on.1, sym leads.1, before.ends) (search (append_assoc))) in
       let legal = second rules.will_wake rules.SURE_CLONE start [] begins rest (subst (λ (h : History T W). IsLegalAfterBy Exactly rules.will_wake rules.SURE_CLONE start [] h) whole lawful.legal) in
       let all : All (λ e. IsAllowed may e.call) rest = All-second (λ (e : Entry T W). IsAllowed may e.call) begins rest (subst (λ (h : History T W). All (λ e. IsAllowed may e.call) h) whole lawful.allowed) in
-      let here : content (cell_after start.cell begins) ≡ Some v = elim before.does.replied [
-        | inl same ↦ full_at W (cell_after start.cell begins) v (inr same)
-        | inr refused ↦ absurd (cc refused.0)
-      ] in
+      let here : content (cell_after start.cell begins) ≡ Some v = grind (arith, before.does.replied) in
       got_later Follows on rules.will_wake rules.SURE_CLONE start v w begins rest (later_here Follows v (cell_after start.cell begins) (itself v) here) legal
       (all_such may (GoesOn Follows) only rest all)
       (Contains-append_right (got v ∷ leads.0) (told.goes_on.0 ++ got w ∷ []) (got w) (Contains-push told.goes_on.0 (got w)))

@@ -11,16 +11,6 @@ module _ {A B : Type 0} (f : A → B) where
   pub map_more : (xs ys : List A) (x : A) → ys ≡ xs ++ x ∷ [] → map f ys ≡ map f xs ++ f x ∷ []
   map_more xs ys x is = ap (map f) is ∙ map-append f xs (x ∷ [])
 
--- who had seen the past before a call that it signed, and has seen the past after it
-pub signed_of : {T W : Type 0} {will_wake : W → W → Bool} {sure : Bool} {call : Kept T W} {reply : Reply T} {woken : List W} {by : ℕ} (old new : Logged T W) (seen now : Seen T W) → Made will_wake sure old call reply woken by new → IsPrefix seen.authors old.past.authors → by ≡ seen.author → now.authors ≡ new.past.authors → now.author ≡ seen.author → now.own ≡ seen.own + 1 → IsSigned seen now
-signed_of old new seen now made on by_it is stays one_more = record {
-  before = old.past.authors;
-  goes_on = on;
-  ends = is ∙ made.signed ∙ ap (λ n. old.past.authors ++ n ∷ []) by_it;
-  stays = stays;
-  one_more = one_more;
-}
-
 module _ {T W : Type 0} (will_wake : W → W → Bool) (sure : Bool) where
   -- the second part of legal calls is legal after the first
   pub second : (b : State T W) (g xs ys : History T W) → IsLegalAfterBy Exactly will_wake sure b g (xs ++ ys) → IsLegalAfterBy Exactly will_wake sure b (g ++ xs) ys
@@ -52,19 +42,17 @@ pub linearized_of : {T W : Type 0} (rules : WakerRules W) (named : Option (Begun
     → RunsTo rules.will_wake rules.SURE_CLONE old.past old.inner → Made rules.will_wake rules.SURE_CLONE old call reply woken by new
     → old.past.begun.start ≡ start_of named → IsPrefix seen old.past.calls → now ≡ new.past.calls → IsLinearized rules named seen call reply now
 linearized_of {T} {W} rules named old new seen now call reply woken by led made begins on is =
-    let will_wake = rules.will_wake in let sure = rules.SURE_CLONE in let start = start_of named in
+    let will_wake = rules.will_wake in let sure = rules.SURE_CLONE in
     let e : Entry T W = record { call = call; reply = reply } in
     let longer = runs_more will_wake sure old.past new.past old.inner new.inner e woken led made.does made.begun made.entered in
     let legal : IsLegal will_wake sure old.past.begun.start (old.past.calls ++ e ∷ []) = rw (sym made.entered, sym (ap (λ b. b.start) made.begun)) longer.legal in
     let there = step_there will_wake sure old.past.begun.start old.past.calls e led.sound led.legal legal in
-    let at : Does will_wake sure (after will_wake start old.past.calls) e (woken_by (after will_wake (after will_wake start old.past.calls) []) e) (after will_wake start (old.past.calls ++ e ∷ [])) =
-    subst (λ (s : State T W). Does will_wake sure (after will_wake s old.past.calls) e (woken_by (after will_wake (after will_wake s old.past.calls) []) e) (after will_wake s (old.past.calls ++ e ∷ []))) begins there in
     record {
       before = old.past.calls;
       goes_on = on;
       ends = is ∙ made.entered;
-      woken = woken_by (after will_wake (after will_wake start old.past.calls) []) e;
-      does = subst (λ (h : History T W). Does will_wake sure (after will_wake start old.past.calls) e (woken_by (after will_wake (after will_wake start old.past.calls) []) e) (after will_wake start h)) (sym (is ∙ made.entered)) at;
+      woken = woken_by (after will_wake (after will_wake old.past.begun.start old.past.calls) []) e;
+      does = rw (sym begins, is, made.entered) there;
     }
 
 -- who was ready before a call, and has seen the past after it
@@ -73,5 +61,11 @@ pub seen_of : {T W : Type 0} (rules : WakerRules W) (named : Option (Begun T W))
     → now.calls ≡ new.past.calls → now.authors ≡ new.past.authors → now.author ≡ ready.author → now.own ≡ ready.own + 1 → IsLinearized rules named first.calls call reply now.calls × IsSigned first now
 seen_of rules named holds first ready now old new call reply woken is made calls authors author own = (
   linearized_of rules named old new first.calls now.calls call reply woken ready.author is.led.0 made is.begun is.calls calls,
-  signed_of old new first now made is.authors is.stays authors (author ∙ is.stays) (own ∙ ap (λ n. n + 1) is.none_made),
+  record {
+    before = old.past.authors;
+    goes_on = is.authors;
+    ends = authors ∙ made.signed ∙ ap (λ n. old.past.authors ++ n ∷ []) is.stays;
+    stays = author ∙ is.stays;
+    one_more = own ∙ ap (λ n. n + 1) is.none_made;
+  },
 )

@@ -1,33 +1,24 @@
--- Two takes that two authors signed are two places of the history, so they give two of the values put in.
-use Rattle.async_cell_history.proofs.Words.{◌≡◌, ◌≢◌, ◌⊎◌, inl, inr, ◌≤◌, ℕ, suc, Bool, false, List, [], ◌∷◌, ◌++◌, length, Option, Some, None, refl, ap, sym, subst, ◌∙◌, arith, append-nil, append_assoc, option_to_list, AllPairs, All, IsPrefix, length-append, All-head, All-tail, filter_map-append, Entry, Kept, TryTake, Value, State, content, History, NoClone, legal_of_exact, WakerRules, Begun, Seen, IsAllowed, IsLawful, IsTake, OnlyMakes, IsLinearized, IsSigned, Took}
+-- Two takes that two authors signed are two places of the history, so they give two of the values
+-- put in.
+use Rattle.async_cell_history.proofs.Words.{◌≡◌, ◌⊎◌, inl, inr, ◌≤◌, ℕ, suc, Bool, false, List, [], ◌∷◌, ◌++◌, length, Option, Some, None, refl, ap, sym, subst, ◌∙◌, arith, append-nil, option_to_list, AllPairs, All, IsPrefix, length-append, same_from_push, All-head, All-tail, filter_map-append, Entry, Kept, TryTake, Value, State, content, History, NoClone, legal_of_exact, WakerRules, Begun, Seen, IsAllowed, IsLawful, IsLegal, IsTake, OnlyMakes, IsLinearized, IsSigned, Took}
 use Rattle.async_cell_model.specs.Taken.{IsSubsequence, has_update, is_update, put_by, put_in, taken_by, taken_out}
 use Rattle.async_cell_model.proofs.Once.{IsSubsequence-same, IsSubsequence-nil, IsSubsequence-trans, IsSubsequence-append, pairs_of_subsequence, given_in_order}
 use Rattle.async_cell_history.proofs.Leading.{all_such}
 use Rattle.ghost_log.proofs.Steps.{shorter_begins}
+use base.Growing.{prefix_refl, prefix_trans, prefix_anti}
 
 module _ {A : Type 0} where
-  trans : (xs ys zs : List A) → IsPrefix xs ys → IsPrefix ys zs → IsPrefix xs zs
-  trans xs ys zs (s, is) (t, there) = (s ++ t, sym (append_assoc xs s t) ∙ ap (λ l. l ++ t) is ∙ there)
-
-  same : (xs : List A) → IsPrefix xs xs
-  same xs = ([], append-nil xs)
-
-  -- what comes before an element begins all
-  before : (xs : List A) (x : A) → IsPrefix xs (xs ++ x ∷ [])
-  before xs x = (x ∷ [], refl)
-
   -- at one place stands one element
   one_place : (xs ys zs : List A) (x y : A) → IsPrefix (xs ++ x ∷ []) zs → IsPrefix (ys ++ y ∷ []) zs → length xs ≡ length ys → x ≡ y
-  one_place xs ys [] x y p q len = absurd (omega (arith, ap length (p.1), length-append (xs ++ x ∷ []) (p.0), length-append xs (x ∷ [])))
-  one_place [] [] (z ∷ zs) x y p q len = cc (p.1, q.1)
-  one_place [] (b ∷ ys) (z ∷ zs) x y p q len = absurd (omega (arith, len))
-  one_place (a ∷ xs) [] (z ∷ zs) x y p q len = absurd (omega (arith, len))
-  one_place (a ∷ xs) (b ∷ ys) (z ∷ zs) x y p q len = one_place xs ys zs x y (p.0, cc (p.1)) (q.0, cc (q.1)) (omega (arith, len))
+  one_place xs ys zs x y p q len =
+      let below = shorter_begins (xs ++ x ∷ []) (ys ++ y ∷ []) zs p q (omega (arith, len, length-append xs (x ∷ []), length-append ys (y ∷ []))) in
+      let above = shorter_begins (ys ++ y ∷ []) (xs ++ x ∷ []) zs q p (omega (arith, len, length-append xs (x ∷ []), length-append ys (y ∷ []))) in
+      (same_from_push xs ys x y (prefix_anti _ _ below above)).1
 
   -- an element at an earlier place of a list stands before one at a later place
   earlier : (xs ys zs : List A) (x y : A) → IsPrefix (xs ++ x ∷ []) zs → IsPrefix (ys ++ y ∷ []) zs → suc (length xs) ≤ length ys → IsPrefix (xs ++ x ∷ []) ys
   earlier xs ys zs x y p q le =
-      shorter_begins (xs ++ x ∷ []) ys zs p (trans ys (ys ++ y ∷ []) zs (before ys y) q) (omega (arith, le, length-append xs (x ∷ [])))
+      shorter_begins (xs ++ x ∷ []) ys zs p (prefix_trans ys (ys ++ y ∷ []) zs (y ∷ [], refl) q) (omega (arith, le, length-append xs (x ∷ [])))
 
   longer_has : (xs ys : List A) → IsSubsequence xs (xs ++ ys)
   longer_has xs ys = subst (λ (l : List A). IsSubsequence l (xs ++ ys)) (append-nil xs) (IsSubsequence-append xs xs [] ys (IsSubsequence-same xs) (IsSubsequence-nil ys))
@@ -53,23 +44,6 @@ module _ {T W : Type 0} where
       let one = IsSubsequence-trans (of_part (g ++ take v ∷ []) h first) (v ∷ []) (one_more [] g v (IsSubsequence-nil (taken_out g))) in
       IsSubsequence-trans (of_part (h ++ take w ∷ []) all second) (v ∷ w ∷ []) (one_more (v ∷ []) h w one)
 
-  -- two authors took, so the one took before the other
-  two_taken : (all : Seen T W) (m n : ℕ) (v w : T) → Took m v all → Took n w all → m ≢ n → IsSubsequence (v ∷ w ∷ []) (taken_out all.calls) ⊎ IsSubsequence (w ∷ v ∷ []) (taken_out all.calls)
-  two_taken all m n v w one other differ = elim (order (length one.before) (length other.before)) [
-    | inl is ↦ absurd (differ (one_place one.authors_before other.authors_before all.authors m n one.authors other.authors (one.as_many ∙ is ∙ sym other.as_many)))
-    | inr order ↦ elim order [
-      | inl less ↦ inl (both_taken one.before other.before all.calls v w (earlier one.before other.before all.calls (take v) (take w) one.calls other.calls less) other.calls)
-      | inr more ↦ inr (both_taken other.before one.before all.calls w v (earlier other.before one.before all.calls (take w) (take v) other.calls one.calls more) one.calls)
-    ]
-  ]
-
-  -- they took two of the values that were there or put in
-  two_put : (will_wake : W → W → Bool) (sure : Bool) (may : Kept T W → Type 0) (start : State T W) (all : Seen T W) (m n : ℕ) (v w : T) → IsLawful will_wake sure may start all.calls → has_update all.calls ≡ false → Took m v all → Took n w all → m ≢ n
-      → IsSubsequence (v ∷ w ∷ []) (option_to_list (content start.cell) ++ put_in all.calls) ⊎ IsSubsequence (w ∷ v ∷ []) (option_to_list (content start.cell) ++ put_in all.calls)
-  two_put will_wake sure may start all m n v w lawful plain one other differ =
-      let given = given_in_order NoClone will_wake sure start [] all.calls plain (legal_of_exact will_wake sure start all.calls lawful.legal) in
-      elim (two_taken all m n v w one other differ) [ inl sub ↦ inl (IsSubsequence-trans given (v ∷ w ∷ []) sub) | inr sub ↦ inr (IsSubsequence-trans given (w ∷ v ∷ []) sub) ]
-
 -- no two values stand in a list of one
 no_pairs : {T : Type 0} (o : Option T) → AllPairs (λ x y. ⊥) (option_to_list o ++ [])
 no_pairs o i j d less more = grind arith
@@ -89,16 +63,25 @@ module _ {T W : Type 0} where
       let rest = none_put h (All-tail (λ (x : Entry T W). IsAllowed IsTake x.call) e h all) in
       (rw here.0 (rest.0), rw here.1 (rest.1))
 
+  -- where nothing is put in, no take was made before another one
+  none_before : (will_wake : W → W → Bool) (sure : Bool) (start : State T W) (all : Seen T W) (m n : ℕ) (v w : T) → IsLegal will_wake sure start all.calls → (put_in all.calls ≡ []) × (has_update all.calls ≡ false)
+      → (one : Took m v all) (other : Took n w all) → suc (length one.before) ≤ length other.before → ⊥
+  none_before will_wake sure start all m n v w legal none one other less =
+      let first = earlier one.before other.before all.calls (take v) (take w) one.calls other.calls less in
+      let given = given_in_order NoClone will_wake sure start [] all.calls none.1 (legal_of_exact will_wake sure start all.calls legal) in
+      let both = IsSubsequence-trans given (v ∷ w ∷ []) (both_taken one.before other.before all.calls v w first other.calls) in
+      one_alone (content start.cell) v w (subst (λ (l : List T). IsSubsequence (v ∷ w ∷ []) (option_to_list (content start.cell) ++ l)) none.0 both)
+
   -- where all only take, one at most takes a value
   pub one_takes : (will_wake : W → W → Bool) (sure : Bool) (may : Kept T W → Type 0) (start : State T W) (all : Seen T W) (m n : ℕ) (v w : T) → OnlyMakes may IsTake → IsLawful will_wake sure may start all.calls → Took m v all → Took n w all → m ≡ n
   one_takes will_wake sure may start all m n v w only lawful one other =
       let none = none_put all.calls (all_such may IsTake only all.calls lawful.allowed) in
-      let alone : (x y : T) → IsSubsequence (x ∷ y ∷ []) (option_to_list (content start.cell) ++ put_in all.calls) → ⊥ =
-      λ x y sub. one_alone (content start.cell) x y (subst (λ (l : List T). IsSubsequence (x ∷ y ∷ []) (option_to_list (content start.cell) ++ l)) none.0 sub) in
-      let two : (m ≢ n) → ⊥ = λ differ. elim (two_put will_wake sure may start all m n v w lawful none.1 one other differ) [ inl sub ↦ alone v w sub | inr sub ↦ alone w v sub ] in
-      elim (order m n) [
-        | inl is ↦ is
-        | inr less ↦ absurd (two (λ is. elim less [ inl below ↦ omega (arith, below, is) | inr above ↦ omega (arith, above, is) ]))
+      elim (order (length one.before) (length other.before)) [
+        | inl is ↦ one_place one.authors_before other.authors_before all.authors m n one.authors other.authors (one.as_many ∙ is ∙ sym other.as_many)
+        | inr apart ↦ absurd (elim apart [
+          | inl less ↦ none_before will_wake sure start all m n v w lawful.legal none one other less
+          | inr more ↦ none_before will_wake sure start all n m w v lawful.legal none other one more
+        ])
       ]
 
 -- who was told of a take took
@@ -107,8 +90,8 @@ took {T} {W} rules named seen now v told signed many = record {
   before = told.before;
   authors_before = signed.before;
   as_many = omega (arith, many, ap length told.ends, ap length signed.ends, length-append told.before (take v ∷ []), length-append signed.before (seen.author ∷ []));
-  calls = subst (λ (h : History T W). IsPrefix h now.calls) told.ends (same now.calls);
-  authors = subst (λ (l : List ℕ). IsPrefix l now.authors) signed.ends (same now.authors);
+  calls = subst (λ (h : History T W). IsPrefix h now.calls) told.ends (prefix_refl now.calls);
+  authors = subst (λ (l : List ℕ). IsPrefix l now.authors) signed.ends (prefix_refl now.authors);
 }
 
 -- and took whatever comes after
@@ -117,6 +100,6 @@ still_took seen all n v took calls authors = record {
   before = took.before;
   authors_before = took.authors_before;
   as_many = took.as_many;
-  calls = trans _ _ _ took.calls calls;
-  authors = trans _ _ _ took.authors authors;
+  calls = prefix_trans _ _ _ took.calls calls;
+  authors = prefix_trans _ _ _ took.authors authors;
 }

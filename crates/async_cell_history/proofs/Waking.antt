@@ -1,5 +1,6 @@
--- No waiting poll is forgotten: its waker waits at the end of the history, or the first fill or close after it wakes it.
-use Rattle.async_cell_history.proofs.Words.{◌≡◌, Bool, true, false, List, [], ◌∷◌, ◌++◌, Option, refl, ap, sym, subst, ◌∙◌, arith, Cell, Entry, Kept, Set, Reply, Done, State, IsSound, ends_waiting, is_vacant, next, History, IsCovered, after, cell_after, waiting, IsLegal, IsLegalUpTo, NoClone, legal_of_exact, cell_after-append, stays_covered, IsLegalAfter-first, WakerRules, Begun, IsLawful, IsLinearized, StillWaits, start_of}
+-- No waiting poll is forgotten: its waker waits at the end of the history, or the first fill or
+-- close after it wakes it.
+use Rattle.async_cell_history.proofs.Words.{◌≡◌, Bool, true, List, [], ◌∷◌, ◌++◌, Option, refl, sym, subst, ◌∙◌, arith, Entry, Kept, Set, Reply, Done, State, IsSound, ends_waiting, is_vacant, History, IsCovered, after, cell_after, waiting, IsLegal, IsLegalUpTo, NoClone, legal_of_exact, stays_covered, IsLegalAfter-first, WakerRules, Begun, IsLawful, IsLinearized, StillWaits, start_of}
 
 -- who still waits is in the wait list before the call, or somebody who would wake it
 waits_there : {T W : Type 0} (rules : WakerRules W) (may : Kept T W → Type 0) (named : Option (Begun T W)) (seen now : History T W) (call : Kept T W) (reply : Reply T) (w : W) (told : IsLinearized rules named seen call reply now) → IsLawful rules.will_wake rules.SURE_CLONE may (start_of named) now
@@ -18,27 +19,15 @@ pub wakes : {T W : Type 0} (rules : WakerRules W) (may : Kept T W → Type 0) (n
 wakes {T} {W} rules may named seen now call reply w told lawful waits ends =
     subst (λ (ws : List W). IsCovered rules.will_wake ws w) (sym (told.does.woken_are ∙ rw ends refl)) (waits_there rules may named seen now call reply w told lawful waits)
 
--- a `set` fills a vacant cell
-fills : {T : Type 0} (W : Type 0) (c : Cell T) (v : T) → is_vacant c ≡ true → ends_waiting c (next {T = T} {W = W} c (record { call = Set v; reply = Done })) ≡ true
-fills W c v vacant = grind arith
-
--- nobody waits in an empty list
-none_covered : {W : Type 0} (will_wake : W → W → Bool) (w : W) → IsCovered will_wake [] w → ⊥
-none_covered will_wake w is = grind arith
-
 -- who waits at a cell waits at a vacant one
-vacant_if : {T W : Type 0} (will_wake : W → W → Bool) (at : State T W) (w : W) (b : Bool) → is_vacant at.cell ≡ b → IsSound will_wake at → IsCovered will_wake at.waiting w → b ≡ true
-vacant_if will_wake at w true is sound covered = refl
-vacant_if will_wake at w false is sound covered = absurd (none_covered will_wake w (subst (λ (l : List _). IsCovered will_wake l w) (sound.waits_vacant is) covered))
+vacant_if : {T W : Type 0} (will_wake : W → W → Bool) (at : State T W) (w : W) → IsSound will_wake at → IsCovered will_wake at.waiting w → is_vacant at.cell ≡ true
+vacant_if will_wake at w sound covered = grind (arith, sound.waits_vacant)
 
 -- a `set` that was done wakes who waits
 pub set_wakes : {T W : Type 0} (rules : WakerRules W) (may : Kept T W → Type 0) (named : Option (Begun T W)) (seen now : History T W) (v : T) (w : W) (told : IsLinearized rules named seen (Set v) Done now) → IsLawful rules.will_wake rules.SURE_CLONE may (start_of named) now
     → StillWaits (start_of named).cell w told.before → IsCovered rules.will_wake told.woken w
 set_wakes {T} {W} rules may named seen now v w told lawful waits =
-    let will_wake = rules.will_wake in let start : State T W = start_of named in
-    let e : Entry T W = record { call = Set v; reply = Done } in
-    let at = after will_wake start told.before in
-    let covered = waits_there rules may named seen now (Set v) Done w told lawful waits in
-    let vacant = vacant_if will_wake at w (is_vacant at.cell) refl told.does.sound covered in
-    let next_is : cell_after start.cell now ≡ next (cell_after start.cell told.before) e = ap (cell_after start.cell) told.ends ∙ cell_after-append start.cell told.before (e ∷ []) in
-    wakes rules may named seen now (Set v) Done w told lawful waits (rw next_is (fills W (cell_after start.cell told.before) v vacant))
+    let at : State T W = after rules.will_wake (start_of named) told.before in
+    let vacant = vacant_if rules.will_wake at w told.does.sound (waits_there rules may named seen now (Set v) Done w told lawful waits) in
+    let ends : ends_waiting at.cell (cell_after (start_of named).cell now) ≡ true = grind (arith, vacant, told.does.cell_is) in
+    wakes rules may named seen now (Set v) Done w told lawful waits ends

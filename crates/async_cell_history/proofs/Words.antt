@@ -1,11 +1,11 @@
 -- The words of these proofs.
 pub use Rattle.async_cell_model.proofs.Words.{◌≡◌, ◌⊎◌, ◌++◌, ℕ, Bool, List, [], ◌∷◌, Option, Some, None, refl, ap, sym, subst, ◌∙◌, inl, inr, append_assoc, arith, true, false, ◌+◌, ◌≤◌, suc, length, append-nil, ◌<◌, if◌then◌else◌, option_to_list, AllPairs, All, cons_option, Contains-append_left, Contains-push, filter_map-append}
-pub use Rattle.async_cell_model.proofs.Words.{State, Exactly, IsCloned, content, next, is_memory, IsSound, ends_waiting, is_vacant, may_refuse, reply, Does, History, cell_after, after, IsCovered, waiting, IsExact, IsLegalAfterBy, MayFollowBy, IsLegal, IsLegalUpTo, Runs, wakes_after, woken_by}
+pub use Rattle.async_cell_model.proofs.Words.{State, Exactly, UpToClones, content, next, is_memory, IsSound, ends_waiting, is_vacant, may_refuse, reply, Does, History, cell_after, after, IsCovered, waiting, IsExact, IsLegalAfterBy, MayFollowBy, IsLegal, IsLegalUpTo, Runs, wakes_after, woken_by}
 pub use Rattle.std.proofs.Common.{rules, Contains, Result, Ok, Err, IfOk, IfSome, ◌≢◌, map}
-pub use Rattle.std.proofs.lemmas.List.{length-append, map-append}
+pub use Rattle.std.proofs.lemmas.List.{length-append, map-append, same_from_push}
 pub use Rattle.std.proofs.lemmas.List.Elements.{All-head, All-tail, All-weaker, All-contains, All-contains_itself, Contains-append_right, Contains-append_cases, All-append, All-cons, All-nil}
 pub use Rattle.std.specs.List.{count_by}
-pub use Rattle.std.specs.Prelude.{⊤, cond}
+pub use Rattle.std.specs.Prelude.{⊤, IsSomeAnd, cond}
 pub use mathlib.Core.List.{IsPrefix}
 pub use Rattle.async_cell_model.proofs.Exact.{NoClone, legal_of_exact}
 pub use Rattle.async_cell_model.proofs.JoinedHistory.{cell_after-append, after-append}
