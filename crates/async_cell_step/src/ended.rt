@@ -1,9 +1,10 @@
 //! The end of a step, and what comes out of a core during it. An end releases the core, then wakes
 //! wakers, and then gives the caller what it may drop. Only an end lets go of what is held.
-ghost use Rattle.std.specs.Prelude.{◌≡◌, ⊤, List, [], Ok, Err, None, Some, IfOk, IfErr, IsSome, IsTrue, OnErr};
+ghost use Rattle.std.specs.Prelude.{◌≡◌, ⊤, List, [], Ok, Err, None, Some, IfOk, IfErr, IsSome, IsTrue, OnErr, option_to_list};
 ghost use Rattle.async_cell_model.specs.Refusal.{FailsWithClosed, FailsWithMemory, FailsWithMemoryOrClosed};
-ghost use Rattle.async_cell_step.specs.Deferred.{all_of, answer_of, one_of};
+ghost use Rattle.async_cell_step.specs.Deferred.{all_of};
 
+use crate::opened;
 use crate::room::Room;
 use crate::store::{Opens, Step, StoredCore, Stores};
 use async_cell_model::Refusal;
@@ -51,28 +52,13 @@ impl<W, X> One<W, X> {
 }
 
 impl<W: Wakes, X> All<W, X> {
-    /// Wakes these wakers, and drops this.
+    /// Wakes these wakers, if any, and drops this.
     #[inline(always)]
-    pub fn waking(woken: Wakers<W>, dropped: X) -> Self
-        ensures wakes { result.woken ≡ Some woken }
+    pub fn waking(woken: Option<Wakers<W>>, dropped: X) -> Self
+        ensures wakes { result.woken ≡ woken }
         ensures drops { result.dropped ≡ dropped }
     {
-        All {
-            woken: Some(woken),
-            dropped,
-        }
-    }
-
-    /// Drops this.
-    #[inline(always)]
-    pub fn dropping(dropped: X) -> Self
-        ensures wakes { result.woken ≡ None }
-        ensures drops { result.dropped ≡ dropped }
-    {
-        All {
-            woken: None,
-            dropped,
-        }
+        All { woken, dropped }
     }
 }
 
@@ -84,7 +70,7 @@ impl<W> After<W> for () {
 }
 
 impl<W: Wakes, X: Drop> After<W> for One<W, X> {
-    ghost wakes = { λ one. one_of one.woken };
+    ghost wakes = { λ one. option_to_list one.woken };
 
     #[inline(always)]
     fn run(self) {
@@ -165,7 +151,7 @@ pub fn open_holding<'a, M: Stores, X: Drop, R: Opens<'a, M>>(
 ) -> Option<(R::Open, Deferred<X>)>
     ensures lent { IsTrue R.always → IsSome result }
 {
-    let step = rt.open(store)?;
+    let step = opened!(rt, store, else return None);
     Some((step, Deferred::of(held)))
 }
 
@@ -317,21 +303,5 @@ impl<X, K> Deferred<X, K> {
         ensures wakes { result.woken ≡ woken }
     {
         Deferred { answer, woken }
-    }
-}
-
-impl<A, E, W> Deferred<Result<A, E>, Option<Wakers<W>>> {
-    /// Holds what a call of the core returned: an answer and wakers, or an error.
-    #[inline(always)]
-    pub fn of_result(returned: Result<(A, Wakers<W>), E>) -> Self
-        ensures answers { result.answer ≡ answer_of returned }
-        ensures wakes { IfOk returned (λ found. result.woken ≡ Some found.1) }
-        ensures wakes_none { OnErr returned (result.woken ≡ None) }
-        ensures refused { IfErr result.answer (λ why. returned ≡ Err why) }
-    {
-        match returned {
-            Ok((answer, woken)) => Deferred::waking(Ok(answer), Some(woken)),
-            Err(why) => Deferred::waking(Err(why), None),
-        }
     }
 }

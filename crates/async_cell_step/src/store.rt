@@ -161,24 +161,15 @@ pub struct Locked<'a, C> {
     core: MutexGuard<'a, C>,
 }
 
-/// Waits for the lock. To try first costs less while nobody holds it. A function would cost 6 more
-/// instructions.
-macro_rules! locked {
-    ($store:expr, $rt:expr) => {
-        Locked {
-            core: match $store.store.try_lock() {
-                Some(core) => core,
-                None => $store.store.lock($rt),
-            },
-        }
-    };
-}
-
 impl<C> StoredCore<Mutex<C>> {
-    /// Waits for the lock.
+    /// Waits for the lock. To try first costs less while nobody holds it.
     #[inline(always)]
     pub fn lock<R: Wait>(&self, rt: &R) -> Locked<'_, C> {
-        locked!(self, rt)
+        let core = match self.store.try_lock() {
+            Some(core) => core,
+            None => self.store.lock(rt),
+        };
+        Locked { core }
     }
 }
 
@@ -197,7 +188,7 @@ impl<'a, C: 'a, R: Wait> Opens<'a, Mutex<C>> for R {
 
     #[inline(always)]
     fn open(&self, store: &'a Lock<C>) -> Option<Locked<'a, C>> {
-        Some(locked!(store, self))
+        Some(store.lock(self))
     }
 
     #[inline(always)]

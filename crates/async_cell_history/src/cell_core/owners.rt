@@ -79,7 +79,10 @@ impl<T: Drop, W: Wakes, N: Protocol<T, W>> CellCore<T, W, N> {
         let ended = self.inner.end_owner();
         before.enter(&mut self.past, &EndsOwner, &ended, &self.inner, &Nobody);
         self.past.take(permit);
-        Deferred::of_result(ended)
+        match ended {
+            Ok((content, woken)) => Deferred::waking(Ok(content), Some(woken)),
+            Err(why) => Deferred::waking(Err(why), None),
+        }
     }
 
     /// Closes the cell, if it has one owner. Otherwise fails with `Closed` or `StillShared`, and

@@ -40,8 +40,8 @@ impl<T: Drop, W: Wakes, N: Protocol<T, W>> Op<T, W, N> for Set<T> {
     fn make(self, core: &mut Core<T, W>) -> Deferred<Result<(), T>, All<W, Option<T>>> {
         let Set(value) = self;
         match core.replace(value) {
-            Ok((old, woken)) => Deferred::waking(Ok(()), All::waking(woken, old)),
-            Err(value) => Deferred::waking(Err(value), All::dropping(None)),
+            Ok((old, woken)) => Deferred::waking(Ok(()), All::waking(Some(woken), old)),
+            Err(value) => Deferred::waking(Err(value), All::waking(None, None)),
         }
     }
 
@@ -94,8 +94,8 @@ impl<T: Drop, W: Wakes, N: Protocol<T, W>> Op<T, W, N> for OrSet<T> {
     #[inline(always)]
     fn make(self, core: &mut Core<T, W>) -> Deferred<Result<Option<T>, T>, All<W>> {
         match core.or_set(self.0) {
-            Ok((unused, woken)) => Deferred::waking(Ok(unused), All::waking(woken, ())),
-            Err(value) => Deferred::waking(Err(value), All::dropping(())),
+            Ok((unused, woken)) => Deferred::waking(Ok(unused), All::waking(Some(woken), ())),
+            Err(value) => Deferred::waking(Err(value), All::waking(None, ())),
         }
     }
 
@@ -130,8 +130,8 @@ impl<T: Drop, W: Wakes, N: Protocol<T, W>> Op<T, W, N> for Replace<T> {
     #[inline(always)]
     fn make(self, core: &mut Core<T, W>) -> Deferred<Result<Option<T>, T>, All<W>> {
         match core.replace(self.0) {
-            Ok((old, woken)) => Deferred::waking(Ok(old), All::waking(woken, ())),
-            Err(value) => Deferred::waking(Err(value), All::dropping(())),
+            Ok((old, woken)) => Deferred::waking(Ok(old), All::waking(Some(woken), ())),
+            Err(value) => Deferred::waking(Err(value), All::waking(None, ())),
         }
     }
 
@@ -197,11 +197,11 @@ where
     fn make(self, core: &mut Core<T, W>) -> Deferred<Result<(), Refusal>, All<W, Option<F>>> {
         if core.is_closed() {
             let closed = core.update(|content| content); // It calls nothing.
-            return Deferred::waking(closed.map(|_| ()), All::dropping(Some(self.0)));
+            return Deferred::waking(closed.map(|_| ()), All::waking(None, Some(self.0)));
         }
         match core.update(self.0) {
-            Ok(woken) => Deferred::waking(Ok(()), All::waking(woken, None)),
-            Err(why) => Deferred::waking(Err(why), All::dropping(None)),
+            Ok(woken) => Deferred::waking(Ok(()), All::waking(Some(woken), None)),
+            Err(why) => Deferred::waking(Err(why), All::waking(None, None)),
         }
     }
 
@@ -243,10 +243,10 @@ where
     #[inline(always)]
     fn make(self, core: &mut Core<T, W>) -> Deferred<Result<(), Refusal>, All<W, Option<F>>> {
         if core.is_set() {
-            return Deferred::waking(core.update_some(self.0), All::dropping(None));
+            return Deferred::waking(core.update_some(self.0), All::waking(None, None));
         }
         let updated = core.update_some(|value| value); // It calls nothing.
-        Deferred::waking(updated, All::dropping(Some(self.0)))
+        Deferred::waking(updated, All::waking(None, Some(self.0)))
     }
 
     #[inline(always)]
