@@ -29,12 +29,6 @@ impl<T, W> Enters<(), Result<(), Refusal>, T, W> for AddsOwner {
 /// The end of an owner, by `end_other`, `close_first` or `end_owner`.
 pub(crate) struct EndsOwner;
 
-impl<T, W> Enters<(), bool, T, W> for EndsOwner {
-    ghost call = { λ _ _ _. kept.EndOwner };
-
-    ghost answer = { λ _ _. end_answer (Ok (None, [])) };
-}
-
 impl<T, W> Enters<(), (Option<T>, Option<W>), T, W> for EndsOwner {
     ghost call = { λ _ _ _. kept.EndOwner };
 
@@ -72,13 +66,4 @@ impl<T, W> Enters<T, Option<W>, T, W> for FillsFirst {
     ghost call = { λ _ value _. kept.Replace value };
 
     ghost answer = { λ _ first. replace_answer (Ok (None, first_then first [])) };
-}
-
-/// A `replace` of a vacant cell that wakes nobody.
-pub(crate) struct PutsQuietly;
-
-impl<T, W> Enters<T, (), T, W> for PutsQuietly {
-    ghost call = { λ _ value _. kept.Replace value };
-
-    ghost answer = { λ _ _. replace_answer (Ok (None, [])) };
 }

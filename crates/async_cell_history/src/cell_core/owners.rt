@@ -37,11 +37,11 @@ impl<T: Drop, W: Wakes, N: Protocol<T, W>> CellCore<T, W, N> {
             Kept.EndOwner (Reply.Value None) [] 0 self.new) }
     {
         let before = Before::of(&self.inner, &());
-        let is_other = self.inner.end_other();
-        if !is_other {
+        if !self.inner.end_other() {
             return Err(permit);
         }
-        before.enter(&mut self.past, &EndsOwner, &is_other, &self.inner, &Nobody);
+        let nothing = (None, None);
+        before.enter(&mut self.past, &EndsOwner, &nothing, &self.inner, &Nobody);
         self.past.take(permit);
         Ok(())
     }

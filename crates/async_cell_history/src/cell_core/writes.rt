@@ -4,7 +4,7 @@ ghost use Rattle.async_cell_wakers.specs.WaitList.{first_then};
 ghost use Rattle.async_cell_history.specs.History.{Made};
 
 use super::CellCore;
-use crate::entries::{FillsFirst, Overwrites, PutsQuietly};
+use crate::entries::{FillsFirst, Overwrites};
 use crate::{Before, Nobody, Protocol, Replace};
 use async_cell_core::{Wakers, Wakes};
 use async_cell_model::{Kept, Reply};
@@ -55,13 +55,11 @@ impl<T: Drop, W: Wakes, N: Protocol<T, W>> CellCore<T, W, N> {
         ensures comes_back { IfErr result (λ back. back.answer ≡ value) }
     {
         let before = Before::of(&self.inner, &value);
-        match self.inner.put_quiet(value) {
-            Ok(()) => {
-                before.enter(&mut self.past, &PutsQuietly, &(), &self.inner, &Nobody);
-                Ok(())
-            }
-            Err(value) => Err(Deferred::of(value)),
+        if let Err(value) = self.inner.put_quiet(value) {
+            return Err(Deferred::of(value));
         }
+        before.enter(&mut self.past, &FillsFirst, &None, &self.inner, &Nobody);
+        Ok(())
     }
 }
 
