@@ -59,11 +59,6 @@ module _ {T W : Type 0} where
   Fits None begun = ⊤
   Fits (Some named) begun = begun ≡ named
 
-  -- the first of these states
-  abbrev pub first_of : List (State T W) → State T W
-  first_of [] = record { cell = Closed; waiting = []; room = 0 }
-  first_of (first ∷ rest) = first
-
   -- the first state of a named cell
   abbrev pub start_of : Option (Begun T W) → State T W
   start_of None = record { cell = Closed; waiting = []; room = 0 }

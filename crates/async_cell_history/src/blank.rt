@@ -135,12 +135,13 @@ pub(crate) struct Start<T, W: Wakes> {
 
 /// Contracts see the state.
 impl<T, W: Wakes> Model for Start<T, W> {
+    ghost use Rattle.std.specs.Prelude.{None, get_or};
     ghost use Rattle.async_cell_model.specs.Machine.{State};
-    ghost use Rattle.async_cell_history.specs.History.{first_of};
+    ghost use Rattle.async_cell_history.specs.History.{start_of};
 
     ghost Value = { State T W };
 
-    ghost view = { λ s. first_of s.log.list };
+    ghost view = { λ s. get_or s.log.list 0 (start_of None) };
 }
 
 impl<T, W: Wakes> Start<T, W> {

@@ -19,7 +19,7 @@ pub use blank::Blank;
 use blank::{Opened, Start};
 pub use cell_core::CellCore;
 pub use number::Author;
-use number::{Number, Signed};
+use number::{Number, Signed, number_after, number_of};
 pub use op::Op;
 pub use ops::{IsSet, OrSet, PollGet, PollTake, Replace, Set, TryGet, TryTake, Update, UpdateSome};
 use past::{Before, Enters, Past};

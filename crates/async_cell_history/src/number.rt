@@ -1,9 +1,10 @@
 //! Numbers that exist only in proofs: who makes the calls of a history, and how many.
 ghost use Rattle.std.specs.Prelude.{◌≡◌, ◌+◌, ℕ};
+ghost use Rattle.async_cell_history.specs.History.{first_number};
 
 use async_cell_model::Entry;
 use ghost_log::{Log, Makes, Seen};
-use std::marker::{Model, PhantomData};
+use std::marker::PhantomData;
 
 /// A number that calls are signed with. Only contracts read it; 0 is nobody.
 pub trait Author {
@@ -17,52 +18,27 @@ pub(crate) struct Signed<T, W> {
     pub(crate) entry: Entry<T, W>,
 }
 
-/// A number: of an author, or of calls. It has no bytes.
-#[derive(Drop)]
-pub(crate) struct Number {
-    seen: Seen<u64>,
+/// A number, of an author or of calls: the first of this list. It has no bytes.
+pub(crate) type Number = Seen<u64>;
+
+/// The number of this author.
+#[inline(always)]
+pub(crate) fn number_of<A: Author>() -> Number
+    ensures { first_number result.list ≡ A.number }
+{
+    let mut log = Log::open();
+    log.push::<_, By<A>>(&());
+    log.seen()
 }
 
-/// Contracts see the number.
-impl Model for Number {
-    ghost use Rattle.std.specs.Prelude.{ℕ};
-    ghost use Rattle.async_cell_history.specs.History.{first_number};
-
-    ghost Value = { ℕ };
-
-    ghost view = { λ n. first_number n.seen.list };
-}
-
-impl Number {
-    /// The number of this author.
-    #[inline(always)]
-    pub(crate) fn of<A: Author>() -> Self
-        ensures { result ≡ A.number }
-    {
-        let mut log = Log::open();
-        log.push::<_, By<A>>(&());
-        Number { seen: log.seen() }
-    }
-
-    /// The number after it.
-    #[inline(always)]
-    pub(crate) fn next(&self) -> Self
-        ensures { result ≡ self.now + 1 }
-    {
-        let mut log = Log::open();
-        log.push::<_, Next>(self);
-        Number { seen: log.seen() }
-    }
-
-    /// The same number.
-    #[inline(always)]
-    pub(crate) fn again(&self) -> Self
-        ensures { result ≡ self.now }
-    {
-        Number {
-            seen: self.seen.again(),
-        }
-    }
+/// The number after this one.
+#[inline(always)]
+pub(crate) fn number_after(number: &Number) -> Number
+    ensures { first_number result.list ≡ first_number number.now.list + 1 }
+{
+    let mut log = Log::open();
+    log.push::<_, Next>(number);
+    log.seen()
 }
 
 /// The entry is the number of the author.
@@ -77,6 +53,7 @@ struct Next;
 
 impl Makes<Number, u64> for Next {
     ghost use Rattle.std.specs.Prelude.{◌+◌};
+    ghost use Rattle.async_cell_history.specs.History.{first_number};
 
-    ghost entry = { λ number. number + 1 };
+    ghost entry = { λ number. first_number number.list + 1 };
 }

@@ -2,7 +2,7 @@ ghost use Rattle.std.specs.Prelude.{◌≡◌, ◌⊎◌, ◌+◌, IsSome, lengt
 ghost use mathlib.Core.List.{IsPrefix};
 ghost use Rattle.async_cell_history.specs.History.{IsLawful, permits_of, start_of};
 
-use crate::{Author, Nobody, Number, Past, Protocol, Signed};
+use crate::{Author, Nobody, Number, Past, Protocol, Signed, number_after, number_of};
 use async_cell_core::Wakes;
 use ghost_log::Seen;
 use std::marker::{Model, PhantomData};
@@ -21,15 +21,15 @@ pub struct Witness<T, W: Wakes, N: Protocol<T, W>> {
 /// with it.
 impl<T, W: Wakes, N: Protocol<T, W>> Model for Witness<T, W, N> {
     ghost use Rattle.std.specs.Prelude.{map};
-    ghost use Rattle.async_cell_history.specs.History.{IsSeen, Seen as SeenCalls};
+    ghost use Rattle.async_cell_history.specs.History.{first_number, IsSeen, Seen as SeenCalls};
 
     ghost Value = { SeenCalls T W };
 
     ghost view = { λ w. record {
       calls = map (λ s. s.entry) w.seen.list;
       authors = map (λ s. s.who) w.seen.list;
-      author = w.author;
-      own = w.own;
+      author = first_number w.author.list;
+      own = first_number w.own.list;
     } };
 
     ghost invariant = { λ w. IsSeen W.will_wake W.SURE_CLONE N.may N.named w.seen.name
@@ -48,8 +48,8 @@ impl<T, W: Wakes, N: Protocol<T, W>> Witness<T, W, N> {
     {
         Witness {
             seen: past.log.seen(),
-            author: Number::of::<Nobody>(),
-            own: Number::of::<Nobody>(),
+            author: number_of::<Nobody>(),
+            own: number_of::<Nobody>(),
             of: PhantomData,
         }
     }
@@ -77,7 +77,7 @@ impl<T, W: Wakes, N: Protocol<T, W>> Witness<T, W, N> {
         ensures own { self.new.own ≡ self.old.own + 1 }
     {
         self.learn(past);
-        self.own = self.own.next();
+        self.own = number_after(&self.own);
     }
 
     /// Does nothing. Its contract states what holds of all that was seen: its calls are legal, its
@@ -99,7 +99,7 @@ impl<T, W: Wakes, N: Protocol<T, W>> Witness<T, W, N> {
         ensures author { self.new.author ≡ A.number }
         ensures own { self.new.own ≡ self.old.own }
     {
-        self.author = Number::of::<A>();
+        self.author = number_of::<A>();
     }
 
     /// Returns a copy.
@@ -125,11 +125,8 @@ impl<T, W: Wakes, N: Protocol<T, W>> Witness<T, W, N> {
         ensures author { result.author ≡ self.now.author }
         ensures own { result.own ≡ self.now.own }
     {
-        Witness {
-            seen: self.seen.longer(&other.seen),
-            author: self.author.again(),
-            own: self.own.again(),
-            of: PhantomData,
-        }
+        let mut longer = self.again();
+        longer.seen = self.seen.longer(&other.seen);
+        longer
     }
 }
