@@ -1,8 +1,8 @@
 //! The calls that a step may make of a core. Only this module and `ops` see the core. Each function
 //! makes one call of it, and holds what comes out in a `Deferred`, until the step ends.
-ghost use Rattle.std.specs.Prelude.{◌≡◌, [], false, Some, None, IfErr, IfOk, IfSome, IsSome, IsSomeAnd};
+ghost use Rattle.std.specs.Prelude.{◌≡◌, [], Some, None, IfErr, IfOk, IfSome, IsSomeAnd};
 ghost use Rattle.std.specs.Fn.{FnOnceReturnsAt};
-ghost use Rattle.async_cell_model.specs.Machine.{content, is_closed, is_vacant, IsSound};
+ghost use Rattle.async_cell_model.specs.Machine.{content, is_vacant, IsSound};
 ghost use Rattle.async_cell_history.specs.History.{Fits, Leads, Made, permits_of};
 ghost use Rattle.async_cell_model.specs.Refusal.{FailsWithMemory};
 
@@ -61,10 +61,14 @@ impl<T: Drop, W: Wakes, N: Protocol<T, W>> CellCore<T, W, N> {
         ensures empty { result.past.calls ≡ [] }
     {
         core.soundness();
-        CellCore {
-            inner: core,
-            past: Past::of(opened),
-        }
+        let Opened { log, start, count } = opened;
+        let past = Past {
+            log,
+            of: PhantomData,
+            start,
+            count,
+        };
+        CellCore { inner: core, past }
     }
 
     /// Wraps the core of a blank. Also returns the first witness of its history, and the permit of
@@ -98,17 +102,6 @@ impl<T: Drop, W: Wakes, N: Protocol<T, W>> CellCore<T, W, N> {
         ensures { IsSound W.will_wake self.now.inner }
     {
         self.inner.soundness();
-    }
-
-    /// Does nothing. Its contract states that the cell is open, if its owners are counted: here is
-    /// the permit of one.
-    #[inline(always)]
-    #[tactic(auto, using(crate::proofs::Leading::open_if_owned))]
-    pub(crate) fn owned(&mut self, permit: &OwnerPermit<T, W, N>)
-        ensures stays { self.new ≡ self.old }
-        ensures open { IsSome (permits_of N.named) → is_closed self.old.inner.cell ≡ false }
-    {
-        self.past.shows(permit);
     }
 
     /// Makes a call, and adds its entry, signed `by`.
@@ -185,11 +178,14 @@ impl<T: Drop, W: Wakes, N: Protocol<T, W>> CellCore<T, W, N> {
 
     /// Calls the closure on the value. Returns the closure if there is none.
     #[inline(always)]
+    #[tactic(auto, using(crate::proofs::Found::found_and))]
     pub fn peek<A, F: FnOnce(&T) -> A>(&self, look: F) -> Deferred<Result<A, F>>
         requires { F.IsAlwaysCallable look }
         ensures called { IfOk result.answer (λ answer. IsSomeAnd (content self.now.inner.cell)
             (λ seen. FnOnceReturnsAt F.FnOnce look seen answer)) }
         ensures rule { IfSome (content self.now.inner.cell) N.holds }
+        ensures both { IfOk result.answer (λ answer. (seen : T)
+            × N.holds seen × FnOnceReturnsAt F.FnOnce look seen answer) }
     {
         Deferred::of(self.inner.peek(look))
     }

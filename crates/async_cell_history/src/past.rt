@@ -1,9 +1,12 @@
 ghost use Rattle.std.specs.Prelude.{◌≡◌, [], ◌∷◌, ◌++◌, None, false, IsSome, IfOk, IfSome, OnErr, MatchOption};
-ghost use Rattle.async_cell_core.specs.IsStep.{IsStep};
+ghost use Rattle.async_cell_core.specs.IsStep.{IsStep, replies};
+ghost use Rattle.async_cell_model.specs.declared.entry.Kept.TheVariants.{PollGet};
+ghost use Rattle.async_cell_model.specs.declared.reply.Reply.TheVariants.{Pending};
 ghost use Rattle.async_cell_model.specs.Machine.{owners_of};
-ghost use Rattle.async_cell_history.specs.History.{Fits, IsAllowed, Leads, entry_of, is_of_owners, permits_of};
+ghost use Rattle.async_cell_history.specs.History.{IsAllowed, Leads, entry_of, is_of_owners};
 
-use crate::{Nobody, Opened, Protocol, Signed, Signs, Start};
+use crate::entries::Waits;
+use crate::{Nobody, Protocol, Signed, Signs, Start};
 use async_cell_core::{Core, Wakes};
 use ghost_count::Count;
 use ghost_log::{Log, Makes};
@@ -28,8 +31,8 @@ pub(crate) trait Enters<C, A, T, W> {
 #[derive(Drop)]
 pub struct Past<T, W: Wakes, N: Protocol<T, W>> {
     pub(crate) log: Log<Signed<T, W>>,
-    of: PhantomData<N>,
-    start: Start<T, W>,
+    pub(crate) of: PhantomData<N>,
+    pub(crate) start: Start<T, W>,
     pub(crate) count: Count,
 }
 
@@ -51,25 +54,6 @@ impl<T, W: Wakes, N: Protocol<T, W>> Model for Past<T, W, N> {
         Fits N.named (record { name = p.log.name; permits = p.count.name; start = p.start })
         × IsLawful W.will_wake W.SURE_CLONE N.may p.start (map (λ s. s.entry) p.log.list)
         × (p.count.name ≡ permits_of N.named) };
-}
-
-impl<T, W: Wakes, N: Protocol<T, W>> Past<T, W, N> {
-    /// Begins without calls.
-    pub(crate) fn of(opened: Opened<T, W>) -> Self
-        requires named { Fits N.named opened }
-        requires counted { opened.permits ≡ permits_of N.named }
-        ensures begun { result.begun ≡ opened }
-        ensures empty { result.calls ≡ [] }
-        ensures counted { result.out ≡ owners_of opened.start.cell }
-    {
-        let Opened { log, start, count } = opened;
-        Past {
-            log,
-            of: PhantomData,
-            start,
-            count,
-        }
-    }
 }
 
 /// A call that begins: the core before it, and what is passed to it. It has no bytes.
@@ -128,54 +112,50 @@ impl<C, T, W: Wakes> Before<C, T, W> {
             by,
         });
     }
+}
 
+impl<T, W: Wakes> Before<W, T, W> {
     /// `enter`, of a call that stored a waker in a place. If it replaced a waker, it has no entry:
     /// its future waited already. This is not `inline(always)`, so that the compiler finds it empty
     /// first: otherwise its branch would cost the caller an instruction.
-    pub(crate) fn enter_stored<N: Protocol<T, W>, M: Enters<C, (), T, W>>(
+    pub(crate) fn enter_stored<N: Protocol<T, W>>(
         &self,
         past: &mut Past<T, W, N>,
-        waits: &M,
         stored: &Result<Option<W>, W>,
         to: &Core<T, W>,
     )
         requires led { Leads W.will_wake W.SURE_CLONE N.holds past.old self.now.from.value }
         requires step { IfOk stored.now (λ before. MatchOption before
             (IsStep W.Wakes self.now.from.value
-            (M.call self.now.from.value self.now.passed.value to.now)
-            (M.answer self.now.from.value tt) to.now)
+            (PollGet self.now.passed.value) (replies Pending) to.now)
             (λ _. to.now ≡ self.now.from.value)) }
-        requires allowed { IsAllowed N.may
-            (M.call self.now.from.value self.now.passed.value to.now) }
         requires unchanged { OnErr stored.now (to.now ≡ self.now.from.value) }
         ensures leads { Leads W.will_wake W.SURE_CLONE N.holds past.new to.now }
         ensures stands { IfOk stored.now (λ before. IfSome before (λ _. past.new ≡ past.old)) }
         ensures unchanged { OnErr stored.now (past.new ≡ past.old) }
         ensures out { past.new.out ≡ past.old.out }
-        ensures owners { is_of_owners
-            (M.call self.now.from.value self.now.passed.value to.now) ≡ false
-            → owners_of to.now.cell ≡ owners_of self.now.from.value.cell }
+        ensures owners { owners_of to.now.cell ≡ owners_of self.now.from.value.cell }
     {
         if let Ok(None) = stored {
-            self.enter(past, waits, &(), to, &Nobody);
+            self.enter(past, &Waits, &(), to, &Nobody);
         }
     }
 }
 
 /// A call that was made: what it returned, the core that it left, and who signed it.
 #[derive(Drop)]
-struct Made<'a, 'b, 'c, 'd, C, A, T, W: Wakes, B> {
+struct Made<'a, C, A, T, W: Wakes, B> {
     before: &'a Before<C, T, W>,
-    returned: &'b A,
-    to: &'c Core<T, W>,
-    by: &'d B,
+    returned: &'a A,
+    to: &'a Core<T, W>,
+    by: &'a B,
 }
 
 /// The entry that `M` makes of a call.
 struct By<M>(PhantomData<M>);
 
-impl<'a, 'b, 'c, 'd, C, A, T, W: Wakes, B: Signs, M: Enters<C, A, T, W>> Makes<
-    Made<'a, 'b, 'c, 'd, C, A, T, W, B>,
+impl<C, A, T, W: Wakes, B: Signs, M: Enters<C, A, T, W>> Makes<
+    Made<'_, C, A, T, W, B>,
     Signed<T, W>,
 > for By<M> {
     ghost use Rattle.async_cell_history.specs.History.{entry_of};

@@ -82,10 +82,7 @@ impl<T, W: Wakes, N: Protocol<T, W>> Past<T, W, N> {
     /// Gives the permit of one more owner.
     #[inline(always)]
     pub(crate) fn give(&mut self) -> OwnerPermit<T, W, N>
-        ensures begun { self.new.begun ≡ self.old.begun }
-        ensures calls { self.new.calls ≡ self.old.calls }
-        ensures authors { self.new.authors ≡ self.old.authors }
-        ensures out { self.new.out ≡ self.old.out + 1 }
+        ensures { self.new ≡ record self.old { out = self.old.out + 1 } }
     {
         OwnerPermit::of(self.count.give())
     }
@@ -93,10 +90,7 @@ impl<T, W: Wakes, N: Protocol<T, W>> Past<T, W, N> {
     /// Takes the permit of an owner that ends.
     #[inline(always)]
     pub(crate) fn take(&mut self, permit: OwnerPermit<T, W, N>)
-        ensures begun { self.new.begun ≡ self.old.begun }
-        ensures calls { self.new.calls ≡ self.old.calls }
-        ensures authors { self.new.authors ≡ self.old.authors }
-        ensures out { self.new.out ≡ self.old.out - 1 }
+        ensures { self.new ≡ record self.old { out = self.old.out - 1 } }
     {
         let OwnerPermit { permit, of: _ } = permit;
         self.count.take(permit);
@@ -140,7 +134,8 @@ impl<T: Drop, W: Wakes, N: Protocol<T, W>> Caller<T, W, N> for OwnerPermit<T, W,
     ghost owns = { IsSome (permits_of N.named) };
 
     #[inline(always)]
+    #[tactic(auto, using(crate::proofs::Leading::open_if_owned))]
     fn shows(&self, core: &mut CellCore<T, W, N>) {
-        core.owned(self);
+        core.past.shows(self);
     }
 }

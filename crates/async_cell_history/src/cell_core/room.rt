@@ -58,7 +58,7 @@ impl<T: Drop, N: Protocol<T, TaskWaker>> Room for CellCore<T, TaskWaker, N> {
     ) -> Deferred<Result<Option<TaskWaker>, TaskWaker>> {
         let before = Before::of(&self.inner, &waker);
         let stored = self.inner.store(place, waker);
-        before.enter_stored(&mut self.past, &Waits, &stored, &self.inner);
+        before.enter_stored(&mut self.past, &stored, &self.inner);
         Deferred::of(stored)
     }
 
