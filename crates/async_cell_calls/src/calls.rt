@@ -271,10 +271,8 @@ impl<M: Stores<Core = CellCore<T, W, N>>, T: Drop, W: Wakes, N: Protocol<T, W>> 
     #[doc(hidden)]
     pub fn is_pending<'a, R: Opens<'a, M>>(&'a self, rt: &R) -> Option<bool> {
         let step = self.look(rt)?;
-        let waits = match step.shown().is_vacant() {
-            true => Some(!step.shown().wakes_nobody()),
-            false => None,
-        };
+        let core = step.shown();
+        let waits = core.is_vacant().then_some(!core.wakes_nobody());
         end(step, Deferred::of(waits))
     }
 

@@ -8,8 +8,8 @@ use async_cell_history::{Blank, Caller, CellCore, Op, OwnerPermit, Protocol, See
 use async_cell_step::{Opens, Step, StoredCore, Stores, finish, opened};
 
 /// The core of a cell in a `Mutex` or a `RefCell`, lent for one step at a time. A call makes its
-/// change in one step, to which `rt` is the right: behind a lock, to wait. After the step wakers are
-/// woken, and old values, unused values and the value of a closed cell are dropped. Closures,
+/// change in one step, to which `rt` is the right: behind a lock, to wait. After the step wakers
+/// are woken, and old values, unused values and the value of a closed cell are dropped. Closures,
 /// clones and prints run during the step: behind a lock, one that calls its own cell waits forever.
 #[derive(Drop)]
 pub struct CellStore<M> {
@@ -50,8 +50,8 @@ impl<M: Stores<Core = CellCore<T, W, N>>, T: Drop, W: Wakes, N: Protocol<T, W>> 
         }
     }
 
-    /// Makes the cell of a blank, the first witness of its history, and the permit of its owner, which
-    /// `end_counted` ends.
+    /// Makes the cell of a blank, the first witness of its history, and the permit of its owner,
+    /// which `end_counted` ends.
     pub fn of_blank(blank: Blank<T, W>) -> (Self, Witness<T, W, N>, OwnerPermit<T, W, N>)
         requires named { N.named ≡ Some blank }
         requires rule { IfSome (content blank.start.cell) N.holds }

@@ -1,5 +1,6 @@
 //! The calls of a cell, over any store: each makes its change in one step. And what polls ask of
-//! its core. Internal, but for what the crates of the cells re-export: it may change without notice.
+//! its core. Internal, but for what the crates of the cells re-export: it may change without
+//! notice.
 #![tactic(auto)]
 
 mod calls;

@@ -90,12 +90,9 @@ impl<M: Stores<Core = CellCore<T, W, N>>, T: Drop, W: Wakes, N: Protocol<T, W>> 
             permit.lose::<M, R>(rt);
             return Err(Refusal::Closed);
         });
-        let permit = match step.lend().end_other(permit) {
-            Ok(()) => {
-                end(step, Deferred::of(()));
-                return Ok(());
-            }
-            Err(permit) => permit,
+        let Err(permit) = step.lend().end_other(permit) else {
+            end(step, Deferred::of(()));
+            return Ok(());
         };
         match step.lend().close_first(permit) {
             Ok(closed) => {
