@@ -1,9 +1,6 @@
 -- Each waker that waits is covered until all waiting ends.
-use Rattle.async_cell_latest.proofs.Words.{◌||◌, pending_waker, has_end, History, is_memory, then_state, after, Entry, MayFollow, IsLegal, State, Kept, next, Reply, reply, ends_waiting, wakes, IsCovered, skips, ◌≡◌, Bool, true, false, List, [], ◌∷◌, ◌++◌, Some, arith, nat_tests, Contains-append_left, Contains-push, list_any-append, if◌then◌else◌}
+use Rattle.async_cell_latest.proofs.Words.{pending_waker, has_end, History, then_state, after, Entry, MayFollow, IsLegal, State, ends_waiting, wakes, IsCovered, skips, ◌≡◌, Bool, true, false, List, [], ◌∷◌, ◌++◌, Some, arith, or_parts, nat_tests, Contains-append_left, Contains-push, list_any-append, if◌then◌else◌}
 use Rattle.async_cell_latest.proofs.Versions.{legal_rest, after_append}
-
-or_false : (p q : Bool) → (p || q) ≡ false → (p ≡ false) × (q ≡ false)
-or_false p q off = grind arith
 
 module _ {W : Type 0} (will_wake : W → W → Bool) where
   -- whoever is covered stays covered when one more is registered
@@ -15,33 +12,19 @@ module _ {W : Type 0} (will_wake : W → W → Bool) where
   covers_one m w b is = grind (arith, nat_tests, Contains-push m w)
 
 module _ {T W : Type 0} (will_wake : W → W → Bool) where
-  next_covers : (s : State T W) (call : Kept T W) (w : W) → ends_waiting s call ≡ false → IsCovered will_wake s.waiting w → IsCovered will_wake (next will_wake s call).waiting w
-  next_covers s call w quiet covered = grind (arith, nat_tests, covered_if)
-
   then_stays : (s : State T W) (e : Entry T W) (w : W) → ends_waiting s e.call ≡ false → IsCovered will_wake s.waiting w → IsCovered will_wake (then_state will_wake s e).waiting w
-  then_stays s e w quiet covered = grind (arith, nat_tests, next_covers s e.call w)
+  then_stays s e w quiet covered = grind (arith, nat_tests, covered_if)
 
   after_covers : (s : State T W) (h : History T W) (w : W) → has_end will_wake s h ≡ false → IsCovered will_wake s.waiting w → IsCovered will_wake (after will_wake s h).waiting w
   after_covers s [] w quiet covered = covered
   after_covers s (e ∷ h) w quiet covered =
-      let both = or_false (ends_waiting s e.call) (has_end will_wake (then_state will_wake s e) h) quiet in
+      let both = or_parts (ends_waiting s e.call) (has_end will_wake (then_state will_wake s e) h) quiet in
       after_covers (then_state will_wake s e) h w both.1 (then_stays s e w both.0 covered)
 
-  -- a poll that is told to wait is registered
-  pending_covers : (s : State T W) (call : Kept T W) (r : Reply T) (w : W) → r ≡ reply s call → pending_waker call r ≡ Some w
-      → IsCovered will_wake (if is_memory r then s else next will_wake s call).waiting w
-  pending_covers s call r w own is = grind (arith, nat_tests, covers_one)
-
-  -- a call that ends all waiting needs no memory
-  ends_sure : (s : State T W) (call : Kept T W) → ends_waiting s call ≡ true → is_memory (reply s call) ≡ false
-  ends_sure s call ends = grind (arith, nat_tests)
-
-  next_ends : (s : State T W) (call : Kept T W) → ends_waiting s call ≡ true → (next will_wake s call).waiting ≡ []
-  next_ends s call ends = grind (arith, nat_tests)
-
   module _ (sure : Bool) where
+    -- a poll that is told to wait is registered
     then_covers : (s : State T W) (e : Entry T W) (w : W) → MayFollow will_wake sure s e → pending_waker e.call e.reply ≡ Some w → IsCovered will_wake (then_state will_wake s e).waiting w
-    then_covers s e w may is = grind (arith, nat_tests, pending_covers)
+    then_covers s e w may is = grind (arith, nat_tests, covers_one)
 
     -- until all waiting ends, the waker of a pending poll is covered
     pub stays_covered : (b : State T W) (g : History T W) (e : Entry T W) (rest : History T W) (w : W) → IsLegal will_wake sure b (g ++ e ∷ rest) → pending_waker e.call e.reply ≡ Some w
@@ -54,10 +37,7 @@ module _ {T W : Type 0} (will_wake : W → W → Bool) where
         → IsCovered will_wake (wakes (after will_wake b (g ++ e ∷ rest)) last.call) w
     is_woken b g e rest last w legal is quiet ends = rw ends (stays_covered b g e rest w legal is quiet)
 
-    then_ends : (s : State T W) (e : Entry T W) → MayFollow will_wake sure s e → ends_waiting s e.call ≡ true → (then_state will_wake s e).waiting ≡ []
-    then_ends s e may ends = grind (arith, nat_tests, ends_sure, next_ends)
-
     -- after it nobody waits
     pub nobody_waits : (b : State T W) (g : History T W) (last : Entry T W) → IsLegal will_wake sure b (g ++ last ∷ []) → ends_waiting (after will_wake b g) last.call ≡ true
         → (after will_wake b (g ++ last ∷ [])).waiting ≡ []
-    nobody_waits b g last legal ends = grind (arith, nat_tests, legal_rest, after_append, then_ends)
+    nobody_waits b g last legal ends = grind (arith, nat_tests, legal_rest, after_append)

@@ -1,17 +1,11 @@
--- Two histories, the second from the state where the first ends, are one.
-use Rattle.async_cell_latest.proofs.Words.{Runs, History, then_state, after, Entry, may_refuse, MayFollow, IsLegal, all_woken, State, Stays, Kept, next, reply, wakes, ◌≡◌, ◌≤◌, Bool, true, List, [], ◌∷◌, ◌++◌, refl, arith, le_refl, nat_tests}
+-- Two histories, the second from the state where the first ends, are one. A legal history from a
+-- sound state ends in a sound state, also that of one poll that waits.
+use Rattle.async_cell_latest.proofs.Words.{Runs, History, then_state, after, Entry, MayFollow, IsLegal, all_woken, wait_answer, Kept, next, State, IsSound, Stays, is_closed, PollChanged, may_lack_memory, never_skipped, keep_added, ◌≡◌, ◌≤◌, ◌<◌, ◌-◌, Bool, false, List, [], ◌∷◌, ◌++◌, Result, OnOk, OnErr, IsOk, refl, arith, le_refl, nat_tests}
 use Rattle.async_cell_latest.proofs.Versions.{after_append}
 
-module _ {T W : Type 0} where
-  -- the second state is the first, with no less room
-  abbrev More : State T W → State T W → Type 0
-  More s t = Stays s t × (t.waiting ≡ s.waiting) × (s.room ≤ t.room)
-
-  wakes_more : (s t : State T W) (call : Kept T W) → More s t → wakes t call ≡ wakes s call
-  wakes_more s t call more = grind (arith, nat_tests)
-
-  reply_more : (s t : State T W) (call : Kept T W) → More s t → reply t call ≡ reply s call
-  reply_more s t call more = grind (arith, nat_tests)
+-- the second state is the first, with no less room
+abbrev More : {T W : Type 0} → State T W → State T W → Type 0
+More s t = Stays s t × (t.waiting ≡ s.waiting) × (s.room ≤ t.room)
 
 module _ {T W : Type 0} (will_wake : W → W → Bool) where
   next_more : (s t : State T W) (call : Kept T W) → More s t → More (next will_wake s call) (next will_wake t call)
@@ -26,20 +20,27 @@ module _ {T W : Type 0} (will_wake : W → W → Bool) where
 
   woken_more : (s t : State T W) (h : History T W) → More s t → all_woken will_wake t h ≡ all_woken will_wake s h
   woken_more s t [] more = refl
-  woken_more s t (e ∷ h) more = cc (wakes_more s t e.call more, woken_more (then_state will_wake s e) (then_state will_wake t e) h (then_more s t e more))
+  woken_more s t (e ∷ h) more = grind (arith, nat_tests, then_more s t e, woken_more (then_state will_wake s e) (then_state will_wake t e) h)
 
   woken_append : (s : State T W) (g h : History T W) → all_woken will_wake s (g ++ h) ≡ all_woken will_wake s g ++ all_woken will_wake (after will_wake s g) h
   woken_append s [] h = refl
   woken_append s (e ∷ g) h = cc (woken_append (then_state will_wake s e) g h)
 
-  module _ (sure : Bool) where
-    refuse_more : (s t : State T W) (call : Kept T W) → More s t → may_refuse will_wake sure t call ≡ true → may_refuse will_wake sure s call ≡ true
-    refuse_more s t call more refused = grind (arith, nat_tests)
+  next_sound : (s : State T W) (call : Kept T W) → IsSound will_wake s → IsSound will_wake (next will_wake s call)
+  next_sound s call sound = grind (arith, nat_tests, keep_added)
 
-    follow_more : (s t : State T W) (e : Entry T W) → More s t → MayFollow will_wake sure t e → MayFollow will_wake sure s e
-    follow_more s t e more may = grind (arith, nat_tests, refuse_more, reply_more)
+  pub after_sound : (s : State T W) (h : History T W) → IsSound will_wake s → IsSound will_wake (after will_wake s h)
+  after_sound s [] sound = sound
+  after_sound s (e ∷ h) sound = grind (arith, nat_tests, after_sound (then_state will_wake s e) h, next_sound)
+
+  module _ (sure : Bool) where
+    pub runs_sound : (from to : State T W) (h : History T W) (woken : List (List W)) → Runs will_wake sure from h woken to → IsSound will_wake to
+    runs_sound from to h woken runs = grind (arith, nat_tests, after_sound)
 
     -- more room only makes fewer refusals legal
+    follow_more : (s t : State T W) (e : Entry T W) → More s t → MayFollow will_wake sure t e → MayFollow will_wake sure s e
+    follow_more s t e more may = grind (arith, nat_tests)
+
     legal_more : (s t : State T W) (h : History T W) → More s t → IsLegal will_wake sure t h → IsLegal will_wake sure s h
     legal_more s t [] more legal = tt
     legal_more s t (e ∷ h) more legal = (follow_more s t e more legal.0, legal_more (then_state will_wake s e) (then_state will_wake t e) h (then_more s t e more) legal.1)
@@ -53,3 +54,10 @@ module _ {T W : Type 0} (will_wake : W → W → Bool) where
     runs_join from at to g h first second one two =
         let mid = after will_wake from g in
         grind (arith, after_more mid at h, after_append will_wake from g h, woken_more mid at h, woken_append from g h, legal_append from g h, legal_more mid at h)
+
+    -- a poll that waits adds its waker, and takes one place of the room at most, or its waker comes
+    -- back where there is no memory
+    pub added : (never : (a b : W) → will_wake a b ≡ false) {A : Type 0} (b to : State T W) (w : W) (result : Result A W) → IsSound will_wake b → is_closed b ≡ false → Stays b to
+        → OnOk result (to.waiting ≡ b.waiting ++ w ∷ []) → OnOk result (b.room - 1 ≤ to.room) → OnErr result (to ≡ b) → (b.waiting ≡ [] → IsOk result) → (0 < b.room → IsOk result)
+        → Runs will_wake sure b (record { call = PollChanged b.version w; reply = (wait_answer {T = T} {W = W} result).reply } ∷ []) ((wait_answer {T = T} {W = W} result).woken ∷ []) to
+    added never b to w result sound live stays waiting room same first more = grind (arith, nat_tests, never_skipped, may_lack_memory sure b.waiting b.room)

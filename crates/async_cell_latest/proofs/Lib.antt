@@ -1,9 +1,4 @@
-pub mod Added
-pub mod ClosedState
 pub mod CoveredWakers
 pub mod JoinedHistories
-pub mod LastShown
-pub mod NewerVersions
-pub mod SoundAfter
 pub mod Versions
 pub mod Words

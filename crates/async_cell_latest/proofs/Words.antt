@@ -9,7 +9,7 @@ pub use Rattle.async_cell_model.specs.History.{IsCovered}
 pub use Rattle.async_cell_model.specs.Machine.{skips}
 pub use Rattle.async_cell_model.specs.Taken.{IsSubsequence, none, skip, both}
 pub use Rattle.std.proofs.Common.{◌≡◌, ◌⊎◌, ◌≤◌, ◌<◌, ◌-◌, ◌||◌, ℕ, Bool, true, false, List, [], ◌∷◌, ◌++◌, Some, Result, OnOk, OnErr, IsOk, refl, arith, le_refl, le_trans}
-pub use Rattle.std.proofs.lemmas.Bool.Decides.{nat_tests}
+pub use Rattle.std.proofs.lemmas.Bool.{or_parts, Decides.nat_tests}
 pub use Rattle.std.proofs.lemmas.List.Elements.{Contains-append_left, Contains-push}
 pub use Rattle.std.proofs.lemmas.List.Folds.{list_any-append}
 pub use Rattle.std.specs.Prelude.{if◌then◌else◌}

@@ -11,7 +11,7 @@ ghost use Rattle.async_cell_latest.specs.Follower.{IsFollower, IsRising, is_old,
 /// The versions that a follower is told rise: each poll shows one that is larger than all that the
 /// follower saw before. A follower is any choice of reads and polls of the history, in order, in
 /// which each poll passes the version that was shown last.
-#[tactic(auto, using(crate::proofs::NewerVersions::rising))]
+#[tactic(auto, using(crate::proofs::Versions::rising))]
 pub fn the_versions_of_a_follower_rise<T, W>()
     ensures { (will_wake : W → W → Bool) (sure_wakers : Bool)
         (b : State T W) (h mine : History T W) (seen : ℕ)
@@ -21,7 +21,7 @@ pub fn the_versions_of_a_follower_rise<T, W>()
 
 /// A poll after the last write shows the last state, its version and its value, or its follower has
 /// seen that version. The last state is what the last write put in, also once it is closed.
-#[tactic(auto, using(crate::proofs::LastShown::last_written, crate::proofs::LastShown::last_shown, crate::proofs::LastShown::last_seen))]
+#[tactic(auto, using(crate::proofs::Versions::last_written, crate::proofs::Versions::last_shown, crate::proofs::Versions::last_seen))]
 pub fn a_poll_shows_the_last_state<T, W>()
     ensures written { (will_wake : W → W → Bool) (sure_wakers : Bool)
         (b : State T W) (g : History T W) (e : Entry T W) (rest : History T W) (x : T)
@@ -44,14 +44,14 @@ pub fn a_poll_shows_the_last_state<T, W>()
 
 /// The last state stays. Once a state is closed, it keeps its value and its version, and stays
 /// closed, whatever calls come.
-#[tactic(auto, using(crate::proofs::ClosedState::closed_stays))]
+#[tactic(auto, using(crate::proofs::Versions::closed_stays))]
 pub fn the_last_state_stays<T, W>()
     ensures { (will_wake : W → W → Bool) (b : State T W) (h : History T W)
         → is_closed b ≡ true → Stays b (after will_wake b h) }
 {}
 
 /// A version is the name of one value: whoever is shown the same version is shown the same value.
-#[tactic(auto, using(crate::proofs::LastShown::one_value))]
+#[tactic(auto, using(crate::proofs::Versions::one_value))]
 pub fn a_version_names_one_value<T, W>()
     ensures { (will_wake : W → W → Bool) (sure_wakers : Bool)
         (b : State T W) (g : History T W) (e : Entry T W) (m : History T W) (f : Entry T W)
@@ -96,7 +96,7 @@ pub fn two_histories_are_one<T, W>()
 {}
 
 /// A history ends in a sound state, so another history can start from there.
-#[tactic(auto, using(crate::proofs::SoundAfter::after_sound, crate::proofs::SoundAfter::runs_sound))]
+#[tactic(auto, using(crate::proofs::JoinedHistories::after_sound, crate::proofs::JoinedHistories::runs_sound))]
 pub fn a_history_ends_in_a_sound_state<T, W>()
     ensures after { (will_wake : W → W → Bool) (b : State T W) (h : History T W)
         → IsSound will_wake b → IsSound will_wake (after will_wake b h) }
