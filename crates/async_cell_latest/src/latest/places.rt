@@ -1,5 +1,5 @@
-//! Wakers by value, and the places of waiting futures.
-ghost use Rattle.std.specs.Prelude.{◌≡◌, ◌<◌, ◌≤◌, ◌-◌, [], ◌∷◌, ◌++◌, true, false, IsOk, IfOk, IfNone, IfErr, OnOk, OnErr, MatchOption};
+//! The places of waiting futures.
+ghost use Rattle.std.specs.Prelude.{◌≡◌, ◌<◌, ◌≤◌, ◌-◌, [], ◌∷◌, ◌++◌, true, false, IsOk, IfOk, IfNone, OnOk, OnErr, MatchOption};
 ghost use Rattle.async_cell_wakers.specs.Place.{displaced};
 ghost use Rattle.async_cell_latest.specs.State.{Stays, is_closed};
 ghost use Rattle.async_cell_latest.specs.Step.{PollChanged};
@@ -9,30 +9,6 @@ use super::Latest;
 use async_cell_wakers::{Place, TaskWaker, Wakes};
 use futures::task::Waker;
 
-impl<T: Drop, W: Wakes> Latest<T, W> {
-    /// Adds a waker, by value, as the last, for a poll that has to wait. The state must be open,
-    /// and the waker of a type of which none would wake another, so it is never skipped. If there
-    /// is no memory to grow the list, fails and returns the waker in the error.
-    #[doc(hidden)]
-    #[tactic(auto, using(async_cell_model::proofs::OneMoreWaker::keep_added, async_cell_model::proofs::OneMoreWaker::never_skipped, crate::proofs::Added::added))]
-    pub fn add(&mut self, waker: W) -> Result<(), W>
-        requires open { is_closed self.old ≡ false }
-        requires none_alike { (a b : W) → W.will_wake a b ≡ false }
-        ensures model { IsStep W.Wakes self.old
-            (PollChanged self.old.version waker) (wait_answer result) self.new }
-
-        ensures added { OnOk result (self.new.waiting ≡ self.old.waiting ++ waker ∷ []) }
-        ensures state_stays { Stays self.old self.new }
-        ensures unchanged { OnErr result (self.new ≡ self.old) }
-        ensures comes_back { IfErr result (λ back. back ≡ waker) }
-        ensures first_waits { self.old.waiting ≡ [] → IsOk result }
-        ensures room_suffices { 0 < self.old.room → IsOk result }
-    {
-        self.waiting.add(waker)?;
-        Ok(())
-    }
-}
-
 impl<T: Drop> Latest<T, TaskWaker> {
     /// Returns whether a future with this place has to be added: it has none, and none is free.
     #[doc(hidden)]
@@ -41,10 +17,12 @@ impl<T: Drop> Latest<T, TaskWaker> {
         self.waiting.is_new(place)
     }
 
-    /// `add`, at a place: that of the waker from then on.
+    /// Stores a waker, by value, as the last of the list, for a poll that has to wait. The place is
+    /// its own from then on. The state must be open. If there is no memory to grow the list, the
+    /// waker is returned in the error.
     #[doc(hidden)]
     #[inline(always)]
-    #[tactic(auto, using(async_cell_model::proofs::OneMoreWaker::keep_added, async_cell_model::proofs::OneMoreWaker::never_skipped, crate::proofs::Added::added))]
+    #[tactic(auto, using(async_cell_model::proofs::OneMoreWaker::keep_added, async_cell_model::proofs::OneMoreWaker::never_skipped, crate::proofs::JoinedHistories::added))]
     pub fn store_new(&mut self, place: &mut Place, waker: TaskWaker) -> Result<(), TaskWaker>
         requires open { is_closed self.old ≡ false }
         ensures model { IsStep ⟦<TaskWaker as Wakes>⟧ self.old
@@ -76,7 +54,7 @@ impl<T: Drop> Latest<T, TaskWaker> {
     /// it is dropped. If there is no memory to grow the list, the waker is returned in the error.
     #[doc(hidden)]
     #[inline(always)]
-    #[tactic(auto, using(async_cell_model::proofs::OneMoreWaker::keep_added, async_cell_model::proofs::OneMoreWaker::never_skipped, crate::proofs::Added::added))]
+    #[tactic(auto, using(async_cell_model::proofs::OneMoreWaker::keep_added, async_cell_model::proofs::OneMoreWaker::never_skipped, crate::proofs::JoinedHistories::added))]
     pub fn store(
         &mut self,
         place: &mut Place,

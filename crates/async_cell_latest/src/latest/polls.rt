@@ -4,7 +4,7 @@ ghost use Rattle.async_cell_model.specs.Machine.{with_one_more};
 ghost use Rattle.async_cell_latest.specs.State.{IsSound, Stays, is_closed, is_waited_for};
 ghost use Rattle.async_cell_latest.specs.Step.{PollChanged};
 ghost use Rattle.async_cell_latest.specs.History.{needs_no_memory};
-ghost use Rattle.async_cell_latest.specs.IsStep.{IsStep, changed_answer, wait_answer};
+ghost use Rattle.async_cell_latest.specs.IsStep.{IsStep, changed_answer};
 
 use super::Latest;
 use async_cell_model::Refusal;
@@ -68,13 +68,13 @@ impl<T: Drop, W: Wakes> Latest<T, W> {
         ensures unchanged { OnErr result (self.new.waiting ≡ self.old.waiting) }
         ensures keeps_room { OnErr result (self.old.room ≤ self.new.room) }
     {
-        match self.changed_since(seen) {
-            Poll::Ready(told) => Ok(Poll::Ready(told)),
-            Poll::Pending => {
-                self.wait(waker)?;
-                Ok(Poll::Pending)
-            }
+        if let Poll::Ready(told) = self.changed_since(seen) {
+            return Ok(Poll::Ready(told));
         }
+        if !self.waiting.skips(waker) {
+            self.waiting.push(waker)?;
+        }
+        Ok(Poll::Pending)
     }
 
     /// Makes room: the next `additional` wakers that are added need no memory beyond their clones,
@@ -96,30 +96,6 @@ impl<T: Drop, W: Wakes> Latest<T, W> {
             return Ok(());
         }
         self.waiting.reserve(additional)?;
-        Ok(())
-    }
-
-    /// Registers the waker, unless `skips` says that it need not be. The state must be open. Fails
-    /// with `Memory` if there is no memory for a clone of the waker or to grow the list.
-    fn wait(&mut self, waker: &W) -> Result<(), Refusal>
-        requires { is_closed self.old ≡ false }
-        ensures model { IsStep W.Wakes self.old
-            (PollChanged self.old.version waker.now) (wait_answer result) self.new }
-
-        ensures waits { OnOk result
-            (self.new.waiting ≡ with_one_more W.will_wake self.old.waiting waker.now) }
-        ensures spared { needs_no_memory W.will_wake W.SURE_CLONE self.old waker.now ≡ true
-            → IsOk result }
-        ensures first_waits { self.old.waiting ≡ [] → W.is_infallible waker.now → IsOk result }
-        ensures room_suffices { 0 < self.old.room → W.is_infallible waker.now → IsOk result }
-        ensures state_stays { Stays self.old self.new }
-        ensures refused { IfErr result (λ why. why ≡ Refusal.Memory) }
-        ensures unchanged { OnErr result (self.new.waiting ≡ self.old.waiting) }
-        ensures keeps_room { OnErr result (self.old.room ≤ self.new.room) }
-    {
-        if !self.waiting.skips(waker) {
-            self.waiting.push(waker)?;
-        }
         Ok(())
     }
 }

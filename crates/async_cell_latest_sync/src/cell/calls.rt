@@ -265,7 +265,7 @@ impl<T: Drop, N: Protocol<T>> Room for LatestCore<T, N> {
 
     #[inline(always)]
     fn add(&mut self, waker: TaskWaker) -> Deferred<Result<(), TaskWaker>> {
-        Deferred::of(self.state.add(waker))
+        self.store_new(&mut Place::new(), waker)
     }
 
     #[inline(always)]
