@@ -176,9 +176,8 @@ impl<T: Drop, N: Protocol<T>> LatestCore<T, N> {
         change: F,
     ) -> Deferred<Result<A, Refusal>, Option<Wakers<TaskWaker>>>
         requires callable { F.IsAlwaysCallable change }
-        requires may { (answer : A) (new : T) → N.holds self.old.state.value
-            → FnOnceReturnsAtMut F.FnOnce change self.old.state.value answer new
-            → N.may self.old.life.values new }
+        requires may { (before : List T) (old new : T) (answer : A) → N.holds old
+            → FnOnceReturnsAtMut F.FnOnce change old answer new → N.may before new }
         ensures called { IfOk result.answer (λ answer. (old new : T)
             × FnOnceReturnsAtMut F.FnOnce change old answer new) }
         ensures hands_out_all { OnOk result.answer
@@ -201,9 +200,8 @@ impl<T: Drop, N: Protocol<T>> LatestCore<T, N> {
     ) -> Deferred<Result<bool, Refusal>, Option<Wakers<TaskWaker>>>
         requires callable { F.IsAlwaysCallable change }
         requires unnamed { N.named ≡ None }
-        requires may { (changed : Bool) (new : T) → N.holds self.old.state.value
-            → FnOnceReturnsAtMut F.FnOnce change self.old.state.value changed new
-            → N.may self.old.life.values new }
+        requires may { (before : List T) (old new : T) (changed : Bool) → N.holds old
+            → FnOnceReturnsAtMut F.FnOnce change old changed new → N.may before new }
         ensures called { IfOk result.answer (λ changed. (old new : T)
             × FnOnceReturnsAtMut F.FnOnce change old changed new) }
         ensures hands_out_all { result.answer ≡ Ok true
