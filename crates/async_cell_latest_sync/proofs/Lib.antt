@@ -1,5 +1,4 @@
 pub mod Keeping
 pub mod Lives
 pub mod Polled
-pub mod Showing
 pub mod Words

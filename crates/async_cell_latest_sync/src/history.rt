@@ -109,7 +109,7 @@ impl<T: Drop, N: Protocol<T>> Values<T, N> {
         ensures rule { N.holds state.now.value }
     {
         let Blank { mut log } = blank;
-        log.push::<_, Written>(state);
+        log.push::<_, Entry>(state);
         Values {
             log,
             of: PhantomData,
@@ -118,7 +118,7 @@ impl<T: Drop, N: Protocol<T>> Values<T, N> {
 
     /// Adds the value of the state, which was written.
     #[inline(always)]
-    #[tactic(auto, using(crate::proofs::Lives::written, crate::proofs::Lives::lawful_more))]
+    #[tactic(auto, using(crate::proofs::Lives::life_written, crate::proofs::Lives::lawful_more))]
     pub(crate) fn add(&mut self, state: &Latest<T, TaskWaker>)
         requires open { self.old.closed ≡ false }
         requires may { N.may self.old.values state.now.value }
@@ -126,30 +126,27 @@ impl<T: Drop, N: Protocol<T>> Values<T, N> {
             { values = self.old.values ++ state.now.value ∷ []; closed = false } }
         ensures rule { N.holds state.now.value }
     {
-        self.log.push::<_, Written>(state);
+        self.log.push::<_, Entry>(state);
     }
 
     /// Ends the list: the state was closed.
     #[inline(always)]
-    #[tactic(auto, using(crate::proofs::Lives::closed, crate::proofs::Lives::lawful_closed))]
+    #[tactic(auto, using(crate::proofs::Lives::life_closed, crate::proofs::Lives::lawful_closed))]
     pub(crate) fn close(&mut self)
         ensures { self.new ≡ record { values = self.old.values; closed = true } }
     {
-        self.log.push::<_, Closed>(&());
+        self.log.push::<_, Entry>(&());
     }
 }
 
-/// Adds the value of a state.
-struct Written;
+/// What a write of a state adds, and what its close adds.
+struct Entry;
 
-impl<T> Makes<Latest<T, TaskWaker>, Option<T>> for Written {
+impl<T> Makes<Latest<T, TaskWaker>, Option<T>> for Entry {
     ghost entry = { λ state. Some state.value };
 }
 
-/// Adds the close of a state.
-struct Closed;
-
-impl<T> Makes<(), Option<T>> for Closed {
+impl<T> Makes<(), Option<T>> for Entry {
     ghost entry = { λ _. None };
 }
 

@@ -1,5 +1,5 @@
 use Rattle.async_cell_latest_sync.proofs.Words.{GoesOn, ◌≡◌, ◌≢◌, length, sym, ◌∙◌, arith}
-use Rattle.async_cell_latest_sync.proofs.Showing.{shown_next, shown_all}
+use Rattle.async_cell_latest_sync.proofs.Lives.{shown_next, shown_all}
 use Rattle.async_cell_latest_sync.proofs.cell.calls.NextQueryLatestCore.answer.Goals as goal
 
 pub returns-then-is_unseen-clause-gives : goal.returns-then-is_unseen-clause-gives
