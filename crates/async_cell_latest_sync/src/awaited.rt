@@ -80,7 +80,7 @@ pub struct Changed<'a, T: Drop, R: Wait + Drop, N: Protocol<T> = Unruled> {
 }
 
 impl<T: Drop, R: Wait + Drop, N: Protocol<T>> Changed<'_, T, R, N> {
-    /// As `With::cancel`. Call it on a state that is written seldom: a write removes the waker, too.
+    /// As `With::cancel`. Call it on a state that is written seldom: a write removes the waker too.
     pub fn cancel(self) {
         let Changed { follower, place } = self;
         follower.cell.core.cancel(place, &follower.rt);
@@ -263,8 +263,8 @@ impl<T: Clone, R: Wait + Drop, N: Protocol<T>> Stream for States<T, R, N> {
 
     ghost needs = { λ states. sources states.follower };
 
-    ghost yields = { λ _ items last.
-        AllByRecursion (IsItem T.is_clone N.holds) items × IfSome last (IsItem T.is_clone N.holds) };
+    ghost yields = { λ _ items last. AllByRecursion (IsItem T.is_clone N.holds) items
+        × IfSome last (IsItem T.is_clone N.holds) };
 
     fn poll_next(&mut self, cx: &mut Context<'_>) -> Poll<Option<Result<T, Refusal>>>
         ensures value { IfReady result (λ item. IfSome item (IsItem T.is_clone N.holds)) }

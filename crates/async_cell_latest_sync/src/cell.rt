@@ -1,5 +1,5 @@
-//! The state behind a lock, as owners and followers point to it: the looks at it, and what polls ask
-//! it. Closures, and clones of the value, run while the lock is held.
+//! The state behind a lock, as owners and followers point to it: the looks at it, and what polls
+//! ask it. Closures, and clones of the value, run while the lock is held.
 mod calls;
 
 ghost use Rattle.std.specs.Prelude.{◌≡◌, ◌≢◌, IsOk, IfOk, IfSome, IfNone};
@@ -30,8 +30,8 @@ impl<T: Drop, N: Protocol<T>> LatestCell<T, N> {
         ensures called { (seen : T) × N.holds seen × FnOnceReturnsAt F.FnOnce look seen result.1 }
     {
         let step = self.core.lock(rt);
-        let (version, value) = step.shown().read();
-        let answer = look(value);
+        let (version, _) = step.shown().read();
+        let answer = step.shown().look(look);
         end(step, Deferred::of(()));
         (version, answer)
     }
@@ -61,8 +61,8 @@ impl<T: Drop, N: Protocol<T>> LatestCell<T, N> {
     where
         T: Clone,
         requires { P.IsAlwaysCallable predicate.old }
-        ensures tested { IfSome result (λ tested. (value : T)
-            × N.holds value × IsTested P.FnMut T.is_clone predicate.old value tested.1 predicate.new) }
+        ensures tested { IfSome result (λ tested. (value : T) × N.holds value
+            × IsTested P.FnMut T.is_clone predicate.old value tested.1 predicate.new) }
         ensures unseen { IfSome result (λ tested. tested.0 ≢ seen) }
         ensures uncalled { IfNone result (predicate.new ≡ predicate.old) }
         ensures again { P.IsAlwaysCallable predicate.new }

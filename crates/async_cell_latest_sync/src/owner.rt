@@ -193,7 +193,8 @@ impl<T: Drop, R: Wait + Drop, N: Protocol<T>> Owner<T, R, N> {
         ensures called { (old new : T) × FnOnceReturnsAt F.FnOnce change old new }
     {
         let mut step = self.cell.core.lock(&self.rt);
-        let written = step.lend().update(change);
+        let value = step.shown().look(change);
+        let written = step.lend().write(value);
         let _ = end_and_wake(step, written);
     }
 
@@ -304,7 +305,8 @@ impl<T: Drop, R: Wait + Drop, N: Protocol<T>> Owner<T, R, N> {
         let core = step.lend();
         core.show_to(seen);
         seen.lawful();
-        let updated = core.update(change);
+        let value = core.look(change);
+        let updated = core.replace(value);
         core.show_to(seen);
         match end_and_wake(step, updated) {
             Ok(_old) => Ok(()),

@@ -75,6 +75,15 @@ impl<T: Drop, N: Protocol<T>> LatestCore<T, N> {
         self.state.read()
     }
 
+    /// Calls the closure on the value.
+    pub(crate) fn look<A, F: FnOnce(&T) -> A>(&self, look: F) -> A
+        requires { F.IsAlwaysCallable look }
+        ensures called { FnOnceReturnsAt F.FnOnce look self.now.state.value result }
+        ensures rule { N.holds self.now.state.value }
+    {
+        look(self.state.read().1)
+    }
+
     #[inline(always)]
     pub(crate) fn is_unseen(&self, seen: u64) -> bool
         ensures { (result ≡ true) ↔ (seen ≢ self.now.state.version) }
@@ -140,34 +149,6 @@ impl<T: Drop, N: Protocol<T>> LatestCore<T, N> {
                 Deferred::waking(Ok(old), Some(woken))
             }
             Err(value) => Deferred::waking(Err(value), None),
-        }
-    }
-
-    pub(crate) fn update<F: FnOnce(&T) -> T>(
-        &mut self,
-        change: F,
-    ) -> Deferred<Result<T, T>, Option<Wakers<TaskWaker>>>
-        requires callable { F.IsAlwaysCallable change }
-        requires may { (new : T) → N.holds self.old.state.value
-            → FnOnceReturnsAt F.FnOnce change self.old.state.value new
-            → N.may self.old.life.values new }
-        ensures called { (old new : T) × FnOnceReturnsAt F.FnOnce change old new }
-        ensures makes { OnOk result.answer
-            (FnOnceReturnsAt F.FnOnce change self.old.state.value self.new.state.value) }
-        ensures entered { OnOk result.answer (self.new.life ≡ record
-            { values = self.old.life.values ++ self.new.state.value ∷ []; closed = false }) }
-        ensures hands_out_all { OnOk result.answer
-            (result.woken ≡ Some self.old.state.waiting) }
-        ensures full { OnErr result.answer (TakesNoMore self.new.life) }
-        ensures comes_back { IfErr result.answer
-            (FnOnceReturnsAt F.FnOnce change self.old.state.value) }
-    {
-        match self.state.update(change) {
-            Ok((old, woken)) => {
-                self.values.add(&self.state);
-                Deferred::waking(Ok(old), Some(woken))
-            }
-            Err(unused) => Deferred::waking(Err(unused), None),
         }
     }
 
@@ -326,6 +307,7 @@ impl<T: Clone, N: Protocol<T>> Query<LatestCore<T, N>> for Next<T, N> {
     }
 
     #[inline(always)]
+    #[tactic(auto, using(crate::proofs::Lives::shown_all))]
     fn answer(
         self,
         core: &mut LatestCore<T, N>,

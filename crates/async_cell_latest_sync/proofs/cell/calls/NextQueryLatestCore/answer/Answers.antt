@@ -1,5 +1,5 @@
-use Rattle.async_cell_latest_sync.proofs.Words.{GoesOn, ◌≡◌, ◌≢◌, length, sym, ◌∙◌, arith}
-use Rattle.async_cell_latest_sync.proofs.Lives.{shown_next, shown_all}
+use Rattle.async_cell_latest_sync.proofs.Words.{GoesOn, ◌≢◌, length}
+use Rattle.async_cell_latest_sync.proofs.Lives.{shown_next}
 use Rattle.async_cell_latest_sync.proofs.cell.calls.NextQueryLatestCore.answer.Goals as goal
 
 pub returns-then-is_unseen-clause-gives : goal.returns-then-is_unseen-clause-gives
@@ -10,12 +10,3 @@ returns-then-is_unseen-clause-gives g c =
     let next =
     shown_next g.N.Protocol.named g.N.Protocol.holds state c.args.self.0 c.core.inside.values g.T.Clone.is_clone c.in-Ok.shown.1 c.learn.ensures.named c.core.invariant on other c.in-Ok.ensures.clones in
     rw (c.of-then-is_unseen.ensures, c.learn.ensures.whole) next
-
-pub returns-then-is_closed-clause-gives : goal.returns-then-is_closed-clause-gives
-returns-then-is_closed-clause-gives g c =
-    let state = c.core.inside.state in
-    let on : GoesOn c.args.self.0 c.core.inside.values = rw c.again-now.ensures at c.learn.ensures.goes_on in
-    let same : length c.args.self.0.values ≡ state.version = grind (arith, c.is_unseen.ensures, c.if-is_unseen.false, c.version-2.ensures) in
-    let ended =
-    shown_all g.N.Protocol.named g.N.Protocol.holds state c.args.self.0 c.core.inside.values g.T.Clone.is_clone c.core.invariant on same (sym c.is_closed.ensures.closed ∙ c.if-is_closed.true) in
-    rw (c.of-then-is_closed.ensures, c.learn.ensures.whole) ended
