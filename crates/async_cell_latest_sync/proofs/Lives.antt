@@ -32,12 +32,6 @@ module _ {T : Type 0} where
   pub goes_on : (writes now : List (Option T)) → IsPrefix writes now → GoesOn (life_of writes) (life_of now)
   goes_on writes now begins = subst (λ l. GoesOn (life_of writes) (life_of l)) begins.1 (more_goes_on writes begins.0)
 
-  -- of two beginnings of one list, one begins the other
-  pub one_goes_on : (writes other longer : List (Option T)) → (longer ≡ writes) ⊎ (longer ≡ other) → IsPrefix writes longer → IsPrefix other longer
-      → GoesOn (life_of writes) (life_of other) ⊎ GoesOn (life_of other) (life_of writes)
-  one_goes_on writes other longer (inl is) begins also = inr (goes_on other writes (subst (λ l. IsPrefix other l) is also))
-  one_goes_on writes other longer (inr is) begins also = inl (goes_on writes other (subst (λ l. IsPrefix writes l) is begins))
-
   -- one more value that may be written
   each_append : (may : List T → T → Type 0) (values : List T) (x : T) → ((before later : List T) → (value : T) → values ≡ before ++ value ∷ later → may before value) → may values x
       → (before later : List T) → (value : T) → values ++ x ∷ [] ≡ before ++ value ∷ later → may before value

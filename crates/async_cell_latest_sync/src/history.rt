@@ -215,7 +215,7 @@ impl<T, N: Protocol<T>> Witness<T, N> {
     }
 
     /// Ensures that what one of both has seen begins what the other has.
-    #[tactic(auto, using(crate::proofs::Lives::same_name))]
+    #[tactic(auto, using(crate::proofs::Lives::same_name, crate::proofs::Lives::goes_on))]
     pub fn agrees(&self, other: &Self)
         ensures { GoesOn self.now other.now ⊎ GoesOn other.now self.now }
     {
