@@ -1,4 +1,3 @@
-pub mod Keeping
 pub mod Lives
 pub mod Polled
 pub mod Words

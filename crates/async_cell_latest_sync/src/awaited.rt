@@ -258,7 +258,6 @@ impl<T: Drop, R: Wait + Drop, N: Protocol<T>> Drop for States<T, R, N> {
     }
 }
 
-#[tactic(auto, using(crate::proofs::Polled::on_pending, crate::proofs::Polled::value_of, crate::proofs::Polled::rest_of, crate::proofs::Polled::goes_on))]
 impl<T: Clone, R: Wait + Drop, N: Protocol<T>> Stream for States<T, R, N> {
     type Item = Result<T, Refusal>;
 

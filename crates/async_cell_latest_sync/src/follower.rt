@@ -180,7 +180,6 @@ impl<T: Drop, R: Wait + Drop, N: Protocol<T>> Follower<T, R, N> {
 
 impl<T: Clone, R: Wait + Drop, N: Protocol<T>> Follower<T, R, N> {
     /// `read_and_update`, which shows the witness all values so far.
-    #[tactic(auto, using(crate::proofs::Lives::shown))]
     pub fn read_and_update_as(&mut self, seen: &mut Witness<T, N>) -> Result<T, Refusal>
         ensures linearized { IfOk result (λ copy. IsShown T.is_clone seen.old copy seen.new) }
         ensures rule { IfOk result (IsCloneOfOne T.is_clone N.holds) }

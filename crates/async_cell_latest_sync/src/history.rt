@@ -131,7 +131,7 @@ impl<T: Drop, N: Protocol<T>> Values<T, N> {
 
     /// Ends the list: the state was closed.
     #[inline(always)]
-    #[tactic(auto, using(crate::proofs::Lives::life_closed, crate::proofs::Lives::lawful_closed))]
+    #[tactic(auto, using(crate::proofs::Lives::life_closed))]
     pub(crate) fn close(&mut self)
         ensures { self.new ≡ record { values = self.old.values; closed = true } }
     {
@@ -173,7 +173,6 @@ impl<T, N: Protocol<T>> Model for Witness<T, N> {
 
 impl<T, N: Protocol<T>> Witness<T, N> {
     /// Makes a witness that has seen the whole life, up to this version.
-    #[tactic(auto, using(crate::proofs::Lives::named))]
     pub(crate) fn of(values: &Values<T, N>, version: u64) -> Self
         requires named { IsSome N.named }
         requires counted { version ≡ length values.now.values }
@@ -188,7 +187,7 @@ impl<T, N: Protocol<T>> Witness<T, N> {
 
     /// Sees the whole life, up to this version. It has gone on from what was seen.
     #[inline(always)]
-    #[tactic(auto, using(crate::proofs::Lives::same_name, crate::proofs::Lives::goes_on))]
+    #[tactic(auto, using(crate::proofs::Lives::goes_on))]
     pub(crate) fn learn(&mut self, values: &Values<T, N>, version: u64)
         requires counted { version ≡ length values.now.values }
         ensures whole { self.new ≡ values.now }
@@ -215,7 +214,7 @@ impl<T, N: Protocol<T>> Witness<T, N> {
     }
 
     /// Ensures that what one of both has seen begins what the other has.
-    #[tactic(auto, using(crate::proofs::Lives::same_name, crate::proofs::Lives::goes_on))]
+    #[tactic(auto, using(crate::proofs::Lives::goes_on))]
     pub fn agrees(&self, other: &Self)
         ensures { GoesOn self.now other.now ⊎ GoesOn other.now self.now }
     {

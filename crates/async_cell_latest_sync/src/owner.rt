@@ -265,7 +265,6 @@ impl<T: Drop, R: Wait + Drop, N: Protocol<T>> Owner<T, R, N> {
     }
 
     /// `set_as`, which returns the old value: the one that was written before this one.
-    #[tactic(auto, using(crate::proofs::Lives::written, crate::proofs::Lives::replaced, crate::proofs::Lives::goes_further))]
     pub fn replace_as(&self, seen: &mut Witness<T, N>, value: T) -> Result<T, T>
         requires may { MayWrite N.may seen.old value }
         ensures linearized { OnOk result (IsWritten seen.old value seen.new) }
@@ -286,7 +285,7 @@ impl<T: Drop, R: Wait + Drop, N: Protocol<T>> Owner<T, R, N> {
     }
 
     /// `update`. If the state takes no further write, the new value is returned in the error.
-    #[tactic(auto, using(crate::proofs::Lives::may_update, crate::proofs::Lives::updated, crate::proofs::Lives::goes_further))]
+    #[tactic(auto, using(crate::proofs::Lives::may_update))]
     pub fn update_as<F: FnOnce(&T) -> T>(
         &self,
         seen: &mut Witness<T, N>,

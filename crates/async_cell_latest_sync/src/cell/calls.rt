@@ -34,7 +34,6 @@ impl<T, N: Protocol<T>> Model for LatestCore<T, N> {
     ghost invariant = { λ c. IsOf N.named N.holds c.state c.values };
 }
 
-#[tactic(auto, using(crate::proofs::Keeping::of_written, crate::proofs::Keeping::open_life, crate::proofs::Keeping::full_life))]
 impl<T: Drop, N: Protocol<T>> LatestCore<T, N> {
     /// Makes a state of this value, and of one writer, whose list this begins.
     pub(crate) fn begin(alloc: Global, value: T, blank: Blank<T>) -> Self
@@ -199,14 +198,12 @@ impl<T: Drop, N: Protocol<T>> LatestCore<T, N> {
         }
     }
 
-    #[tactic(auto, using(crate::proofs::Keeping::of_added))]
     pub(crate) fn add_writer(&mut self) -> Deferred<Result<(), Refusal>>
         ensures refused { IfErr result.answer IsOwnerRefusal }
     {
         Deferred::of(self.state.add_writer())
     }
 
-    #[tactic(auto, using(crate::proofs::Keeping::of_ended, crate::proofs::Keeping::of_closed))]
     pub(crate) fn end_writer(&mut self) -> Deferred<(), Option<Wakers<TaskWaker>>>
         ensures hands_out_all { self.old.state.writers ≡ 1
             → result.woken ≡ Some self.old.state.waiting }
@@ -234,7 +231,6 @@ impl<T: Drop, N: Protocol<T>> Writes<T> for LatestCore<T, N> {
     }
 }
 
-#[tactic(auto, using(crate::proofs::Keeping::of_stays))]
 impl<T: Drop, N: Protocol<T>> Room for LatestCore<T, N> {
     ghost vacant = { λ core. is_closed core.state ≡ false };
 
@@ -307,7 +303,6 @@ impl<T: Clone, N: Protocol<T>> Query<LatestCore<T, N>> for Next<T, N> {
     }
 
     #[inline(always)]
-    #[tactic(auto, using(crate::proofs::Lives::shown_all))]
     fn answer(
         self,
         core: &mut LatestCore<T, N>,
