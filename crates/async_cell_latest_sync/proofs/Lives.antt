@@ -1,5 +1,5 @@
 -- What one more write, or the close, makes of a life, what follows from a beginning of it, and what
--- is shown or may be written after what was seen.
+-- is shown after what was seen.
 use Rattle.async_cell_latest_sync.proofs.Words.{State, is_closed, Life, Fits, GoesOn, IsLawful, IsOf, IsShown, IsShownNext, IsNext, IsUpdated, IsWritten, MayUpdate, values_of, closed_of, life_of, ◌≡◌, ◌≢◌, ◌≤◌, ◌⊎◌, inl, inr, ℕ, true, false, List, [], ◌∷◌, ◌++◌, length, Option, Some, None, IsSome, refl, ap, sym, subst, ◌∙◌, arith, append_assoc, append-nil, length-append, IsPrefix, shorter_begins}
 
 module _ {T : Type 0} where
@@ -54,11 +54,3 @@ module _ {T W : Type 0} (named : Option ℕ) (holds : T → Type 0) (state : Sta
       omega (arith, length-append last.0 (state.value ∷ []), ap length last.1, of.counted, other, length-append seen.values on.begins.0, ap length on.begins.1) in
       let after_seen = shorter_begins seen.values last.0 now.values on.begins (state.value ∷ [], sym last.1) shorter in
       record { goes_on = on; before = last.0; value = state.value; after_seen = after_seen; ends = last.1; clone = clone }
-
-  -- what may be written over the last value may be written over that of the state
-  pub may_update : (P : T → T → Type 0) (may : List T → T → Type 0) → MayUpdate may seen P → IsSome named → IsOf named holds state now → GoesOn seen now → IsLawful may now.values → (new : T) → P state.value new
-      → may now.values new
-  may_update P may allowed there of on lawful new made =
-      let last = of.last there in
-      subst (λ l. may l new) (sym last.1)
-      (allowed last.0 state.value new (subst (λ l. IsPrefix seen.values l) last.1 on.begins) (subst (IsLawful may) last.1 lawful) made)

@@ -178,7 +178,7 @@ impl<T: Clone, R: Wait + Drop, F: FnMut(&T) -> bool + Drop, N: Protocol<T>> Futu
 
     ghost gives = { λ future. IsFound F.FnMut T.is_clone N.holds future.predicate };
 
-    #[tactic(auto, using(crate::proofs::Polled::on_pending, crate::proofs::Polled::after_false))]
+    #[tactic(auto, using(crate::proofs::Polled::after_false))]
     fn poll(&mut self, cx: &mut Context<'_>) -> Poll<Result<T, Refusal>>
         requires can_poll { F.IsAlwaysCallable self.old.predicate }
         ensures called { IfReady result (λ answer. IfOk answer (λ copy. (value : T)

@@ -285,7 +285,6 @@ impl<T: Drop, R: Wait + Drop, N: Protocol<T>> Owner<T, R, N> {
     }
 
     /// `update`. If the state takes no further write, the new value is returned in the error.
-    #[tactic(auto, using(crate::proofs::Lives::may_update))]
     pub fn update_as<F: FnOnce(&T) -> T>(
         &self,
         seen: &mut Witness<T, N>,
