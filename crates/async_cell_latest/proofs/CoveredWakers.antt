@@ -1,5 +1,5 @@
 -- Each waker that waits is covered until all waiting ends.
-use Rattle.async_cell_latest.proofs.Words.{pending_waker, has_end, History, then_state, after, Entry, MayFollow, IsLegal, State, ends_waiting, wakes, IsCovered, skips, ◌≡◌, Bool, true, false, List, [], ◌∷◌, ◌++◌, Some, arith, or_parts, nat_tests, Contains-append_left, Contains-push, list_any-append, if◌then◌else◌}
+use Rattle.async_cell_latest.proofs.Words.{pending_waker, has_end, History, then_state, after, Entry, MayFollow, IsLegal, State, ends_waiting, IsCovered, skips, ◌≡◌, Bool, false, List, [], ◌∷◌, ◌++◌, Some, arith, or_parts, nat_tests, Contains-append_left, Contains-push, list_any-append, if◌then◌else◌}
 use Rattle.async_cell_latest.proofs.Versions.{legal_rest, after_append}
 
 module _ {W : Type 0} (will_wake : W → W → Bool) where
@@ -30,14 +30,3 @@ module _ {T W : Type 0} (will_wake : W → W → Bool) where
     pub stays_covered : (b : State T W) (g : History T W) (e : Entry T W) (rest : History T W) (w : W) → IsLegal will_wake sure b (g ++ e ∷ rest) → pending_waker e.call e.reply ≡ Some w
         → has_end will_wake (after will_wake b (g ++ e ∷ [])) rest ≡ false → IsCovered will_wake (after will_wake b (g ++ e ∷ rest)).waiting w
     stays_covered b g e rest w legal is quiet = grind (arith, nat_tests, legal_rest, then_covers, after_append, after_covers)
-
-    -- and is handed out by the call that ends it, or one that would wake it
-    pub is_woken : (b : State T W) (g : History T W) (e : Entry T W) (rest : History T W) (last : Entry T W) (w : W) → IsLegal will_wake sure b (g ++ e ∷ rest) → pending_waker e.call e.reply ≡ Some w
-        → has_end will_wake (after will_wake b (g ++ e ∷ [])) rest ≡ false → ends_waiting (after will_wake b (g ++ e ∷ rest)) last.call ≡ true
-        → IsCovered will_wake (wakes (after will_wake b (g ++ e ∷ rest)) last.call) w
-    is_woken b g e rest last w legal is quiet ends = rw ends (stays_covered b g e rest w legal is quiet)
-
-    -- after it nobody waits
-    pub nobody_waits : (b : State T W) (g : History T W) (last : Entry T W) → IsLegal will_wake sure b (g ++ last ∷ []) → ends_waiting (after will_wake b g) last.call ≡ true
-        → (after will_wake b (g ++ last ∷ [])).waiting ≡ []
-    nobody_waits b g last legal ends = grind (arith, nat_tests, legal_rest, after_append)

@@ -1,7 +1,7 @@
 -- Two histories, the second from the state where the first ends, are one. A legal history from a
 -- sound state ends in a sound state, also that of one poll that waits.
-use Rattle.async_cell_latest.proofs.Words.{Runs, History, then_state, after, Entry, MayFollow, IsLegal, all_woken, wait_answer, Kept, next, State, IsSound, Stays, is_closed, PollChanged, may_lack_memory, never_skipped, keep_added, ◌≡◌, ◌≤◌, ◌<◌, ◌-◌, Bool, false, List, [], ◌∷◌, ◌++◌, Result, OnOk, OnErr, IsOk, refl, arith, le_refl, nat_tests}
-use Rattle.async_cell_latest.proofs.Versions.{after_append}
+use Rattle.async_cell_latest.proofs.Words.{Runs, History, then_state, after, Entry, MayFollow, IsLegal, all_woken, wait_answer, Kept, next, State, IsSound, Stays, is_closed, PollChanged, may_lack_memory, never_skipped, keep_added, ◌≡◌, ◌≤◌, ◌<◌, ◌-◌, Bool, false, [], ◌∷◌, ◌++◌, Result, OnOk, OnErr, IsOk, refl, arith, le_refl, nat_tests}
+pub use Rattle.async_cell_latest.proofs.Versions.{after_append}
 
 -- the second state is the first, with no less room
 abbrev More : {T W : Type 0} → State T W → State T W → Type 0
@@ -14,15 +14,15 @@ module _ {T W : Type 0} (will_wake : W → W → Bool) where
   then_more : (s t : State T W) (e : Entry T W) → More s t → More (then_state will_wake s e) (then_state will_wake t e)
   then_more s t e more = grind (arith, nat_tests, next_more)
 
-  after_more : (s t : State T W) (h : History T W) → More s t → More (after will_wake s h) (after will_wake t h)
+  pub after_more : (s t : State T W) (h : History T W) → More s t → More (after will_wake s h) (after will_wake t h)
   after_more s t [] more = more
   after_more s t (e ∷ h) more = after_more (then_state will_wake s e) (then_state will_wake t e) h (then_more s t e more)
 
-  woken_more : (s t : State T W) (h : History T W) → More s t → all_woken will_wake t h ≡ all_woken will_wake s h
+  pub woken_more : (s t : State T W) (h : History T W) → More s t → all_woken will_wake t h ≡ all_woken will_wake s h
   woken_more s t [] more = refl
   woken_more s t (e ∷ h) more = grind (arith, nat_tests, then_more s t e, woken_more (then_state will_wake s e) (then_state will_wake t e) h)
 
-  woken_append : (s : State T W) (g h : History T W) → all_woken will_wake s (g ++ h) ≡ all_woken will_wake s g ++ all_woken will_wake (after will_wake s g) h
+  pub woken_append : (s : State T W) (g h : History T W) → all_woken will_wake s (g ++ h) ≡ all_woken will_wake s g ++ all_woken will_wake (after will_wake s g) h
   woken_append s [] h = refl
   woken_append s (e ∷ g) h = cc (woken_append (then_state will_wake s e) g h)
 
@@ -34,26 +34,17 @@ module _ {T W : Type 0} (will_wake : W → W → Bool) where
   after_sound s (e ∷ h) sound = grind (arith, nat_tests, after_sound (then_state will_wake s e) h, next_sound)
 
   module _ (sure : Bool) where
-    pub runs_sound : (from to : State T W) (h : History T W) (woken : List (List W)) → Runs will_wake sure from h woken to → IsSound will_wake to
-    runs_sound from to h woken runs = grind (arith, nat_tests, after_sound)
-
     -- more room only makes fewer refusals legal
     follow_more : (s t : State T W) (e : Entry T W) → More s t → MayFollow will_wake sure t e → MayFollow will_wake sure s e
     follow_more s t e more may = grind (arith, nat_tests)
 
-    legal_more : (s t : State T W) (h : History T W) → More s t → IsLegal will_wake sure t h → IsLegal will_wake sure s h
+    pub legal_more : (s t : State T W) (h : History T W) → More s t → IsLegal will_wake sure t h → IsLegal will_wake sure s h
     legal_more s t [] more legal = tt
     legal_more s t (e ∷ h) more legal = (follow_more s t e more legal.0, legal_more (then_state will_wake s e) (then_state will_wake t e) h (then_more s t e more) legal.1)
 
-    legal_append : (s : State T W) (g h : History T W) → IsLegal will_wake sure s g → IsLegal will_wake sure (after will_wake s g) h → IsLegal will_wake sure s (g ++ h)
+    pub legal_append : (s : State T W) (g h : History T W) → IsLegal will_wake sure s g → IsLegal will_wake sure (after will_wake s g) h → IsLegal will_wake sure s (g ++ h)
     legal_append s [] h first second = second
     legal_append s (e ∷ g) h first second = (first.0, legal_append (then_state will_wake s e) g h first.1 second)
-
-    pub runs_join : (from at to : State T W) (g h : History T W) (first second : List (List W))
-        → Runs will_wake sure from g first at → Runs will_wake sure at h second to → Runs will_wake sure from (g ++ h) (first ++ second) to
-    runs_join from at to g h first second one two =
-        let mid = after will_wake from g in
-        grind (arith, after_more mid at h, after_append will_wake from g h, woken_more mid at h, woken_append from g h, legal_append from g h, legal_more mid at h)
 
     -- a poll that waits adds its waker, and takes one place of the room at most, or its waker comes
     -- back where there is no memory
@@ -61,3 +52,5 @@ module _ {T W : Type 0} (will_wake : W → W → Bool) where
         → OnOk result (to.waiting ≡ b.waiting ++ w ∷ []) → OnOk result (b.room - 1 ≤ to.room) → OnErr result (to ≡ b) → (b.waiting ≡ [] → IsOk result) → (0 < b.room → IsOk result)
         → Runs will_wake sure b (record { call = PollChanged b.version w; reply = (wait_answer {T = T} {W = W} result).reply } ∷ []) ((wait_answer {T = T} {W = W} result).woken ∷ []) to
     added never b to w result sound live stays waiting room same first more = grind (arith, nat_tests, never_skipped, may_lack_memory sure b.waiting b.room)
+
+pub ruleset joined_histories = (after_more, after_append, woken_more, woken_append, legal_append, legal_more)

@@ -1,5 +1,5 @@
 -- How a history moves the version on, when the value changes, and what polls and reads show of both.
-use Rattle.async_cell_latest.proofs.Words.{seen_then, IsBy, IsFollower, seen_after, is_old, has_write, IsNewer, IsRising, History, is_memory, then_state, after, Entry, MayFollow, IsLegal, State, Stays, is_closed, PollChanged, Shown, Write, IsSubsequence, none, skip, both, ◌≡◌, ◌⊎◌, ◌≤◌, ℕ, Bool, true, false, [], ◌∷◌, ◌++◌, refl, arith, le_refl, nat_tests}
+use Rattle.async_cell_latest.proofs.Words.{seen_then, IsBy, IsFollower, seen_after, is_old, has_write, IsNewer, IsRising, History, is_memory, then_state, after, Entry, MayFollow, IsLegal, State, Stays, is_closed, Shown, IsSubsequence, none, skip, both, ◌≡◌, ◌≤◌, ℕ, Bool, true, false, [], ◌∷◌, ◌++◌, refl, arith, le_refl, nat_tests}
 
 module _ {T W : Type 0} (will_wake : W → W → Bool) where
   -- no call moves the version back
@@ -11,7 +11,7 @@ module _ {T W : Type 0} (will_wake : W → W → Bool) where
   after_later s (e ∷ h) = grind (arith, then_later, after_later (then_state will_wake s e) h)
 
   -- with the same version it is the same value
-  after_same : (s : State T W) (h : History T W) → (after will_wake s h).version ≡ s.version → (after will_wake s h).value ≡ s.value
+  pub after_same : (s : State T W) (h : History T W) → (after will_wake s h).version ≡ s.version → (after will_wake s h).value ≡ s.value
   after_same s [] same = refl
   after_same s (e ∷ h) same = grind (arith, nat_tests, then_later s e, after_later (then_state will_wake s e) h, after_same (then_state will_wake s e) h)
 
@@ -31,14 +31,9 @@ module _ {T W : Type 0} (will_wake : W → W → Bool) (sure : Bool) where
   legal_rest s (e ∷ g) h legal = legal_rest (then_state will_wake s e) g h legal.1
 
   -- without a write that succeeds the version stays
-  after_kept : (s : State T W) (h : History T W) → IsLegal will_wake sure s h → has_write h ≡ false → (after will_wake s h).version ≡ s.version
+  pub after_kept : (s : State T W) (h : History T W) → IsLegal will_wake sure s h → has_write h ≡ false → (after will_wake s h).version ≡ s.version
   after_kept s [] legal quiet = refl
   after_kept s (e ∷ h) legal quiet = grind (arith, nat_tests, after_kept (then_state will_wake s e) h)
-
-  -- after the last write the state has its value
-  pub last_written : (b : State T W) (g : History T W) (e : Entry T W) (rest : History T W) (x : T) → IsLegal will_wake sure b (g ++ e ∷ rest)
-      → e.call ≡ Write x → is_old e.reply ≡ true → has_write rest ≡ false → (after will_wake b (g ++ e ∷ rest)).value ≡ x
-  last_written b g e rest x legal is old quiet = grind (arith, nat_tests, legal_rest, after_kept, after_append, after_same)
 
   -- after a call that writes nothing, and no write, the version and the value are those before it
   kept_from : (b : State T W) (g : History T W) (e : Entry T W) (rest : History T W) → IsLegal will_wake sure b (g ++ e ∷ rest) → is_old e.reply ≡ false → has_write rest ≡ false
@@ -46,12 +41,6 @@ module _ {T W : Type 0} (will_wake : W → W → Bool) (sure : Bool) where
   kept_from b g e rest legal not_old quiet =
       let s = after will_wake b g in
       grind (arith, nat_tests, legal_rest b g (e ∷ rest), after_append will_wake b g (e ∷ rest), after_kept s (e ∷ rest), after_same will_wake s (e ∷ rest))
-
-  -- a poll after the last write shows the last state, or its follower has seen it
-  pub last_shown : (b : State T W) (g : History T W) (e : Entry T W) (rest : History T W) (seen : ℕ) (w : W) → IsLegal will_wake sure b (g ++ e ∷ rest)
-      → e.call ≡ PollChanged seen w → is_memory e.reply ≡ false → has_write rest ≡ false
-      → (e.reply ≡ Shown (after will_wake b (g ++ e ∷ rest)).version (after will_wake b (g ++ e ∷ rest)).value) ⊎ (seen ≡ (after will_wake b (g ++ e ∷ rest)).version)
-  last_shown b g e rest seen w legal is memory quiet = grind (arith, nat_tests, legal_rest, kept_from)
 
   follower_last : (start : ℕ) (mine : History T W) (e : Entry T W) → IsFollower start (mine ++ e ∷ []) → IsBy (seen_after start mine) e.call
   follower_last start [] e follows = follows.0
@@ -66,13 +55,8 @@ module _ {T W : Type 0} (will_wake : W → W → Bool) (sure : Bool) where
       → IsFollower start (mine ++ e ∷ []) → is_memory e.reply ≡ false → has_write rest ≡ false → seen_after start (mine ++ e ∷ []) ≡ (after will_wake b (g ++ e ∷ rest)).version
   last_seen b g e rest mine start legal follows memory quiet = grind (arith, nat_tests, legal_rest, follower_last, kept_from, seen_after_push)
 
-  shown_own : (s : State T W) (e : Entry T W) (version : ℕ) (x : T) → MayFollow will_wake sure s e → e.reply ≡ Shown version x → (version ≡ s.version) × (x ≡ s.value)
+  pub shown_own : (s : State T W) (e : Entry T W) (version : ℕ) (x : T) → MayFollow will_wake sure s e → e.reply ≡ Shown version x → (version ≡ s.version) × (x ≡ s.value)
   shown_own s e version x may shows = grind (arith, nat_tests)
-
-  -- two entries that show the same version show the same value
-  pub one_value : (b : State T W) (g : History T W) (e : Entry T W) (m : History T W) (f : Entry T W) (rest : History T W) (version : ℕ) (x y : T)
-      → IsLegal will_wake sure b (g ++ e ∷ (m ++ f ∷ rest)) → e.reply ≡ Shown version x → f.reply ≡ Shown version y → x ≡ y
-  one_value b g e m f rest version x y legal shows shows_too = grind (arith, nat_tests, legal_rest, shown_own, after_same)
 
   entry_newer : (s : State T W) (seen : ℕ) (e : Entry T W) → MayFollow will_wake sure s e → IsBy seen e.call → seen ≤ s.version → IsNewer seen e.call e.reply × (seen_then seen e.reply ≤ s.version)
   entry_newer s seen e may by below = grind (arith, nat_tests, le_refl)
@@ -82,3 +66,6 @@ module _ {T W : Type 0} (will_wake : W → W → Bool) (sure : Bool) where
   rising s seen mine h none legal follows below = tt
   rising s seen mine h (skip {x = e} part) legal follows below = grind (arith, then_later will_wake s e, rising (then_state will_wake s e) seen mine _ part)
   rising s seen mine h (both {x = e} part) legal follows below = grind (arith, entry_newer, then_later, rising (then_state will_wake s e) (seen_then seen e.reply) _ _ part)
+
+-- what is there after the last write, and what a follower has seen then
+pub ruleset last_state = (legal_rest, after_kept, after_append, after_same, last_seen)

@@ -21,7 +21,7 @@ pub fn the_versions_of_a_follower_rise<T, W>()
 
 /// A poll after the last write shows the last state, its version and its value, or its follower has
 /// seen that version. The last state is what the last write put in, also once it is closed.
-#[tactic(auto, using(crate::proofs::Versions::last_written, crate::proofs::Versions::last_shown, crate::proofs::Versions::last_seen))]
+#[tactic(auto, using(crate::proofs::Versions::last_state))]
 pub fn a_poll_shows_the_last_state<T, W>()
     ensures written { (will_wake : W → W → Bool) (sure_wakers : Bool)
         (b : State T W) (g : History T W) (e : Entry T W) (rest : History T W) (x : T)
@@ -51,7 +51,7 @@ pub fn the_last_state_stays<T, W>()
 {}
 
 /// A version is the name of one value: whoever is shown the same version is shown the same value.
-#[tactic(auto, using(crate::proofs::Versions::one_value))]
+#[tactic(auto, using(crate::proofs::Versions::legal_rest, crate::proofs::Versions::shown_own, crate::proofs::Versions::after_same))]
 pub fn a_version_names_one_value<T, W>()
     ensures { (will_wake : W → W → Bool) (sure_wakers : Bool)
         (b : State T W) (g : History T W) (e : Entry T W) (m : History T W) (f : Entry T W)
@@ -63,7 +63,7 @@ pub fn a_version_names_one_value<T, W>()
 /// No waiting follower is forgotten. Until the next write or the close, the waker of each poll that
 /// returned `Pending` waits, or some waiting waker would wake it. The write or the close wakes all
 /// that wait, and then nobody waits, so each is woken once.
-#[tactic(auto, using(crate::proofs::CoveredWakers::stays_covered, crate::proofs::CoveredWakers::is_woken, crate::proofs::CoveredWakers::nobody_waits))]
+#[tactic(auto, using(crate::proofs::CoveredWakers::stays_covered, crate::proofs::Versions::legal_rest, crate::proofs::Versions::after_append))]
 pub fn no_waiting_follower_is_forgotten<T, W>()
     ensures covered { (will_wake : W → W → Bool) (sure_wakers : Bool)
         (b : State T W) (g : History T W) (e : Entry T W) (rest : History T W) (w : W)
@@ -86,6 +86,7 @@ pub fn no_waiting_follower_is_forgotten<T, W>()
 
 /// Two histories, the second from the state where the first ends, are one. So the steps of the
 /// calls of a `Latest`, one after the other, are one legal history.
+#[tactic(auto, using(crate::proofs::JoinedHistories::joined_histories))]
 pub fn two_histories_are_one<T, W>()
     ensures { (will_wake : W → W → Bool) (sure_wakers : Bool)
         (from at to : State T W) (g h : History T W)
@@ -96,7 +97,7 @@ pub fn two_histories_are_one<T, W>()
 {}
 
 /// A history ends in a sound state, so another history can start from there.
-#[tactic(auto, using(crate::proofs::JoinedHistories::after_sound, crate::proofs::JoinedHistories::runs_sound))]
+#[tactic(auto, using(crate::proofs::JoinedHistories::after_sound))]
 pub fn a_history_ends_in_a_sound_state<T, W>()
     ensures after { (will_wake : W → W → Bool) (b : State T W) (h : History T W)
         → IsSound will_wake b → IsSound will_wake (after will_wake b h) }
