@@ -1,6 +1,6 @@
 -- What one more write, or the close, makes of a life, what follows from a beginning of it, and what
 -- is shown after what was seen.
-use Rattle.async_cell_latest_sync.proofs.Words.{State, Life, GoesOn, IsLawful, IsOf, IsShownNext, values_of, closed_of, life_of, ◌≡◌, ◌≢◌, ◌≤◌, ℕ, true, false, List, [], ◌∷◌, ◌++◌, length, Option, Some, None, IsSome, refl, ap, sym, subst, arith, length-append, IsPrefix, shorter_begins}
+use Rattle.async_cell_latest_sync.proofs.Words.{State, Life, GoesOn, IsLawful, IsOf, IsShownNext, values_of, closed_of, life_of, ◌≡◌, ◌≢◌, ◌≤◌, ℕ, true, false, List, [], ◌∷◌, ◌++◌, length, Option, Some, None, IsSome, refl, ap, sym, subst, arith, length-append, shorter_begins}
 
 module _ {T : Type 0} where
   -- one more write adds its value
@@ -16,13 +16,10 @@ module _ {T : Type 0} where
   life_closed (None ∷ rest) = refl
 
   -- what begins the list begins the life
-  more_goes_on : (writes rest : List (Option T)) → GoesOn (life_of writes) (life_of (writes ++ rest))
+  pub more_goes_on : (writes rest : List (Option T)) → GoesOn (life_of writes) (life_of (writes ++ rest))
   more_goes_on [] rest = record { begins = (values_of rest, refl); ended = λ is. absurd (cc is) }
   more_goes_on (Some first ∷ writes) rest = grind (arith, more_goes_on writes rest)
   more_goes_on (None ∷ writes) rest = record { begins = ([], refl); ended = λ is. refl }
-
-  pub goes_on : (writes now : List (Option T)) → IsPrefix writes now → GoesOn (life_of writes) (life_of now)
-  goes_on writes now begins = subst (λ l. GoesOn (life_of writes) (life_of l)) begins.1 (more_goes_on writes begins.0)
 
   -- one more value that may be written
   each_append : (may : List T → T → Type 0) (values : List T) (x : T) → ((before later : List T) → (value : T) → values ≡ before ++ value ∷ later → may before value) → may values x

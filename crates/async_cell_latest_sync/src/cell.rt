@@ -121,14 +121,14 @@ impl<T: Drop, N: Protocol<T>> Query<LatestCore<T, N>> for Unseen {
 
     #[inline(always)]
     fn must_wait(&self, core: &LatestCore<T, N>) -> bool {
-        !core.is_unseen(self.0) && !core.is_closed()
+        core.read().0 == self.0 && !core.is_closed()
     }
 
     #[inline(always)]
     fn answer(self, core: &mut LatestCore<T, N>) -> Deferred<Result<u64, Refusal>> {
-        match core.is_unseen(self.0) {
-            true => Deferred::of(Ok(core.read().0)),
-            false => Deferred::of(Err(Refusal::Closed)),
+        match core.read().0 {
+            version if version == self.0 => Deferred::of(Err(Refusal::Closed)),
+            unseen => Deferred::of(Ok(unseen)),
         }
     }
 }
@@ -146,9 +146,9 @@ impl<T: Clone, N: Protocol<T>> Query<LatestCore<T, N>> for UnseenState {
 
     #[inline(always)]
     fn answer(self, core: &mut LatestCore<T, N>) -> Deferred<Result<(u64, T), Refusal>> {
-        match core.is_unseen(self.0) {
-            true => core.get(),
-            false => Deferred::of(Err(Refusal::Closed)),
+        match core.read().0 == self.0 {
+            true => Deferred::of(Err(Refusal::Closed)),
+            false => core.get(),
         }
     }
 }

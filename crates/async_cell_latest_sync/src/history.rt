@@ -187,7 +187,7 @@ impl<T, N: Protocol<T>> Witness<T, N> {
 
     /// Sees the whole life, up to this version. It has gone on from what was seen.
     #[inline(always)]
-    #[tactic(auto, using(crate::proofs::Lives::goes_on))]
+    #[tactic(auto, using(crate::proofs::Lives::more_goes_on))]
     pub(crate) fn learn(&mut self, values: &Values<T, N>, version: u64)
         requires counted { version ≡ length values.now.values }
         ensures whole { self.new ≡ values.now }
@@ -214,7 +214,7 @@ impl<T, N: Protocol<T>> Witness<T, N> {
     }
 
     /// Ensures that what one of both has seen begins what the other has.
-    #[tactic(auto, using(crate::proofs::Lives::goes_on))]
+    #[tactic(auto, using(crate::proofs::Lives::more_goes_on))]
     pub fn agrees(&self, other: &Self)
         ensures { GoesOn self.now other.now ⊎ GoesOn other.now self.now }
     {

@@ -279,7 +279,7 @@ impl<T: Drop, R: Wait + Drop, N: Protocol<T>> Owner<T, R, N> {
         let core = step.lend();
         core.show_to(seen);
         seen.lawful();
-        let replaced = core.replace(value);
+        let replaced = core.write(value);
         core.show_to(seen);
         end_and_wake(step, replaced)
     }
@@ -304,7 +304,7 @@ impl<T: Drop, R: Wait + Drop, N: Protocol<T>> Owner<T, R, N> {
         core.show_to(seen);
         seen.lawful();
         let value = core.look(change);
-        let updated = core.replace(value);
+        let updated = core.write(value);
         core.show_to(seen);
         match end_and_wake(step, updated) {
             Ok(_old) => Ok(()),

@@ -1,6 +1,6 @@
 //! The calls that a step may make of a state. Only this module sees the state: each function makes
 //! one call of it, and holds what comes out. So no other text can wake or drop that during a step.
-ghost use Rattle.std.specs.Prelude.{◌≡◌, ◌≢◌, ◌↔◌, List, [], ◌∷◌, ◌++◌, Bool, true, false, None, Some, Ok, IsOk, IfOk, IfErr, IsSome, OnOk, OnErr};
+ghost use Rattle.std.specs.Prelude.{◌≡◌, List, [], ◌∷◌, ◌++◌, Bool, true, false, None, Some, Ok, IsOk, IfOk, IfErr, IsSome, OnOk, OnErr};
 ghost use Rattle.std.specs.Fn.{FnOnceReturnsAt, FnOnceReturnsAtMut};
 ghost use Rattle.async_cell_model.specs.Refusal.{FailsWithClosed, FailsWithMemory, IsOwnerRefusal};
 ghost use Rattle.async_cell_step.specs.Rule.{IsCloneOfOne};
@@ -84,13 +84,6 @@ impl<T: Drop, N: Protocol<T>> LatestCore<T, N> {
     }
 
     #[inline(always)]
-    pub(crate) fn is_unseen(&self, seen: u64) -> bool
-        ensures { (result ≡ true) ↔ (seen ≢ self.now.state.version) }
-    {
-        self.state.is_unseen(seen)
-    }
-
-    #[inline(always)]
     pub(crate) fn is_closed(&self) -> bool
         ensures { result ≡ is_closed self.now.state }
     {
@@ -126,28 +119,6 @@ impl<T: Drop, N: Protocol<T>> LatestCore<T, N> {
                 Ok(Deferred::waking(old, first))
             }
             Err(value) => Err(Deferred::of(value)),
-        }
-    }
-
-    #[inline(always)]
-    pub(crate) fn replace(&mut self, value: T) -> Deferred<Result<T, T>, Option<Wakers<TaskWaker>>>
-        requires may { N.may self.old.life.values value }
-        ensures entered { OnOk result.answer (self.new.life ≡ record
-            { values = self.old.life.values ++ value ∷ []; closed = false }) }
-        ensures gives_old { IfOk result.answer (λ old. old ≡ self.old.state.value) }
-        ensures rule { IfOk result.answer N.holds }
-        ensures unchanged { OnErr result.answer (self.new.life ≡ self.old.life) }
-        ensures hands_out_all { OnOk result.answer
-            (result.woken ≡ Some self.old.state.waiting) }
-        ensures full { OnErr result.answer (TakesNoMore self.new.life) }
-        ensures comes_back { IfErr result.answer (λ back. back ≡ value) }
-    {
-        match self.state.write(value) {
-            Ok((old, woken)) => {
-                self.values.add(&self.state);
-                Deferred::waking(Ok(old), Some(woken))
-            }
-            Err(value) => Deferred::waking(Err(value), None),
         }
     }
 
@@ -226,8 +197,25 @@ impl<T: Drop, N: Protocol<T>> Writes<T> for LatestCore<T, N> {
     ghost gives = { N.holds };
 
     #[inline(always)]
-    fn write(&mut self, value: T) -> Deferred<Result<T, T>, Option<Wakers<TaskWaker>>> {
-        self.replace(value)
+    fn write(&mut self, value: T) -> Deferred<Result<T, T>, Option<Wakers<TaskWaker>>>
+        requires may { N.may self.old.life.values value }
+        ensures entered { OnOk result.answer (self.new.life ≡ record
+            { values = self.old.life.values ++ value ∷ []; closed = false }) }
+        ensures gives_old { IfOk result.answer (λ old. old ≡ self.old.state.value) }
+        ensures rule { IfOk result.answer N.holds }
+        ensures unchanged { OnErr result.answer (self.new.life ≡ self.old.life) }
+        ensures hands_out_all { OnOk result.answer
+            (result.woken ≡ Some self.old.state.waiting) }
+        ensures full { OnErr result.answer (TakesNoMore self.new.life) }
+        ensures comes_back { IfErr result.answer (λ back. back ≡ value) }
+    {
+        match self.state.write(value) {
+            Ok((old, woken)) => {
+                self.values.add(&self.state);
+                Deferred::waking(Ok(old), Some(woken))
+            }
+            Err(value) => Deferred::waking(Err(value), None),
+        }
     }
 }
 
@@ -299,7 +287,7 @@ impl<T: Clone, N: Protocol<T>> Query<LatestCore<T, N>> for Next<T, N> {
 
     #[inline(always)]
     fn must_wait(&self, core: &LatestCore<T, N>) -> bool {
-        !core.is_unseen(self.0.version()) && !core.is_closed()
+        !core.state.is_unseen(self.0.version()) && !core.is_closed()
     }
 
     #[inline(always)]
