@@ -1,4 +1,5 @@
-ghost use Rattle.std.specs.Prelude.{◌≡◌};
+ghost use Rattle.std.specs.Prelude.{◌≡◌, false};
+ghost use Rattle.std.proofs.Common.{rules};
 
 use crate::wakes::Wakes;
 use futures::task::Waker;
@@ -65,8 +66,6 @@ impl TaskWaker {
 
 /// Always fails: a waker of `futures` is not `Clone`. Cells take such wakers by value.
 impl Clone for TaskWaker {
-    ghost use Rattle.std.specs.Prelude.{◌≡◌};
-
     ghost is_clone = { λ a b. b ≡ a };
 
     ghost is_infallible = { λ _. ⊥ };
@@ -79,9 +78,6 @@ impl Clone for TaskWaker {
 /// `will_wake` is always false, so no waker is skipped. Nothing depends on whether `futures`
 /// considers two wakers the same.
 impl Wakes for TaskWaker {
-    ghost use Rattle.std.specs.Prelude.{false};
-    ghost use Rattle.std.proofs.Common.{rules};
-
     ghost will_wake = { λ _ _. false };
 
     ghost SURE_CLONE = { false };

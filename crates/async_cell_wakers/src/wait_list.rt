@@ -1,7 +1,7 @@
-ghost use Rattle.std.specs.Prelude.{◌≡◌, ◌≢◌, ◌<◌, ◌≤◌, ◌-◌, [], ◌∷◌, ◌++◌, length, IsTrue, IsOk, IfErr, IfSome, IfNone, OnSome, OnOk, OnErr, ◌↔◌};
+ghost use Rattle.std.specs.Prelude.{◌≡◌, ◌≢◌, ◌<◌, ◌≤◌, ◌-◌, [], ◌∷◌, ◌++◌, length, None, IsTrue, IsOk, IfErr, IfSome, IfNone, OnSome, OnOk, OnErr, ◌↔◌};
 ghost use Rattle.async_cell_model.specs.Machine.{skips};
-ghost use Rattle.async_cell_wakers.specs.Place.{GivesUpPlaces};
-ghost use Rattle.async_cell_wakers.specs.WaitList.{first_then};
+ghost use Rattle.std.specs.Vec.{vec_capacity, vec_len};
+ghost use Rattle.async_cell_wakers.specs.{Place.GivesUpPlaces, WaitList.{ListState, first_then}};
 
 mod places;
 
@@ -31,10 +31,6 @@ pub struct WaitList<W> {
 
 /// Contracts see the wakers in order of registration, the room for more, and the round of places.
 impl<W> Model for WaitList<W> {
-    ghost use Rattle.std.specs.Prelude.{◌≡◌, ◌-◌, [], None};
-    ghost use Rattle.std.specs.Vec.{vec_capacity, vec_len};
-    ghost use Rattle.async_cell_wakers.specs.WaitList.{ListState, first_then};
-
     ghost Value = { ListState W };
 
     ghost view = { λ s. record {
@@ -131,11 +127,10 @@ impl<W: Drop> WaitList<W> {
         ensures leaves_none { (self.new.wakers ≡ []) × (self.new.room ≡ 0) }
         ensures gives_up_places { GivesUpPlaces self.old self.new }
     {
-        if self.rest.capacity() == 0 {
-            self.give_up_places();
-            return Wakers::of(self.first.take());
+        match self.hand_out_first() {
+            Some(first) => Wakers { first, rest: None },
+            None => self.hand_out_all(),
         }
-        self.hand_out_all()
     }
 
     /// `hand_out` of a list that has no memory for more than its first waker: returns that one, if
@@ -168,8 +163,8 @@ impl<W: Drop> WaitList<W> {
         self.expected = self.rest.len().min(MOST);
         let first = self.first.take();
         let none = Vec::new(*self.rest.allocator());
-        let rest = mem::replace(&mut self.rest, none);
-        Wakers::of_all(first, rest)
+        let rest = Some(mem::replace(&mut self.rest, none).into_iter());
+        Wakers { first, rest }
     }
 
     /// Makes room in the vector, which is full: if it has no memory, for as many wakers as it had
@@ -243,11 +238,8 @@ impl<W: Wakes> WaitList<W> {
 
     /// Returns whether no waking of these wakers would wake anybody (see `Wakes::wakes_nobody`).
     pub fn wakes_nobody(&self) -> bool {
-        let first = match &self.first {
-            Some(first) => first.wakes_nobody(),
-            None => true,
-        };
-        first && self.rest.iter().all(|waker| waker.wakes_nobody())
+        let mut wakers = self.first.iter().chain(&self.rest);
+        wakers.all(|waker| waker.wakes_nobody())
     }
 }
 

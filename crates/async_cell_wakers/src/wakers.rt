@@ -1,5 +1,6 @@
-ghost use Rattle.std.specs.Prelude.{◌≡◌, List, [], ◌∷◌, length, IsTrue, IsNone, IfSome, IfNone, ◌↔◌};
-ghost use Rattle.async_cell_wakers.specs.WaitList.{first_then};
+ghost use Rattle.std.specs.Prelude.{◌≡◌, List, [], ◌∷◌, length, MatchOption, IsTrue, IsNone, IfSome, IfNone, ◌↔◌};
+ghost use Rattle.std.specs.{Iterator.at_most, Vec.Iter.into_iter_items};
+ghost use Rattle.async_cell_wakers.specs.WaitList.{first_then, items_left};
 
 use crate::wakes::Wakes;
 use std::marker::Model;
@@ -9,17 +10,13 @@ use std::{fmt, vec};
 /// dropping the list drops the wakers that are left without waking them.
 #[derive(Drop)]
 pub struct Wakers<W> {
-    first: Option<W>,
+    pub(crate) first: Option<W>,
     /// The wakers after the first: `None` if the list had no memory for any.
-    rest: Option<vec::IntoIter<W>>,
+    pub(crate) rest: Option<vec::IntoIter<W>>,
 }
 
 /// Contracts see the list of the wakers that are left, the next one first.
 impl<W> Model for Wakers<W> {
-    ghost use Rattle.std.specs.Prelude.{List};
-    ghost use Rattle.std.specs.Vec.Iter.{into_iter_items};
-    ghost use Rattle.async_cell_wakers.specs.WaitList.{first_then, items_left};
-
     ghost Value = { List W };
 
     ghost view = { λ s. first_then s.first (items_left into_iter_items s.rest) };
@@ -40,10 +37,7 @@ impl<W> Wakers<W> {
     pub fn len(&self) -> usize
         ensures { result ≡ length self.now }
     {
-        let rest = match &self.rest {
-            Some(rest) => rest.len(),
-            None => 0,
-        };
+        let rest = self.rest.as_ref().map_or(0, |rest| rest.len());
         match &self.first {
             Some(_) => 1 + rest,
             None => rest,
@@ -75,30 +69,10 @@ impl<W: Drop> Wakers<W> {
             },
         }
     }
-
-    /// Creates a list of at most one waker.
-    pub(crate) fn of(first: Option<W>) -> Self
-        ensures { result ≡ first_then first [] }
-    {
-        Wakers { first, rest: None }
-    }
-
-    /// Creates a list of the first waker, if there is one, and then those of the vector.
-    pub(crate) fn of_all(first: Option<W>, rest: Vec<W>) -> Self
-        ensures { result ≡ first_then first rest.items }
-    {
-        Wakers {
-            first,
-            rest: Some(rest.into_iter()),
-        }
-    }
 }
 
 /// Iterates over the wakers that are left, as `next` returns them.
 impl<W: Drop> Iterator for Wakers<W> {
-    ghost use Rattle.std.specs.Prelude.{◌≡◌, [], ◌∷◌, length, MatchOption};
-    ghost use Rattle.std.specs.Iterator.{at_most};
-
     type Item = W;
 
     ghost next_gives = { λ s r t. MatchOption r ((s ≡ []) × (t ≡ [])) (λ waker. s ≡ waker ∷ t) };

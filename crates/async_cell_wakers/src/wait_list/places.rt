@@ -75,10 +75,7 @@ impl WaitList<TaskWaker> {
     {
         match self.claim(place) {
             Some(index) => self.exchange(index, waker).map(Some),
-            None => {
-                self.store_new(place, waker)?;
-                Ok(None)
-            }
+            None => self.store_new(place, waker).map(|()| None),
         }
     }
 
@@ -138,11 +135,9 @@ impl WaitList<TaskWaker> {
             _ => None,
         }
     }
-}
 
-impl<W: Drop> WaitList<W> {
     /// Returns the waker at `index`, if there is one.
-    fn at(&self, index: usize) -> Option<&W>
+    fn at(&self, index: usize) -> Option<&TaskWaker>
         ensures in_the_list { IsSome result ↔ (index < length self.now.wakers) }
     {
         match index.checked_sub(1) {
@@ -152,9 +147,8 @@ impl<W: Drop> WaitList<W> {
     }
 
     /// Stores a waker in place of the one at `index`, which is returned. If there is none, the
-    /// waker is returned in the error. For types of wakers that contracts do not tell apart.
-    fn exchange(&mut self, index: usize, waker: W) -> Result<W, W>
-        requires { (a b : W) → a ≡ b }
+    /// waker is returned in the error.
+    fn exchange(&mut self, index: usize, waker: TaskWaker) -> Result<TaskWaker, TaskWaker>
         ensures in_the_list { IsOk result ↔ (index < length self.old.wakers) }
         ensures unchanged { self.new ≡ self.old }
     {
