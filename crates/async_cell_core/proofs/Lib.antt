@@ -1,3 +1,2 @@
-pub mod Added
 pub mod LongerRuns
-pub mod UpTo
+pub mod Steps

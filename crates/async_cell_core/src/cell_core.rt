@@ -10,7 +10,6 @@ mod internal;
 mod owners;
 mod places;
 mod polls;
-mod unique;
 
 use async_cell_model::{Cell, Kept, Refusal, Reply};
 use async_cell_wakers::{WaitList, Wakers, Wakes};

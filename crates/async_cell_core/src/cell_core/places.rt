@@ -1,5 +1,4 @@
-//! The places of waiting futures, and wakers that are never
-//! skipped.
+//! The places of waiting futures, and wakers that are never skipped.
 ghost use Rattle.std.specs.Prelude.{◌≡◌, ◌<◌, ◌≤◌, ◌-◌, [], ◌∷◌, ◌++◌, true, false, IsOk, IfOk, IfNone, IfErr, OnOk, OnErr, MatchOption};
 ghost use Rattle.async_cell_model.specs.Machine.{is_vacant};
 ghost use Rattle.async_cell_wakers.specs.Place.{displaced};
@@ -15,7 +14,7 @@ impl<T: Drop, W: Wakes> Core<T, W> {
     /// and the waker of a type of which none would wake another, so it is never skipped. If there
     /// is no memory to grow the list, fails and returns the waker in the error.
     #[doc(hidden)]
-    #[tactic(auto, using(async_cell_model::proofs::OneMoreWaker::keep_added, async_cell_model::proofs::OneMoreWaker::never_skipped, async_cell_model::proofs::WaitingPoll::get_added, async_cell_model::proofs::WaitingPoll::get_refused, async_cell_model::proofs::WaitingPoll::take_added, async_cell_model::proofs::WaitingPoll::take_refused))]
+    #[tactic(auto, using(async_cell_model::proofs::OneMoreWaker::keep_added, async_cell_model::proofs::OneMoreWaker::never_skipped))]
     pub fn add(&mut self, waker: W) -> Result<(), W>
         requires vacant { is_vacant self.old.cell ≡ true }
         requires none_alike { (a b : W) → W.will_wake a b ≡ false }
@@ -27,13 +26,12 @@ impl<T: Drop, W: Wakes> Core<T, W> {
         ensures first_waits { self.old.waiting ≡ [] → IsOk result }
         ensures room_suffices { 0 < self.old.room → IsOk result }
     {
-        self.waiting.add(waker)?;
-        Ok(())
+        self.waiting.add(waker)
     }
 }
 
 impl<T: Drop> Core<T, TaskWaker> {
-    /// Returns whether a future with this place has to be added: it has none, and none is free.
+    /// As `WaitList::is_new`: whether a future with this place has to be added.
     #[doc(hidden)]
     #[inline(always)]
     pub fn is_new(&self, place: &Place) -> bool {
@@ -43,7 +41,7 @@ impl<T: Drop> Core<T, TaskWaker> {
     /// `add`, at a place: that of the waker from then on.
     #[doc(hidden)]
     #[inline(always)]
-    #[tactic(auto, using(async_cell_model::proofs::OneMoreWaker::keep_added, async_cell_model::proofs::OneMoreWaker::never_skipped, crate::proofs::Added::take_added, crate::proofs::Added::get_added))]
+    #[tactic(auto, using(async_cell_model::proofs::OneMoreWaker::keep_added, async_cell_model::proofs::OneMoreWaker::never_skipped))]
     pub fn store_new(&mut self, place: &mut Place, waker: TaskWaker) -> Result<(), TaskWaker>
         requires vacant { is_vacant self.old.cell ≡ true }
         ensures take { IsStep ⟦<TaskWaker as Wakes>⟧
@@ -62,8 +60,7 @@ impl<T: Drop> Core<T, TaskWaker> {
         self.waiting.store_new(place, waker)
     }
 
-    /// Takes the waker out of the place, or out of a free place that is taken over. Returns `None`
-    /// if there is neither. The waker may be another task's.
+    /// As `WaitList::take_back`.
     #[doc(hidden)]
     #[inline(always)]
     pub fn take_back(&mut self, place: &mut Place) -> Option<Waker>
@@ -72,9 +69,7 @@ impl<T: Drop> Core<T, TaskWaker> {
         self.waiting.take_back(place)
     }
 
-    /// Stores a waker in the place, in a free place that is taken over, or as the last of the list.
-    /// The cell must be vacant. Returns the waker that was there, if any, which wakes its task when
-    /// it is dropped. If there is no memory to grow the list, the waker is returned in the error.
+    /// As `WaitList::store`. The cell must be vacant.
     #[doc(hidden)]
     #[inline(always)]
     #[tactic(auto, using(async_cell_model::proofs::OneMoreWaker::keep_added, async_cell_model::proofs::OneMoreWaker::never_skipped))]
@@ -102,8 +97,7 @@ impl<T: Drop> Core<T, TaskWaker> {
         self.waiting.store(place, waker)
     }
 
-    /// Leaves the place free. Its waker stays there: to drop it would wake the task. Returns the
-    /// index of the place, unless it was given up.
+    /// As `WaitList::vacate`.
     #[doc(hidden)]
     pub fn vacate(&mut self, place: Place) -> Option<usize>
         ensures unchanged { self.new ≡ self.old }
@@ -111,7 +105,7 @@ impl<T: Drop> Core<T, TaskWaker> {
         self.waiting.vacate(place)
     }
 
-    /// Takes the waker out of the place at `index`, if that place is free.
+    /// As `WaitList::take_left`.
     #[doc(hidden)]
     pub fn take_left(&mut self, index: usize) -> Option<Waker>
         ensures unchanged { self.new ≡ self.old }

@@ -1,9 +1,7 @@
 //! Polls and gets: what waits, and what copies the value.
 ghost use Rattle.std.specs.Prelude.{◌≡◌, ◌≤◌, ◌<◌, [], ◌∷◌, ◌++◌, None, Ok, length, true, false, IsOk, IfOk, OnOk, OnErr, MatchOption};
-ghost use Rattle.async_cell_model.specs.Machine.{content, is_closed, is_full, is_vacant, IsSound, wait_list};
-ghost use Rattle.async_cell_model.specs.Refusal.{FailsWithMemory};
-ghost use Rattle.async_cell_core.specs.IsStep.{IsStep, IsStepUpTo, get_answer, poll_answer, wait_answer};
-ghost use Rattle.async_cell_core.specs.Polled.{IsExact, IsCloneOf, IsReadyWith};
+ghost use Rattle.async_cell_model.specs.{Machine.{content, is_closed, is_full, is_vacant, IsSound, wait_list, skips, needs_no_memory}, Refusal.FailsWithMemory};
+ghost use Rattle.async_cell_core.specs.{IsStep.{IsStep, IsStepUpTo, get_answer, poll_answer, wait_answer}, Polled.{IsExact, IsCloneOf, IsReadyWith}};
 ghost use Rattle.async_cell_core.specs.Waiting.{NeedsNoMemory, OnlyRoomGrows};
 
 use super::Core;
@@ -73,7 +71,7 @@ impl<T: Drop, W: Wakes> Core<T, W> {
 
     /// Registers the waker, unless `skips` says that it need not be. The cell must be vacant. Fails
     /// with `Memory` if there is no memory for a clone of the waker or to grow the list.
-    #[tactic(auto, using(async_cell_model::proofs::OneMoreWaker::keep_added, async_cell_model::proofs::OneMoreWaker::keep_skipped, async_cell_model::proofs::WaitingPoll::get_added, async_cell_model::proofs::WaitingPoll::get_skipped, async_cell_model::proofs::WaitingPoll::get_refused, async_cell_model::proofs::WaitingPoll::take_added, async_cell_model::proofs::WaitingPoll::take_skipped, async_cell_model::proofs::WaitingPoll::take_refused))]
+    #[tactic(auto, using(async_cell_model::proofs::OneMoreWaker::keep_added, async_cell_model::proofs::OneMoreWaker::keep_skipped, async_cell_model::proofs::WaitingPoll::get_skipped, async_cell_model::proofs::WaitingPoll::take_skipped))]
     pub(super) fn wait(&mut self, waker: &W) -> Result<(), Refusal>
         requires { is_vacant self.old.cell ≡ true }
         ensures waits { OnOk result ((self.new.cell ≡ self.old.cell)
@@ -87,8 +85,36 @@ impl<T: Drop, W: Wakes> Core<T, W> {
         ensures spared { NeedsNoMemory W.Wakes self.old waker.now → IsOk result }
     {
         if !self.waiting.skips(waker) {
-            self.waiting.push(waker)?;
+            self.add_unique(waker)?;
         }
+        Ok(())
+    }
+
+    /// Registers a unique waker, for a poll that has to wait: a clone of it is added as the last.
+    /// The cell must be vacant, and no waiting waker one that would wake it. So none is asked, and
+    /// the time does not grow with their number. Fails with `Memory` if there is no memory for the
+    /// clone or to grow the list.
+    #[doc(hidden)]
+    #[tactic(auto, using(async_cell_model::proofs::WaitingPoll::get_added, async_cell_model::proofs::WaitingPoll::get_refused, async_cell_model::proofs::WaitingPoll::take_added, async_cell_model::proofs::WaitingPoll::take_refused))]
+    pub fn add_unique(&mut self, waker: &W) -> Result<(), Refusal>
+        requires vacant { is_vacant self.old.cell ≡ true }
+        requires unique { skips W.will_wake self.old.waiting waker.now ≡ false }
+        ensures take { IsStep W.Wakes
+            self.old (Kept.PollTake waker.now) (wait_answer result) self.new }
+        ensures get { IsStep W.Wakes
+            self.old (Kept.PollGet waker.now) (wait_answer result) self.new }
+
+        ensures added { OnOk result ((self.new.cell ≡ self.old.cell)
+            × (self.new.waiting ≡ self.old.waiting ++ waker.now ∷ [])) }
+        ensures refused { FailsWithMemory result }
+        ensures unchanged { OnErr result
+            ((self.new.cell ≡ self.old.cell) × (self.new.waiting ≡ self.old.waiting)) }
+        ensures keeps_room { OnErr result (self.old.room ≤ self.new.room) }
+        ensures spared { needs_no_memory W.will_wake W.SURE_CLONE self.old waker.now ≡ true
+            → IsOk result }
+        ensures if_infallible { NeedsNoMemory W.Wakes self.old waker.now → IsOk result }
+    {
+        self.waiting.push(waker)?;
         Ok(())
     }
 }
@@ -97,7 +123,7 @@ impl<T: Clone, W: Wakes> Core<T, W> {
     /// Returns a clone of the value, if there is one. Fails with `Memory` if there is no memory for
     /// the clone. The reply is the model's up to clones, and exactly the model's if the type's
     /// clones are exact.
-    #[tactic(auto, using(crate::proofs::UpTo::get_cloned, async_cell_model::proofs::Machine::does_up_to))]
+    #[tactic(auto, using(crate::proofs::Steps::get_cloned, crate::proofs::Steps::get_refused, async_cell_model::proofs::Machine::does_up_to))]
     pub fn try_get(&self) -> Result<Option<T>, Refusal>
         ensures up_to_clones { IsStepUpTo T.is_clone W.Wakes
             self.now Kept.TryGet (get_answer result) self.now }
@@ -127,7 +153,7 @@ impl<T: Clone, W: Wakes> Core<T, W> {
     ///
     /// The reply is the model's up to clones. It is exactly the model's if the type's clones are
     /// exact or there is no value.
-    #[tactic(auto, using(crate::proofs::UpTo::poll_cloned, async_cell_model::proofs::Machine::does_up_to))]
+    #[tactic(auto, using(crate::proofs::Steps::poll_cloned, async_cell_model::proofs::Machine::does_up_to))]
     pub fn poll_get(&mut self, waker: &W) -> Result<Poll<Option<T>>, Refusal>
         ensures up_to_clones { IsStepUpTo T.is_clone W.Wakes
             self.old (Kept.PollGet waker.now) (poll_answer result) self.new }

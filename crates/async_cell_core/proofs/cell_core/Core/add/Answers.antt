@@ -1,26 +1,15 @@
-use Rattle.std.proofs.Common.{rules, refl}
-use Rattle.async_cell_model.proofs.OneMoreWaker.{never_skipped}
-use Rattle.async_cell_model.proofs.WaitingPoll.{get_added, take_added}
+use Rattle.std.proofs.Common.{inl, inr, refl}
+use Rattle.async_cell_core.proofs.Steps.{added}
 use Rattle.async_cell_core.proofs.cell_core.Core.add.Goals as goal
 
 pub returns-clause-take : goal.returns-clause-take
 returns-clause-take g c =
-    let vacant = rw (← c.self.view_is) at c.requires.vacant in
-    let not = never_skipped g.W.Wakes.will_wake c.self.inside.waiting.wakers c.args.waker c.requires.none_alike in
-    rw (← c.self.view_is) (take_added g.W.Wakes.will_wake g.W.Wakes.SURE_CLONE _ _ c.args.waker c.self.invariant.0 vacant not refl c.in_ok-add.ensures.added c.in_ok-add.ensures.takes_room)
+    let list = c.add.ensures in
+    rw (← c.self.view_is) (added _ _ c.requires.none_alike _ _ _ _ c.args.waker _ (inl refl) c.self.invariant.0 (rw (← c.self.view_is) at c.requires.vacant)
+    c.add.result list.added list.takes_room list.unchanged list.first_is_added list.room_suffices)
 
 pub returns-clause-get : goal.returns-clause-get
 returns-clause-get g c =
-    let vacant = rw (← c.self.view_is) at c.requires.vacant in
-    let not = never_skipped g.W.Wakes.will_wake c.self.inside.waiting.wakers c.args.waker c.requires.none_alike in
-    rw (← c.self.view_is) (get_added g.W.Wakes.will_wake g.W.Wakes.SURE_CLONE _ _ c.args.waker c.self.invariant.0 vacant not refl c.in_ok-add.ensures.added c.in_ok-add.ensures.takes_room)
-
-pub returns-in_err-add-clause-take : goal.returns-in_err-add-clause-take
-returns-in_err-add-clause-take g c =
-    let not = never_skipped g.W.Wakes.will_wake c.self.inside.waiting.wakers c.args.waker c.requires.none_alike in
-    search rules
-
-pub returns-in_err-add-clause-get : goal.returns-in_err-add-clause-get
-returns-in_err-add-clause-get g c =
-    let not = never_skipped g.W.Wakes.will_wake c.self.inside.waiting.wakers c.args.waker c.requires.none_alike in
-    search rules
+    let list = c.add.ensures in
+    rw (← c.self.view_is) (added _ _ c.requires.none_alike _ _ _ _ c.args.waker _ (inr refl) c.self.invariant.0 (rw (← c.self.view_is) at c.requires.vacant)
+    c.add.result list.added list.takes_room list.unchanged list.first_is_added list.room_suffices)
