@@ -1,7 +1,6 @@
-use Rattle.std.proofs.Common.{◌≡◌, ◌≤◌, ◌+◌, map, length, vec_len, vec_capacity, ◌++◌}
+use Rattle.std.proofs.Common.{◌≡◌, ◌≤◌, ◌+◌, length, vec_len, vec_capacity, ◌++◌}
 use Rattle.std.specs.Vec.Iter.{into_iter_items, into_iter_len}
-use Rattle.async_cell_model.specs.Legal.{RunsUpTo}
-use Rattle.async_cell_core.specs.Kept.{history_of, GetsAreCopied}
+use Rattle.async_cell_core.proofs.LongerRuns.{Told}
 use Rattle.async_cell_core.proofs.runs.run.Given as goal
 
 -- the calls that were made so far, and their answers
@@ -10,8 +9,5 @@ invariant-loop-call g l = record {
   made : vec_len l.answers ≡ length l.yielded;
   left : l.yielded ++ into_iter_items l.call-iterator ≡ l.fn.calls.items;
   space : vec_len l.answers + into_iter_len l.call-iterator ≤ vec_capacity l.answers;
-  model : RunsUpTo g.W.Wakes.will_wake g.W.Wakes.SURE_CLONE g.T.Clone.is_clone l.fn.core
-      (history_of g.E.Edit.edit g.E.Edit.edit_some l.fn.core.cell l.yielded (map (λ a. a.reply) l.answers.items)) (map (λ a. a.woken) l.answers.items) l.core;
-  copied : GetsAreCopied g.T.Clone.is_clone g.T.Clone.is_infallible l.fn.core.cell
-      (history_of g.E.Edit.edit g.E.Edit.edit_some l.fn.core.cell l.yielded (map (λ a. a.reply) l.answers.items));
+  told : Told g.E.Edit.edit g.E.Edit.edit_some g.T.Clone.is_clone g.T.Clone.is_infallible g.W.Wakes.will_wake g.W.Wakes.SURE_CLONE l.fn.core l.yielded l.answers.items l.core;
 }
