@@ -1,4 +1,4 @@
-ghost use Rattle.std.specs.Prelude.{◌≡◌, []};
+ghost use Rattle.std.specs.Prelude.{◌≡◌, [], Option};
 ghost use Rattle.async_cell_core.specs.Polled.{poll_reply};
 
 use crate::{Poll, Refusal, Reply, Wakers};
@@ -33,6 +33,26 @@ pub enum Call<T, W, E> {
     EndOwner,
     /// `Core::take_inner`. The reply is the content.
     TakeInner,
+}
+
+/// A change of a cell's content, which a list of calls holds in place of a closure. What it makes
+/// of a content, and of a value, depends on the edit and on that alone, and contracts can name it.
+///
+/// An `impl` for a concrete type, such as `Edit<u64>`, repeats the two clauses at its functions.
+pub trait Edit<T> {
+    /// The new content that the edit makes of a content.
+    ghost edit: { Self → Option T → Option T };
+
+    /// The new value that the edit makes of a value.
+    ghost edit_some: { Self → T → T };
+
+    /// Returns the new content, made of the old one.
+    fn edit(&self, content: Option<T>) -> Option<T>
+        ensures { result ≡ edit self.now content };
+
+    /// Returns the new value, made of the old one.
+    fn edit_some(&self, value: T) -> T
+        ensures { result ≡ edit_some self.now value };
 }
 
 /// The reply to a call, and the wakers that the call returns. The caller must wake them.

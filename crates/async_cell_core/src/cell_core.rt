@@ -1,11 +1,9 @@
 ghost use Rattle.std.specs.Prelude.{◌≡◌, ◌≤◌, ◌<◌, ◌↔◌, [], ◌+◌, ◌-◌, None, Err, true, false, is_some, IsOk, IsSome, IsSomeAnd, IfSome, IfOk, IfErr, OnOk, OnErr};
-ghost use Rattle.std.specs.Fn.{FnOnceReturnsAt};
-ghost use Rattle.std.specs.Option.{ForSome};
-ghost use Rattle.async_cell_model.specs.Machine.{content, is_closed, is_full, is_vacant, IsSound};
+ghost use Rattle.std.specs.{Fn.FnOnceReturnsAt, Option.ForSome};
+ghost use Rattle.async_cell_model.specs.Machine.{content, is_closed, is_full, is_vacant, State, IsSound};
 ghost use Rattle.async_cell_core.specs.IsStep.{IsStep, replies, set_answer, replace_answer, update_answer, done_answer};
+ghost use Rattle.async_cell_core.specs.Stored.{state_of};
 
-mod debug;
-mod fast;
 mod internal;
 mod owners;
 mod places;
@@ -16,7 +14,7 @@ use async_cell_wakers::{WaitList, Wakers, Wakes};
 use futures::task::Poll;
 use std::alloc::Global;
 use std::marker::Model;
-use std::mem;
+use std::{fmt, mem};
 
 /// A cell with an optional value, counted owners and the wait list of the wakers that wait for a
 /// value. It wakes nobody but by its drop: wake what a call returns by `wake_all`. `Wakers` that
@@ -30,10 +28,6 @@ pub struct Core<T, W: Wakes> {
 
 /// Contracts see the state: the cell, the wait list in order, and the room for more wakers.
 impl<T, W: Wakes> Model for Core<T, W> {
-    ghost use Rattle.std.specs.Prelude.{◌≡◌, None};
-    ghost use Rattle.async_cell_model.specs.Machine.{State, IsSound};
-    ghost use Rattle.async_cell_core.specs.Stored.{state_of};
-
     ghost Value = { State T W };
 
     ghost view = { λ s. state_of s.value s.owners s.waiting };
@@ -239,20 +233,8 @@ impl<T: Drop, W: Wakes> Core<T, W> {
     {
         self.owners == 0
     }
-}
 
-/// Dropping a `Core` drops its value, or wakes all waiting wakers, in order: while it holds a
-/// value, nobody waits.
-impl<T: Drop, W: Wakes> Drop for Core<T, W> {
-    #[inline(always)]
-    fn drop(self) {
-        self.end();
-    }
-}
-
-impl<T: Drop, W: Wakes> Core<T, W> {
-    /// The drop, for the drop of what holds a core: a level of
-    /// calls less.
+    /// The drop, for the drop of what holds a core: a level of calls less.
     #[doc(hidden)]
     #[inline(always)]
     pub fn end(self) {
@@ -270,8 +252,31 @@ impl<T: Drop, W: Wakes> Core<T, W> {
     }
 }
 
+/// Dropping a `Core` drops its value, or wakes all waiting wakers, in order: while it holds a
+/// value, nobody waits.
+impl<T: Drop, W: Wakes> Drop for Core<T, W> {
+    #[inline(always)]
+    fn drop(self) {
+        self.end();
+    }
+}
+
 /// Wakes all waiting wakers. Apart from `end`, which is then small where nobody waits.
 #[inline(never)]
 fn wake<W: Wakes>(mut waiting: WaitList<W>) {
     waiting.hand_out().wake_all();
+}
+
+/// Prints `AsyncCell::Full(..)` with the value's own debug text, or `AsyncCell::Closed`. Prints
+/// `AsyncCell::Pending` for a vacant cell on which a waker waits, and `AsyncCell::Empty` for any
+/// other vacant cell.
+impl<T: fmt::Debug, W: Wakes> fmt::Debug for Core<T, W> {
+    fn fmt<F: fmt::Write>(&self, f: &mut fmt::Formatter<F>) -> fmt::Result {
+        match &self.value {
+            Some(value) => write!(f, "AsyncCell::Full({value:?})"),
+            None if self.owners == 0 => f.write_str("AsyncCell::Closed"),
+            None if self.waiting.wakes_nobody() => f.write_str("AsyncCell::Empty"),
+            None => f.write_str("AsyncCell::Pending"),
+        }
+    }
 }

@@ -6,7 +6,6 @@
 
 mod call;
 mod cell_core;
-mod edit;
 mod guard;
 pub mod laws;
 mod runs;
@@ -15,9 +14,8 @@ pub use async_cell_model::{Refusal, Reply};
 #[doc(hidden)]
 pub use async_cell_wakers::Place;
 pub use async_cell_wakers::{Named, TaskWaker, Wakers, Wakes};
-pub use call::{Answer, Call};
+pub use call::{Answer, Call, Edit};
 pub use cell_core::Core;
-pub use edit::Edit;
 pub use futures::task::Poll;
 #[doc(hidden)]
 pub use guard::end_guard;

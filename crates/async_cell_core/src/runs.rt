@@ -7,9 +7,8 @@ ghost use Rattle.async_cell_core.specs.IsStep.{IsStep, IsStepUpTo};
 ghost use Rattle.async_cell_core.specs.Kept.{is_get, kept_call, history_of, GetsAreCopied};
 ghost use Rattle.async_cell_core.specs.Polled.{IsCopied, IsExact};
 
-use crate::call::{Answer, Call};
+use crate::call::{Answer, Call, Edit};
 use crate::cell_core::Core;
-use crate::edit::Edit;
 use crate::{Refusal, Reply, Wakes};
 use std::alloc::Global;
 
