@@ -1,8 +1,6 @@
 -- One call of a core as a step of the machine, and the answer that stands for the result of a call.
 use Rattle.std.specs.Prelude.{Bool, Option, Some, None, Result, Ok, Err, List, [], if◌then◌else◌}
-use Rattle.async_cell_model.specs.declared.cell.Cell.{Cell}
-use Rattle.async_cell_model.specs.declared.entry.Kept.{Kept}
-use Rattle.async_cell_model.specs.declared.refusal.Refusal.{Refusal}
+use Rattle.async_cell_model.specs.declared.{cell.Cell.Cell, entry.Kept.Kept, refusal.Refusal.Refusal}
 use Rattle.async_cell_model.specs.declared.refusal.Refusal.TheVariants as why
 use Rattle.async_cell_model.specs.declared.reply.Reply.{Reply}
 use Rattle.async_cell_model.specs.declared.reply.Reply.TheVariants as reply

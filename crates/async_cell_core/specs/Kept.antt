@@ -1,14 +1,9 @@
 -- Calls of a list, as a history holds them.
 use Rattle.std.specs.Prelude.{◌≡◌, List, [], ◌∷◌, Option, Some, None, IfSome, Bool, true, false, ⊤}
-use Rattle.async_cell_model.specs.declared.cell.Cell.{Cell}
-use Rattle.async_cell_model.specs.declared.cell.Cell.TheVariants.{Closed, Open}
-use Rattle.async_cell_model.specs.declared.entry.Entry.{Entry}
-use Rattle.async_cell_model.specs.declared.entry.Kept.{Kept}
+use Rattle.async_cell_model.specs.declared.{cell.Cell.Cell, cell.Cell.TheVariants.{Closed, Open}, entry.Entry.Entry, entry.Kept.Kept}
 use Rattle.async_cell_model.specs.declared.entry.Kept.TheVariants as kept
 use Rattle.async_cell_model.specs.declared.reply.Reply.{Reply}
-use Rattle.async_cell_model.specs.Machine.{content, next}
-use Rattle.async_cell_model.specs.Legal.{copies}
-use Rattle.async_cell_model.specs.History.{History}
+use Rattle.async_cell_model.specs.{Machine.{content, next}, Legal.copies, History.History}
 use Rattle.async_cell_core.specs.Polled.{IsCopied}
 use Rattle.async_cell_core.specs.declared.call.Call.{Call}
 use Rattle.async_cell_core.specs.declared.call.Call.TheVariants.{Set, OrSet, Replace, Update, UpdateSome, TryTake, TryGet, IsSet, PollTake, PollGet, AddOwner, EndOwner, TakeInner}

@@ -1,12 +1,9 @@
 -- What polls and gets return.
 use Rattle.std.specs.Prelude.{Option, Some, None, Result, Ok, Err}
-use Rattle.async_cell_model.specs.declared.refusal.Refusal.{Refusal}
-use Rattle.async_cell_model.specs.declared.refusal.Refusal.TheVariants.{Memory}
-use Rattle.async_cell_model.specs.declared.reply.Reply.{Reply}
+use Rattle.async_cell_model.specs.declared.{refusal.Refusal.Refusal, refusal.Refusal.TheVariants.Memory, reply.Reply.Reply}
 use Rattle.async_cell_model.specs.declared.reply.Reply.TheVariants as reply
 pub use Rattle.async_cell_model.specs.Legal.{IsExact}
-use Rattle.futures.specs.declared.task.Poll.{Poll}
-use Rattle.futures.specs.declared.task.Poll.TheVariants.{Ready, Pending}
+use Rattle.futures.specs.declared.{task.Poll.Poll, task.Poll.TheVariants.{Ready, Pending}}
 
 -- the reply that stands for the result of a poll
 abbrev pub poll_reply : {T : Type 0} → Result (Poll (Option T)) Refusal → Reply T

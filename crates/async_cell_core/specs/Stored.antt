@@ -1,8 +1,7 @@
 -- The state of a core, made of its fields.
 use Rattle.std.specs.Prelude.{ℕ, Option, nat_eq, if◌then◌else◌}
 use Rattle.async_cell_wakers.specs.WaitList.{ListState}
-use Rattle.async_cell_model.specs.declared.cell.Cell.{Cell}
-use Rattle.async_cell_model.specs.declared.cell.Cell.TheVariants.{Closed, Open}
+use Rattle.async_cell_model.specs.declared.{cell.Cell.Cell, cell.Cell.TheVariants.{Closed, Open}}
 use Rattle.async_cell_model.specs.Machine.{State}
 
 -- the cell of a content and a number of owners: closed if the number is 0

@@ -27,8 +27,5 @@ pub fn end_guard<T: Drop, W: Wakes>(
         return (None, Wakers::none());
     };
     let written = core.or_set(value);
-    match written {
-        Ok(unused_and_woken) => unused_and_woken,
-        Err(back) => (Some(back), Wakers::none()),
-    }
+    written.unwrap_or_else(|back| (Some(back), Wakers::none()))
 }

@@ -1,8 +1,7 @@
 //! Laws of lists of calls. Each is the contract of a function that does nothing.
 ghost use Rattle.std.specs.Prelude.{◌≡◌, ◌++◌, List, length, Bool, Option};
 ghost use Rattle.async_cell_model.specs.declared.reply.Reply.{Reply};
-ghost use Rattle.async_cell_model.specs.Machine.{State};
-ghost use Rattle.async_cell_model.specs.Legal.{Runs, RunsUpTo};
+ghost use Rattle.async_cell_model.specs.{Machine.State, Legal.{Runs, RunsUpTo}};
 ghost use Rattle.async_cell_core.specs.declared.call.Call.{Call};
 ghost use Rattle.async_cell_core.specs.Kept.{history_of};
 
@@ -15,11 +14,9 @@ pub fn two_runs_are_one<T: Clone, W, E>()
         (from at to : State T W) (calls more : List (Call T W E))
         (replies others : List (Reply T)) (first second : List (List W))
         → length replies ≡ length calls
-        → RunsUpTo will_wake sure_wakers T.is_clone
-        from
+        → RunsUpTo will_wake sure_wakers T.is_clone from
         (history_of edit edit_some from.cell calls replies) first at
-        → RunsUpTo will_wake sure_wakers T.is_clone
-        at
+        → RunsUpTo will_wake sure_wakers T.is_clone at
         (history_of edit edit_some at.cell more others) second to
         → RunsUpTo will_wake sure_wakers T.is_clone from
         (history_of edit edit_some from.cell (calls ++ more) (replies ++ others))

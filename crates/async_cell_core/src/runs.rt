@@ -1,11 +1,8 @@
 //! Lists of calls, made in order.
 ghost use Rattle.std.specs.Prelude.{◌≡◌, map, vec_len, true, false, [], IfOk, IfErr, IfSome, OnErr, IsOk};
 ghost use Rattle.std.specs.List.{list_any};
-ghost use Rattle.async_cell_model.specs.Machine.{content, is_vacant, is_memory};
-ghost use Rattle.async_cell_model.specs.Legal.{Runs, RunsUpTo};
-ghost use Rattle.async_cell_core.specs.IsStep.{IsStep, IsStepUpTo};
-ghost use Rattle.async_cell_core.specs.Kept.{is_get, kept_call, history_of, GetsAreCopied};
-ghost use Rattle.async_cell_core.specs.Polled.{IsCopied, IsExact};
+ghost use Rattle.async_cell_model.specs.{Machine.{content, is_vacant, is_memory}, Legal.{Runs, RunsUpTo}};
+ghost use Rattle.async_cell_core.specs.{IsStep.{IsStep, IsStepUpTo}, Kept.{is_get, kept_call, history_of, GetsAreCopied}, Polled.{IsCopied, IsExact}};
 
 use crate::call::{Answer, Call, Edit};
 use crate::cell_core::Core;
@@ -42,15 +39,9 @@ fn step_no_get<T: Drop, W: Wakes, E: Edit<T> + Drop>(
             Ok(()) => Answer::replied(Reply::Done),
             Err(why) => Answer::refused(why, None),
         },
-        Call::TryTake => {
-            let taken = core.try_take();
-            Answer::replied(Reply::Value(taken))
-        }
+        Call::TryTake => Answer::replied(Reply::Value(core.try_take())),
         Call::IsSet => Answer::replied(Reply::Is(core.is_set())),
-        Call::PollTake(waker) => {
-            let polled = core.poll_take(&waker);
-            Answer::polled(polled)
-        }
+        Call::PollTake(waker) => Answer::polled(core.poll_take(&waker)),
         Call::AddOwner => match core.add_owner() {
             Ok(()) => Answer::replied(Reply::Done),
             Err(why) => Answer::refused(why, None),
@@ -79,11 +70,9 @@ pub fn step<T: Clone, W: Wakes, E: Edit<T> + Drop>(
     ensures up_to_clones { IsStepUpTo T.is_clone W.Wakes
         core.old (kept_call E.edit E.edit_some core.old.cell call) result core.new }
     ensures if_no_get { is_get call ≡ false
-        → IsStep W.Wakes
-        core.old (kept_call E.edit E.edit_some core.old.cell call) result core.new }
+        → IsStep W.Wakes core.old (kept_call E.edit E.edit_some core.old.cell call) result core.new }
     ensures if_exact { IsExact T.is_clone
-        → IsStep W.Wakes
-        core.old (kept_call E.edit E.edit_some core.old.cell call) result core.new }
+        → IsStep W.Wakes core.old (kept_call E.edit E.edit_some core.old.cell call) result core.new }
     ensures copies { is_get call ≡ true → IfSome (content core.old.cell) (λ value.
         IsCopied T.is_clone T.is_infallible value result.reply) }
 {
@@ -92,10 +81,7 @@ pub fn step<T: Clone, W: Wakes, E: Edit<T> + Drop>(
             Ok(copy) => Answer::replied(Reply::Value(copy)),
             Err(why) => Answer::refused(why, None),
         },
-        Call::PollGet(waker) => {
-            let polled = core.poll_get(&waker);
-            Answer::polled(polled)
-        }
+        Call::PollGet(waker) => Answer::polled(core.poll_get(&waker)),
         call => step_no_get(core, call),
     }
 }
@@ -113,10 +99,7 @@ pub fn step_copied<T: Copy, W: Wakes, E: Edit<T> + Drop>(
 {
     match call {
         Call::TryGet => Answer::replied(Reply::Value(core.try_get_copied())),
-        Call::PollGet(waker) => {
-            let polled = core.poll_get_copied(&waker);
-            Answer::polled(polled)
-        }
+        Call::PollGet(waker) => Answer::polled(core.poll_get_copied(&waker)),
         call => step_no_get(core, call),
     }
 }
@@ -150,8 +133,7 @@ pub fn run<T: Clone, W: Wakes, E: Edit<T> + Drop>(
     ensures comes_back { IfErr result (λ back. back ≡ calls) }
     ensures unchanged { OnErr result (core.new ≡ core.old) }
 {
-    // For the proof: the calls start from a sound state.
-    core.soundness();
+    core.soundness(); // For the proof: the calls start from a sound state.
     let mut answers = Vec::new(*calls.allocator());
     if answers.reserve_exact(calls.len()).is_err() {
         return Err(calls);
