@@ -64,3 +64,5 @@ module _ {T W : Type 0} (is_clone : T → T → Type 0) (will_wake : W → W →
       let vacant : is_vacant there.cell ≡ true = waits_there is_clone will_wake sure there e w (is_vacant there.cell) refl may asked_for in
       let quiet : ends_waiting there.cell (next there.cell e) ≡ false = pending_stays_vacant there.cell e w vacant asked_for in
       rw (waiting-append will_wake b h (e ∷ []), waiting_one will_wake there e quiet, asked_for) (wait_list-one will_wake (waiting will_wake b h) w (wait_list-wait_list will_wake (registrations b h)))
+
+pub ruleset one_more_entry = (room-ended, room-longer, room-same, waiting-ended, waiting-one_more, wait_list-one)

@@ -1,7 +1,7 @@
 -- Laws of every legal history.
 use Rattle.async_cell_model.proofs.Words.{◌≡◌, Bool, true, false, [], ◌∷◌, ◌++◌, length, Some, refl, ap, sym, subst, ◌∙◌, arith, append_assoc, append-nil, ◌-◌, ◌↔◌, filter_map, Entry, Cell, is_vacant, ends_waiting, next, wait_list, State, IsSound, pending_waker, UpToClones, IsDistinct, IsCovered, History, cell_after, has_fill_or_close, registrations, waiting, after, IsLegalAfterBy, MayFollowBy}
 use Rattle.async_cell_model.proofs.OneMoreWaker.{wait_list-covers, wait_list-distinct}
-use Rattle.async_cell_model.proofs.JoinedHistory.{after-append, registrations-append, cell_after-append}
+use Rattle.async_cell_model.proofs.JoinedHistory.{after-append, waiting-append, room-append, registrations-append, cell_after-append}
 use Rattle.async_cell_model.proofs.SoundAfter.{IsSound-step, no_waker}
 
 module _ {T W : Type 0} (is_clone : T → T → Type 0) (will_wake : W → W → Bool) (sure : Bool) where
@@ -68,3 +68,5 @@ module _ {T W : Type 0} (is_clone : T → T → Type 0) (will_wake : W → W →
 -- where a waker would wake another exactly if the two are equal, none waits twice
 pub waits_once : {T W : Type 0} (will_wake : W → W → Bool) (b : State T W) (h : History T W) → ((v w : W) → (will_wake v w ≡ true) ↔ (v ≡ w)) → IsDistinct (waiting will_wake b h)
 waits_once will_wake b h same = wait_list-distinct will_wake (registrations b h) (λ w. (same w w).1 refl)
+
+pub ruleset anew = (cell_after-append, waiting-append, room-append, IsSound-after, IsLegalAfter-first, IsLegal-anew)

@@ -37,6 +37,7 @@ pub fn a_pending_waker_stays_covered<T: Clone, W>()
 /// cell are, in order, some of those that it held at the start and that were passed to the writes,
 /// each at most once. So if the latter differ, no value is returned by two replies. A clone that a
 /// get returns is not taken out of the cell, and does not count.
+#[tactic(auto, using(crate::proofs::Once::given_in_order, crate::proofs::Once::given_once))]
 pub fn a_value_is_taken_once<T: Clone, W>()
     ensures in_order { (will_wake : W → W → Bool) (sure_wakers : Bool)
         (b : State T W) (h : History T W)
@@ -51,6 +52,7 @@ pub fn a_value_is_taken_once<T: Clone, W>()
 /// room are those after `h` alone, started from the state after `g`. If the joined history is
 /// legal, so is `g`, and so is `h` from that state. A legal history from a sound state ends in a
 /// sound state.
+#[tactic(auto, using(crate::proofs::Whole::anew))]
 pub fn a_history_can_begin_anew<T: Clone, W>()
     ensures begins { (will_wake : W → W → Bool) (sure_wakers : Bool)
         (b : State T W) (g : History T W)
@@ -85,6 +87,7 @@ pub fn two_histories_are_one<T: Clone, W>()
 
 /// What one poll does to the wait list. Its waker is added last, or skipped: it is skipped exactly
 /// if some waiting waker would wake it.
+#[tactic(auto, using(crate::proofs::OneMoreEntry::one_more_entry))]
 pub fn one_more_waker_is_last_or_skipped<T: Clone, W>()
     ensures list { (will_wake : W → W → Bool) (l : List W) (w : W)
         → wait_list will_wake l ≡ l
@@ -119,6 +122,7 @@ pub fn no_waker_waits_twice<T, W>()
 /// How each entry changes the room. A fill or a close leaves none. Any other entry uses up one
 /// place, if there is one, where it made the wait list longer, and otherwise leaves the room as it
 /// was.
+#[tactic(auto, using(crate::proofs::OneMoreEntry::one_more_entry))]
 pub fn the_room_goes_by_one<T, W>()
     ensures ended { (will_wake : W → W → Bool) (b : State T W) (h : History T W) (e : Entry T W)
         → IsSound will_wake b
@@ -144,6 +148,7 @@ pub fn a_history_ends_in_a_sound_state<T: Clone, W>()
 {}
 
 /// A refused call changes nothing: the cell and the wait list are as before, and it wakes no waker.
+#[tactic(auto, using(crate::proofs::OneEntry::refused_cell, crate::proofs::OneEntry::refused_waiting, crate::proofs::OneEntry::refused_handed))]
 pub fn a_refused_call_changes_nothing<T: Clone, W>()
     ensures cell { (will_wake : W → W → Bool) (sure_wakers : Bool)
         (from to : State T W) (e : Entry T W) (woken : List (List W))
@@ -161,6 +166,7 @@ pub fn a_refused_call_changes_nothing<T: Clone, W>()
 
 /// A fill or a close ends all waiting: it wakes every waiting waker, and nobody waits after it. No
 /// other entry wakes any waker.
+#[tactic(auto, using(crate::proofs::OneMoreEntry::one_more_entry, crate::proofs::OneEntry::handed_all, crate::proofs::OneEntry::handed_none))]
 pub fn a_fill_or_close_ends_all_waiting<T: Clone, W>()
     ensures nobody_waits { (will_wake : W → W → Bool)
         (b : State T W) (h : History T W) (e : Entry T W)
@@ -179,6 +185,7 @@ pub fn a_fill_or_close_ends_all_waiting<T: Clone, W>()
 /// A history that is legal up to clones is an exact one if the type's clones are exact or the
 /// history has no get: each reply is then the model's own. And an exact history is one up to
 /// clones.
+#[tactic(auto, using(crate::proofs::UpTo::exact_told, crate::proofs::UpTo::up_to_clones, crate::proofs::UpTo::legal_told, crate::proofs::UpTo::legal_up_to))]
 pub fn with_exact_clones_a_history_is_exact<T: Clone, W>()
     ensures exact { (will_wake : W → W → Bool) (sure_wakers : Bool)
         (from to : State T W) (h : History T W) (woken : List (List W))
@@ -200,6 +207,7 @@ pub fn with_exact_clones_a_history_is_exact<T: Clone, W>()
 
 /// The machine is the model: a step that is read off a history of one entry is what the machine
 /// does, and the other way round.
+#[tactic(auto, using(crate::proofs::Machine::machine_up_to, crate::proofs::Machine::model_up_to))]
 pub fn a_step_is_the_machines<T: Clone, W>()
     ensures machine { (will_wake : W → W → Bool) (sure_wakers : Bool) (from to : State T W)
         (call : Kept T W) (answer : Reply T) (woken : List W)

@@ -10,6 +10,7 @@ ghost use Rattle.async_cell_model.specs.Taken.{IsDistinct, IsSubsequence, has_up
 
 /// Wakers wait only if the cell is vacant: open without a value. So the wait list of a full cell
 /// and of a closed one is empty.
+#[tactic(auto, using(crate::proofs::Exact::legal_of_exact, crate::proofs::Whole::waits_only_vacant))]
 pub fn only_a_vacant_cell_keeps_waiting<T, W>()
     ensures { (will_wake : W → W → Bool) (sure_wakers : Bool) (b : State T W) (h : History T W)
         → IsSound will_wake b → IsLegal will_wake sure_wakers b h
@@ -18,6 +19,7 @@ pub fn only_a_vacant_cell_keeps_waiting<T, W>()
 
 /// No waiting poll is forgotten. Until the next fill or close, the waker of each poll that returned
 /// `Pending` waits, or some waiting waker would wake it.
+#[tactic(auto, using(crate::proofs::Exact::legal_of_exact, crate::proofs::Whole::stays_covered))]
 pub fn a_pending_waker_stays_covered<T, W>()
     ensures { (will_wake : W → W → Bool) (sure_wakers : Bool)
         (b : State T W) (g : History T W) (e : Entry T W) (rest : History T W) (w : W)
@@ -29,6 +31,7 @@ pub fn a_pending_waker_stays_covered<T, W>()
 /// A value is taken once. In a history without updates, the values that the replies move out of the
 /// cell are, in order, some of those that it held at the start and that were passed to the writes,
 /// each at most once. So if the latter differ, no value is returned by two replies.
+#[tactic(auto, using(crate::proofs::Exact::legal_of_exact, crate::proofs::Once::given_in_order, crate::proofs::Once::given_once))]
 pub fn a_value_is_taken_once<T, W>()
     ensures in_order { (will_wake : W → W → Bool) (sure_wakers : Bool)
         (b : State T W) (h : History T W)
@@ -43,6 +46,7 @@ pub fn a_value_is_taken_once<T, W>()
 /// room are those after `h` alone, started from the state after `g`. If the joined history is
 /// legal, so is `g`, and so is `h` from that state. A legal history from a sound state ends in a
 /// sound state.
+#[tactic(auto, using(crate::proofs::Exact::legal_of_exact, crate::proofs::Exact::exact_of_legal, crate::proofs::Whole::anew))]
 pub fn a_history_can_begin_anew<T, W>()
     ensures begins { (will_wake : W → W → Bool) (sure_wakers : Bool)
         (b : State T W) (g : History T W)
@@ -75,6 +79,7 @@ pub fn two_histories_are_one<T, W>()
 
 /// What one poll does to the wait list. Its waker is added last, or skipped: it is skipped exactly
 /// if some waiting waker would wake it.
+#[tactic(auto, using(crate::proofs::Exact::legal_of_exact, crate::proofs::OneMoreEntry::one_more_entry))]
 pub fn one_more_waker_is_last_or_skipped<T, W>()
     ensures list { (will_wake : W → W → Bool) (l : List W) (w : W)
         → wait_list will_wake l ≡ l
@@ -95,6 +100,7 @@ pub fn a_history_ends_in_a_sound_state<T, W>()
 {}
 
 /// A refused call changes nothing: the cell and the wait list are as before, and it wakes no waker.
+#[tactic(auto, using(crate::proofs::Exact::leads_of_exact, crate::proofs::OneEntry::refused_cell, crate::proofs::OneEntry::refused_waiting, crate::proofs::OneEntry::refused_handed))]
 pub fn a_refused_call_changes_nothing<T, W>()
     ensures cell { (will_wake : W → W → Bool) (sure_wakers : Bool)
         (from to : State T W) (e : Entry T W) (woken : List (List W))
@@ -112,6 +118,7 @@ pub fn a_refused_call_changes_nothing<T, W>()
 
 /// A fill or a close ends all waiting: it wakes every waiting waker, and nobody waits after it. No
 /// other entry wakes any waker.
+#[tactic(auto, using(crate::proofs::Exact::leads_of_exact, crate::proofs::OneMoreEntry::one_more_entry, crate::proofs::OneEntry::handed_all, crate::proofs::OneEntry::handed_none))]
 pub fn a_fill_or_close_ends_all_waiting<T, W>()
     ensures nobody_waits { (will_wake : W → W → Bool) (b : State T W) (h : History T W)
         (e : Entry T W)
@@ -131,6 +138,7 @@ pub fn a_fill_or_close_ends_all_waiting<T, W>()
 
 /// The machine is the model: a step that is read off a history of one entry is what the machine
 /// does, and the other way round.
+#[tactic(auto, using(crate::proofs::Machine::machine_of, crate::proofs::Machine::model_of))]
 pub fn a_step_is_the_machines<T, W>()
     ensures machine { (will_wake : W → W → Bool) (sure_wakers : Bool) (from to : State T W)
         (call : Kept T W) (answer : Reply T) (woken : List W)
