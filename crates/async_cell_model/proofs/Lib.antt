@@ -4,9 +4,7 @@ pub mod LegalHistories
 pub mod Once
 pub mod Machine
 pub mod OneEntry
-pub mod OneMoreEntry
 pub mod OneMoreWaker
-pub mod SoundAfter
 pub mod UpTo
 pub mod WaitingPoll
 pub mod Whole

@@ -1,14 +1,8 @@
 -- A value is taken once: the replies give, in order, some of what was there and was put_in.
-use Rattle.async_cell_model.proofs.Words.{◌≡◌, ◌⊎◌, inl, inr, suc, zero, Bool, false, ◌||◌, List, [], ◌∷◌, ◌++◌, Option, Some, None, refl, sym, subst, arith, append_assoc, append-nil, ◌-◌, option_to_list, All, AllPairs, cons_option, AllPairs-cons, Cell, Entry, Kept, Reply, Refused, content, next, reply, State, IsCloned, UpToClones, History, cell_after, after, IsLegalAfterBy, MayFollowBy, IsDistinct, IsSubsequence, none, skip, both, is_update, has_update, put_by, put_in, taken_by, taken_out}
+use Rattle.async_cell_model.proofs.Words.{◌≡◌, ◌⊎◌, inl, inr, suc, Bool, false, List, [], ◌∷◌, ◌++◌, Option, Some, None, refl, subst, arith, append_assoc, append-nil, option_to_list, All, AllPairs, cons_option, AllPairs-cons, Cell, Entry, Kept, Reply, content, next, reply, State, UpToClones, History, cell_after, after, IsLegalAfterBy, MayFollowBy, IsDistinct, IsSubsequence, none, skip, both, is_update, has_update, put_by, put_in, taken_by, taken_out}
 use Rattle.std.proofs.Common.{◌≢◌}
+use Rattle.std.proofs.lemmas.List.Elements.{All-cons, All-tail}
 use Rattle.async_cell_model.proofs.JoinedHistory.{cell_after-append}
-use Rattle.async_cell_model.specs.declared.refusal.Refusal.TheVariants as why
-
-first_plain : (p q : Bool) → (p || q) ≡ false → p ≡ false
-first_plain p q plain = grind arith
-
-rest_plain : (p q : Bool) → (p || q) ≡ false → q ≡ false
-rest_plain p q plain = grind arith
 
 module _ {A : Type 0} where
   pub IsSubsequence-same : (xs : List A) → IsSubsequence xs xs
@@ -38,20 +32,22 @@ module _ {A : Type 0} where
   back_of [] ys = IsSubsequence-same ys
   back_of (x ∷ xs) ys = skip (back_of xs ys)
 
+  -- one part after the other
+  then : (out now was put outs puts : List A) → IsSubsequence (out ++ now) (was ++ put) → IsSubsequence outs (now ++ puts) → IsSubsequence (out ++ outs) (was ++ (put ++ puts))
+  then out now was put outs puts first second =
+      let later : IsSubsequence (out ++ outs) ((out ++ now) ++ puts) = rw append_assoc (IsSubsequence-append _ _ _ _ (IsSubsequence-same out) second) in
+      rw (← append_assoc was put puts) (IsSubsequence-trans (IsSubsequence-append _ _ _ _ first (IsSubsequence-same puts)) _ later)
+
   pairs_of_tail : (R : A → A → Type 0) (x : A) (xs : List A) → AllPairs R (x ∷ xs) → AllPairs R xs
   pairs_of_tail R x xs all = λ i j d before within. all (suc i) (suc j) d (omega arith) (omega arith)
 
   head_with_all : (R : A → A → Type 0) (x : A) (xs : List A) → AllPairs R (x ∷ xs) → All (R x) xs
   head_with_all R x xs all = λ k d within. all 0 (suc k) d (omega arith) (omega arith)
 
-  all_cons : (P : A → Type 0) (x : A) (xs : List A) → P x → All P xs → All P (x ∷ xs)
-  all_cons P x xs p all zero d within = p
-  all_cons P x xs p all (suc k) d within = all k d (omega arith)
-
   all_of_subsequence : (P : A → Type 0) (xs ys : List A) → IsSubsequence xs ys → All P ys → All P xs
   all_of_subsequence P xs ys none all = all
-  all_of_subsequence P xs ys (skip part) all = all_of_subsequence P xs _ part (λ k d within. all (suc k) d (omega arith))
-  all_of_subsequence P xs ys (both {x = x} part) all = all_cons P _ _ (all 0 x (omega arith)) (all_of_subsequence P _ _ part (λ k d within. all (suc k) d (omega arith)))
+  all_of_subsequence P xs ys (skip part) all = all_of_subsequence P xs _ part (All-tail P _ _ all)
+  all_of_subsequence P xs ys (both {x = x} part) all = All-cons P _ _ (all 0 x (omega arith)) (all_of_subsequence P _ _ part (All-tail P _ _ all))
 
   pub pairs_of_subsequence : (R : A → A → Type 0) (xs ys : List A) → IsSubsequence xs ys → AllPairs R ys → AllPairs R xs
   pairs_of_subsequence R xs ys none all = all
@@ -78,44 +74,18 @@ module _ {T W : Type 0} where
     ];
   }
 
-  -- an entry whose reply is the cell's
-  replied_gives : (c : Cell T) (call : Kept T W) → is_update call ≡ false → Hands c call (reply c call) (next c (record { call = call; reply = reply c call }))
-  replied_gives c call plain = parts_of c call (reply c call) (next c (record { call = call; reply = reply c call })) (grind (arith, append-nil))
-
-  -- an entry that found no memory
-  refused_gives : (c : Cell T) (call : Kept T W) → Hands c call (Refused why.Memory None) (next c (record { call = call; reply = Refused why.Memory None }))
-  refused_gives c call = parts_of c call (Refused why.Memory None) (next c (record { call = call; reply = Refused why.Memory None })) (grind (arith, append-nil))
-
--- a get gives nothing away, whatever it was told
-cloned_gives : {T W : Type 0} (is_clone : T → T → Type 0) (c : Cell T) (call : Kept T W) (r s : Reply T) → IsCloned is_clone call r s → Hands c call s (next c (record { call = call; reply = s }))
-cloned_gives is_clone c call r s cloned = parts_of c call s (next c (record { call = call; reply = s })) (grind (arith, append-nil))
-
 module _ {T W : Type 0} (is_clone : T → T → Type 0) (will_wake : W → W → Bool) (sure : Bool) where
   entry_gives : (at : State T W) (e : Entry T W) → is_update e.call ≡ false → MayFollowBy (UpToClones is_clone) will_wake sure at e → Hands at.cell e.call e.reply (next at.cell e)
-  entry_gives at e plain may = elim may.replied [
-    | inl same ↦ elim same [ inl it ↦ subst (λ (r : Reply T). Hands at.cell e.call r (next at.cell (record { call = e.call; reply = r }))) (sym it) (replied_gives at.cell e.call plain) | inr cloned ↦ cloned_gives is_clone at.cell e.call (reply at.cell e.call) e.reply cloned ]
-    | inr refused ↦ subst (λ (r : Reply T). Hands at.cell e.call r (next at.cell (record { call = e.call; reply = r }))) (sym refused.0) (refused_gives at.cell e.call)
-  ]
-
-  one_more : (b : State T W) (g : History T W) (e : Entry T W) (h : History T W) → Hands (cell_after b.cell g) e.call e.reply (next (cell_after b.cell g) e)
-      → IsSubsequence (taken_out h) (option_to_list (content (cell_after b.cell (g ++ e ∷ []))) ++ put_in h)
-      → IsSubsequence (taken_out (e ∷ h)) (option_to_list (content (cell_after b.cell g)) ++ put_in (e ∷ h))
-  one_more b g e h head rest =
-      let here : List T = option_to_list (content (cell_after b.cell g)) in
-      let later : IsSubsequence (taken_out h) (option_to_list (content (next (cell_after b.cell g) e)) ++ put_in h) =
-      subst (λ (c : Cell T). IsSubsequence (taken_out h) (option_to_list (content c) ++ put_in h)) (cell_after-append b.cell g (e ∷ [])) rest in
-      let taken = IsSubsequence-append _ _ _ _ (IsSubsequence-same (option_to_list (taken_by e.call e.reply))) later in
-      let there = subst (λ (l : List T). IsSubsequence (option_to_list (taken_by e.call e.reply) ++ taken_out h) l) (sym (append_assoc (option_to_list (taken_by e.call e.reply)) _ (put_in h))) taken in
-      let all = IsSubsequence-trans (IsSubsequence-append _ _ _ _ head.fits (IsSubsequence-same (put_in h))) _ there in
-      let parts = append_assoc here (option_to_list (put_by e.call)) (put_in h) in
-      rw (cons_is (taken_by e.call e.reply) (taken_out h), cons_is (put_by e.call) (put_in h), ← parts) all
+  entry_gives at e plain may = parts_of at.cell e.call e.reply (next at.cell e) (grind (arith, append-nil))
 
   -- what the replies give is, in order, some of what was there and was put_in
   pub given_in_order : (b : State T W) (g h : History T W) → has_update h ≡ false → IsLegalAfterBy (UpToClones is_clone) will_wake sure b g h
       → IsSubsequence (taken_out h) (option_to_list (content (cell_after b.cell g)) ++ put_in h)
   given_in_order b g [] plain legal = IsSubsequence-nil _
   given_in_order b g (e ∷ h) plain legal =
-      one_more b g e h (entry_gives (after will_wake b g) e (first_plain _ _ plain) legal.0) (given_in_order b (g ++ e ∷ []) h (rest_plain _ _ plain) legal.1)
+      let rest = given_in_order b (g ++ e ∷ []) h (grind arith) legal.1 in
+      rw (cons_is (taken_by e.call e.reply) (taken_out h), cons_is (put_by e.call) (put_in h))
+      (then _ _ _ _ _ _ (entry_gives (after will_wake b g) e (grind arith) legal.0).fits (subst (λ c. IsSubsequence (taken_out h) (option_to_list (content c) ++ put_in h)) (cell_after-append b.cell g (e ∷ [])) rest))
 
   pub given_once : (b : State T W) (h : History T W) → has_update h ≡ false → IsLegalAfterBy (UpToClones is_clone) will_wake sure b [] h
       → IsDistinct (option_to_list (content b.cell) ++ put_in h) → IsDistinct (taken_out h)

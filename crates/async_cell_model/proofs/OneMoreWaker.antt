@@ -1,5 +1,5 @@
 -- What one more waker makes of a wait list, and the wait lists of longer lists.
-use Rattle.async_cell_model.proofs.Words.{◌≡◌, ◌≤◌, ◌<◌, inl, inr, ℕ, Bool, true, false, not, ◌&&◌, ◌||◌, List, [], ◌∷◌, ◌++◌, length, get_or, refl, ap, sym, subst, ◌∙◌, arith, le_refl, le_trans, length-append, nat_lt, if◌then◌else◌, filter, fold, AllPairs, nat_tests, fold-append, list_any-append, list_any_at, Contains-append_left, Contains-push, all_pairs_push, is_empty, wait_list, skips, with_one_more, IsCovered}
+use Rattle.async_cell_model.proofs.Words.{◌≡◌, ◌≤◌, ◌<◌, inl, inr, ℕ, Bool, true, false, not, ◌&&◌, ◌||◌, List, [], ◌∷◌, ◌++◌, length, get_or, refl, ap, ◌∙◌, arith, le_refl, le_trans, length-append, nat_lt, if◌then◌else◌, filter, fold, AllPairs, nat_tests, fold-append, list_any-append, list_any_at, Contains-append_left, Contains-push, all_pairs_push, is_empty, wait_list, skips, with_one_more, IsCovered}
 use Rattle.std.specs.Prelude.{◌≢◌}
 
 -- a list that may have found no memory holds a waker and has no room
@@ -28,46 +28,38 @@ module _ {W : Type 0} (will_wake : W → W → Bool) where
   pub keep_skipped : (l : List W) (w : W) → wait_list will_wake l ≡ l → skips will_wake l w ≡ true → wait_list will_wake (l ++ w ∷ []) ≡ l
   keep_skipped l w kept skipped = wait_list-one l w kept ∙ (rw skipped refl)
 
-  kept_if : (m : List W) (x : W) (b : Bool) → skips will_wake m x ≡ b → wait_list will_wake m ≡ m → wait_list will_wake (if b then m else m ++ x ∷ []) ≡ (if b then m else m ++ x ∷ [])
-  kept_if m x b is kept = grind (arith, keep_added)
+  -- what one more waker keeps, many keep
+  each : (P : List W → Type 0) → ((m : List W) (x : W) → P m → P (with_one_more will_wake m x)) → (m xs : List W) → P m → P (fold (with_one_more will_wake) m xs)
+  each P one m [] start = start
+  each P one m (x ∷ xs) start = each P one (with_one_more will_wake m x) xs (one m x start)
 
-  kept_each : (m xs : List W) → wait_list will_wake m ≡ m → wait_list will_wake (fold (with_one_more will_wake) m xs) ≡ fold (with_one_more will_wake) m xs
-  kept_each m [] kept = kept
-  kept_each m (x ∷ xs) kept = kept_each (with_one_more will_wake m x) xs (kept_if m x (skips will_wake m x) refl kept)
+  kept_one : (m : List W) (x : W) → wait_list will_wake m ≡ m → wait_list will_wake (with_one_more will_wake m x) ≡ with_one_more will_wake m x
+  kept_one m x kept = grind (arith, wait_list-one)
 
   -- the wait list of a wait list is the same
   pub wait_list-wait_list : (l : List W) → wait_list will_wake (wait_list will_wake l) ≡ wait_list will_wake l
-  wait_list-wait_list l = kept_each [] l refl
+  wait_list-wait_list l = each (λ m. wait_list will_wake m ≡ m) kept_one [] l refl
 
   -- the wait list may be made first, and again with the wakers that come later
   pub wait_list-append : (xs ys : List W) → wait_list will_wake (wait_list will_wake xs ++ ys) ≡ wait_list will_wake (xs ++ ys)
-  wait_list-append xs ys = keep_more (wait_list will_wake xs) ys ∙ (ap (λ m. fold (with_one_more will_wake) m ys) (wait_list-wait_list xs) ∙ sym (keep_more xs ys))
+  wait_list-append xs ys = grind (arith, keep_more, wait_list-wait_list)
 
-  longer_if : (m : List W) (x : W) (b : Bool) → length m ≤ length (if b then m else m ++ x ∷ [])
-  longer_if m x b = grind (arith, length-append)
-
-  longer_each : (m xs : List W) → length m ≤ length (fold (with_one_more will_wake) m xs)
-  longer_each m [] = le_refl _
-  longer_each m (x ∷ xs) = le_trans (longer_if m x (skips will_wake m x)) (longer_each (with_one_more will_wake m x) xs)
+  longer_one : (m : List W) (x : W) → length m ≤ length (with_one_more will_wake m x)
+  longer_one m x = grind (arith, length-append)
 
   -- the wait list of a longer list is no shorter
   pub wait_list-longer : (xs ys : List W) → length (wait_list will_wake xs) ≤ length (wait_list will_wake (xs ++ ys))
-  wait_list-longer xs ys = subst (λ (l : List W). length (wait_list will_wake xs) ≤ length l) (sym (keep_more xs ys)) (longer_each (wait_list will_wake xs) ys)
-
-  or_left : (a b : Bool) → a ≡ true → (a || b) ≡ true
-  or_left a b is = rw is refl
+  wait_list-longer xs ys =
+      let m = wait_list will_wake xs in
+      rw (keep_more xs ys) (each (λ l. length m ≤ length l) (λ l x more. le_trans more (longer_one l x)) m ys (le_refl _))
 
   -- whoever is covered stays covered
   covered_if : (m : List W) (x w : W) (b : Bool) → IsCovered will_wake m w → IsCovered will_wake (if b then m else m ++ x ∷ []) w
   covered_if m x w true covered = covered
   covered_if m x w false covered = elim covered [
     | inl waits ↦ inl (Contains-append_left m (x ∷ []) w waits)
-    | inr skipped ↦ inr (list_any-append (λ v. will_wake v w) m (x ∷ []) ∙ or_left _ _ skipped)
+    | inr skipped ↦ inr (rw (list_any-append, skipped) refl)
   ]
-
-  covered_each : (m xs : List W) (w : W) → IsCovered will_wake m w → IsCovered will_wake (fold (with_one_more will_wake) m xs) w
-  covered_each m [] w covered = covered
-  covered_each m (x ∷ xs) w covered = covered_each (with_one_more will_wake m x) xs w (covered_if m x w (skips will_wake m x) covered)
 
   -- one more waker is covered
   covers_one : (m : List W) (w : W) (b : Bool) → skips will_wake m w ≡ b → IsCovered will_wake (if b then m else m ++ w ∷ []) w
@@ -78,17 +70,12 @@ module _ {W : Type 0} (will_wake : W → W → Bool) where
   pub wait_list-covers : (w : W) (xs ys : List W) → IsCovered will_wake (wait_list will_wake (xs ++ w ∷ ys)) w
   wait_list-covers w xs ys =
       let m = wait_list will_wake xs in
-      subst (λ (l : List W). IsCovered will_wake l w) (sym (keep_more xs (w ∷ ys))) (covered_each (with_one_more will_wake m w) ys w (covers_one m w (skips will_wake m w) refl))
-
-  first_step : (w x : W) (m rest : List W)
-      → ((l : List W) → fold (with_one_more will_wake) (w ∷ l) rest ≡ w ∷ fold (with_one_more will_wake) l (filter (λ v. not (will_wake w v)) rest))
-      → fold (with_one_more will_wake) (w ∷ m) (x ∷ rest) ≡ w ∷ fold (with_one_more will_wake) m (filter (λ v. not (will_wake w v)) (x ∷ rest))
-  first_step w x m rest later = grind (arith, later)
+      rw (keep_more xs (w ∷ ys)) (each (λ l. IsCovered will_wake l w) (λ l x. covered_if l x w (skips will_wake l x)) (with_one_more will_wake m w) ys (covers_one m w (skips will_wake m w) refl))
 
   -- a waker that comes first waits, and skips all others that it would wake
   first_each : (w : W) (m rest : List W) → fold (with_one_more will_wake) (w ∷ m) rest ≡ w ∷ fold (with_one_more will_wake) m (filter (λ v. not (will_wake w v)) rest)
   first_each w m [] = refl
-  first_each w m (x ∷ rest) = first_step w x m rest (λ l. first_each w l rest)
+  first_each w m (x ∷ rest) = grind (arith, first_each w m rest, first_each w (m ++ x ∷ []) rest)
 
   pub keep_first : (w : W) (rest : List W) → wait_list will_wake (w ∷ rest) ≡ w ∷ wait_list will_wake (filter (λ v. not (will_wake w v)) rest)
   keep_first w rest = first_each w [] rest
@@ -104,10 +91,7 @@ module _ {W : Type 0} (will_wake : W → W → Bool) where
   distinct_if m x true itself is distinct = distinct
   distinct_if m x false itself is distinct = all_pairs_push (λ u v. u ≢ v) m x distinct (other_than m x itself is)
 
-  distinct_each : (m xs : List W) → ((w : W) → will_wake w w ≡ true) → AllPairs (λ u v. u ≢ v) m → AllPairs (λ u v. u ≢ v) (fold (with_one_more will_wake) m xs)
-  distinct_each m [] itself distinct = distinct
-  distinct_each m (x ∷ xs) itself distinct = distinct_each (with_one_more will_wake m x) xs itself (distinct_if m x (skips will_wake m x) itself refl distinct)
-
   -- where each waker would wake itself, none waits twice
   pub wait_list-distinct : (l : List W) → ((w : W) → will_wake w w ≡ true) → AllPairs (λ u v. u ≢ v) (wait_list will_wake l)
-  wait_list-distinct l itself = distinct_each [] l itself (λ i j d less within. absurd (omega arith))
+  wait_list-distinct l itself =
+      each (AllPairs (λ u v. u ≢ v)) (λ m x. distinct_if m x (skips will_wake m x) itself refl) [] l (λ i j d less within. absurd (omega arith))

@@ -87,7 +87,7 @@ pub fn two_histories_are_one<T: Clone, W>()
 
 /// What one poll does to the wait list. Its waker is added last, or skipped: it is skipped exactly
 /// if some waiting waker would wake it.
-#[tactic(auto, using(crate::proofs::OneMoreEntry::one_more_entry))]
+#[tactic(auto, using(crate::proofs::Whole::one_more_entry))]
 pub fn one_more_waker_is_last_or_skipped<T: Clone, W>()
     ensures list { (will_wake : W → W → Bool) (l : List W) (w : W)
         → wait_list will_wake l ≡ l
@@ -122,7 +122,7 @@ pub fn no_waker_waits_twice<T, W>()
 /// How each entry changes the room. A fill or a close leaves none. Any other entry uses up one
 /// place, if there is one, where it made the wait list longer, and otherwise leaves the room as it
 /// was.
-#[tactic(auto, using(crate::proofs::OneMoreEntry::one_more_entry))]
+#[tactic(auto, using(crate::proofs::Whole::one_more_entry))]
 pub fn the_room_goes_by_one<T, W>()
     ensures ended { (will_wake : W → W → Bool) (b : State T W) (h : History T W) (e : Entry T W)
         → IsSound will_wake b
@@ -141,6 +141,7 @@ pub fn the_room_goes_by_one<T, W>()
 {}
 
 /// A history ends in a sound state, so another history can start from there.
+#[tactic(auto, using(crate::proofs::Whole::anew))]
 pub fn a_history_ends_in_a_sound_state<T: Clone, W>()
     ensures { (will_wake : W → W → Bool) (sure_wakers : Bool)
         (from to : State T W) (h : History T W) (woken : List (List W))
@@ -148,7 +149,6 @@ pub fn a_history_ends_in_a_sound_state<T: Clone, W>()
 {}
 
 /// A refused call changes nothing: the cell and the wait list are as before, and it wakes no waker.
-#[tactic(auto, using(crate::proofs::OneEntry::refused_cell, crate::proofs::OneEntry::refused_waiting, crate::proofs::OneEntry::refused_handed))]
 pub fn a_refused_call_changes_nothing<T: Clone, W>()
     ensures cell { (will_wake : W → W → Bool) (sure_wakers : Bool)
         (from to : State T W) (e : Entry T W) (woken : List (List W))
@@ -166,7 +166,7 @@ pub fn a_refused_call_changes_nothing<T: Clone, W>()
 
 /// A fill or a close ends all waiting: it wakes every waiting waker, and nobody waits after it. No
 /// other entry wakes any waker.
-#[tactic(auto, using(crate::proofs::OneMoreEntry::one_more_entry, crate::proofs::OneEntry::handed_all, crate::proofs::OneEntry::handed_none))]
+#[tactic(auto, using(crate::proofs::Whole::one_more_entry))]
 pub fn a_fill_or_close_ends_all_waiting<T: Clone, W>()
     ensures nobody_waits { (will_wake : W → W → Bool)
         (b : State T W) (h : History T W) (e : Entry T W)
@@ -207,7 +207,6 @@ pub fn with_exact_clones_a_history_is_exact<T: Clone, W>()
 
 /// The machine is the model: a step that is read off a history of one entry is what the machine
 /// does, and the other way round.
-#[tactic(auto, using(crate::proofs::Machine::machine_up_to, crate::proofs::Machine::model_up_to))]
 pub fn a_step_is_the_machines<T: Clone, W>()
     ensures machine { (will_wake : W → W → Bool) (sure_wakers : Bool) (from to : State T W)
         (call : Kept T W) (answer : Reply T) (woken : List W)

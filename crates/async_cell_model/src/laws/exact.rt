@@ -79,7 +79,7 @@ pub fn two_histories_are_one<T, W>()
 
 /// What one poll does to the wait list. Its waker is added last, or skipped: it is skipped exactly
 /// if some waiting waker would wake it.
-#[tactic(auto, using(crate::proofs::Exact::legal_of_exact, crate::proofs::OneMoreEntry::one_more_entry))]
+#[tactic(auto, using(crate::proofs::Exact::legal_of_exact, crate::proofs::Whole::one_more_entry))]
 pub fn one_more_waker_is_last_or_skipped<T, W>()
     ensures list { (will_wake : W → W → Bool) (l : List W) (w : W)
         → wait_list will_wake l ≡ l
@@ -93,6 +93,7 @@ pub fn one_more_waker_is_last_or_skipped<T, W>()
 {}
 
 /// A history ends in a sound state, so another history can start from there.
+#[tactic(auto, using(crate::proofs::Exact::legal_of_exact, crate::proofs::Whole::anew))]
 pub fn a_history_ends_in_a_sound_state<T, W>()
     ensures { (will_wake : W → W → Bool) (sure_wakers : Bool)
         (from to : State T W) (h : History T W) (woken : List (List W))
@@ -100,7 +101,6 @@ pub fn a_history_ends_in_a_sound_state<T, W>()
 {}
 
 /// A refused call changes nothing: the cell and the wait list are as before, and it wakes no waker.
-#[tactic(auto, using(crate::proofs::Exact::leads_of_exact, crate::proofs::OneEntry::refused_cell, crate::proofs::OneEntry::refused_waiting, crate::proofs::OneEntry::refused_handed))]
 pub fn a_refused_call_changes_nothing<T, W>()
     ensures cell { (will_wake : W → W → Bool) (sure_wakers : Bool)
         (from to : State T W) (e : Entry T W) (woken : List (List W))
@@ -118,7 +118,7 @@ pub fn a_refused_call_changes_nothing<T, W>()
 
 /// A fill or a close ends all waiting: it wakes every waiting waker, and nobody waits after it. No
 /// other entry wakes any waker.
-#[tactic(auto, using(crate::proofs::Exact::leads_of_exact, crate::proofs::OneMoreEntry::one_more_entry, crate::proofs::OneEntry::handed_all, crate::proofs::OneEntry::handed_none))]
+#[tactic(auto, using(crate::proofs::Whole::one_more_entry))]
 pub fn a_fill_or_close_ends_all_waiting<T, W>()
     ensures nobody_waits { (will_wake : W → W → Bool) (b : State T W) (h : History T W)
         (e : Entry T W)
@@ -138,7 +138,6 @@ pub fn a_fill_or_close_ends_all_waiting<T, W>()
 
 /// The machine is the model: a step that is read off a history of one entry is what the machine
 /// does, and the other way round.
-#[tactic(auto, using(crate::proofs::Machine::machine_of, crate::proofs::Machine::model_of))]
 pub fn a_step_is_the_machines<T, W>()
     ensures machine { (will_wake : W → W → Bool) (sure_wakers : Bool) (from to : State T W)
         (call : Kept T W) (answer : Reply T) (woken : List W)
