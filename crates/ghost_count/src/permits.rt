@@ -9,6 +9,7 @@ use std::marker::{Model, PhantomData};
 /// How many permits of its name are out, and the right to give one and to take one back. Without a
 /// name it is the number alone, of which no permit shows anything. Keep it where one thread at a
 /// time has it.
+#[derive(Drop)]
 pub struct Count {
     marker: PhantomData<()>,
     pub ghost name: { Option ℕ },
@@ -97,12 +98,6 @@ impl Permit {
         Permit {
             marker: PhantomData,
         }
-    }
-}
-
-impl Drop for Count {
-    fn drop(self) {
-        let Self { marker: _ } = self;
     }
 }
 
