@@ -1,5 +1,5 @@
 -- The ghost side of each function, and which tokens cross threads. Assumes `Logic`.
-use Rattle.ghost_count.proofs.Words.{◌≡◌, ℕ, zero, suc, ◌+◌, ◌-◌, ◌<◌, ◌≤◌, Bool, true, false, List, [], ◌∷◌, ◌++◌, refl, sym, arith, IsPrefix, Option, Some, None, IsSome, Ura, full_share, not-OpDef-full_share, SProp, ent, sep, ex, guard, emp, via, Lft, Share, Fml, ftrue, fsep, fex, fbor, numbers, growing, latest, at_least, Keyless, Halves, Logic, sem, lfts, bor_fracture, one, nothing, Lends, basic, own_sum, latest_new, latest_grows, latest_shows, latest_bounds, latest_cut, latest_glue, at_least_dup, ‵, ◌⊛◌, some, given, later, ◌$◌, ◌∵◌, !, qed, by, move, keep, drop, split, join, fsplit, fjoin, fpick, fpack, pick, learn, check, done, frame, use0, use1, use2, rewrite, updating, await, now, raw, show, given_permits, names, counted, outs, right, held, back, is_out, table, counts, count_owns, was_given, is_held, permit_owns}
+use Rattle.ghost_count.proofs.Words.{◌≡◌, ℕ, suc, ◌+◌, ◌-◌, ◌<◌, Bool, true, false, List, [], ◌∷◌, ◌++◌, refl, sym, arith, IsPrefix, Option, Some, None, IsSome, Ura, full_share, not-OpDef-full_share, SProp, ent, sep, ex, guard, emp, via, Lft, Share, Fml, ftrue, fbor, numbers, growing, latest, at_least, Keyless, Halves, Logic, sem, lfts, bor_fracture, one, nothing, Lends, basic, own_sum, latest_new, latest_grows, latest_shows, latest_bounds, latest_cut, latest_glue, at_least_dup, ‵, ◌⊛◌, some, given, later, ◌$◌, ◌∵◌, !, qed, move, drop, split, fsplit, fjoin, fpick, fpack, pick, learn, check, done, use0, use1, use2, rewrite, updating, await, now, raw, show, given_permits, names, counted, outs, right, held, back, table, counts, count_owns, was_given, is_held, permit_owns}
 use mathlib.Core.Option.{some as opt_some}
 use base.Share
 
@@ -40,21 +40,15 @@ back_keyless : (rows : List (ℕ × Bool)) → Keyless (back rows)
 back_keyless [] = tt
 back_keyless (r ∷ rows) = (held_keyless r.1 r.0, back_keyless rows)
 
-counts_keyless : (γ n : ℕ) → Keyless (counts γ n)
-unfolding latest
-counts_keyless γ n = λ rows. (tt, (back_keyless rows, λ _. tt))
-
-is_held_keyless : (γ δ : ℕ) (q : Share) → Keyless (is_held γ δ q)
-unfolding latest at_least
-is_held_keyless γ δ q = ((λ before. tt), tt)
-
 pub count_keyless : (name : Option ℕ) (n : ℕ) → Keyless (count_owns name n)
+unfolding latest
 count_keyless None n = tt
-count_keyless (Some γ) n = counts_keyless γ n
+count_keyless (Some γ) n = λ rows. (tt, (back_keyless rows, λ _. tt))
 
 pub permit_keyless : (name : Option ℕ) (δ : ℕ) (q : Share) → Keyless (permit_owns name δ q)
+unfolding latest at_least
 permit_keyless None δ q = tt
-permit_keyless (Some γ) δ q = is_held_keyless γ δ q
+permit_keyless (Some γ) δ q = ((λ before. tt), tt)
 
 module _ {M : Type 1} {𝓤 : Ura M} (𝓛 : Logic 𝓤) where
   open 𝓛 use {H, A as At}
@@ -123,8 +117,9 @@ module _ {M : Type 1} {𝓤 : Ura M} (𝓛 : Logic 𝓤) where
   opens_empty = qed 𝓛 [] ∵ updating ! $ use0 𝓛 (later (some (λ (γ : ℕ). ‵ (latest given_permits full_share γ [])))) (via 𝓤 _ (latest_new given_permits 𝓛 []) (basic 𝓛 _)) $ await ! tt $ pick ! (λ γ.
       nothing ! $ move ! (1 ∷ 0 ∷ []) $ use2 𝓛 (‵ (counts γ 0)) (packs γ 0 [] refl) $ now ! $ show ! (λ (γ : ℕ). ⟦ counts γ 0 ⟧) γ $ done !)
 
-  gives_named : (γ n : ℕ) → ⟦ counts γ n ⟧ ⊢ H.⇛ (ex 𝓤 (λ (δ : ℕ). ⟦ counts γ (n + 1) ⟧ ∗ ⟦ is_held γ δ full_share ⟧))
-  gives_named γ n = qed 𝓛 (‵ (counts γ n) ∷ []) ∵ updating ! $ fpick ! (λ rows. fsplit ! $ move ! (1 ∷ []) $ fsplit ! $ move ! (1 ∷ []) $ fpick ! (λ is. drop ! $
+  pub gives : (name : Option ℕ) (n : ℕ) → ⟦ count_owns name n ⟧ ⊢ H.⇛ (ex 𝓤 (λ (δ : ℕ). ⟦ count_owns name (n + 1) ⟧ ∗ ⟦ permit_owns name δ full_share ⟧))
+  gives None n = qed 𝓛 (‵ ftrue ∷ []) ∵ updating ! $ nothing ! $ now ! $ show ! (λ (δ : ℕ). ⟦ ftrue ⟧ ∗ ⟦ ftrue ⟧) 0 $ done !
+  gives (Some γ) n = qed 𝓛 (‵ (counts γ n) ∷ []) ∵ updating ! $ fpick ! (λ rows. fsplit ! $ move ! (1 ∷ []) $ fsplit ! $ move ! (1 ∷ []) $ fpick ! (λ is. drop ! $
       use0 𝓛 (later (some (λ (δ : ℕ). ‵ (right δ full_share)))) (via 𝓤 _ (latest_new numbers 𝓛 0) (basic 𝓛 _)) $ await ! tt $ pick ! (λ δ.
       let l : List ℕ = names rows ++ δ ∷ [] in let rows' : List (ℕ × Bool) = rows ++ (δ, false) ∷ [] in
       move ! (2 ∷ []) $ use1 𝓛 (later (‵ (latest given_permits full_share γ l))) (via 𝓤 _ (latest_grows given_permits 𝓛 γ (names rows) l (δ ∷ [], refl)) (basic 𝓛 _)) $ await ! tt $
@@ -133,59 +128,43 @@ module _ {M : Type 1} {𝓤 : Ura M} (𝓛 : Logic 𝓤) where
       move ! (2 ∷ []) $ use1 𝓛 (‵ (back rows')) (more_back rows δ) $ move ! (2 ∷ 0 ∷ []) $ use2 𝓛 (‵ (counts γ (n + 1))) (packs γ (n + 1) rows' (omega (arith, outs_more rows δ, is))) $
       now ! $ show ! (λ (δ : ℕ). ⟦ counts γ (n + 1) ⟧ ∗ ⟦ is_held γ δ full_share ⟧) δ $ done !)))
 
-  pub gives : (name : Option ℕ) (n : ℕ) → ⟦ count_owns name n ⟧ ⊢ H.⇛ (ex 𝓤 (λ (δ : ℕ). ⟦ count_owns name (n + 1) ⟧ ∗ ⟦ permit_owns name δ full_share ⟧))
-  gives None n = qed 𝓛 (‵ ftrue ∷ []) ∵ updating ! $ nothing ! $ now ! $ show ! (λ (δ : ℕ). ⟦ ftrue ⟧ ∗ ⟦ ftrue ⟧) 0 $ done !
-  gives (Some γ) n = gives_named γ n
-
-  takes_named : (γ n δ : ℕ) → ⟦ counts γ n ⟧ ∗ ⟦ is_held γ δ full_share ⟧ ⊢ guard 𝓤 (n ≡ (n - 1) + 1) ⟦ counts γ (n - 1) ⟧
-  takes_named γ n δ = qed 𝓛 (‵ (counts γ n) ∷ ‵ (is_held γ δ full_share) ∷ []) ∵ fpick ! (λ rows. fsplit ! $ move ! (1 ∷ []) $ fsplit ! $ move ! (1 ∷ []) $ fpick ! (λ is. drop ! $
-      move ! (2 ∷ []) $ fsplit ! $ fpick ! (λ before. move ! (3 ∷ 0 ∷ []) $
-      use2 𝓛 (given (IsPrefix (before ++ δ ∷ []) (names rows)) (‵ (latest given_permits full_share γ (names rows)) ⊛ ‵ (was_given γ δ before))) (latest_bounds given_permits 𝓛 full_share γ (names rows) (before ++ δ ∷ [])) $
-      learn ! (λ p. split ! $ move ! (1 ∷ []) $ drop ! $ move ! (2 ∷ 1 ∷ []) $ let rows' : List (ℕ × Bool) = flip before rows in
-      use2 𝓛 (given (outs rows ≡ suc (outs rows')) (‵ (back rows'))) (flips before rows δ p) $ learn ! (λ fewer. move ! (1 ∷ []) $
-      rewrite ! 0 (λ (x : List ℕ). ‵ (latest given_permits full_share γ x)) (sym (names_flip before rows)) refl $ use2 𝓛 (‵ (counts γ (n - 1))) (packs γ (n - 1) rows' (omega (arith, fewer, is))) $
-      check ! (omega (arith, fewer, is)) $ done !)))))
-
   abbrev pub Taken : Option ℕ → ℕ → Type 0
   Taken name n = IsSome name → n ≡ (n - 1) + 1
 
   pub takes : (name : Option ℕ) (n δ : ℕ) → ⟦ count_owns name n ⟧ ∗ ⟦ permit_owns name δ full_share ⟧ ⊢ guard 𝓤 (Taken name n) ⟦ count_owns name (n - 1) ⟧
   takes None n δ = qed 𝓛 (‵ ftrue ∷ ‵ ftrue ∷ []) ∵ drop ! $ check ! (λ no. absurd (cc no)) $ done !
-  takes (Some γ) n δ = qed 𝓛 (‵ (counts γ n) ∷ ‵ (is_held γ δ full_share) ∷ []) ∵ use2 𝓛 (given (n ≡ (n - 1) + 1) (‵ (counts γ (n - 1)))) (takes_named γ n δ) $ learn ! (λ so. check ! (λ _. so) $ done !)
-
-  shows_named : (γ n δ : ℕ) (q : Share) → ⟦ is_held γ δ q ⟧ ∗ ⟦ counts γ n ⟧ ⊢ guard 𝓤 (0 < n) (⟦ is_held γ δ q ⟧ ∗ ⟦ counts γ n ⟧)
-  shows_named γ n δ q = qed 𝓛 (‵ (is_held γ δ q) ∷ ‵ (counts γ n) ∷ []) ∵ move ! (1 ∷ []) $ fpick ! (λ rows. fsplit ! $ move ! (1 ∷ []) $ fsplit ! $ move ! (1 ∷ []) $ fpick ! (λ is. drop ! $
+  takes (Some γ) n δ = qed 𝓛 (‵ (counts γ n) ∷ ‵ (is_held γ δ full_share) ∷ []) ∵ fpick ! (λ rows. fsplit ! $ move ! (1 ∷ []) $ fsplit ! $ move ! (1 ∷ []) $ fpick ! (λ is. drop ! $
       move ! (2 ∷ []) $ fsplit ! $ fpick ! (λ before. move ! (3 ∷ 0 ∷ []) $
       use2 𝓛 (given (IsPrefix (before ++ δ ∷ []) (names rows)) (‵ (latest given_permits full_share γ (names rows)) ⊛ ‵ (was_given γ δ before))) (latest_bounds given_permits 𝓛 full_share γ (names rows) (before ++ δ ∷ [])) $
-      learn ! (λ p. split ! $ move ! (3 ∷ 2 ∷ []) $
-      use2 𝓛 (given (0 < outs rows) (‵ (back rows) ⊛ ‵ (right δ q))) (beside before rows δ q p) $ learn ! (λ some_out. split ! $
-      move ! (2 ∷ 0 ∷ []) $ use2 𝓛 (‵ (counts γ n)) (packs γ n rows is) $
-      move ! (2 ∷ []) $ fpack ! (List ℕ) (was_given γ δ) before $ move ! (0 ∷ 2 ∷ []) $ fjoin ! $ check ! (omega (arith, some_out, is)) $ done !)))))
+      learn ! (λ p. split ! $ move ! (1 ∷ []) $ drop ! $ move ! (2 ∷ 1 ∷ []) $ let rows' : List (ℕ × Bool) = flip before rows in
+      use2 𝓛 (given (outs rows ≡ suc (outs rows')) (‵ (back rows'))) (flips before rows δ p) $ learn ! (λ fewer. move ! (1 ∷ []) $
+      rewrite ! 0 (λ (x : List ℕ). ‵ (latest given_permits full_share γ x)) (sym (names_flip before rows)) refl $ use2 𝓛 (‵ (counts γ (n - 1))) (packs γ (n - 1) rows' (omega (arith, fewer, is))) $
+      check ! (λ _. omega (arith, fewer, is)) $ done !)))))
 
   abbrev pub Shown : Option ℕ → ℕ → Type 0
   Shown name n = IsSome name → 0 < n
 
   pub shows : (name : Option ℕ) (n δ : ℕ) (q : Share) → ⟦ permit_owns name δ q ⟧ ∗ ⟦ count_owns name n ⟧ ⊢ guard 𝓤 (Shown name n) (⟦ permit_owns name δ q ⟧ ∗ ⟦ count_owns name n ⟧)
   shows None n δ q = qed 𝓛 (‵ ftrue ∷ ‵ ftrue ∷ []) ∵ check ! (λ no. absurd (cc no)) $ done !
-  shows (Some γ) n δ q = qed 𝓛 (‵ (is_held γ δ q) ∷ ‵ (counts γ n) ∷ []) ∵ use2 𝓛 (given (0 < n) (‵ (is_held γ δ q) ⊛ ‵ (counts γ n))) (shows_named γ n δ q) $ learn ! (λ so. split ! $ check ! (λ _. so) $ done !)
+  shows (Some γ) n δ q = qed 𝓛 (‵ (is_held γ δ q) ∷ ‵ (counts γ n) ∷ []) ∵ move ! (1 ∷ []) $ fpick ! (λ rows. fsplit ! $ move ! (1 ∷ []) $ fsplit ! $ move ! (1 ∷ []) $ fpick ! (λ is. drop ! $
+      move ! (2 ∷ []) $ fsplit ! $ fpick ! (λ before. move ! (3 ∷ 0 ∷ []) $
+      use2 𝓛 (given (IsPrefix (before ++ δ ∷ []) (names rows)) (‵ (latest given_permits full_share γ (names rows)) ⊛ ‵ (was_given γ δ before))) (latest_bounds given_permits 𝓛 full_share γ (names rows) (before ++ δ ∷ [])) $
+      learn ! (λ p. split ! $ move ! (3 ∷ 2 ∷ []) $
+      use2 𝓛 (given (0 < outs rows) (‵ (back rows) ⊛ ‵ (right δ q))) (beside before rows δ q p) $ learn ! (λ some_out. split ! $
+      move ! (2 ∷ 0 ∷ []) $ use2 𝓛 (‵ (counts γ n)) (packs γ n rows is) $
+      move ! (2 ∷ []) $ fpack ! (List ℕ) (was_given γ δ) before $ move ! (0 ∷ 2 ∷ []) $ fjoin ! $ check ! (λ _. omega (arith, some_out, is)) $ done !)))))
 
   -- what a `&` to a permit holds: some share of it
-  halved_named : (γ δ : ℕ) (q : Share) → ⟦ is_held γ δ q ⟧ ⊢ ⟦ is_held γ δ (Share.left q) ⟧ ∗ ⟦ is_held γ δ (Share.right q) ⟧
-  halved_named γ δ q = qed 𝓛 (‵ (is_held γ δ q) ∷ []) ∵ fsplit ! $ fpick ! (λ before. use1 𝓛 (‵ (was_given γ δ before) ⊛ ‵ (was_given γ δ before)) (at_least_dup given_permits 𝓛 γ (before ++ δ ∷ [])) $ split ! $ move ! (2 ∷ []) $
+  halved : (name : Option ℕ) (δ : ℕ) (q : Share) → ⟦ permit_owns name δ q ⟧ ⊢ ⟦ permit_owns name δ (Share.left q) ⟧ ∗ ⟦ permit_owns name δ (Share.right q) ⟧
+  halved None δ q = qed 𝓛 (‵ ftrue ∷ []) ∵ nothing ! $ done !
+  halved (Some γ) δ q = qed 𝓛 (‵ (is_held γ δ q) ∷ []) ∵ fsplit ! $ fpick ! (λ before. use1 𝓛 (‵ (was_given γ δ before) ⊛ ‵ (was_given γ δ before)) (at_least_dup given_permits 𝓛 γ (before ++ δ ∷ [])) $ split ! $ move ! (2 ∷ []) $
       use1 𝓛 (‵ (right δ (Share.left q)) ⊛ ‵ (right δ (Share.right q))) (latest_cut numbers 𝓛 q (Share.left q) (Share.right q) δ 0 (Share.halves q)) $ split ! $
       move ! (2 ∷ []) $ fpack ! (List ℕ) (was_given γ δ) before $ fjoin ! $ move ! (2 ∷ []) $ fpack ! (List ℕ) (was_given γ δ) before $ move ! (0 ∷ 2 ∷ []) $ fjoin ! $ move ! (1 ∷ 0 ∷ []) $ done !)
 
-  joined_named : (γ δ : ℕ) (q : Share) → ⟦ is_held γ δ (Share.left q) ⟧ ∗ ⟦ is_held γ δ (Share.right q) ⟧ ⊢ ⟦ is_held γ δ q ⟧
-  joined_named γ δ q = qed 𝓛 (‵ (is_held γ δ (Share.left q)) ∷ ‵ (is_held γ δ (Share.right q)) ∷ []) ∵ fsplit ! $ move ! (2 ∷ []) $ fsplit ! $ drop ! $ move ! (2 ∷ 0 ∷ []) $
-      use2 𝓛 (‵ (right δ q)) (latest_glue numbers 𝓛 q (Share.left q) (Share.right q) δ 0 (Share.halves q)) $ move ! (1 ∷ 0 ∷ []) $ fjoin ! $ done !
-
-  halved : (name : Option ℕ) (δ : ℕ) (q : Share) → ⟦ permit_owns name δ q ⟧ ⊢ ⟦ permit_owns name δ (Share.left q) ⟧ ∗ ⟦ permit_owns name δ (Share.right q) ⟧
-  halved None δ q = qed 𝓛 (‵ ftrue ∷ []) ∵ nothing ! $ done !
-  halved (Some γ) δ q = halved_named γ δ q
-
   joined : (name : Option ℕ) (δ : ℕ) (q : Share) → ⟦ permit_owns name δ (Share.left q) ⟧ ∗ ⟦ permit_owns name δ (Share.right q) ⟧ ⊢ ⟦ permit_owns name δ q ⟧
   joined None δ q = qed 𝓛 (‵ ftrue ∷ ‵ ftrue ∷ []) ∵ drop ! $ done !
-  joined (Some γ) δ q = joined_named γ δ q
+  joined (Some γ) δ q = qed 𝓛 (‵ (is_held γ δ (Share.left q)) ∷ ‵ (is_held γ δ (Share.right q)) ∷ []) ∵ fsplit ! $ move ! (2 ∷ []) $ fsplit ! $ drop ! $ move ! (2 ∷ 0 ∷ []) $
+      use2 𝓛 (‵ (right δ q)) (latest_glue numbers 𝓛 q (Share.left q) (Share.right q) δ 0 (Share.halves q)) $ move ! (1 ∷ 0 ∷ []) $ fjoin ! $ done !
 
   pub halves : (name : Option ℕ) (δ : ℕ) → Halves 𝓤 H At (permit_owns name δ)
   halves name δ = record { cut = λ q. halved name δ q; join = λ q. joined name δ q }

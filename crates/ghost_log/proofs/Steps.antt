@@ -1,16 +1,6 @@
 -- The ghost side of each function, and which tokens cross threads. Assumes `Logic`.
-use Rattle.ghost_log.proofs.Words.{lists, log_owns, seen_owns, ◌≡◌, ℕ, ◌≤◌, Bool, true, false, List, [], ◌∷◌, ◌++◌, map, length, refl, inl, inr, arith, Lft, Share, Fml, fbor, full_share, SProp, ent, sep, ex, guard, emp, via, Lends, IsPrefix, ◌⊎◌, ‵, ◌⊛◌, some, given, ◌$◌, ◌∵◌, !, qed, by, keep, split, pick, learn, check, done, use2, rewrite, updating, now, raw, Logic, sem, lfts, bor_fracture}
-use seplogic.Ra.Ura.{Ura}
-use Rattle.std.proofs.lemmas.List.{length-map}
-use base.Stored.{Gv, Coded}
+use Rattle.ghost_log.proofs.Words.{Ura, length-map, Gv, Coded, Least, latest, at_least, prefix_anti, prefix_refl, Keyless, Halves, one, basic, latest_new, latest_grows, latest_shows, latest_bounds, latest_cut, latest_glue, at_least_dup, at_least_join, prefix_out, prefix_in, if◌then◌else◌, nat_lt, nat_tests, lists, log_owns, seen_owns, ◌≡◌, ℕ, ◌≤◌, Bool, true, false, List, [], ◌∷◌, ◌++◌, map, length, refl, inl, inr, arith, Lft, Share, Fml, fbor, full_share, SProp, ent, sep, ex, guard, emp, via, Lends, IsPrefix, ◌⊎◌, ‵, ◌⊛◌, some, given, ◌$◌, ◌∵◌, !, qed, by, keep, split, pick, learn, check, done, use2, rewrite, updating, now, raw, Logic, sem, lfts, bor_fracture}
 use base.Share
-use base.Growing.{Least, latest, at_least, prefix_anti, prefix_refl}
-use base.Shift.{Keyless}
-use ghost.Rules.{Halves}
-use denote.Sharing.{one}
-use types.Owned.{basic}
-use types.Growing.{latest_new, latest_grows, latest_shows, latest_bounds, latest_cut, latest_glue, at_least_dup, at_least_join}
-use Rattle.logbook.proofs.Roster.{prefix_out, prefix_in}
 
 -- of two beginnings of one list the shorter begins the longer
 pub shorter_begins : {A : Type 0} (xs ys zs : List A) → IsPrefix xs zs → IsPrefix ys zs → length xs ≤ length ys → IsPrefix xs ys
@@ -22,28 +12,8 @@ shorter_begins (x ∷ xs) (y ∷ ys) (z ∷ zs) p q le =
     let rest = shorter_begins xs ys zs (p.0, cc (p.1)) (q.0, cc (q.1)) (omega arith) in
     (rest.0, cc (heads, rest.1))
 
-module _ {E : Type 0} where
-  abbrev is_shorter : List E → List E → Bool
-  is_shorter [] ys = true
-  is_shorter (x ∷ xs) [] = false
-  is_shorter (x ∷ xs) (y ∷ ys) = is_shorter xs ys
-
-  shorter_is : (xs ys : List E) → is_shorter xs ys ≡ true → length xs ≤ length ys
-  shorter_is [] ys e = omega arith
-  shorter_is (x ∷ xs) [] e = absurd (cc e)
-  shorter_is (x ∷ xs) (y ∷ ys) e = omega (arith, shorter_is xs ys e)
-
-  longer_is : (xs ys : List E) → is_shorter xs ys ≡ false → length ys ≤ length xs
-  longer_is [] ys e = absurd (cc e)
-  longer_is (x ∷ xs) [] e = omega arith
-  longer_is (x ∷ xs) (y ∷ ys) e = omega (arith, longer_is xs ys e)
-
-  abbrev one_of : Bool → List E → List E → List E
-  one_of true xs ys = ys
-  one_of false xs ys = xs
-
-  abbrev pub longest : List E → List E → List E
-  longest xs ys = one_of (is_shorter xs ys) xs ys
+abbrev pub longest : {E : Type 0} → List E → List E → List E
+longest xs ys = if nat_lt (length ys) (length xs) then xs else ys
 
 module _ {E : Type 0} (code : E → Gv) where
   pub log_keyless : (γ : ℕ) (xs : List E) (q : Share) → Keyless (log_owns code γ xs q)
@@ -108,15 +78,16 @@ module _ {M : Type 1} {𝓤 : Ura M} (𝓛 : Logic 𝓤) {E : Type 0} (cv : Code
   Longer xs ys zs = ((zs ≡ xs) ⊎ (zs ≡ ys)) × IsPrefix xs zs × IsPrefix ys zs
 
   -- the least list that both begin is the longer of them
-  least_is : (xs ys : List E) (zs : List Gv) (t : Bool) → is_shorter xs ys ≡ t → Least IsPrefix (map cv.code xs) (map cv.code ys) zs → (zs ≡ map cv.code (one_of t xs ys)) × Longer xs ys (one_of t xs ys)
-  least_is xs ys zs true e least = let c = cv.code in
-      let on = shorter_begins (map c xs) (map c ys) zs least.0 least.1 (omega (arith, shorter_is xs ys e, length-map xs c, length-map ys c)) in
-      (prefix_anti zs (map c ys) (least.2 (map c ys) on (prefix_refl (map c ys))) least.1, (inr refl, prefix_out cv xs ys on, prefix_refl ys))
+  least_is : (xs ys : List E) (zs : List Gv) (more : Bool) → nat_lt (length ys) (length xs) ≡ more → Least IsPrefix (map cv.code xs) (map cv.code ys) zs
+      → (zs ≡ map cv.code (if more then xs else ys)) × Longer xs ys (if more then xs else ys)
   least_is xs ys zs false e least = let c = cv.code in
-      let on = shorter_begins (map c ys) (map c xs) zs least.1 least.0 (omega (arith, longer_is xs ys e, length-map xs c, length-map ys c)) in
+      let on = shorter_begins (map c xs) (map c ys) zs least.0 least.1 (grind (arith, nat_tests, e, length-map xs c, length-map ys c)) in
+      (prefix_anti zs (map c ys) (least.2 (map c ys) on (prefix_refl (map c ys))) least.1, (inr refl, prefix_out cv xs ys on, prefix_refl ys))
+  least_is xs ys zs true e least = let c = cv.code in
+      let on = shorter_begins (map c ys) (map c xs) zs least.1 least.0 (grind (arith, nat_tests, e, length-map xs c, length-map ys c)) in
       (prefix_anti zs (map c xs) (least.2 (map c xs) (prefix_refl (map c xs)) on) least.0, (inl refl, prefix_refl xs, prefix_out cv ys xs on))
 
   pub joins : (γ : ℕ) (xs ys : List E) → ⟦ seen γ xs ⟧ ∗ ⟦ seen γ ys ⟧ ⊢ guard 𝓤 (Longer xs ys (longest xs ys)) ⟦ seen γ (longest xs ys) ⟧
   joins γ xs ys = qed 𝓛 (‵ (seen γ xs) ∷ ‵ (seen γ ys) ∷ []) ∵
       use2 𝓛 (some (λ (zs : List Gv). given (Least IsPrefix (map cv.code xs) (map cv.code ys) zs) (‵ (at_least lists γ zs)))) (at_least_join lists 𝓛 γ (map cv.code xs) (map cv.code ys)) $
-      pick ! (λ zs. learn ! (λ least. let is = least_is xs ys zs (is_shorter xs ys) refl least in rewrite ! 0 (λ (l : List Gv). ‵ (at_least lists γ l)) is.0 refl $ check ! is.1 $ done !))
+      pick ! (λ zs. learn ! (λ least. let is = least_is xs ys zs (nat_lt (length ys) (length xs)) refl least in rewrite ! 0 (λ (l : List Gv). ‵ (at_least lists γ l)) is.0 refl $ check ! is.1 $ done !))

@@ -3,37 +3,28 @@ pub use Rattle.atomic_table.proofs.Walks.{proved}
 pub use Rattle.core.proofs.ledger.Walks.{tells, tells_last}
 pub use Rattle.ghost_log.specs.Owned.{lists, log_owns, seen_owns}
 pub use Rattle.logbook.proofs.Fields.{Token, ends, lends_twice, token, token_made}
+pub use Rattle.logbook.proofs.Roster.{prefix_in, prefix_out}
+pub use Rattle.std.proofs.lemmas.{Bool.Decides.nat_tests, List.length-map}
 pub use Rattle.std.proofs.Common.{Bool, List, [], arith, false, inl, inr, length, map, refl, sym, true, ℕ, ◌++◌, ◌∷◌, ◌≡◌, ◌≤◌}
+pub use Rattle.std.specs.Prelude.{if◌then◌else◌, nat_lt}
+pub use base.{Before.before, Fraction.full_share, Growing.Least, Growing.prefix_anti, Growing.prefix_refl, Shift.Keyless, Stored.Coded, Stored.Gv}
 pub use base.Fml.{Fml, Lft, Share, fbor, fhide, flft, fsep, fshr_bor, ftrue}
-pub use base.Fraction.{full_share}
+unfoldable pub use base.Growing.{at_least, latest}
 pub use base.Logic.{SProp, emp, ent, ex, guard, sep, snd∗, via}
-pub use contract.Monad.{fact, fact_i}
-pub use contract.Running.{tables}
-pub use denote.Builtin.{RefOf}
-pub use denote.Exit.{yes}
-pub use denote.Memory.{hidden_shr}
-pub use denote.Opens.{unhide}
-pub use denote.Param.{bounded, param}
-pub use denote.Param.Laws.{Laws}
-pub use denote.Param.Send.{IsSend, IsSync, sendable}
-pub use denote.Param.Shared.{copy_shared}
-pub use denote.RattleType.{RattleType, owns}
+pub use contract.{Monad.fact, Monad.fact_i, Running.tables}
+pub use denote.{Builtin.RefOf, Exit.yes, Memory.hidden_shr, Opens.unhide, Param.Laws.Laws, Param.Send.IsSend, Param.Send.IsSync, Param.Send.sendable, Param.Shared.copy_shared, Param.bounded}
+pub use denote.{Param.param, RattleType.RattleType, RattleType.owns, Sharing.one, SharingLaws.one_shr_laws, Signature.plain, Signature.types_at, Steps.closes, Steps.nothing, Steps.opens}
+pub use denote.{Struct.Laws.field_copy, Struct.Lending.Lends, Struct.Lending.lent_out, Struct.Lending.of_Lends, Struct.Owning.shape, Struct.Struct.Struct}
 pub use denote.Ref.{mut_Tells, mut_vals, shr_Tells, shr_vals}
-pub use denote.Signature.{plain, types_at}
-pub use denote.Steps.{closes, nothing, opens}
-pub use denote.Struct.Laws.{field_copy}
-pub use denote.Struct.Lending.{Lends, lent_out, of_Lends}
-pub use denote.Struct.Owning.{shape}
-pub use denote.Struct.Struct.{Struct}
 pub use denote.Triple.Walked.{Goes-dropped, Goes-ref, Stays, stay_dropped, stay_ref, walk_of}
+pub use ghost.Rules.{Halves}
 pub use mathlib.Core.List.{IsPrefix}
 pub use mathlib.Core.Logic.{◌⊎◌}
-pub use mir.MapTy.{inst_fn}
+pub use mir.{MapTy.inst_fn, Val.Val, Val.vptr, Val.vunit}
 pub use mir.Syntax.{a_type, dcons, dnil, named}
-pub use mir.Val.{Val, vptr, vunit}
+pub use seplogic.Ra.Ura.{Ura}
+pub use types.{Logic.Logic, Logic.lfts, Logic.sem, Owned.basic, Part.agg, Tokens.bor_fracture, Tokens.obor_close, Tokens.shr_bor-open}
 pub use types.ByLocal.{alloc_all, free_all, get, look_at, pass_all, sets}
+pub use types.Growing.{at_least_dup, at_least_join, latest_bounds, latest_cut, latest_glue, latest_grows, latest_new, latest_shows}
 pub use types.Kit.{ !, await, by, check, done, drop, feq_i, fjoin, fjoin3, fsplit, fsplit3, given, keep, later, learn, move, now, pick, qed, raw, rewrite, some, split, updating, use0, use1, use2, ‵, ◌$◌, ◌∵◌, ◌⊛◌}
-pub use types.Logic.{Logic, lfts, sem}
-pub use types.Part.{agg}
 pub use types.Run.{and_then, enter, no_more, of_opd, returns, unit_lit}
-pub use types.Tokens.{bor_fracture, obor_close, shr_bor-open}

@@ -1,11 +1,7 @@
 -- `open` makes a name of its own.
-use Rattle.ghost_count.proofs.Words.{◌≡◌, ℕ, ◌+◌, ◌-◌, ◌<◌, ◌≤◌, List, [], ◌∷◌, refl, named, Val, vunit, vptr, full_share, SProp, emp, Fml, ftrue, fsep, flft, fhide, fshr_bor, shr_bor-open, obor_close, ‵, raw, ◌⊛◌, some, given, later, ◌$◌, ◌∵◌, !, qed, by, move, keep, drop, split, join, fsplit, fsplit3, fjoin, fjoin3, pick, learn, use0, use1, use2, rewrite, await, feq_i, unit_lit, of_opd, no_more, and_then, returns, enter, alloc_all, pass_all, free_all, look_at, get, sets, agg, fact_i, tables, tells, tells_last, yes, RattleType, owns, types_at, plain, RefOf, unit, mut_vals, mut_Tells, shr_vals, shr_Tells, hidden_shr, unhide, nothing, opens, closes, lent_out, Stays, stay_dropped, stay_ref, walk_of, Goes-dropped, Goes-ref, proved, token, Token, token_told, token_made, ends, Option, Some, None, IsSome, count_owns, permit_owns}
-use Rattle.core.specs.contracts.marker.PhantomData as marker
-use Rattle.ghost_count.specs.contracts.permits.Count as Count
-use Rattle.ghost_count.specs.contracts.permits.Permit as Permit
+use Rattle.ghost_count.proofs.Words.{ℕ, [], ◌∷◌, refl, Val, SProp, ftrue, ‵, raw, ◌⊛◌, some, later, ◌$◌, ◌∵◌, !, qed, by, keep, split, fjoin, pick, use0, await, no_more, and_then, returns, enter, alloc_all, pass_all, free_all, look_at, get, sets, agg, tables, tells, tells_last, owns, types_at, unit, nothing, Stays, walk_of, proved, token, Token, token_made, ends, Some, count_owns}
 use Rattle.ghost_count.proofs.Steps as steps
-use Rattle.ghost_count.specs.contracts.permits.Count.«open».{ended, clauses}
-use Rattle.ghost_count.specs.contracts.permits.Count.«open».Key.{name as #self}
+use Rattle.ghost_count.specs.contracts.permits.Count.«open».{ended, clauses, Key.name as #self}
 use Rattle.ghost_count.proofs.permits.Count.«open».Statement.{statement}
 use Rattle.ghost_count.proofs.permits.Count.«open».Code as code
 

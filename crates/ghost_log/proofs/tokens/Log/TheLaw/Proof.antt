@@ -1,6 +1,5 @@
 -- A `&` to a `Log` holds a share of the right. Assumes `Logic`.
-use Rattle.ghost_log.proofs.Words.{log_owns, Laws, copy_shared, RattleType, field_copy, of_Lends}
-use denote.SharingLaws.{one_shr_laws}
+use Rattle.ghost_log.proofs.Words.{one_shr_laws, log_owns, Laws, copy_shared, RattleType, field_copy, of_Lends}
 use Rattle.core.specs.contracts.marker.PhantomData as marker
 use Rattle.ghost_log.specs.contracts.tokens.Log as C
 use Rattle.ghost_log.proofs.Steps.{log_lends}

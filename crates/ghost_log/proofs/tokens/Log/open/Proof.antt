@@ -3,8 +3,7 @@ use Rattle.ghost_log.proofs.Words.{proved, log_owns, token, Token, token_made, e
 use Rattle.ghost_log.specs.contracts.tokens.Log as Log
 use Rattle.ghost_log.specs.contracts.tokens.Seen as Seen
 use Rattle.ghost_log.proofs.Steps as steps
-use Rattle.ghost_log.specs.contracts.tokens.Log.«open».{ended, clauses}
-use Rattle.ghost_log.specs.contracts.tokens.Log.«open».Key.{name as #self}
+use Rattle.ghost_log.specs.contracts.tokens.Log.«open».{ended, clauses, Key.name as #self}
 use Rattle.ghost_log.proofs.tokens.Log.«open».Statement.{statement}
 use Rattle.ghost_log.proofs.tokens.Log.«open».Code as code
 

@@ -3,8 +3,7 @@ use Rattle.ghost_log.proofs.Words.{proved, tells, tells_last, log_owns, ends, Li
 use Rattle.ghost_log.specs.contracts.tokens.Log as Log
 use Rattle.ghost_log.specs.contracts.tokens.Seen as Seen
 use Rattle.ghost_log.proofs.Steps as steps
-use Rattle.ghost_log.specs.contracts.tokens.Log.push.{ended, clauses}
-use Rattle.ghost_log.specs.contracts.tokens.Log.push.Key.{name as #self}
+use Rattle.ghost_log.specs.contracts.tokens.Log.push.{ended, clauses, Key.name as #self}
 use Rattle.ghost_log.proofs.tokens.Log.push.Statement.{statement}
 use Rattle.ghost_log.proofs.tokens.Log.push.Code as code
 

@@ -1,6 +1,5 @@
 -- A `&` to a `Seen` holds what it knows, which can be had twice. Assumes `Logic`.
-use Rattle.ghost_log.proofs.Words.{seen_owns, lends_twice, snd∗, Laws, copy_shared, RattleType, field_copy, of_Lends, sem}
-use base.Before.{before}
+use Rattle.ghost_log.proofs.Words.{before, seen_owns, lends_twice, snd∗, Laws, copy_shared, RattleType, field_copy, of_Lends, sem}
 use Rattle.core.specs.contracts.marker.PhantomData as marker
 use Rattle.ghost_log.specs.contracts.tokens.Seen as C
 use Rattle.ghost_log.proofs.Steps.{twice}

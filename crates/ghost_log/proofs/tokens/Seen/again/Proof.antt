@@ -3,8 +3,7 @@ use Rattle.ghost_log.proofs.Words.{proved, seen_owns, token, Token, token_made, 
 use Rattle.core.specs.contracts.marker.PhantomData as marker
 use Rattle.ghost_log.specs.contracts.tokens.Log as Log
 use Rattle.ghost_log.specs.contracts.tokens.Seen as Seen
-use Rattle.ghost_log.specs.contracts.tokens.Seen.again.{ended, clauses}
-use Rattle.ghost_log.specs.contracts.tokens.Seen.again.Key.{name as #self}
+use Rattle.ghost_log.specs.contracts.tokens.Seen.again.{ended, clauses, Key.name as #self}
 use Rattle.ghost_log.proofs.tokens.Seen.again.Statement.{statement}
 use Rattle.ghost_log.proofs.tokens.Seen.again.Code as code
 

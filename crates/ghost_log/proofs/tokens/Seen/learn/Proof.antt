@@ -4,8 +4,7 @@ use Rattle.core.specs.contracts.marker.PhantomData as marker
 use Rattle.ghost_log.specs.contracts.tokens.Log as Log
 use Rattle.ghost_log.specs.contracts.tokens.Seen as Seen
 use Rattle.ghost_log.proofs.Steps as steps
-use Rattle.ghost_log.specs.contracts.tokens.Seen.learn.{ended, clauses}
-use Rattle.ghost_log.specs.contracts.tokens.Seen.learn.Key.{name as #self}
+use Rattle.ghost_log.specs.contracts.tokens.Seen.learn.{ended, clauses, Key.name as #self}
 use Rattle.ghost_log.proofs.tokens.Seen.learn.Statement.{statement}
 use Rattle.ghost_log.proofs.tokens.Seen.learn.Code as code
 

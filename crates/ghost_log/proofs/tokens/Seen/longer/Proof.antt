@@ -4,8 +4,7 @@ use Rattle.core.specs.contracts.marker.PhantomData as marker
 use Rattle.ghost_log.specs.contracts.tokens.Log as Log
 use Rattle.ghost_log.specs.contracts.tokens.Seen as Seen
 use Rattle.ghost_log.proofs.Steps as steps
-use Rattle.ghost_log.specs.contracts.tokens.Seen.longer.{ended, clauses}
-use Rattle.ghost_log.specs.contracts.tokens.Seen.longer.Key.{name as #self}
+use Rattle.ghost_log.specs.contracts.tokens.Seen.longer.{ended, clauses, Key.name as #self}
 use Rattle.ghost_log.proofs.tokens.Seen.longer.Statement.{statement}
 use Rattle.ghost_log.proofs.tokens.Seen.longer.Code as code
 
