@@ -14,7 +14,8 @@ module _ {T W : Type 0} where
 
   pub has_fill_or_close-append : (c : Cell T) (g h : History T W) → has_fill_or_close c (g ++ h) ≡ (has_fill_or_close c g || has_fill_or_close (cell_after c g) h)
   has_fill_or_close-append c [] h = refl
-  has_fill_or_close-append c (e ∷ g) h = rw (has_fill_or_close-append (next c e) g h) (sym (or_assoc (ends_waiting c (next c e)) (has_fill_or_close (next c e) g) (has_fill_or_close (cell_after (next c e) g) h)))
+  has_fill_or_close-append c (e ∷ g) h =
+      rw (has_fill_or_close-append (next c e) g h) (sym (or_assoc (ends_waiting c (next c e)) (has_fill_or_close (next c e) g) (has_fill_or_close (cell_after (next c e) g) h)))
 
   -- with no fill or close, nothing is cut
   pub since-none : (c : Cell T) (h : History T W) → has_fill_or_close c h ≡ false → since c h ≡ h

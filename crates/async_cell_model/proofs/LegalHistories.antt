@@ -4,7 +4,8 @@ use Rattle.async_cell_model.proofs.JoinedHistory.{after_none, after-append, cell
 
 module _ {T W : Type 0} (MayReply : Kept T W → Reply T → Reply T → Type 0) (will_wake : W → W → Bool) (sure : Bool) where
   -- a history is legal in two parts
-  IsLegalAfter-append : (b : State T W) (h xs ys : History T W) → IsLegalAfterBy MayReply will_wake sure b h xs → IsLegalAfterBy MayReply will_wake sure b (h ++ xs) ys → IsLegalAfterBy MayReply will_wake sure b h (xs ++ ys)
+  IsLegalAfter-append : (b : State T W) (h xs ys : History T W) → IsLegalAfterBy MayReply will_wake sure b h xs → IsLegalAfterBy MayReply will_wake sure b (h ++ xs) ys
+      → IsLegalAfterBy MayReply will_wake sure b h (xs ++ ys)
   IsLegalAfter-append b h [] ys first second = rw (← append-nil h) second
   IsLegalAfter-append b h (e ∷ xs) ys first second = (first.0, IsLegalAfter-append b (h ++ e ∷ []) xs ys first.1 (rw (append_assoc h (e ∷ []) xs) second))
 

@@ -9,21 +9,22 @@ module _ {T W : Type 0} (will_wake : W → W → Bool) where
       → waiting will_wake s (e ∷ []) ≡ (if ends_waiting s.cell (next s.cell e) then [] else fold (with_one_more will_wake) s.waiting (option_to_list (pending_waker e)))
   list_is s e kept = grind (arith, append-nil, wait_list-one)
 
-  module _ (sure : Bool) where
+  module _ (sure : Bool) (from to : State T W) (call : Kept T W) (answer : Reply T) (woken : List W) where
     -- a step that is read off a history is what the machine does
-    pub machine_of : (from to : State T W) (call : Kept T W) (answer : Reply T) (woken : List W) → Steps will_wake sure from call answer woken to → Does will_wake sure from (record { call = call; reply = answer }) woken to
-    machine_of from to call answer woken leads = grind (arith, after_none, list_is)
+    pub machine_of : Steps will_wake sure from call answer woken to → Does will_wake sure from (record { call = call; reply = answer }) woken to
+    machine_of leads = grind (arith, after_none, list_is)
 
     -- and the other way round
-    pub model_of : (from to : State T W) (call : Kept T W) (answer : Reply T) (woken : List W) → Does will_wake sure from (record { call = call; reply = answer }) woken to → Steps will_wake sure from call answer woken to
-    model_of from to call answer woken does = grind (arith, after_none, list_is)
+    pub model_of : Does will_wake sure from (record { call = call; reply = answer }) woken to → Steps will_wake sure from call answer woken to
+    model_of does = grind (arith, after_none, list_is)
 
 module _ {T W : Type 0} (is_clone : T → T → Type 0) where
   -- with a clone as its reply, a call leaves the same cell, and waits as little
   next_same : (c : Cell T) (call : Kept T W) (own answer : Reply T) → IsCloned is_clone call own answer → next c (record { call = call; reply = own }) ≡ next c (record { call = call; reply = answer })
   next_same c call own answer cloned = grind arith
 
-  waker_same : (call : Kept T W) (own answer : Reply T) → IsCloned is_clone call own answer → pending_waker (record { call = call; reply = own }) ≡ pending_waker (record { call = call; reply = answer })
+  waker_same : (call : Kept T W) (own answer : Reply T) → IsCloned is_clone call own answer
+      → pending_waker (record { call = call; reply = own }) ≡ pending_waker (record { call = call; reply = answer })
   waker_same call own answer cloned = grind arith
 
   -- what the machine does, it does up to clones
@@ -32,10 +33,12 @@ module _ {T W : Type 0} (is_clone : T → T → Type 0) where
   does_up_to will_wake sure from to call answer woken does = (answer, does, inl refl)
 
   module _ (will_wake : W → W → Bool) (sure : Bool) (from to : State T W) (call : Kept T W) (answer : Reply T) (woken : List W) where
-    told : StepsUpTo will_wake sure is_clone from call answer woken to → (answer ≡ reply from.cell call) ⊎ (is_memory answer ≡ true) → Does will_wake sure from (record { call = call; reply = answer }) woken to
+    told : StepsUpTo will_wake sure is_clone from call answer woken to → (answer ≡ reply from.cell call) ⊎ (is_memory answer ≡ true)
+        → Does will_wake sure from (record { call = call; reply = answer }) woken to
     told leads own = grind (arith, after_none, list_is)
 
-    cloned : StepsUpTo will_wake sure is_clone from call answer woken to → IsCloned is_clone call (reply from.cell call) answer → Does will_wake sure from (record { call = call; reply = reply from.cell call }) woken to
+    cloned : StepsUpTo will_wake sure is_clone from call answer woken to → IsCloned is_clone call (reply from.cell call) answer
+        → Does will_wake sure from (record { call = call; reply = reply from.cell call }) woken to
     cloned leads is = grind (arith, after_none, list_is, next_same, waker_same)
 
     -- the same up to clones

@@ -84,8 +84,9 @@ module _ {T W : Type 0} (is_clone : T → T → Type 0) (will_wake : W → W →
   given_in_order b g [] plain legal = IsSubsequence-nil _
   given_in_order b g (e ∷ h) plain legal =
       let rest = given_in_order b (g ++ e ∷ []) h (grind arith) legal.1 in
+      let later = subst (λ c. IsSubsequence (taken_out h) (option_to_list (content c) ++ put_in h)) (cell_after-append b.cell g (e ∷ [])) rest in
       rw (cons_is (taken_by e.call e.reply) (taken_out h), cons_is (put_by e.call) (put_in h))
-      (then _ _ _ _ _ _ (entry_gives (after will_wake b g) e (grind arith) legal.0).fits (subst (λ c. IsSubsequence (taken_out h) (option_to_list (content c) ++ put_in h)) (cell_after-append b.cell g (e ∷ [])) rest))
+      (then _ _ _ _ _ _ (entry_gives (after will_wake b g) e (grind arith) legal.0).fits later)
 
   pub given_once : (b : State T W) (h : History T W) → has_update h ≡ false → IsLegalAfterBy (UpToClones is_clone) will_wake sure b [] h
       → IsDistinct (option_to_list (content b.cell) ++ put_in h) → IsDistinct (taken_out h)

@@ -8,7 +8,15 @@ module _ {T W : Type 0} (will_wake : W → W → Bool) where
   pub room_longer : (b : State T W) (h : History T W) (e : Entry T W) → IsSound will_wake b → ends_waiting (cell_after b.cell h) (next (cell_after b.cell h) e) ≡ false
       → length (waiting will_wake b h) < length (waiting will_wake b (h ++ e ∷ [])) → room will_wake b (h ++ e ∷ []) ≡ room will_wake b h - 1
   room_longer b h e sound quiet more =
-      grind (arith, append-nil, length-append, wait_list-one, wait_list-wait_list will_wake (registrations b h), waiting-append will_wake b h (e ∷ []), room-append will_wake b h (e ∷ []) sound.none_skipped)
+      grind (
+        arith,
+        append-nil,
+        length-append,
+        wait_list-one,
+        wait_list-wait_list will_wake (registrations b h),
+        waiting-append will_wake b h (e ∷ []),
+        room-append will_wake b h (e ∷ []) sound.none_skipped,
+      )
 
 module _ {T W : Type 0} (is_clone : T → T → Type 0) (will_wake : W → W → Bool) (sure : Bool) where
   -- where no poll waits, none returns `Pending`

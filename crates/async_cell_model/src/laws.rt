@@ -185,7 +185,6 @@ pub fn a_fill_or_close_ends_all_waiting<T: Clone, W>()
 /// A history that is legal up to clones is an exact one if the type's clones are exact or the
 /// history has no get: each reply is then the model's own. And an exact history is one up to
 /// clones.
-#[tactic(auto, using(crate::proofs::UpTo::exact_told, crate::proofs::UpTo::up_to_clones, crate::proofs::UpTo::legal_told, crate::proofs::UpTo::legal_up_to))]
 pub fn with_exact_clones_a_history_is_exact<T: Clone, W>()
     ensures exact { (will_wake : W → W → Bool) (sure_wakers : Bool)
         (from to : State T W) (h : History T W) (woken : List (List W))

@@ -157,7 +157,8 @@ module _ {M : Type 1} {𝓤 : Ura M} (𝓛 : Logic 𝓤) where
   -- what a `&` to a permit holds: some share of it
   halved : (name : Option ℕ) (δ : ℕ) (q : Share) → ⟦ permit_owns name δ q ⟧ ⊢ ⟦ permit_owns name δ (Share.left q) ⟧ ∗ ⟦ permit_owns name δ (Share.right q) ⟧
   halved None δ q = qed 𝓛 (‵ ftrue ∷ []) ∵ nothing ! $ done !
-  halved (Some γ) δ q = qed 𝓛 (‵ (is_held γ δ q) ∷ []) ∵ fsplit ! $ fpick ! (λ before. use1 𝓛 (‵ (was_given γ δ before) ⊛ ‵ (was_given γ δ before)) (at_least_dup given_permits 𝓛 γ (before ++ δ ∷ [])) $ split ! $ move ! (2 ∷ []) $
+  halved (Some γ) δ q = qed 𝓛 (‵ (is_held γ δ q) ∷ []) ∵ fsplit ! $ fpick ! (λ before.
+      use1 𝓛 (‵ (was_given γ δ before) ⊛ ‵ (was_given γ δ before)) (at_least_dup given_permits 𝓛 γ (before ++ δ ∷ [])) $ split ! $ move ! (2 ∷ []) $
       use1 𝓛 (‵ (right δ (Share.left q)) ⊛ ‵ (right δ (Share.right q))) (latest_cut numbers 𝓛 q (Share.left q) (Share.right q) δ 0 (Share.halves q)) $ split ! $
       move ! (2 ∷ []) $ fpack ! (List ℕ) (was_given γ δ) before $ fjoin ! $ move ! (2 ∷ []) $ fpack ! (List ℕ) (was_given γ δ) before $ move ! (0 ∷ 2 ∷ []) $ fjoin ! $ move ! (1 ∷ 0 ∷ []) $ done !)
 

@@ -90,4 +90,5 @@ module _ {M : Type 1} {𝓤 : Ura M} (𝓛 : Logic 𝓤) {E : Type 0} (cv : Code
   pub joins : (γ : ℕ) (xs ys : List E) → ⟦ seen γ xs ⟧ ∗ ⟦ seen γ ys ⟧ ⊢ guard 𝓤 (Longer xs ys (longest xs ys)) ⟦ seen γ (longest xs ys) ⟧
   joins γ xs ys = qed 𝓛 (‵ (seen γ xs) ∷ ‵ (seen γ ys) ∷ []) ∵
       use2 𝓛 (some (λ (zs : List Gv). given (Least IsPrefix (map cv.code xs) (map cv.code ys) zs) (‵ (at_least lists γ zs)))) (at_least_join lists 𝓛 γ (map cv.code xs) (map cv.code ys)) $
-      pick ! (λ zs. learn ! (λ least. let is = least_is xs ys zs (nat_lt (length ys) (length xs)) refl least in rewrite ! 0 (λ (l : List Gv). ‵ (at_least lists γ l)) is.0 refl $ check ! is.1 $ done !))
+      pick ! (λ zs. learn ! (λ least.
+      let is = least_is xs ys zs (nat_lt (length ys) (length xs)) refl least in rewrite ! 0 (λ (l : List Gv). ‵ (at_least lists γ l)) is.0 refl $ check ! is.1 $ done !))

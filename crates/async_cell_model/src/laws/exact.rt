@@ -1,4 +1,5 @@
 //! The laws of exact histories, in which each reply is the model's own: values need no `Clone`.
+//! Each is the law of its name in `laws`, said of these histories.
 ghost use Rattle.std.specs.Prelude.{◌≡◌, ◌<◌, ◌++◌, ◌∷◌, [], List, Bool, Some, true, false, option_to_list, if◌then◌else◌};
 ghost use Rattle.async_cell_model.specs.declared.entry.Entry.{Entry};
 ghost use Rattle.async_cell_model.specs.declared.entry.Kept.{Kept};
@@ -8,8 +9,7 @@ ghost use Rattle.async_cell_model.specs.History.{History, cell_after, waiting, r
 ghost use Rattle.async_cell_model.specs.Legal.{IsLegal, Runs, Steps, is_refused};
 ghost use Rattle.async_cell_model.specs.Taken.{IsDistinct, IsSubsequence, has_update, put_in, taken_out};
 
-/// Wakers wait only if the cell is vacant: open without a value. So the wait list of a full cell
-/// and of a closed one is empty.
+/// As `laws::only_a_vacant_cell_keeps_waiting`.
 #[tactic(auto, using(crate::proofs::Exact::legal_of_exact, crate::proofs::Whole::waits_only_vacant))]
 pub fn only_a_vacant_cell_keeps_waiting<T, W>()
     ensures { (will_wake : W → W → Bool) (sure_wakers : Bool) (b : State T W) (h : History T W)
@@ -17,8 +17,7 @@ pub fn only_a_vacant_cell_keeps_waiting<T, W>()
         → is_vacant (cell_after b.cell h) ≡ false → waiting will_wake b h ≡ [] }
 {}
 
-/// No waiting poll is forgotten. Until the next fill or close, the waker of each poll that returned
-/// `Pending` waits, or some waiting waker would wake it.
+/// As `laws::a_pending_waker_stays_covered`.
 #[tactic(auto, using(crate::proofs::Exact::legal_of_exact, crate::proofs::Whole::stays_covered))]
 pub fn a_pending_waker_stays_covered<T, W>()
     ensures { (will_wake : W → W → Bool) (sure_wakers : Bool)
@@ -28,9 +27,7 @@ pub fn a_pending_waker_stays_covered<T, W>()
         → IsCovered will_wake (waiting will_wake b (g ++ e ∷ rest)) w }
 {}
 
-/// A value is taken once. In a history without updates, the values that the replies move out of the
-/// cell are, in order, some of those that it held at the start and that were passed to the writes,
-/// each at most once. So if the latter differ, no value is returned by two replies.
+/// As `laws::a_value_is_taken_once`.
 #[tactic(auto, using(crate::proofs::Exact::legal_of_exact, crate::proofs::Once::given_in_order, crate::proofs::Once::given_once))]
 pub fn a_value_is_taken_once<T, W>()
     ensures in_order { (will_wake : W → W → Bool) (sure_wakers : Bool)
@@ -42,10 +39,7 @@ pub fn a_value_is_taken_once<T, W>()
         → IsDistinct (option_to_list (content b.cell) ++ put_in h) → IsDistinct (taken_out h) }
 {}
 
-/// Only the current state matters. After a joined history `g ++ h`, the cell, the wait list and the
-/// room are those after `h` alone, started from the state after `g`. If the joined history is
-/// legal, so is `g`, and so is `h` from that state. A legal history from a sound state ends in a
-/// sound state.
+/// As `laws::a_history_can_begin_anew`.
 #[tactic(auto, using(crate::proofs::Exact::legal_of_exact, crate::proofs::Exact::exact_of_legal, crate::proofs::Whole::anew))]
 pub fn a_history_can_begin_anew<T, W>()
     ensures begins { (will_wake : W → W → Bool) (sure_wakers : Bool)
@@ -68,8 +62,7 @@ pub fn a_history_can_begin_anew<T, W>()
         → room will_wake b (g ++ h) ≡ room will_wake (after will_wake b g) h }
 {}
 
-/// Two histories, the second from the state where the first ends, are one. So two runs, one after
-/// the other, are one run of the joined calls.
+/// As `laws::two_histories_are_one`.
 pub fn two_histories_are_one<T, W>()
     ensures { (will_wake : W → W → Bool) (sure_wakers : Bool)
         (from at to : State T W) (g h : History T W) (first second : List (List W))
@@ -77,8 +70,7 @@ pub fn two_histories_are_one<T, W>()
         → Runs will_wake sure_wakers from (g ++ h) (first ++ second) to }
 {}
 
-/// What one poll does to the wait list. Its waker is added last, or skipped: it is skipped exactly
-/// if some waiting waker would wake it.
+/// As `laws::one_more_waker_is_last_or_skipped`.
 #[tactic(auto, using(crate::proofs::Exact::legal_of_exact, crate::proofs::Whole::one_more_entry))]
 pub fn one_more_waker_is_last_or_skipped<T, W>()
     ensures list { (will_wake : W → W → Bool) (l : List W) (w : W)
@@ -116,8 +108,7 @@ pub fn a_refused_call_changes_nothing<T, W>()
         → woken ≡ [] ∷ [] }
 {}
 
-/// A fill or a close ends all waiting: it wakes every waiting waker, and nobody waits after it. No
-/// other entry wakes any waker.
+/// As `laws::a_fill_or_close_ends_all_waiting`.
 #[tactic(auto, using(crate::proofs::Whole::one_more_entry))]
 pub fn a_fill_or_close_ends_all_waiting<T, W>()
     ensures nobody_waits { (will_wake : W → W → Bool) (b : State T W) (h : History T W)
@@ -136,8 +127,7 @@ pub fn a_fill_or_close_ends_all_waiting<T, W>()
         → woken ≡ [] ∷ [] }
 {}
 
-/// The machine is the model: a step that is read off a history of one entry is what the machine
-/// does, and the other way round.
+/// As `laws::a_step_is_the_machines`.
 pub fn a_step_is_the_machines<T, W>()
     ensures machine { (will_wake : W → W → Bool) (sure_wakers : Bool) (from to : State T W)
         (call : Kept T W) (answer : Reply T) (woken : List W)
