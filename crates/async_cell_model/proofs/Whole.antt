@@ -82,6 +82,6 @@ module _ {T W : Type 0} (is_clone : T → T → Type 0) (will_wake : W → W →
 pub waits_once : {T W : Type 0} (will_wake : W → W → Bool) (b : State T W) (h : History T W) → ((v w : W) → (will_wake v w ≡ true) ↔ (v ≡ w)) → IsDistinct (waiting will_wake b h)
 waits_once will_wake b h same = wait_list-distinct will_wake (registrations b h) (λ w. (same w w).1 refl)
 
-pub ruleset anew = (cell_after-append, waiting-append, room-append, IsSound-after, IsLegalAfter-first, IsLegal-anew)
+pub ruleset sound_ends = (IsSound-after)
 
 pub ruleset one_more_entry = (waiting-append, room-append, room_longer, wait_list-one, waiting_one_more)

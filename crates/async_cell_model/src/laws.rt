@@ -52,7 +52,6 @@ pub fn a_value_is_taken_once<T: Clone, W>()
 /// room are those after `h` alone, started from the state after `g`. If the joined history is
 /// legal, so is `g`, and so is `h` from that state. A legal history from a sound state ends in a
 /// sound state.
-#[tactic(auto, using(crate::proofs::Whole::anew))]
 pub fn a_history_can_begin_anew<T: Clone, W>()
     ensures begins { (will_wake : W → W → Bool) (sure_wakers : Bool)
         (b : State T W) (g : History T W)
@@ -141,7 +140,7 @@ pub fn the_room_goes_by_one<T, W>()
 {}
 
 /// A history ends in a sound state, so another history can start from there.
-#[tactic(auto, using(crate::proofs::Whole::anew))]
+#[tactic(auto, using(crate::proofs::Whole::sound_ends))]
 pub fn a_history_ends_in_a_sound_state<T: Clone, W>()
     ensures { (will_wake : W → W → Bool) (sure_wakers : Bool)
         (from to : State T W) (h : History T W) (woken : List (List W))

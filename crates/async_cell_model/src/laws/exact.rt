@@ -40,7 +40,6 @@ pub fn a_value_is_taken_once<T, W>()
 {}
 
 /// As `laws::a_history_can_begin_anew`.
-#[tactic(auto, using(crate::proofs::Exact::legal_of_exact, crate::proofs::Exact::exact_of_legal, crate::proofs::Whole::anew))]
 pub fn a_history_can_begin_anew<T, W>()
     ensures begins { (will_wake : W → W → Bool) (sure_wakers : Bool)
         (b : State T W) (g : History T W)
@@ -85,7 +84,7 @@ pub fn one_more_waker_is_last_or_skipped<T, W>()
 {}
 
 /// A history ends in a sound state, so another history can start from there.
-#[tactic(auto, using(crate::proofs::Exact::legal_of_exact, crate::proofs::Whole::anew))]
+#[tactic(auto, using(crate::proofs::Exact::legal_of_exact, crate::proofs::Whole::sound_ends))]
 pub fn a_history_ends_in_a_sound_state<T, W>()
     ensures { (will_wake : W → W → Bool) (sure_wakers : Bool)
         (from to : State T W) (h : History T W) (woken : List (List W))
