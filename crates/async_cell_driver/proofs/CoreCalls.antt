@@ -1,19 +1,10 @@
 -- Where a call on the cell leads, and where a poll does.
-use Rattle.async_cell_driver.proofs.Words.{IsReadyWith, poll_reply, IsPolledWith, mark_after, polled_of, waiting_when, is_done_mark, is_due_mark, is_ready_mark, waits_mark, AllNamed, AllWaiting, DriverState, NamesMatch, change, is_named, kind_at, mark_at, name_of, result_at, result_of, wake_each, with_mark, Drives, FitsTold, is_call, call_of, entry_of, handed_out, history, line_of, names_by, poll_of, reply_of, told_of, Line, is_poll_of, is_ready, kinds, started, was_pending, was_ready, was_refused, with_edit, Event, Kind, Told, Mark, Task, model_of, Runs-sound, up_to_clones, StepsUpTo, woken_by, Does, IsSound, State, ends_waiting, waker_of, Cell, Entry, Kept, Refusal, Memory, Reply, same_name, Named, Bool, List, None, Option, Some, [], ap, append-nil, arith, false, length, map, not, refl, subst, sym, true, ℕ, ◌&&◌, ◌++◌, ◌||◌, ◌∙◌, ◌∷◌, ◌≡◌, ◌≢◌, or-false, or-true, nat_tests, eq-eqb, eqb-true, IsSomeAnd, option_map, Err, IfErr, IfOk, IsOk, MatchOption, Ok, OnOk, Result, if◌then◌else◌, is_some, nat_eq, option_to_list}
+use Rattle.async_cell_driver.proofs.Words.{IsReadyWith, poll_reply, IsPolledWith, mark_after, polled_of, waiting_when, is_ready_mark, waits_mark, AllNamed, AllWaiting, DriverState, NamesMatch, change, is_named, kind_at, mark_at, name_of, result_at, result_of, wake_each, with_mark, Drives, FitsTold, is_call, call_of, entry_of, handed_out, history, line_of, names_by, poll_of, reply_of, told_of, Line, is_poll_of, is_ready, kinds, started, was_refused, with_edit, Event, Kind, Told, Mark, Task, model_of, Runs-sound, up_to_clones, StepsUpTo, woken_by, Does, IsSound, State, ends_waiting, waker_of, Cell, Entry, Kept, Refusal, Memory, Reply, same_name, Named, Bool, List, None, Option, Some, [], ap, append-nil, arith, false, length, map, not, refl, subst, sym, true, ℕ, ◌&&◌, ◌++◌, ◌||◌, ◌∙◌, ◌∷◌, ◌≡◌, ◌≢◌, or-false, or-true, nat_tests, eq-eqb, eqb-true, IsSomeAnd, option_map, Err, IfErr, IfOk, IsOk, MatchOption, Ok, OnOk, Result, if◌then◌else◌, is_some, nat_eq, option_to_list, mark_in, mark_told, woken_if}
 use Rattle.futures.specs.declared.{task.Poll.Poll, task.Poll.TheVariants.Ready, task.Poll.TheVariants.Pending}
 use Rattle.async_cell_driver.specs.declared.tasks.Mark.TheVariants as mark
 use Rattle.async_cell_driver.specs.declared.event.Event.TheVariants as event
 use Rattle.async_cell_driver.specs.declared.event.Told.TheVariants as told
-use Rattle.async_cell_driver.proofs.TaskList.{awake, kinds-wake_each, map-change, mark-wake_each, named-append, named-wait_list, ready_by, ready_now, says_same, slice_get-change_other, slice_get-change_same, started_now, woken_if}
-
-done_woken : (named : Bool) (m : Option Mark) → is_done_mark (woken_if named m) ≡ is_done_mark m
-done_woken named m = grind arith
-
-waits_woken : (named : Bool) (m : Option Mark) → waits_mark (woken_if named m) ≡ waits_mark m
-waits_woken named m = grind arith
-
-ready_woken : (named : Bool) (m : Option Mark) → is_ready_mark (woken_if named m) ≡ (is_some m && (not (is_done_mark m) && (named || is_due_mark m)))
-ready_woken named m = grind arith
+use Rattle.async_cell_driver.proofs.TaskList.{awake, kinds-wake_each, map-change, mark-wake_each, named-append, named-wait_list, says_same, slice_get-change_other, slice_get-change_same}
 
 from_some : {A : Type 0} (o : Option A) (P : A → Type 0) → IsSomeAnd o P → (x : A) × (o ≡ Some x) × P x
 from_some None P has = absurd has
@@ -23,18 +14,6 @@ from_some (Some x) P has = (x, refl, has)
 abbrev pub marked_if : Bool → Mark → Option Mark → Option Mark
 marked_if true m old = option_map (λ _. m) old
 marked_if false m old = old
-
-done_polled : (polled : Bool) (m : Mark) (old : Option Mark) (r : Bool) → (polled ≡ true → is_ready_mark old ≡ true) → r ≡ is_done_mark (Some m)
-    → is_done_mark (marked_if polled m old) ≡ ((polled && r) || is_done_mark old)
-done_polled polled m old r ready says = grind (arith, or-false, ready)
-
-waits_polled : (polled : Bool) (m : Mark) (old : Option Mark) (p : Bool) → (polled ≡ true → is_ready_mark old ≡ true) → p ≡ waits_mark (Some m)
-    → waits_mark (marked_if polled m old) ≡ (if polled then p else waits_mark old)
-waits_polled polled m old p ready says = grind (arith, ready)
-
-ready_polled : (polled : Bool) (m : Mark) (old : Option Mark) (r f : Bool) → (polled ≡ true → is_ready_mark old ≡ true) → r ≡ is_done_mark (Some m) → f ≡ is_due_mark (Some m)
-    → is_ready_mark (marked_if polled m old) ≡ (is_some old && (not ((polled && r) || is_done_mark old) && (if polled then f else is_due_mark old)))
-ready_polled polled m old r f ready says due = grind (arith, ready_by, or-false, ready)
 
 unmarked : (b : Bool) (m : Mark) (old : Option Mark) → (m ≡ mark.Waiting → ⊥) → marked_if b m old ≡ Some mark.Waiting → old ≡ Some mark.Waiting
 unmarked b m old otherwise stands = grind (arith, otherwise)
@@ -62,9 +41,6 @@ module _ {T : Type 0} where
   pub begins_there : (from to : State T Named) (call : Kept T Named) (r : Reply T) (names : List Named) → Does same_name true from (record { call = call; reply = r }) names to → IsSound same_name to
   begins_there from to call r names answers =
       Runs-sound (λ (x y : T). y ≡ x) same_name true from to _ _ (up_to_clones _ same_name true from to _ _ (model_of same_name true from to call r names answers))
-
-  no_poll : (i : ℕ) (event : Event T (Option T → Option T)) (r : Reply T) → is_call event ≡ true → is_poll_of i event (told.Reply r) ≡ false
-  no_poll i event r is = grind arith
 
   no_start : (event : Event T (Option T → Option T)) (r : Reply T) → is_call event ≡ true → started event (told.Reply r) ≡ []
   no_start event r is = grind arith
@@ -113,9 +89,7 @@ module _ {T : Type 0} where
         legal = (fits_any (length (kinds from [])) (is_ready from []) event r names is_event, tt);
         core_leads = up_to_clones is_clone same_name true from.core core _ _ (rw (is_history, is_handed) (model_of same_name true from.core core call r names answers));
         kinds_are = grind (arith, kinds-wake_each, append-nil, no_start);
-        done_is = λ i. grind (arith, mark-wake_each, no_poll, done_woken);
-        waits_is = λ i. grind (arith, mark-wake_each, no_poll, waits_woken);
-        ready_is = λ i. grind (arith, ready_now, mark-wake_each, no_poll, no_start, ready_woken, append-nil, started_now);
+        marks_are = λ i. mark-wake_each names from.tasks i;
         none_forgotten = awake _ (begins_there from.core core call r names answers) (covered_called from core names event r is_event covered made).0;
       }
 
@@ -130,16 +104,12 @@ module _ {T : Type 0} where
   this_ready : (i j : ℕ) (tasks : List (Task T)) → is_ready_mark (mark_at tasks i) ≡ true → nat_eq i j ≡ true → is_ready_mark (mark_at tasks j) ≡ true
   this_ready i j tasks ready same = subst (λ k. is_ready_mark (mark_at tasks k) ≡ true) (eqb-true i j same) ready
 
-  -- what the outcome of a poll says of the task, its mark says
-  record Says (i : ℕ) (asked : Result (Poll (Option T)) Refusal) : Type 0 where
-    replies : reply_of (told_of (polled_of asked)) ≡ Some (poll_reply asked)
-    polls : (j : ℕ) → is_poll_of j (event.Poll i) (told_of (polled_of asked)) ≡ nat_eq i j
-    done : was_ready (told_of (polled_of asked)) ≡ is_done_mark (Some (mark_after asked))
-    waits : was_pending (told_of (polled_of asked)) ≡ waits_mark (Some (mark_after asked))
-    due : was_refused (told_of (polled_of asked)) ≡ is_due_mark (Some (mark_after asked))
+  replies_polled : (asked : Result (Poll (Option T)) Refusal) → reply_of (told_of (polled_of asked)) ≡ Some (poll_reply asked)
+  replies_polled asked = grind arith
 
-  says_polled : (i : ℕ) (asked : Result (Poll (Option T)) Refusal) → Says i asked
-  says_polled i asked = grind arith
+  mark_polled : (i j : ℕ) (asked : Result (Poll (Option T)) Refusal) (old : Option Mark) → (nat_eq i j ≡ true → is_ready_mark old ≡ true)
+      → marked_if (nat_eq i j) (mark_after asked) old ≡ mark_told j (told_of (polled_of asked)) (event.Poll i) old
+  mark_polled i j asked old ready = grind (arith, ready)
 
   fits_polled : (count : ℕ) (ready : ℕ → Bool) (i : ℕ) (asked : Result (Poll (Option T)) Refusal) → ready i ≡ true → IfErr asked (λ why. why ≡ Memory)
       → FitsTold count ready (event.Poll i) (told_of (polled_of asked)) []
@@ -178,14 +148,11 @@ module _ {T : Type 0} where
       let line : Line T = record { event = event.Poll i; told = answer; names = [] } in
       let line_is : line_of from (event.Poll i) answer ≡ line =
       λ k. record { event = event.Poll i; told = answer; names = poll_wakes_none from.core (kind_at from.tasks i) i (reply_of answer) k } in
-      let says = says_polled i asked in
       rw line_is record {
-        legal = (fits_polled (length (kinds from [])) (is_ready from []) i asked (ready_now from i ∙ ready) (grind arith), tt);
-        core_leads = rw (is_kind, says.replies) answers;
+        legal = (fits_polled (length (kinds from [])) (is_ready from []) i asked ready (grind arith), tt);
+        core_leads = rw (is_kind, replies_polled asked) answers;
         kinds_are = grind (arith, map-change, append-nil);
-        done_is = λ j. grind (arith, says.polls, says.done, mark-marked, done_polled, this_ready);
-        waits_is = λ j. grind (arith, says.polls, says.waits, mark-marked, waits_polled, this_ready);
-        ready_is = λ j. grind (arith, says.polls, says.done, says.due, ready_now, mark-marked, ready_polled, this_ready, append-nil, started_now);
+        marks_are = λ j. mark-marked (mark_after asked) i j from.tasks ∙ mark_polled i j asked (mark_at from.tasks j) (this_ready i j from.tasks ready);
         none_forgotten = awake _ sound (named_polled from core i asked covered.0 refused waits);
       }
 
@@ -218,13 +185,12 @@ module _ {T : Type 0} where
   -- a task whose poll was not refused is not ready
   pub ready_no_more : (core : State T Named) (i : ℕ) (asked : Result (Poll (Option T)) Refusal) (tasks : List (Task T)) → is_ready_mark (mark_at tasks i) ≡ true
       → OnOk (polled_of asked) (is_ready (record { core = core; tasks = change (with_mark (mark_after asked)) i tasks }) [] i ≡ false)
-  ready_no_more core i asked tasks ready = grind (arith, ready_now, marked_same)
+  ready_no_more core i asked tasks ready = grind (arith, marked_same)
 
   -- the others are as ready as before
   pub others_stay : (core : State T Named) (from : DriverState T) (m : Mark) (i j : ℕ) → i ≢ j → is_ready (record { core = core; tasks = change (with_mark m) i from.tasks }) [] j ≡ is_ready from [] j
   others_stay core from m i j other =
-      ready_now (record { core = core; tasks = change (with_mark m) i from.tasks }) j
-      ∙ (ap (λ t. is_ready_mark (option_map (λ task. task.mark) t)) (slice_get-change_other (with_mark m) i j from.tasks other) ∙ sym (ready_now from j))
+      ap (λ t. is_ready_mark (option_map (λ task. task.mark) t)) (slice_get-change_other (with_mark m) i j from.tasks other)
 
 -- what the tactics use where a task is polled
-pub ruleset poll_steps = (ready_now, sure_anyway, sure_polled, ok_as_polled, ready_as_polled, results-marked)
+pub ruleset poll_steps = (sure_anyway, sure_polled, ok_as_polled, ready_as_polled, results-marked)

@@ -1,29 +1,23 @@
 -- Where one line leads, and logs joined line by line.
-use Rattle.async_cell_driver.proofs.Words.{DriverState, NamesMatch, result_at, AllSpared, Drives, FitsTold, IsLegal, IsSpared, handed_out, history, line_of, Line, Log, is_done, is_due, is_poll_of, is_ready, is_started, kinds, lines, log_of, started, waits, with_edit, Event, Poll, Start, Kind, NotReady, Refused, Started, Told, Task, cell_after-append, Runs-join-by, Runs-nil, up_to_clones, History, cell_after, RunsUpTo, IsSound, UpToClones, Cell, Refusal, Memory, same_name, Named, Bool, List, None, Option, Some, [], ap, append-nil, append_assoc, arith, false, inl, inr, length, length-append, map, refl, subst, suc, sym, true, zero, ℕ, ◌++◌, ◌+◌, ◌∙◌, ◌∷◌, ◌≡◌, ◌⊎◌, or-true, eqb-true, length-map, map-append, reverse-append, IfErr, IfOk, Result, is_some, slice_get}
+use Rattle.async_cell_driver.proofs.Words.{nat_tests, nat_eq, slice_get_past, if◌then◌else◌, DriverState, NamesMatch, result_at, AllSpared, Drives, FitsTold, IsLegal, IsSpared, handed_out, history, line_of, Line, Log, is_poll_of, is_ready, kinds, lines, log_of, started, waits, with_edit, Event, Poll, Start, Kind, NotReady, Refused, Started, Told, Task, cell_after-append, Runs-join-by, Runs-nil, up_to_clones, History, cell_after, RunsUpTo, IsSound, UpToClones, Cell, Refusal, Memory, same_name, Named, Bool, List, None, Option, Some, [], ap, append-nil, append_assoc, arith, false, inl, inr, length, length-append, map, refl, subst, suc, sym, true, zero, ℕ, ◌++◌, ◌+◌, ◌∙◌, ◌∷◌, ◌≡◌, ◌⊎◌, or-true, eqb-true, length-map, map-append, reverse-append, IfErr, IfOk, Result, is_some, slice_get, is_ready_mark, mark_at, mark_in, mark_told, woken_if, is_named}
 use Rattle.async_cell_driver.specs.declared.{tasks.Mark.TheVariants.Ready, event.Told.TheVariants.Polled}
-use Rattle.async_cell_driver.proofs.TaskList.{awake, started_now}
-
-some_before : {A : Type 0} (xs ys : List A) (i : ℕ) → is_some (slice_get (xs ++ ys) i) ≡ false → is_some (slice_get xs i) ≡ false
-some_before [] ys i none = refl
-some_before (x ∷ xs) ys zero none = none
-some_before (x ∷ xs) ys (suc i) none = some_before xs ys i none
+use Rattle.async_cell_driver.proofs.TaskList.{awake}
 
 module _ {T : Type 0} where
   -- a task that was just started
   abbrev pub fresh : Kind → Task T
   fresh kind = record { kind = kind; mark = Ready; result = None }
 
-  -- a task is as it was, or is the new one, and was not there
-  with_fresh : (tasks : List (Task T)) (kind : Kind) (i : ℕ)
-      → (slice_get (tasks ++ fresh kind ∷ []) i ≡ slice_get tasks i) ⊎ ((slice_get tasks i ≡ None) × (slice_get (tasks ++ fresh kind ∷ []) i ≡ Some (fresh kind)))
-  with_fresh [] kind zero = inr (refl, refl)
-  with_fresh [] kind (suc i) = inl refl
-  with_fresh (t ∷ tasks) kind zero = inl refl
-  with_fresh (t ∷ tasks) kind (suc i) = with_fresh tasks kind i
+  -- a task is the new one, or is as it was
+  with_fresh : (tasks : List (Task T)) (kind : Kind) (i : ℕ) → slice_get (tasks ++ fresh kind ∷ []) i ≡ (if nat_eq (length tasks) i then Some (fresh kind) else slice_get tasks i)
+  with_fresh [] kind zero = refl
+  with_fresh [] kind (suc i) = grind (arith, nat_tests)
+  with_fresh (t ∷ tasks) kind zero = grind (arith, nat_tests)
+  with_fresh (t ∷ tasks) kind (suc i) = let rest = with_fresh tasks kind i in grind (arith, nat_tests, rest)
 
   -- a new task waits for nothing
   pub covered_with_fresh : (from : DriverState T) (kind : Kind) → NamesMatch from → NamesMatch (record from { tasks = from.tasks ++ fresh kind ∷ [] })
-  covered_with_fresh from kind covered = grind (arith, with_fresh, covered.0, covered.1)
+  covered_with_fresh from kind covered = grind (arith, nat_tests, with_fresh, slice_get_past, covered.0, covered.1)
 
   -- where a task is not polled
   pub not_polled : (from : DriverState T) (i : ℕ) (is_clone : T → T → Type 0) → IsSound same_name from.core → NamesMatch from → is_ready from [] i ≡ false
@@ -48,7 +42,7 @@ module _ {T : Type 0} where
   pub results_stay : (before now : List (Task T)) (kind : Kind) (i : ℕ) (result : Result ℕ Refusal)
       → IfOk result (λ number. (number ≡ length before) × (now ≡ before ++ fresh kind ∷ [])) → IfErr result (λ why. (why ≡ Memory) × (now ≡ before))
       → result_at now i ≡ result_at before i
-  results_stay before now kind i result started refused = grind (arith, with_fresh)
+  results_stay before now kind i result started refused = grind (arith, nat_tests, with_fresh, slice_get_past)
 
   -- no line leads nowhere
   pub drives_nil : (is_clone : T → T → Type 0) (from : DriverState T) → IsSound same_name from.core → NamesMatch from → Drives is_clone from [] from
@@ -56,53 +50,28 @@ module _ {T : Type 0} where
     legal = tt;
     core_leads = up_to_clones is_clone same_name true from.core from.core [] [] (Runs-nil same_name true from.core sound);
     kinds_are = refl;
-    done_is = λ i. refl;
-    waits_is = λ i. refl;
-    ready_is = λ i. refl;
+    marks_are = λ i. refl;
     none_forgotten = awake from sound covered.0;
   }
-
-  -- only a ready task is polled
-  polled_ready : (count : ℕ) (ready : ℕ → Bool) (event : Event T (Option T → Option T)) (answer : Told T) (names : List Named) (i : ℕ)
-      → FitsTold count ready event answer names → is_poll_of i event answer ≡ true → ready i ≡ true
-  polled_ready count ready event answer names i fits polled = grind (arith, eqb-true)
-
-  -- a task that is not there was never polled
-  unstarted_due : (from : DriverState T) (log : Log T) (i : ℕ) → IsLegal from log → is_started from log i ≡ false → is_due from log i ≡ true
-  unstarted_due from [] i legal gone = grind (arith, started_now)
-  unstarted_due from (line ∷ earlier) i legal gone =
-      let before : is_started from earlier i ≡ false = some_before (kinds from earlier) (started line.event line.told) i gone in
-      let due = unstarted_due from earlier i legal.1 before in
-      grind (arith, polled_ready, legal.0, before, due)
-
-  -- what one line says of a task, where two logs agree on it
-  ready_line : (from at : DriverState T) (earlier later : Log T) (line : Line T) (i : ℕ) → IsLegal from earlier → IsLegal at later
-      → kinds at later ≡ kinds from earlier → is_done at later i ≡ is_done from earlier i → is_ready at later i ≡ is_ready from earlier i
-      → is_ready at (line ∷ later) i ≡ is_ready from (line ∷ earlier) i
-  ready_line from at earlier later line i legal legal' same_kinds same_done same = grind (arith, or-true, unstarted_due)
 
   kinds_join : (from at : DriverState T) (earlier later : Log T) → map (λ task. task.kind) at.tasks ≡ kinds from earlier → kinds at later ≡ kinds from (later ++ earlier)
   kinds_join from at earlier [] same = same
   kinds_join from at earlier (line ∷ later) same = ap (λ all. all ++ started line.event line.told) (kinds_join from at earlier later same)
 
-  says_join : (from at : DriverState T) (earlier later : Log T) (i : ℕ) → is_done at [] i ≡ is_done from earlier i → waits at [] i ≡ waits from earlier i
-      → (is_done at later i ≡ is_done from (later ++ earlier) i) × (waits at later i ≡ waits from (later ++ earlier) i)
-  says_join from at earlier [] i done waiting = (done, waiting)
-  says_join from at earlier (line ∷ later) i done waiting = let before = says_join from at earlier later i done waiting in grind (arith, before.0, before.1)
+  marks_join : (from at : DriverState T) (earlier later : Log T) → ((i : ℕ) → mark_at at.tasks i ≡ mark_in from earlier i) → (i : ℕ) → mark_in at later i ≡ mark_in from (later ++ earlier) i
+  marks_join from at earlier [] same i = same i
+  marks_join from at earlier (line ∷ later) same i =
+      ap (λ mark. woken_if (is_named i line.names) (mark_told i line.told line.event mark)) (marks_join from at earlier later same i)
 
-  -- the later lines fit the earlier ones too, and leave the same tasks ready
-  ready_join : (is_clone : T → T → Type 0) (from at : DriverState T) (earlier later : Log T) → Drives is_clone from earlier at → IsLegal at later
-      → IsLegal from (later ++ earlier) × ((i : ℕ) → is_ready at later i ≡ is_ready from (later ++ earlier) i)
-  ready_join is_clone from at earlier [] first legal = (first.legal, first.ready_is)
-  ready_join is_clone from at earlier (line ∷ later) first legal =
-      let rest = ready_join is_clone from at earlier later first legal.1 in
-      let same : kinds at later ≡ kinds from (later ++ earlier) = kinds_join from at earlier later first.kinds_are in (
-        (
-          subst (λ (ready : ℕ → Bool). FitsTold (length (kinds from (later ++ earlier))) ready line.event line.told line.names) (λ k i. rest.1 i k)
-              (subst (λ (all : List Kind). FitsTold (length all) (is_ready at later) line.event line.told line.names) same legal.0),
-          rest.0,
-        ),
-        λ i. ready_line from at (later ++ earlier) later line i rest.0 legal.1 same (says_join from at earlier later i (first.done_is i) (first.waits_is i)).0 (rest.1 i),
+  -- the later lines fit the earlier ones too
+  legal_join : (is_clone : T → T → Type 0) (from at : DriverState T) (earlier later : Log T) → Drives is_clone from earlier at → IsLegal at later → IsLegal from (later ++ earlier)
+  legal_join is_clone from at earlier [] first legal = first.legal
+  legal_join is_clone from at earlier (line ∷ later) first legal =
+      (
+        subst (λ (ready : ℕ → Bool). FitsTold (length (kinds from (later ++ earlier))) ready line.event line.told line.names)
+            (λ k i. is_ready_mark (marks_join from at earlier later first.marks_are i k))
+            (subst (λ (all : List Kind). FitsTold (length all) (is_ready at later) line.event line.told line.names) (kinds_join from at earlier later first.kinds_are) legal.0),
+        legal_join is_clone from at earlier later first legal.1,
       )
 
   -- the core's calls, and what they handed out
@@ -118,17 +87,15 @@ module _ {T : Type 0} where
   pub drives_join : (is_clone : T → T → Type 0) (from at to : DriverState T) (earlier later : Log T) → Drives is_clone from earlier at → Drives is_clone at later to
       → Drives is_clone from (later ++ earlier) to
   drives_join is_clone from at to earlier later first second =
-      let fits = ready_join is_clone from at earlier later first second.legal in record {
-        legal = fits.0;
+      record {
+        legal = legal_join is_clone from at earlier later first second.legal;
         core_leads =
             let joined = core_join from at earlier later first.kinds_are first.core_leads.cell_is in
             subst (λ (h : History T Named). RunsUpTo same_name true is_clone from.core h (handed_out from (later ++ earlier)) to.core) (sym joined.0)
             (subst (λ (names : List (List Named)). RunsUpTo same_name true is_clone from.core (history from earlier ++ history at later) names to.core) (sym joined.1)
             (Runs-join-by (UpToClones is_clone) same_name true from.core at.core to.core _ _ _ _ first.core_leads second.core_leads));
         kinds_are = second.kinds_are ∙ kinds_join from at earlier later first.kinds_are;
-        done_is = λ i. second.done_is i ∙ (says_join from at earlier later i (first.done_is i) (first.waits_is i)).0;
-        waits_is = λ i. second.waits_is i ∙ (says_join from at earlier later i (first.done_is i) (first.waits_is i)).1;
-        ready_is = λ i. second.ready_is i ∙ fits.1 i;
+        marks_are = λ i. second.marks_are i ∙ marks_join from at earlier later first.marks_are i;
         none_forgotten = second.none_forgotten;
       }
 

@@ -1,8 +1,8 @@
 -- Polls of all that are ready, one by one.
-use Rattle.async_cell_driver.proofs.Words.{is_ready_mark, DriverState, NamesMatch, change, mark_at, result_at, result_of, with_result, Drives, NoneForgotten, ResultsStay, line_of, Line, Log, is_ready, kinds, waits, Keeps, Settles, SettlesOne, events_of, got_or, has_refused, numbers, Poll, Ready, Told, Task, is_vacant, Refusal, List, None, Option, Some, [], add-one, ap, append-nil, append_assoc, arith, false, length, length-append, map, refl, suc, sym, true, zero, ℕ, ◌++◌, ◌+◌, ◌-◌, ◌<◌, ◌||◌, ◌∙◌, ◌∷◌, ◌≡◌, ◌≢◌, ◌≤◌, nat_tests, filter-append, length-map, map-append, reverse-append, slice_get_past, option_map, Err, Ok, filter, if◌then◌else◌, is_some, nat_eq, reverse, slice_get}
+use Rattle.async_cell_driver.proofs.Words.{slice_get_cases, is_ready_mark, DriverState, NamesMatch, change, mark_at, result_at, result_of, with_result, Drives, NoneForgotten, ResultsStay, line_of, Line, Log, is_ready, kinds, waits, Keeps, Settles, SettlesOne, events_of, got_or, has_refused, numbers, Poll, Ready, Told, Task, is_vacant, Refusal, List, None, Option, Some, [], add-one, ap, append-nil, append_assoc, arith, false, length, length-append, map, refl, suc, sym, true, zero, ℕ, ◌++◌, ◌+◌, ◌-◌, ◌<◌, ◌||◌, ◌∙◌, ◌∷◌, ◌≡◌, ◌≢◌, ◌≤◌, nat_tests, filter-append, length-map, map-append, reverse-append, slice_get_past, option_map, Err, Ok, filter, if◌then◌else◌, is_some, nat_eq, reverse, slice_get, mark_in, mark_told, woken_if, is_named}
 use Rattle.async_cell_driver.specs.declared.event.Told.TheVariants as told
 use Rattle.async_cell_driver.proofs.{Logs.drives_join, CoreCalls.poll_steps}
-use Rattle.async_cell_driver.proofs.TaskList.{ready_now, started_now, says_same, map-change, slice_get-change_same, slice_get-change_other}
+use Rattle.async_cell_driver.proofs.TaskList.{says_same, map-change, slice_get-change_same, slice_get-change_other}
 
 -- the numbers below one begin those below another
 begin_numbers : (d m n : ℕ) → n ≡ d + m → (rest : List ℕ) × (numbers n ≡ numbers m ++ rest)
@@ -24,7 +24,7 @@ module _ {T : Type 0} where
   covered_keeping i result at covered = grind (arith, mark-keeping, covered.0, covered.1)
 
   pub ready-keeping : (i j : ℕ) (result : Option (Option T)) (at : DriverState T) → is_ready (keeping i result at) [] j ≡ is_ready at [] j
-  ready-keeping i j result at = ready_now (keeping i result at) j ∙ (ap is_ready_mark (mark-keeping i j result at.tasks) ∙ sym (ready_now at j))
+  ready-keeping i j result at = ap is_ready_mark (mark-keeping i j result at.tasks)
 
   -- where a log leads, something may be kept
   pub drives_keeping : (is_clone : T → T → Type 0) (i : ℕ) (result : Option (Option T)) (from at : DriverState T) (log : Log T) → Drives is_clone from log at
@@ -98,9 +98,12 @@ module _ {T : Type 0} where
       → result_at (change (with_result (Some value)) i at.tasks) j ≡ got_or (got_or (if nat_eq i j then Some value else None) None) (result_at from.tasks j)
   keeps_over from at i j value there stay = grind (arith, nat_tests, slice_get-change_same, result-keeping_other, stay)
 
+  same_size : (from at : DriverState T) → map (λ task. task.kind) at.tasks ≡ map (λ task. task.kind) from.tasks ++ [] → length at.tasks ≡ length from.tasks
+  same_size from at same = let lengths = ap (λ all. length all) same in grind (arith, lengths, length-map, append-nil)
+
   pub keeps_one : (from at : DriverState T) (i : ℕ) (value : Option T) → is_ready from [] i ≡ true → map (λ task. task.kind) at.tasks ≡ map (λ task. task.kind) from.tasks ++ [] → ResultsStay from at
       → Keeps from (line_of from (Poll i) (told.Polled (Ready value)) ∷ []) (keeping i (Some value) at)
-  keeps_one from at i value ready kinds stay j = grind (arith, started_now, append-nil, keeps_over, stay)
+  keeps_one from at i value ready kinds stay j = let size = same_size from at kinds in grind (arith, size, slice_get_cases, keeps_over, stay)
 
   -- where the poll is refused
   pub one_refused : (is_clone : T → T → Type 0) (from at : DriverState T) (i : ℕ) (why : Refusal) → ResultsStay from at
@@ -111,11 +114,11 @@ module _ {T : Type 0} where
       → length (change (with_result result) i at.tasks) ≡ length from.tasks
   size_kept from at i result kinds =
       let changed = map-change (λ (task : Task T). task.kind) (with_result result) (λ t. refl) i at.tasks in
-      grind (arith, changed, length-map, append-nil)
+      grind (arith, changed, length-map, same_size)
 
   -- where no task was left out, none is ready
   pub none_ready : (at : DriverState T) (n : ℕ) → length at.tasks ≤ n → ((j : ℕ) → j < n → is_ready at [] j ≡ false) → (j : ℕ) → is_ready at [] j ≡ false
-  none_ready at n size passed j = grind (arith, ready_now, slice_get_past, passed)
+  none_ready at n size passed j = grind (arith, slice_get_past, passed)
 
   -- and where the cell is full or closed then, none waits
   pub none_waits : (at : DriverState T) → NoneForgotten at → ((j : ℕ) → is_ready at [] j ≡ false) → is_vacant at.core.cell ≡ false → (j : ℕ) → waits at [] j ≡ false

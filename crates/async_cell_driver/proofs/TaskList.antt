@@ -1,26 +1,13 @@
 -- What the marks of tasks say, what a change does to a list of tasks, and whose names wait.
-use Rattle.async_cell_driver.proofs.Words.{is_done_mark, is_due_mark, is_ready_mark, waits_mark, woken, AllNamed, DriverState, NamesMatch, change, is_named, mark_at, name_of, result_at, result_of, wake, wake_each, with_mark, with_result, NoneForgotten, is_ready, Mark, Waiting, Task, wait_list-distinct, IsSound, skips, wait_list, with_one_more, same_name, Named, Bool, List, Option, Some, [], ap, arith, false, get_or, length, map, not, refl, set, subst, suc, sym, true, zero, ℕ, ◌&&◌, ◌++◌, ◌<◌, ◌||◌, ◌∙◌, ◌∷◌, ◌≡◌, ◌≢◌, ◌≤◌, nat_tests, eq-eqb, eqb-true, list_any-append, get_or-map, length-map, IsDistinct-from_apart, length-le_from_distinct_below, slice_get_past, IsDistinct, list_any, option_map, AllPairs, fold, if◌then◌else◌, is_some, nat_eq, slice_get}
-
-pub ready_by : (mark : Option Mark) → (is_some mark && (not (is_done_mark mark) && is_due_mark mark)) ≡ is_ready_mark mark
-ready_by mark = grind arith
+use Rattle.async_cell_driver.proofs.Words.{slice_get_read, is_ready_mark, waits_mark, woken, AllNamed, DriverState, NamesMatch, change, is_named, mark_at, name_of, result_at, result_of, wake, wake_each, with_mark, with_result, NoneForgotten, is_ready, Mark, Waiting, Task, wait_list-distinct, IsSound, skips, wait_list, with_one_more, same_name, Named, Bool, List, Option, Some, [], ap, arith, false, get_or, length, map, not, refl, set, subst, suc, sym, true, zero, ℕ, ◌&&◌, ◌++◌, ◌<◌, ◌||◌, ◌∙◌, ◌∷◌, ◌≡◌, ◌≢◌, ◌≤◌, nat_tests, eq-eqb, eqb-true, list_any-append, get_or-map, length-map, IsDistinct-from_apart, length-le_from_distinct_below, slice_get_past, IsDistinct, list_any, option_map, AllPairs, fold, if◌then◌else◌, is_some, nat_eq, slice_get, mark_in, mark_told, woken_if}
 
 woken_by : (mark : Option Mark) → waits_mark mark ≡ true → (mark ≡ Some Waiting → ⊥) → is_ready_mark mark ≡ true
 woken_by mark stands otherwise = grind (arith, otherwise)
 
 module _ {T : Type 0} where
-  -- a task was started exactly if it has a mark
-  pub started_now : (i : ℕ) (tasks : List (Task T)) → is_some (slice_get (map (λ task. task.kind) tasks) i) ≡ is_some (mark_at tasks i)
-  started_now i [] = refl
-  started_now zero (t ∷ tasks) = refl
-  started_now (suc i) (t ∷ tasks) = started_now i tasks
-
-  -- a task is ready exactly if its mark says so
-  pub ready_now : (at : DriverState T) (i : ℕ) → is_ready at [] i ≡ is_ready_mark (mark_at at.tasks i)
-  ready_now at i = rw (started_now i at.tasks) (ready_by (mark_at at.tasks i))
-
   -- where each waiting name stands in the waiting list, no task is forgotten
   pub awake : (at : DriverState T) → IsSound same_name at.core → AllNamed at → NoneForgotten at
-  awake at sound covered not_vacant i stands = grind (arith, ready_now, woken_by, covered, sound.waits_vacant)
+  awake at sound covered not_vacant i stands = grind (arith, woken_by, covered, sound.waits_vacant)
 
   -- within the list one task is written
   change_within : (f : Task T → Task T) (i : ℕ) (tasks : List (Task T)) (task : Task T) → i < length tasks → task ≡ get_or tasks i task → set tasks i (f task) ≡ change f i tasks
@@ -47,9 +34,7 @@ module _ {T : Type 0} where
 
   -- what was kept for a task within the list
   pub result_within : (i : ℕ) (tasks : List (Task T)) (task : Task T) → i < length tasks → task ≡ get_or tasks i task → task.result ≡ result_at tasks i
-  result_within i [] task within is = absurd (omega arith)
-  result_within zero (t ∷ tasks) task within is = ap (λ (x : Task T). x.result) is
-  result_within (suc i) (t ∷ tasks) task within is = result_within i tasks task (omega arith) is
+  result_within i tasks task within is = ap result_of (sym (slice_get_read tasks (length tasks) i task refl within is))
 
   pub slice_get-change_same : (f : Task T → Task T) (i : ℕ) (tasks : List (Task T)) → slice_get (change f i tasks) i ≡ option_map f (slice_get tasks i)
   slice_get-change_same f i [] = refl
@@ -83,12 +68,6 @@ module _ {T : Type 0} where
   results_woken [] tasks i = refl
   results_woken (n ∷ names) tasks i = results_woken names (change wake n.0 tasks) i ∙ says_same result_of wake (λ t. grind arith) n.0 i tasks
 
--- the mark of a task that is woken if it is named
-abbrev pub woken_if : Bool → Option Mark → Option Mark
-woken_if true mark = option_map woken mark
-woken_if false mark = mark
-
-module _ {T : Type 0} where
   pub mark-wake_each : (names : List Named) (tasks : List (Task T)) (i : ℕ) → mark_at (wake_each names tasks) i ≡ woken_if (is_named i names) (mark_at tasks i)
   mark-wake_each [] tasks i = refl
   mark-wake_each (n ∷ names) tasks i =

@@ -6,7 +6,7 @@ use Rattle.async_cell_model.specs.declared.{refusal.Refusal.TheVariants.Memory, 
 use Rattle.async_cell_model.specs.{Machine.content, Machine.is_vacant, History.cell_after, Legal.RunsUpTo}
 use Rattle.async_cell_driver.specs.declared.{event.Event.Event, event.Event.TheVariants.Start, event.Event.TheVariants.Poll, event.Told.Told, event.Polled.TheVariants.NotReady}
 use Rattle.async_cell_driver.specs.declared.event.Told.TheVariants as told
-use Rattle.async_cell_driver.specs.{DriverState.DriverState, DriverState.result_at, Log.Log, Log.kinds, Log.is_done, Log.waits, Log.is_ready}
+use Rattle.async_cell_driver.specs.{DriverState.DriverState, DriverState.mark_at, DriverState.result_at, Log.Log, Log.kinds, Log.mark_in, Log.waits, Log.is_ready}
 use Rattle.async_cell_driver.specs.History.{history, handed_out, line_of}
 
 -- The outcome and the woken names that an event may have, if this many tasks were started and these
@@ -48,9 +48,7 @@ pub record Drives {T : Type 0} (is_clone : T → T → Type 0)
   pub core_leads : RunsUpTo same_name true is_clone
       from.core (history from log) (handed_out from log) to.core
   pub kinds_are : map (λ task. task.kind) to.tasks ≡ kinds from log
-  pub done_is : (i : ℕ) → is_done to [] i ≡ is_done from log i
-  pub waits_is : (i : ℕ) → waits to [] i ≡ waits from log i
-  pub ready_is : (i : ℕ) → is_ready to [] i ≡ is_ready from log i
+  pub marks_are : (i : ℕ) → mark_at to.tasks i ≡ mark_in from log i
   pub none_forgotten : NoneForgotten to
 
 -- the event happens, with this outcome

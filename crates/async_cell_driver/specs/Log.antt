@@ -1,10 +1,13 @@
 -- What happened to a driver, line by line, and what the lines say of a task.
-use Rattle.std.specs.Prelude.{ℕ, ◌++◌, Bool, true, false, not, ◌&&◌, ◌||◌, List, [], ◌∷◌, Option, map, reverse, nat_eq, is_some, slice_get, if◌then◌else◌}
+use Rattle.std.specs.Prelude.{ℕ, ◌++◌, Bool, true, false, List, [], ◌∷◌, Option, Some, map, reverse, nat_eq, if◌then◌else◌}
+use Rattle.std.specs.Option.{option_map}
 use Rattle.async_cell_wakers.specs.declared.named.Named.{Named}
 use Rattle.async_cell_driver.specs.declared.{event.Kind.Kind, event.Event.Event, event.Told.Told, event.Polled.TheVariants.Ready, event.Polled.TheVariants.Pending, event.Polled.TheVariants.NotReady}
 use Rattle.async_cell_driver.specs.declared.event.Told.TheVariants as told
 use Rattle.async_cell_driver.specs.declared.event.Event.TheVariants.{Start, Poll, Set, OrSet, Replace, Update, TryTake, AddOwner, EndOwner}
-use Rattle.async_cell_driver.specs.{Mark.is_done_mark, Mark.waits_mark, Mark.is_due_mark, DriverState.DriverState, DriverState.mark_at, DriverState.is_named}
+use Rattle.async_cell_driver.specs.declared.tasks.Mark.{Mark}
+use Rattle.async_cell_driver.specs.declared.tasks.Mark.TheVariants as mark
+use Rattle.async_cell_driver.specs.{Mark.is_ready_mark, Mark.waits_mark, Mark.woken, DriverState.DriverState, DriverState.mark_at, DriverState.is_named}
 
 -- an event, its outcome, and the names that it woke; an update stands as the function of its edit
 pub record Line (T : Type 0) : Type 0 where
@@ -22,14 +25,6 @@ is_poll_of i (Poll j) (told.Polled NotReady) = false
 is_poll_of i (Poll j) answer = nat_eq j i
 is_poll_of i _ answer = false
 
-abbrev pub was_ready : {T : Type 0} → Told T → Bool
-was_ready (told.Polled (Ready value)) = true
-was_ready _ = false
-
-abbrev pub was_pending : {T : Type 0} → Told T → Bool
-was_pending (told.Polled Pending) = true
-was_pending _ = false
-
 abbrev pub was_refused : {T : Type 0} → Told T → Bool
 was_refused (told.Refused why) = true
 was_refused _ = false
@@ -39,6 +34,19 @@ abbrev pub started : {T : Type 0} → Event T (Option T → Option T) → Told T
 started (Start kind) (told.Started number) = kind ∷ []
 started _ _ = []
 
+-- The mark of task i after an event with this outcome, by its mark before. No name is woken yet.
+abbrev pub mark_told : {T : Type 0} → ℕ
+    → Told T → Event T (Option T → Option T) → Option Mark → Option Mark
+mark_told i (told.Started n) (Start kind) old = if nat_eq n i then Some mark.Ready else old
+mark_told i (told.Polled (Ready value)) (Poll j) old = if nat_eq j i then Some mark.Done else old
+mark_told i (told.Polled Pending) (Poll j) old = if nat_eq j i then Some mark.Waiting else old
+mark_told i (told.Refused why) (Poll j) old = if nat_eq j i then Some mark.Ready else old
+mark_told i _ _ old = old
+
+-- the mark of a task after a line that wakes its name or not
+abbrev pub woken_if : Bool → Option Mark → Option Mark
+woken_if named mark = if named then option_map woken mark else mark
+
 -- The tasks after a log that starts from `from`. A task that is in `from` starts with the mark that
 -- it has there.
 module _ {T : Type 0} (from : DriverState T) where
@@ -47,32 +55,20 @@ module _ {T : Type 0} (from : DriverState T) where
   kinds [] = map (λ task. task.kind) from.tasks
   kinds (line ∷ earlier) = kinds earlier ++ started line.event line.told
 
-  -- there is a task i
-  abbrev pub is_started : Log T → ℕ → Bool
-  is_started log i = is_some (slice_get (kinds log) i)
-
-  -- a poll of task i was ready
-  abbrev pub is_done : Log T → ℕ → Bool
-  is_done [] i = is_done_mark (mark_at from.tasks i)
-  is_done (line ∷ earlier) i =
-      (is_poll_of i line.event line.told && was_ready line.told) || is_done earlier i
+  -- the mark of task i: none if it was not started
+  abbrev pub mark_in : Log T → ℕ → Option Mark
+  mark_in [] i = mark_at from.tasks i
+  mark_in (line ∷ earlier) i =
+      woken_if (is_named i line.names) (mark_told i line.told line.event (mark_in earlier i))
 
   -- the last poll of task i returned `Pending`
   abbrev pub waits : Log T → ℕ → Bool
-  waits [] i = waits_mark (mark_at from.tasks i)
-  waits (line ∷ earlier) i =
-      if is_poll_of i line.event line.told then was_pending line.told else waits earlier i
+  waits log i = waits_mark (mark_in log i)
 
-  -- task i was never polled, its last poll was refused, or a line after that wakes its name
-  abbrev pub is_due : Log T → ℕ → Bool
-  is_due [] i = is_due_mark (mark_at from.tasks i)
-  is_due (line ∷ earlier) i =
-      if is_poll_of i line.event line.told then was_refused line.told
-      else (is_named i line.names || is_due earlier i)
-
-  -- task i was started, is not done, and is due
+  -- Task i was started, and no poll of it was ready. It was never polled, its last poll was
+  -- refused, or a line after that wakes its name.
   abbrev pub is_ready : Log T → ℕ → Bool
-  is_ready log i = is_started log i && (not (is_done log i) && is_due log i)
+  is_ready log i = is_ready_mark (mark_in log i)
 
 module _ {T : Type 0} where
   -- the lines of these events, in order

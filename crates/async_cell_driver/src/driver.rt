@@ -136,7 +136,6 @@ impl<T: Clone> Driver<T> {
 
     /// Returns whether a task is ready. A task that was started and is not done is ready if it was
     /// never polled, its last poll was refused, or its name was woken since.
-    #[tactic(auto, using(crate::proofs::TaskList::ready_now))]
     pub fn is_ready(&self, i: usize) -> bool
         ensures { result ≡ is_ready self.now [] i }
     {

@@ -1,12 +1,12 @@
 use Rattle.async_cell_driver.proofs.Words.{mark_after, polled_of, DriverState, change, with_mark, Drives, line_of, told_of, Poll, model_up_to, same_name, [], subst, sym, true, ◌∙◌, ◌∷◌}
-use Rattle.async_cell_driver.proofs.{TaskList.ready_now, Logs.not_polled, CoreCalls.covered_polled, CoreCalls.poll_drives, CoreCalls.ready_no_more, CoreCalls.others_stay}
+use Rattle.async_cell_driver.proofs.{Logs.not_polled, CoreCalls.covered_polled, CoreCalls.poll_drives, CoreCalls.ready_no_more, CoreCalls.others_stay}
 use Rattle.async_cell_driver.proofs.driver.Driver.poll.Goals as goal
 
 pub returns-in_default-clause-drives : goal.returns-in_default-clause-drives
 returns-in_default-clause-drives g c =
     let at : DriverState g.row.T.Denot = record { core = c.self.inside.core; tasks = c.self.inside.tasks } in
     let not_ready = rw c.in_default.is at c.ready.ensures.not_ready in
-    rw (← c.self.view_is) (not_polled at c.args.i g.T.Clone.is_clone c.soundness.ensures c.self.invariant (ready_now at c.args.i ∙ not_ready))
+    rw (← c.self.view_is) (not_polled at c.args.i g.T.Clone.is_clone c.soundness.ensures c.self.invariant not_ready)
 
 pub invariant_of-self : goal.invariant_of-self
 invariant_of-self g c =
