@@ -1,5 +1,5 @@
 -- What a call makes of its entry, and one more entry of a journal.
-use Rattle.async_cell_recorded.proofs.Words.{Option, Cell, Call, content, kept_call, kept_before, kept_after, Fits, Kept, Reply, ◌≡◌, ◌≤◌, ◌<◌, ◌^◌, ◌+◌, ℕ, suc, Bool, true, false, List, [], ◌∷◌, ◌++◌, if◌then◌else◌, length, map, refl, arith, length-append, append_assoc, append-nil}
+use Rattle.async_cell_recorded.proofs.Words.{Option, Cell, Call, content, kept_call, kept_after, Kept, Reply, ◌≡◌, ◌≤◌, ◌<◌, ◌^◌, ◌+◌, ℕ, suc, Bool, true, false, List, [], ◌∷◌, ◌++◌, if◌then◌else◌, length, map, refl, arith, length-append, append_assoc, append-nil}
 use Rattle.async_cell_recorded.proofs.Words.{nat_tests, nat_eq, sum_by_push, Decides-eqb, filter-append, map-append, All-push, slice_index, slice_set, replicate, length-set, length-replicate}
 use Rattle.async_cell_recorded.proofs.Words.{get_or-replicate, get_or-set_same, get_or-set_other, Named, is_memory, reply, State, IsSound, Does, woken_by, wakes_after, Runs, Runs-join, model_of, start}
 use Rattle.async_cell_recorded.proofs.Words.{Entry, Recording, IsRecorded, plain_entry, made_by, serials_of, numbers_below, state, same_name, Totals, Test, IsJournal, from_bool, picked_after}
@@ -8,10 +8,6 @@ use Rattle.async_cell_model.specs.declared.entry.Kept.TheVariants as kept
 use Rattle.async_cell_model.specs.declared.reply.Reply.TheVariants as replied
 
 module _ {T W : Type 0} (will_wake : W → W → Bool) (sure : Bool) (at to : State T W) where
-  -- a copy that was got is the content
-  pub got_content : (v : Option T) (woken : List W) → Does will_wake sure at (record { call = kept.TryGet; reply = replied.Value v }) woken to → v ≡ content at.cell
-  got_content v woken one = grind arith
-
   -- a call that found no memory leaves the cell, and those that wait, as they were
   pub refused_unchanged : (call : Kept T W) (r : Reply T) (woken : List W) → is_memory r ≡ true → Does will_wake sure at (record { call = call; reply = r }) woken to
       → (to.cell ≡ at.cell) × (to.waiting ≡ at.waiting)
@@ -20,15 +16,8 @@ module _ {T W : Type 0} (will_wake : W → W → Bool) (sure : Bool) (at to : St
   -- any other leaves the entry of the call
   pub kept_made : {E : Type 0} (edit : E → Option T → Option T) (edit_some : E → T → T) (call : Call T W E) (r : Reply T) (woken : List W) → is_memory r ≡ false
       → Does will_wake sure at (record { call = kept_call edit edit_some at.cell call; reply = r }) woken to
-      → kept_after (kept_before call (content at.cell)) (content to.cell) ≡ kept_call edit edit_some at.cell call
+      → kept_after (kept_call (λ e c. c) (λ e v. v) at.cell call) (content to.cell) ≡ kept_call edit edit_some at.cell call
   kept_made edit edit_some call r woken found one = grind arith
-
-module _ {T E : Type 0} (edit : E → Option T → Option T) (edit_some : E → T → T) where
-  -- an entry of the call on this cell fits the call
-  pub fits : (c : Cell T) (call : Call T Named E) (e : model.Entry T Named)
-      → e.call ≡ kept_call edit edit_some c call → e.reply ≡ reply c e.call
-      → Fits edit edit_some call e
-  fits c call e kept_is reply_is = grind arith
 
 module _ {T : Type 0} where
   serials_of-snoc : (share : ℕ) (h : List (Entry T)) (e : Entry T) → serials_of share (h ++ e ∷ []) ≡ serials_of share h ++ serials_of share (e ∷ [])

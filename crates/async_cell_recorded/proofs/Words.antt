@@ -6,7 +6,7 @@ pub use Rattle.async_cell_model.specs.Machine.{Does, IsSound, State, content, is
 pub use Rattle.async_cell_recorded.specs.Counting.{IsJournal, ShareState, Test, Totals, from_bool, new_shares, picked_after}
 pub use Rattle.async_cell_recorded.specs.{Outcomes.HasEnded, Outcomes.IsNew, Recording.start, Recording.state, Recording.with_one_share, Recording.without_shares}
 pub use Rattle.async_cell_recorded.specs.Recording.{IsPlain, IsRecorded, PlainRecording, Recording, is_of, made_by, numbers_below, of_one_share, plain_entry, serials_of}
-pub use Rattle.async_cell_recorded.specs.{Answering.Fits, Answering.kept_after, Answering.kept_before, declared.history.Entry.Entry, declared.session.Seat.Seat}
+pub use Rattle.async_cell_recorded.specs.{Answering.kept_after, declared.history.Entry.Entry, declared.session.Seat.Seat}
 pub use Rattle.async_cell_wakers.specs.{Named.same_name, declared.named.Named.Named}
 pub use Rattle.std.proofs.Common.{Bool, List, None, Option, [], ap, append-nil, append_assoc, arith, drop, false, length, length-append, map, refl, rules, subst, suc, sym, take, true, vec_capacity}
 pub use Rattle.std.proofs.Common.{vec_len, zero, ℕ, ◌++◌, ◌+◌, ◌<◌, ◌^◌, ◌∙◌, ◌∷◌, ◌≡◌, ◌≤◌}

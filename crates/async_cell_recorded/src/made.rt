@@ -1,24 +1,27 @@
 //! One call on the core, as a history stores it.
 ghost use Rattle.std.specs.Prelude.{◌≡◌, true, false, IfOk, OnErr};
-ghost use Rattle.async_cell_model.specs.Machine.{is_memory, Does};
+ghost use Rattle.async_cell_model.specs.Machine.{content, is_memory, Does};
+ghost use Rattle.async_cell_model.specs.declared.cell.Cell.{Cell};
 ghost use Rattle.async_cell_core.specs.Kept.{kept_call};
 ghost use Rattle.async_cell_wakers.specs.Named.{same_name};
-ghost use Rattle.async_cell_recorded.specs.Answering.{kept_before, kept_after};
+ghost use Rattle.async_cell_recorded.specs.Answering.{kept_after};
 
 use crate::{Call, Edit, Kept, Named, Plain, Refusal, Reply, Wakers};
 use async_cell_core::{Answer, Core, step_copied};
 use std::alloc::AllocError;
 
-/// Returns a call on a cell with this content as a history stores it, before it is made.
+/// Returns a call on a cell with this content as a history stores it, if an update leaves the
+/// content as it is.
 fn keep<T: Copy, E>(call: &Call<T, Named, E>, saw: Option<T>) -> Kept<T>
-    ensures { result ≡ kept_before call.now saw }
+    ensures { (cell : Cell T) → saw ≡ content cell
+        → result ≡ kept_call (λ _ c. c) (λ _ v. v) cell call.now }
 {
     match call {
         Call::Set(value) => Kept::Set(*value),
         Call::OrSet(value) => Kept::OrSet(*value),
         Call::Replace(value) => Kept::Replace(*value),
-        Call::Update(_) => Kept::Update { saw, put: None },
-        Call::UpdateSome(_) => Kept::UpdateSome { saw, put: None },
+        Call::Update(_) => Kept::Update { saw, put: saw },
+        Call::UpdateSome(_) => Kept::UpdateSome { saw, put: saw },
         Call::TryTake => Kept::TryTake,
         Call::TryGet => Kept::TryGet,
         Call::IsSet => Kept::IsSet,
@@ -43,7 +46,7 @@ fn answered<T: Copy>(kept: Kept<T>, put: Option<T>) -> Kept<T>
 
 /// Makes the call. Returns it with its reply, and the wakers that the caller must wake. Fails if
 /// the core refuses a poll because there is no memory.
-#[tactic(auto, using(crate::proofs::Histories::got_content, crate::proofs::Histories::refused_unchanged, crate::proofs::Histories::kept_made))]
+#[tactic(auto, using(crate::proofs::Histories::refused_unchanged, crate::proofs::Histories::kept_made))]
 pub(crate) fn make<T: Copy, E: Edit<T> + Drop>(
     core: &mut Core<T, Named>,
     call: Call<T, Named, E>,

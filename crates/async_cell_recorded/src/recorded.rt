@@ -2,7 +2,8 @@ ghost use Rattle.std.specs.Prelude.{◌≡◌, ◌↔◌, ◌≤◌, ◌⊎◌, 
 ghost use Rattle.std.specs.{Prelude.IsOk, Prelude.IfOk, Prelude.IfErr, List.sum_by};
 ghost use Rattle.async_cell_model.specs.Refusal.{FailsWithMemory};
 ghost use Rattle.async_cell_recorded.specs.Recording.{IsRecorded, plain_entry};
-ghost use Rattle.async_cell_recorded.specs.Answering.{Fits, IsCallResult};
+ghost use Rattle.async_cell_recorded.specs.Answering.{IsCallResult};
+ghost use Rattle.async_cell_model.specs.{Machine.reply, declared.cell.Cell.Cell};
 ghost use Rattle.async_cell_core.specs.Kept.{kept_call};
 ghost use Rattle.async_cell_recorded.specs.Counting.{new_shares, picked};
 
@@ -102,7 +103,6 @@ impl<T: Copy, M: Pick<T>> Recorded<T, M> {
     }
 
     /// Makes a call under the lock.
-    #[tactic(auto, using(crate::proofs::Histories::fits))]
     fn call<E: Edit<T> + Drop>(
         &self,
         share: &mut Share<M>,
@@ -111,8 +111,9 @@ impl<T: Copy, M: Pick<T>> Recorded<T, M> {
     ) -> CallResult<T>
         ensures call { IsCallResult M.pick (λ cell. kept_call E.edit E.edit_some cell call)
             share.old result share.new }
-        ensures fits { IfOk result (λ answer.
-            Fits E.edit E.edit_some call (plain_entry answer.0)) }
+        ensures made { IfOk result (λ answer. (cell : Cell T)
+            × (answer.0.call ≡ kept_call E.edit E.edit_some cell call)
+            × (answer.0.reply ≡ reply cell answer.0.call)) }
     {
         self.journal.lock(rt).step(share, call)
     }
