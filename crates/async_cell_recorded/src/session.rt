@@ -122,17 +122,13 @@ fn seated<O: Drop, M: Marker>(
 ) -> Result<Vec<Seat<Share<M>, O>>, AllocError>
     ensures one_each { IfOk result (λ seats. vec_len seats ≡ vec_len shares) }
     ensures shares { IfOk result (λ seats.
-        map (λ seat. seat.share) seats.items ≡ shares.items) }
+        seats.items ≡ map (λ share. record { share = share; outcome = None }) shares.items) }
 {
-    let mut seats = Vec::new(alloc);
-    seats.reserve_exact(shares.len())?;
-    for share in shares {
-        seats.push_reserved(Seat {
-            share,
-            outcome: None,
-        });
-    }
-    Ok(seats)
+    let seats = shares.into_iter().map(|share| Seat {
+        share,
+        outcome: None,
+    });
+    seats.collect(alloc)
 }
 
 /// Runs the session for each share, in a thread of its own. Takes no memory.

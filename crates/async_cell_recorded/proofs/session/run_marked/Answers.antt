@@ -1,11 +1,11 @@
-use Rattle.async_cell_recorded.proofs.Words.{◌≡◌, ◌≤◌, ◌++◌, List, arith, length, take, drop, refl, take-append-le, take_at, All-same, All-take, Seat, ShareState, HasEnded, IsNew}
-use Rattle.async_cell_recorded.proofs.Counted.{new_shares_unused, numbers_of_new, new_seats}
+use Rattle.async_cell_recorded.proofs.Words.{◌≡◌, ◌≤◌, ◌++◌, List, arith, length, take, drop, refl, take-append-le, take_at, All-map, All-same, All-take, new_shares, Seat, ShareState, HasEnded, IsNew}
+use Rattle.async_cell_recorded.proofs.Counted.{new_shares_unused, numbers_of_new, seat_of}
 use Rattle.async_cell_recorded.proofs.session.run_marked.Goals as goal
 
 pub in_threads-requires-clause-new : goal.in_threads-requires-clause-new
 in_threads-requires-clause-new g c lifetimes outlived =
     All-same (λ (s : Seat ShareState g.row.O.Denot). IsNew s.share) c.deref_mut.result.now c.in_ok-seats.seats.items c.deref_mut.ensures.value
-    (new_seats c.in_ok-seats.seats.items (rw (c.in_ok-seats.ensures.shares, c.in_ok-cell.ensures.new_shares) (new_shares_unused c.args.shares)))
+    (rw (c.in_ok-seats.ensures.shares, c.in_ok-cell.ensures.new_shares) (All-map (λ (s : Seat ShareState g.row.O.Denot). IsNew s.share) seat_of (new_shares c.args.shares) (new_shares_unused c.args.shares)))
 
 pub part-requires-clause-ended : goal.part-requires-clause-ended
 part-requires-clause-ended g c =
@@ -21,7 +21,7 @@ returns-in-Ok-clause-outcomes g c =
     let all : parted ≡ c.in_threads.new.seats = take_at c.in_threads.new.seats _ c.in_ok-seats.seats.len (omega (arith, c.in_threads.ensures.one_each, c.deref_mut.ensures.len)) in
     record {
       shares = c.part.new.shares.items;
-      numbered = simp (c.part.ensures.shares, all, c.in_threads.ensures.numbers, c.deref_mut.ensures.value, c.in_ok-seats.ensures.shares, c.in_ok-cell.ensures.new_shares, numbers_of_new);
+      numbered = rw (c.part.ensures.shares, all, c.in_threads.ensures.numbers, c.deref_mut.ensures.value, c.in_ok-seats.ensures.shares, c.in_ok-cell.ensures.new_shares) (numbers_of_new g.row.O.Denot c.args.shares);
       described = c.part.ensures.described;
       counted = c.in-Ok.ensures.counted;
       picked_is = rw (← c.requires.pick) c.in-Ok.ensures.picked;
