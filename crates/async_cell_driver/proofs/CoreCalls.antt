@@ -15,22 +15,6 @@ abbrev pub marked_if : Bool → Mark → Option Mark → Option Mark
 marked_if true m old = option_map (λ _. m) old
 marked_if false m old = old
 
-unmarked : (b : Bool) (m : Mark) (old : Option Mark) → (m ≡ mark.Waiting → ⊥) → marked_if b m old ≡ Some mark.Waiting → old ≡ Some mark.Waiting
-unmarked b m old otherwise stands = grind (arith, otherwise)
-
-named_or_asked : (i j : ℕ) (b : Bool) → nat_eq i j ≡ b → (l : List Named) (old : Option Mark) → (old ≡ Some mark.Waiting → is_named j l ≡ true) → marked_if b mark.Waiting old ≡ Some mark.Waiting
-    → is_named j (l ++ name_of i ∷ []) ≡ true
-named_or_asked i j b is l old covered stands = grind (arith, named-append, or-true, covered)
-
--- a name that was in the list before a poll is not the task's own, and its task waits as before
-waiting_beside : (b : Bool) (m : Mark) (old : Option Mark) → (b ≡ true → is_ready_mark old ≡ true) → old ≡ Some mark.Waiting → marked_if b m old ≡ Some mark.Waiting
-waiting_beside b m old ready stands = grind (arith, ready)
-
--- a name in the list after a poll that waits is the task's own, or was there before
-waiting_or_asked : (i j : ℕ) (b : Bool) → nat_eq i j ≡ b → (l : List Named) (old : Option Mark) → (b ≡ true → is_ready_mark old ≡ true) → (is_named j l ≡ true → old ≡ Some mark.Waiting)
-    → is_named j (l ++ name_of i ∷ []) ≡ true → marked_if b mark.Waiting old ≡ Some mark.Waiting
-waiting_or_asked i j b is l old ready waits named = grind (arith, named-append, or-false, ready, waits)
-
 module _ {T : Type 0} where
   -- the names are those that the entry wakes
   pub names_are : (from to : State T Named) (call : Kept T Named) (r : Reply T) (names : List Named) → Does same_name true from (record { call = call; reply = r }) names to
@@ -116,26 +100,13 @@ module _ {T : Type 0} where
   fits_polled count ready i asked is for_memory = grind arith
 
   -- each waiting name is still in the wait list, and so is that of the polled task, if it waits
-  named_polled : (from : DriverState T) (core : State T Named) (i : ℕ) (asked : Result (Poll (Option T)) Refusal) → AllNamed from
-      → IfErr asked (λ why. (why ≡ Memory) × (core.cell ≡ from.core.cell) × (core.waiting ≡ from.core.waiting)) → IfOk asked (λ p. core.waiting ≡ waiting_when p (name_of i) from.core.waiting)
-      → AllNamed (record { core = core; tasks = change (with_mark (mark_after asked)) i from.tasks })
-  named_polled from core i (Ok (Ready value)) covered refused waits j stands =
-      ap (is_named j) waits ∙ covered j (unmarked (nat_eq i j) mark.Done (mark_at from.tasks j) (λ no. cc) (sym (mark-marked mark.Done i j from.tasks) ∙ stands))
-  named_polled from core i (Ok Pending) covered refused waits j stands =
-      ap (is_named j) waits ∙ named_or_asked i j (nat_eq i j) refl from.core.waiting (mark_at from.tasks j) (covered j) (sym (mark-marked mark.Waiting i j from.tasks) ∙ stands)
-  named_polled from core i (Err why) covered refused waits j stands =
-      ap (is_named j) refused.2 ∙ covered j (unmarked (nat_eq i j) mark.Ready (mark_at from.tasks j) (λ no. cc) (sym (mark-marked mark.Ready i j from.tasks) ∙ stands))
-
-  -- and each name there is still that of a task that waits
-  waiting_polled : (from : DriverState T) (core : State T Named) (i : ℕ) (asked : Result (Poll (Option T)) Refusal) → AllWaiting from → is_ready_mark (mark_at from.tasks i) ≡ true
-      → IfErr asked (λ why. (why ≡ Memory) × (core.cell ≡ from.core.cell) × (core.waiting ≡ from.core.waiting)) → IfOk asked (λ p. core.waiting ≡ waiting_when p (name_of i) from.core.waiting)
-      → AllWaiting (record { core = core; tasks = change (with_mark (mark_after asked)) i from.tasks })
-  waiting_polled from core i asked all ready refused waits j named = grind (arith, mark-marked, waiting_beside, this_ready, waiting_or_asked, all)
-
   pub covered_polled : (from : DriverState T) (core : State T Named) (i : ℕ) (asked : Result (Poll (Option T)) Refusal) → NamesMatch from → is_ready_mark (mark_at from.tasks i) ≡ true
       → IfErr asked (λ why. (why ≡ Memory) × (core.cell ≡ from.core.cell) × (core.waiting ≡ from.core.waiting)) → IfOk asked (λ p. core.waiting ≡ waiting_when p (name_of i) from.core.waiting)
       → NamesMatch (record { core = core; tasks = change (with_mark (mark_after asked)) i from.tasks })
-  covered_polled from core i asked covered ready refused waits = grind (arith, named_polled, waiting_polled, covered.0, covered.1)
+  covered_polled from core i asked covered ready refused waits = (
+    λ j stands. grind (arith, mark-marked, named-append, or-true, this_ready, covered.0),
+    λ j named. grind (arith, mark-marked, named-append, or-false, this_ready, covered.1),
+  )
 
   -- where the poll of a ready task leads
   pub poll_drives : (is_clone : T → T → Type 0) (from : DriverState T) (core : State T Named) (i : ℕ) (kind : Kind) (asked : Result (Poll (Option T)) Refusal)
@@ -153,7 +124,7 @@ module _ {T : Type 0} where
         core_leads = rw (is_kind, replies_polled asked) answers;
         kinds_are = grind (arith, map-change, append-nil);
         marks_are = λ j. mark-marked (mark_after asked) i j from.tasks ∙ mark_polled i j asked (mark_at from.tasks j) (this_ready i j from.tasks ready);
-        none_forgotten = awake _ sound (named_polled from core i asked covered.0 refused waits);
+        none_forgotten = awake _ sound (covered_polled from core i asked covered ready refused waits).0;
       }
 
   -- what holds anyway holds for each content
@@ -179,18 +150,14 @@ module _ {T : Type 0} where
   pub results-marked : (m : Mark) (i j : ℕ) (tasks : List (Task T)) → result_at (change (with_mark m) i tasks) j ≡ result_at tasks j
   results-marked m i j tasks = says_same result_of (with_mark m) (λ t. grind arith) i j tasks
 
-  marked_same : (m : Mark) (i : ℕ) (tasks : List (Task T)) → is_ready_mark (mark_at tasks i) ≡ true → mark_at (change (with_mark m) i tasks) i ≡ Some m
-  marked_same m i tasks ready = grind (arith, mark-marked, eq-eqb)
-
   -- a task whose poll was not refused is not ready
   pub ready_no_more : (core : State T Named) (i : ℕ) (asked : Result (Poll (Option T)) Refusal) (tasks : List (Task T)) → is_ready_mark (mark_at tasks i) ≡ true
       → OnOk (polled_of asked) (is_ready (record { core = core; tasks = change (with_mark (mark_after asked)) i tasks }) [] i ≡ false)
-  ready_no_more core i asked tasks ready = grind (arith, marked_same)
+  ready_no_more core i asked tasks ready = grind (arith, mark-marked, eq-eqb)
 
   -- the others are as ready as before
-  pub others_stay : (core : State T Named) (from : DriverState T) (m : Mark) (i j : ℕ) → i ≢ j → is_ready (record { core = core; tasks = change (with_mark m) i from.tasks }) [] j ≡ is_ready from [] j
-  others_stay core from m i j other =
-      ap (λ t. is_ready_mark (option_map (λ task. task.mark) t)) (slice_get-change_other (with_mark m) i j from.tasks other)
+  pub others_stay : (m : Mark) (i j : ℕ) (tasks : List (Task T)) → i ≢ j → mark_at (change (with_mark m) i tasks) j ≡ mark_at tasks j
+  others_stay m i j tasks other = ap (option_map (λ task. task.mark)) (slice_get-change_other (with_mark m) i j tasks other)
 
 -- what the tactics use where a task is polled
-pub ruleset poll_steps = (sure_anyway, sure_polled, ok_as_polled, ready_as_polled, results-marked)
+pub ruleset poll_steps = (sure_anyway, sure_polled, ok_as_polled, ready_as_polled, results-marked, others_stay)

@@ -1,5 +1,5 @@
 use Rattle.async_cell_driver.proofs.Words.{mark_after, polled_of, DriverState, change, with_mark, Drives, line_of, told_of, Poll, model_up_to, same_name, [], subst, sym, true, ◌∙◌, ◌∷◌}
-use Rattle.async_cell_driver.proofs.{Logs.not_polled, CoreCalls.covered_polled, CoreCalls.poll_drives, CoreCalls.ready_no_more, CoreCalls.others_stay}
+use Rattle.async_cell_driver.proofs.{Logs.not_polled, CoreCalls.covered_polled, CoreCalls.poll_drives, CoreCalls.ready_no_more}
 use Rattle.async_cell_driver.proofs.driver.Driver.poll.Goals as goal
 
 pub returns-in_default-clause-drives : goal.returns-in_default-clause-drives
@@ -32,8 +32,3 @@ pub returns-clause-ready_no_more : goal.returns-clause-ready_no_more
 returns-clause-ready_no_more g c =
     let ready = rw c.in-Some.is at c.ready.ensures.kind in
     rw (c.set_mark.ensures, c.outcome-mark.ensures.mark, c.outcome-mark.ensures.polled) (ready_no_more c.ask-asked.new.core c.args.i c.ask-asked.result c.self.inside.tasks ready.1)
-
-pub returns-clause-others_stay : goal.returns-clause-others_stay
-returns-clause-others_stay g c j other =
-    rw (c.set_mark.ensures, ← c.self.view_is)
-    (others_stay c.ask-asked.new.core (record { core = c.self.inside.core; tasks = c.self.inside.tasks }) c.outcome-mark.result.0 c.args.i j (λ same. other (sym same)))
