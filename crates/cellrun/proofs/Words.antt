@@ -5,7 +5,7 @@ pub use Rattle.async_cell_model.specs.declared.{cell.Cell.Cell, entry.Kept.Kept,
 pub use Rattle.async_cell_wakers.specs.{Named.same_name, declared.named.Named.Named}
 pub use Rattle.cellrun.specs.CallPrints.{CallPrints, KnowsNames, end_text, kept_call, names_text, reply_text, value_text}
 pub use Rattle.cellrun.specs.Command.{IsDigits, IsValue, Spells, has_operand, number_of}
-pub use Rattle.cellrun.specs.Script.{ComesTo, EndsAs, IsLine, IsNext, Owes, Prints, StopsAt, after_line, blank, called, first, first_line, is_line_feed, new_cell, past, start}
+pub use Rattle.cellrun.specs.Script.{IsLine, IsNext, Owes, Prints, StopsAt, after_line, blank, called, first_line, is_line_feed, new_cell, start}
 pub use Rattle.cellrun.specs.{Lines.bytes_left, Output.output_contents, declared.command.Command.Command, declared.lines.Next.Next, declared.script.Ended.Ended}
 pub use Rattle.cellrun.specs.declared.command.Command.TheVariants.{Debug, End, Get, OrSet, Own, Replace, Set, Take, UpdatePut, UpdateSomeAdd}
 pub use Rattle.cellrun.specs.declared.lines.Next.TheVariants.{Bad, Blank, Call}

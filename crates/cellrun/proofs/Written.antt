@@ -1,7 +1,7 @@
 -- The bytes of an output, and what a script has written, from one line to the next and at its end.
 use Rattle.cellrun.proofs.Words.{◌≡◌, ℕ, ◌+◌, List, take, drop, ◌++◌, Option, length, ◌≤◌, arith, append_assoc, take-append-drop, drop-drop, append_known-moved, drop-append-le, Keeps, Appends}
 use Rattle.cellrun.proofs.Words.{append_known, State, Named, CallPrints, IsNext, after_line, Command, Call, Blank, Done, BadLine, Failed, ℤ, [], Some, None, IfSome, IfSome_then, Result, IsErr, refl}
-use Rattle.cellrun.proofs.Words.{append-nil, Appends-nil, Appends-kept, Appends-trans, Keeps-refl, result_unwrap_or, ComesTo, EndsAs, past, first, Prints, StopsAt, Owes, new_cell, start, blank}
+use Rattle.cellrun.proofs.Words.{append-nil, Appends-nil, Appends-kept, Appends-trans, Keeps-refl, result_unwrap_or, Prints, StopsAt, Owes, new_cell, start, blank}
 use Rattle.cellrun.proofs.Words.{called, Ended}
 
 -- n bytes of what is not written yet are written
@@ -30,15 +30,6 @@ pub printed_start : (left before : Option (List ℕ)) → IsPrinted left left 1 
 printed_start None before = tt
 printed_start (Some bytes) before = record { rest = bytes; text = []; left_is = refl; prints = start; appends = Appends-nil before }
 
--- each line before is a call or empty
-comes : {input rest text : List ℕ} {n : ℕ} {cell : State ℤ Named} → Prints input n rest cell text → ComesTo input n rest
-comes start = first
-comes (blank prints some is) = past Blank (comes prints) some (λ e. cc) is
-comes (called call line prints some is does) = past (Call call) (comes prints) some (λ e. cc) is
-
-appended : (before after : Option (List ℕ)) (text : List ℕ) → Appends before after text → IfSome before (λ held. after ≡ Some (held ++ text))
-appended before after text h = grind arith
-
 module _ (left : Option (List ℕ)) (n : ℕ) (cell : State ℤ Named) (before now : Option (List ℕ)) where
   pub printed_blank : (bytes next mid : Option (List ℕ)) → IsPrinted bytes left n cell before now → IfSome left (λ rest. IsNext rest next Blank)
       → Keeps now mid → IsPrinted bytes next (n + 1) cell before mid
@@ -52,20 +43,15 @@ module _ (left : Option (List ℕ)) (n : ℕ) (cell : State ℤ Named) (before n
       IfSome_then bytes s (λ input s. let is = rw s.left_is at i in let text = Appends-trans before mid after s.text line (Appends-kept before now mid s.text s.appends k) more in
       record { rest = after_line s.rest; text = s.text ++ line; left_is = is.2; prints = called call line s.prints is.0 is.1 does; appends = text })
 
-  -- how the script ends there
-  pub ends : (bytes : Option (List ℕ)) (ended : Ended) → IsPrinted bytes left n cell before now → ((input rest : List ℕ) → left ≡ Some rest → ComesTo input n rest → EndsAs input ended)
-      → IfSome bytes (λ input. EndsAs input ended)
-  ends bytes ended s stops = IfSome_then bytes s (λ input s. stops input s.rest s.left_is (comes s.prints))
-
-  -- and what it has written
-  pub owes : (bytes after : Option (List ℕ)) (ended : Ended) → IsPrinted bytes left n cell before now → Keeps now after
-      → ((rest whole : List ℕ) → left ≡ Some rest → StopsAt n rest whole (Some whole) ended) → Owes bytes before after ended
+  -- how the script ends there, and what it has written
+  pub owes : (bytes after : Option (List ℕ)) (ended : Ended) → IsPrinted bytes left n cell before now → Keeps now after → ((rest : List ℕ) → left ≡ Some rest → StopsAt n rest [] ended)
+      → Owes bytes before after ended
   owes bytes after ended s k stops =
-      IfSome_then bytes s (λ input s. IfSome_then before (appended before after s.text (Appends-kept before now after s.text s.appends k))
-      (λ held is. (n, s.rest, cell, s.text, s.prints, rw is (stops s.rest (held ++ s.text) s.left_is))))
+      IfSome_then bytes s (λ input s. let more = Appends-kept before now after s.text s.appends k in
+      (n, s.rest, cell, s.text, [], s.prints, stops s.rest s.left_is, grind (arith, append-nil, more)))
 
   pub owes_failed : (bytes after : Option (List ℕ)) → IsPrinted bytes left n cell before now → Keeps now after → Owes bytes before after Failed
-  owes_failed bytes after s k = owes bytes after Failed s k (λ rest whole is. ([], simp append-nil))
+  owes_failed bytes after s k = owes bytes after Failed s k (λ rest is. tt)
 
 -- nothing was written
 pub owes_nothing : (bytes before : Option (List ℕ)) → Owes bytes before before Failed
@@ -75,17 +61,15 @@ owes_nothing bytes before = owes_failed bytes 1 new_cell before before bytes bef
 pub owes_flushed : (bytes before total flushed after : Option (List ℕ)) (ended : Ended) → Owes bytes before total ended → Keeps total flushed → Keeps flushed after → Owes bytes before after ended
 owes_flushed bytes before total flushed after ended h k l = grind arith
 
-cut_stop : (total after : Option (List ℕ)) (unwritten : List ℕ) (ended : Ended) (n : ℕ) (rest whole : List ℕ) → Keeps total (append_known after unwritten) → StopsAt n rest whole total ended
-    → StopsAt n rest whole after Failed
-cut_stop total after unwritten Done n rest whole k h = (unwritten, grind arith)
-cut_stop total after unwritten (BadLine number) n rest whole k h = (unwritten, grind arith)
-cut_stop total after unwritten Failed n rest whole k h = (unwritten ++ h.0, grind (arith, append_assoc))
+cut_more : (before total after : Option (List ℕ)) (text unwritten more : List ℕ) → Keeps total (append_known after unwritten) → Appends before (append_known total more) text
+    → Appends before (append_known after (unwritten ++ more)) text
+cut_more before total after text unwritten more k h = grind (arith, append_assoc)
 
 -- after a part of what was gathered is written
 pub owes_cut : (bytes before total after : Option (List ℕ)) (unwritten : List ℕ) (ended : Ended) → Owes bytes before total ended → Keeps total (append_known after unwritten)
     → Owes bytes before after Failed
 owes_cut bytes before total after unwritten ended h k =
-    IfSome_then bytes h (λ input h. IfSome_then before h (λ held w. (w.0, w.1, w.2, w.3, w.4, cut_stop total after unwritten ended w.0 w.1 (held ++ w.3) k w.5)))
+    IfSome_then bytes h (λ input w. (w.0, w.1, w.2, w.3, unwritten ++ w.4, w.5, tt, cut_more before total after w.3 unwritten w.4 k w.7))
 
 -- an error is a failure
 pub err_fails : {E : Type 0} (bytes before after : Option (List ℕ)) (r : Result Ended E) → IsErr r → Owes bytes before after Failed → Owes bytes before after (result_unwrap_or r Failed)

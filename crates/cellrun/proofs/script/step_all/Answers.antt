@@ -1,5 +1,5 @@
-use Rattle.cellrun.proofs.Words.{bytes_left, output_contents, Done, BadLine, refl, rules, subst, ComesTo}
-use Rattle.cellrun.proofs.Written.{printed_start, printed_blank, printed_call, ends, owes}
+use Rattle.cellrun.proofs.Words.{bytes_left, output_contents, Done, BadLine, refl, rules}
+use Rattle.cellrun.proofs.Written.{printed_start, printed_blank, printed_call, owes}
 use Rattle.cellrun.proofs.script.step_all.Goals as goal
 use Rattle.cellrun.proofs.script.step_all.Goals.{in-Blank, in-Call+else-is_err+else-is_err-2}
 
@@ -20,19 +20,10 @@ loop-number-preserved g c =
           (rw w.in-Blank.is at c.in_ok-command.ensures.next) c.next.ensures.out)
     ]
 
-pub returns-in-Bad-clause-ended : goal.returns-in-Bad-clause-ended
-returns-in-Bad-clause-ended g c =
-    ends _ _ _ _ _ _ (BadLine c.loop-number.number) c.loop-number.invariant (λ input rest is comes. (rest, comes, rw (c.in-Bad.is, is) at c.in_ok-command.ensures.next))
+pub returns-in-Bad : goal.returns-in-Bad
+returns-in-Bad g c =
+    owes _ _ _ _ _ _ _ (BadLine c.loop-number.number) c.loop-number.invariant c.next.ensures.out (λ rest is. (refl, rw (c.in-Bad.is, is) at c.in_ok-command.ensures.next, refl))
 
-pub returns-in-End-clause-ended : goal.returns-in-End-clause-ended
-returns-in-End-clause-ended g c =
-    ends _ _ _ _ _ _ Done c.loop-number.invariant
-    (λ input rest is comes. (c.loop-number.number, subst (λ left. ComesTo input c.loop-number.number left) (rw (c.in-End.is, is) at c.in_ok-command.ensures.next) comes))
-
-pub returns-in-Bad-clause-written : goal.returns-in-Bad-clause-written
-returns-in-Bad-clause-written g c =
-    owes _ _ _ _ _ _ _ (BadLine c.loop-number.number) c.loop-number.invariant c.next.ensures.out (λ rest whole is. (refl, rw (c.in-Bad.is, is) at c.in_ok-command.ensures.next, refl))
-
-pub returns-in-End-clause-written : goal.returns-in-End-clause-written
-returns-in-End-clause-written g c =
-    owes _ _ _ _ _ _ _ Done c.loop-number.invariant c.next.ensures.out (λ rest whole is. (rw (c.in-End.is, is) at c.in_ok-command.ensures.next, refl))
+pub returns-in-End : goal.returns-in-End
+returns-in-End g c =
+    owes _ _ _ _ _ _ _ Done c.loop-number.invariant c.next.ensures.out (λ rest is. (rw (c.in-End.is, is) at c.in_ok-command.ensures.next, refl))
