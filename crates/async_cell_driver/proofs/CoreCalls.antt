@@ -1,6 +1,5 @@
 -- Where a call on the cell leads, and where a poll does.
-use Rattle.async_cell_driver.proofs.Words.{IsReadyWith, poll_reply, IsPolledWith, mark_after, polled_of, waiting_when, is_ready_mark, waits_mark, AllNamed, AllWaiting, DriverState, NamesMatch, change, is_named, kind_at, mark_at, name_of, result_at, result_of, wake_each, with_mark, Drives, FitsTold, is_call, call_of, entry_of, handed_out, history, line_of, names_by, poll_of, reply_of, told_of, Line, is_poll_of, is_ready, kinds, started, was_refused, with_edit, Event, Kind, Told, Mark, Task, model_of, Runs-sound, up_to_clones, StepsUpTo, woken_by, Does, IsSound, State, ends_waiting, waker_of, Cell, Entry, Kept, Refusal, Memory, Reply, same_name, Named, Bool, List, None, Option, Some, [], ap, append-nil, arith, false, length, map, not, refl, subst, sym, true, ℕ, ◌&&◌, ◌++◌, ◌||◌, ◌∙◌, ◌∷◌, ◌≡◌, ◌≢◌, or-false, or-true, nat_tests, eq-eqb, eqb-true, IsSomeAnd, option_map, Err, IfErr, IfOk, IsOk, MatchOption, Ok, OnOk, Result, if◌then◌else◌, is_some, nat_eq, option_to_list, mark_in, mark_told, woken_if}
-use Rattle.futures.specs.declared.{task.Poll.Poll, task.Poll.TheVariants.Ready, task.Poll.TheVariants.Pending}
+use Rattle.async_cell_driver.proofs.Words.{Polled, mark_after, waiting_when, is_ready_mark, waits_mark, AllNamed, AllWaiting, DriverState, NamesMatch, change, is_named, kind_at, mark_at, name_of, result_at, result_of, wake_each, with_mark, Drives, FitsTold, is_call, call_of, entry_of, handed_out, history, line_of, names_by, poll_of, reply_of, told_of, Line, is_poll_of, is_ready, kinds, started, was_refused, with_edit, Event, Kind, Told, Mark, Task, model_of, Runs-sound, up_to_clones, DoesUpTo, model_up_to, woken_by, Does, IsSound, State, ends_waiting, waker_of, Cell, Entry, Kept, Refusal, Memory, Reply, same_name, Named, Bool, List, None, Option, Some, [], ap, append-nil, arith, false, length, map, not, refl, subst, sym, true, ℕ, ◌&&◌, ◌++◌, ◌||◌, ◌∙◌, ◌∷◌, ◌≡◌, ◌≢◌, or-false, or-true, nat_tests, eq-eqb, eqb-true, IsSomeAnd, option_map, Err, IfErr, IfOk, IsOk, MatchOption, Ok, OnOk, Result, if◌then◌else◌, is_some, nat_eq, option_to_list, mark_in, mark_told, woken_if}
 use Rattle.async_cell_driver.specs.declared.tasks.Mark.TheVariants as mark
 use Rattle.async_cell_driver.specs.declared.event.Event.TheVariants as event
 use Rattle.async_cell_driver.specs.declared.event.Told.TheVariants as told
@@ -88,19 +87,16 @@ module _ {T : Type 0} where
   this_ready : (i j : ℕ) (tasks : List (Task T)) → is_ready_mark (mark_at tasks i) ≡ true → nat_eq i j ≡ true → is_ready_mark (mark_at tasks j) ≡ true
   this_ready i j tasks ready same = subst (λ k. is_ready_mark (mark_at tasks k) ≡ true) (eqb-true i j same) ready
 
-  replies_polled : (asked : Result (Poll (Option T)) Refusal) → reply_of (told_of (polled_of asked)) ≡ Some (poll_reply asked)
-  replies_polled asked = grind arith
+  mark_polled : (i j : ℕ) (asked : Result (Polled T) Refusal) (reply : Reply T) (old : Option Mark) → reply_of (told_of asked) ≡ Some reply → (nat_eq i j ≡ true → is_ready_mark old ≡ true)
+      → marked_if (nat_eq i j) (mark_after asked) old ≡ mark_told j (told_of asked) (event.Poll i) old
+  mark_polled i j asked reply old is ready = grind (arith, ready)
 
-  mark_polled : (i j : ℕ) (asked : Result (Poll (Option T)) Refusal) (old : Option Mark) → (nat_eq i j ≡ true → is_ready_mark old ≡ true)
-      → marked_if (nat_eq i j) (mark_after asked) old ≡ mark_told j (told_of (polled_of asked)) (event.Poll i) old
-  mark_polled i j asked old ready = grind (arith, ready)
-
-  fits_polled : (count : ℕ) (ready : ℕ → Bool) (i : ℕ) (asked : Result (Poll (Option T)) Refusal) → ready i ≡ true → IfErr asked (λ why. why ≡ Memory)
-      → FitsTold count ready (event.Poll i) (told_of (polled_of asked)) []
-  fits_polled count ready i asked is for_memory = grind arith
+  fits_polled : (count : ℕ) (ready : ℕ → Bool) (i : ℕ) (asked : Result (Polled T) Refusal) (reply : Reply T) → reply_of (told_of asked) ≡ Some reply → ready i ≡ true
+      → IfErr asked (λ why. why ≡ Memory) → FitsTold count ready (event.Poll i) (told_of asked) []
+  fits_polled count ready i asked reply is_reply is for_memory = grind arith
 
   -- each waiting name is still in the wait list, and so is that of the polled task, if it waits
-  pub covered_polled : (from : DriverState T) (core : State T Named) (i : ℕ) (asked : Result (Poll (Option T)) Refusal) → NamesMatch from → is_ready_mark (mark_at from.tasks i) ≡ true
+  pub covered_polled : (from : DriverState T) (core : State T Named) (i : ℕ) (asked : Result (Polled T) Refusal) → NamesMatch from → is_ready_mark (mark_at from.tasks i) ≡ true
       → IfErr asked (λ why. (why ≡ Memory) × (core.cell ≡ from.core.cell) × (core.waiting ≡ from.core.waiting)) → IfOk asked (λ p. core.waiting ≡ waiting_when p (name_of i) from.core.waiting)
       → NamesMatch (record { core = core; tasks = change (with_mark (mark_after asked)) i from.tasks })
   covered_polled from core i asked covered ready refused waits = (
@@ -109,21 +105,22 @@ module _ {T : Type 0} where
   )
 
   -- where the poll of a ready task leads
-  pub poll_drives : (is_clone : T → T → Type 0) (from : DriverState T) (core : State T Named) (i : ℕ) (kind : Kind) (asked : Result (Poll (Option T)) Refusal)
+  pub poll_drives : (is_clone : T → T → Type 0) (from : DriverState T) (core : State T Named) (i : ℕ) (kind : Kind) (asked : Result (Polled T) Refusal)
       → IsSound same_name core → NamesMatch from → kind_at from.tasks i ≡ Some kind → is_ready_mark (mark_at from.tasks i) ≡ true
-      → (StepsUpTo same_name true is_clone from.core (poll_of (Some kind) i) (poll_reply asked) [] core)
+      → IsSomeAnd (reply_of (told_of asked)) (λ reply. DoesUpTo same_name true is_clone from.core (record { call = poll_of (Some kind) i; reply = reply }) [] core)
       → IfErr asked (λ why. (why ≡ Memory) × (core.cell ≡ from.core.cell) × (core.waiting ≡ from.core.waiting)) → IfOk asked (λ p. core.waiting ≡ waiting_when p (name_of i) from.core.waiting)
-      → Drives is_clone from (line_of from (event.Poll i) (told_of (polled_of asked)) ∷ []) (record { core = core; tasks = change (with_mark (mark_after asked)) i from.tasks })
+      → Drives is_clone from (line_of from (event.Poll i) (told_of asked) ∷ []) (record { core = core; tasks = change (with_mark (mark_after asked)) i from.tasks })
   poll_drives is_clone from core i kind asked sound covered is_kind ready answers refused waits =
-      let answer : Told T = told_of (polled_of asked) in
+      let (reply, is, does) = from_some _ _ answers in
+      let answer : Told T = told_of asked in
       let line : Line T = record { event = event.Poll i; told = answer; names = [] } in
       let line_is : line_of from (event.Poll i) answer ≡ line =
       λ k. record { event = event.Poll i; told = answer; names = poll_wakes_none from.core (kind_at from.tasks i) i (reply_of answer) k } in
       rw line_is record {
-        legal = (fits_polled (length (kinds from [])) (is_ready from []) i asked ready (grind arith), tt);
-        core_leads = rw (is_kind, replies_polled asked) answers;
+        legal = (fits_polled (length (kinds from [])) (is_ready from []) i asked reply is ready (grind arith), tt);
+        core_leads = rw (is_kind, is) (model_up_to is_clone same_name true _ _ _ _ _ does);
         kinds_are = grind (arith, map-change, append-nil);
-        marks_are = λ j. mark-marked (mark_after asked) i j from.tasks ∙ mark_polled i j asked (mark_at from.tasks j) (this_ready i j from.tasks ready);
+        marks_are = λ j. mark-marked (mark_after asked) i j from.tasks ∙ mark_polled i j asked reply (mark_at from.tasks j) is (this_ready i j from.tasks ready);
         none_forgotten = awake _ sound (covered_polled from core i asked covered ready refused waits).0;
       }
 
@@ -131,28 +128,13 @@ module _ {T : Type 0} where
   pub sure_anyway : (o : Option T) (P : Type 0) (Q : T → Type 0) → P → MatchOption o P (λ value. Q value → P)
   sure_anyway o P Q holds = grind arith
 
-  ok_polled : (asked : Result (Poll (Option T)) Refusal) → IsOk asked → IsOk (polled_of asked)
-  ok_polled asked ok = grind arith
-
-  -- where the core's answer cannot fail, the task's poll cannot
-  pub sure_polled : (o : Option T) (Q : T → Type 0) (asked : Result (Poll (Option T)) Refusal) → MatchOption o (IsOk asked) (λ value. Q value → IsOk asked)
-      → MatchOption o (IsOk (polled_of asked)) (λ value. Q value → IsOk (polled_of asked))
-  sure_polled o Q asked sure = grind (arith, ok_polled)
-
-  -- what the core's answer says, the task's poll says
-  pub ok_as_polled : (asked : Result (Poll (Option T)) Refusal) (P : Type 0) → OnOk asked P → OnOk (polled_of asked) P
-  ok_as_polled asked P holds = grind arith
-
-  pub ready_as_polled : (asked : Result (Poll (Option T)) Refusal) (P : Option T → Type 0) → IfOk asked (IsReadyWith P) → IfOk (polled_of asked) (IsPolledWith P)
-  ready_as_polled asked P holds = grind arith
-
   -- a poll leaves the results
   pub results-marked : (m : Mark) (i j : ℕ) (tasks : List (Task T)) → result_at (change (with_mark m) i tasks) j ≡ result_at tasks j
   results-marked m i j tasks = says_same result_of (with_mark m) (λ t. grind arith) i j tasks
 
   -- a task whose poll was not refused is not ready
-  pub ready_no_more : (core : State T Named) (i : ℕ) (asked : Result (Poll (Option T)) Refusal) (tasks : List (Task T)) → is_ready_mark (mark_at tasks i) ≡ true
-      → OnOk (polled_of asked) (is_ready (record { core = core; tasks = change (with_mark (mark_after asked)) i tasks }) [] i ≡ false)
+  pub ready_no_more : (core : State T Named) (i : ℕ) (asked : Result (Polled T) Refusal) (tasks : List (Task T)) → is_ready_mark (mark_at tasks i) ≡ true
+      → OnOk asked (is_ready (record { core = core; tasks = change (with_mark (mark_after asked)) i tasks }) [] i ≡ false)
   ready_no_more core i asked tasks ready = grind (arith, mark-marked, eq-eqb)
 
   -- the others are as ready as before
@@ -160,4 +142,4 @@ module _ {T : Type 0} where
   others_stay m i j tasks other = ap (option_map (λ task. task.mark)) (slice_get-change_other (with_mark m) i j tasks other)
 
 -- what the tactics use where a task is polled
-pub ruleset poll_steps = (sure_anyway, sure_polled, ok_as_polled, ready_as_polled, results-marked, others_stay)
+pub ruleset poll_steps = (sure_anyway, results-marked, others_stay)

@@ -1,6 +1,5 @@
--- What follows from the core's reply to a poll.
+-- What follows from what a poll returns.
 use Rattle.std.specs.Prelude.{◌≡◌, false, List, [], ◌∷◌, ◌++◌, Option, None, Result, Ok, Err, IfOk, OnOk}
-use Rattle.futures.specs.declared.{task.Poll.Poll, task.Poll.TheVariants.Ready, task.Poll.TheVariants.Pending}
 use Rattle.async_cell_wakers.specs.declared.named.Named.{Named}
 use Rattle.async_cell_model.specs.declared.refusal.Refusal.{Refusal}
 use Rattle.async_cell_model.specs.Machine.{content, is_vacant, State}
@@ -11,21 +10,15 @@ use Rattle.async_cell_driver.specs.declared.event.Polled.TheVariants as polled
 
 module _ {T : Type 0} where
   -- the wait list after the poll
-  abbrev pub waiting_when : Poll (Option T) → Named → List Named → List Named
-  waiting_when (Ready value) name waiting = waiting
-  waiting_when Pending name waiting = waiting ++ name ∷ []
+  abbrev pub waiting_when : Polled T → Named → List Named → List Named
+  waiting_when (polled.Ready value) name waiting = waiting
+  waiting_when _ name waiting = waiting ++ name ∷ []
 
   -- the mark of the task after the poll
-  abbrev pub mark_after : Result (Poll (Option T)) Refusal → Mark
-  mark_after (Ok (Ready value)) = mark.Done
-  mark_after (Ok Pending) = mark.Waiting
+  abbrev pub mark_after : Result (Polled T) Refusal → Mark
+  mark_after (Ok (polled.Ready value)) = mark.Done
+  mark_after (Ok _) = mark.Waiting
   mark_after (Err why) = mark.Ready
-
-  -- what the task's poll returns
-  abbrev pub polled_of : Result (Poll (Option T)) Refusal → Result (Polled T) Refusal
-  polled_of (Ok (Ready value)) = Ok (polled.Ready value)
-  polled_of (Ok Pending) = Ok polled.Pending
-  polled_of (Err why) = Err why
 
   -- the task's poll is ready, with a content that satisfies P
   abbrev pub IsPolledWith : (Option T → Type 0) → Polled T → Type 0

@@ -1,10 +1,9 @@
-ghost use Rattle.std.specs.Prelude.{◌≡◌, ◌≢◌, ◌≤◌, ℕ, List, [], map, length, vec_len, true, false, Some, None, Ok, ◌↔◌, IsTrue, IsOk, IfOk, IfErr, OnOk, OnErr, MatchOption};
+ghost use Rattle.std.specs.Prelude.{◌≡◌, ◌≢◌, ◌≤◌, ℕ, List, [], map, length, vec_len, true, false, Some, None, Ok, ◌↔◌, IsTrue, IsOk, IsSomeAnd, IfOk, IfErr, OnOk, OnErr, MatchOption};
 ghost use Rattle.async_cell_model.specs.Machine.{content, is_closed, is_vacant, may_refuse, DoesUpTo};
 ghost use Rattle.async_cell_model.specs.Refusal.{FailsWithMemory};
-ghost use Rattle.async_cell_core.specs.Polled.{IsCloneOf, IsReadyWith, poll_reply};
 ghost use Rattle.async_cell_wakers.specs.{Named.same_name, declared.named.Named.Named as Name};
-ghost use Rattle.async_cell_driver.specs.Asked.{ClonesContent, TakesContent, waiting_when, mark_after, polled_of};
-ghost use Rattle.async_cell_driver.specs.{DriverState.is_named, DriverState.kind_at, DriverState.result_at, History.poll_of, History.told_of};
+ghost use Rattle.async_cell_driver.specs.Asked.{ClonesContent, TakesContent, waiting_when, mark_after};
+ghost use Rattle.async_cell_driver.specs.{DriverState.is_named, DriverState.kind_at, DriverState.result_at, History.poll_of, History.reply_of, History.told_of};
 ghost use Rattle.async_cell_driver.specs.Drives.{AllSpared, Drives, Happens, IsSpared, ResultsStay};
 ghost use Rattle.async_cell_driver.specs.Log.{Log, is_ready, waits, log_of, with_edit};
 ghost use Rattle.async_cell_driver.specs.{Settle.Settles, Settle.SettlesOne, declared.event.Told.Told as Answer};
@@ -111,9 +110,8 @@ impl<T: Clone> Driver<T> {
         };
         let asked = ask(&mut self.core, kind, Named(i as u64));
         self.core.soundness();
-        let (mark, polled) = outcome(asked);
-        self.tasks.set_mark(i, mark);
-        polled
+        self.tasks.set_mark(i, mark_after(&asked));
+        asked
     }
 
     /// Makes room in the core's wait list: the next `additional` wakers that polls add need no
@@ -280,21 +278,17 @@ fn ask<T: Clone>(
     core: &mut Core<T, Named>,
     kind: Kind,
     name: Named,
-) -> Result<Poll<Option<T>>, Refusal>
+) -> Result<Polled<T>, Refusal>
     requires { is_named name.0 core.old.waiting ≡ false }
-    ensures model { DoesUpTo same_name true T.is_clone core.old
-        (record { call = poll_of (Some kind) name.0; reply = poll_reply result }) [] core.new }
+    ensures model { IsSomeAnd (reply_of (told_of result)) (λ reply.
+        DoesUpTo same_name true T.is_clone core.old
+        (record { call = poll_of (Some kind) name.0; reply = reply }) [] core.new) }
     ensures refused { IfErr result (λ why. (why ≡ Refusal.Memory)
         × (core.new.cell ≡ core.old.cell) × (core.new.waiting ≡ core.old.waiting)) }
     ensures waiting { IfOk result (λ polled.
         core.new.waiting ≡ waiting_when polled name core.old.waiting) }
-    ensures taker_takes { kind ≡ Kind.Take → is_vacant core.old.cell ≡ false
-        → result ≡ Ok (Poll.Ready (content core.old.cell)) }
-    ensures taker_leaves_none { kind ≡ Kind.Take → OnOk result (content core.new.cell ≡ None) }
-    ensures getter_clones { kind ≡ Kind.Get → is_vacant core.old.cell ≡ false
-        → IfOk result (IsReadyWith (IsCloneOf T.is_clone (content core.old.cell))) }
-    ensures getter_leaves { kind ≡ Kind.Get
-        → is_vacant core.old.cell ≡ false → core.new ≡ core.old }
+    ensures taker { kind ≡ Kind.Take → TakesContent core.old core.new result }
+    ensures getter { kind ≡ Kind.Get → ClonesContent T.is_clone core.old core.new result }
     ensures spared { may_refuse same_name true core.old (poll_of (Some kind) name.0) ≡ false
         → IsOk result }
     ensures if_infallible { is_vacant core.old.cell ≡ false
@@ -303,22 +297,25 @@ fn ask<T: Clone>(
 {
     if core.is_vacant() {
         core.add_unique(&name)?;
-        return Ok(Poll::Pending);
+        return Ok(Polled::Pending);
     }
-    match kind {
-        Kind::Take => core.poll_take(&name),
-        Kind::Get => core.poll_get(&name),
-    }
+    let polled = match kind {
+        Kind::Take => core.poll_take(&name)?,
+        Kind::Get => core.poll_get(&name)?,
+    };
+    Ok(match polled {
+        Poll::Ready(content) => Polled::Ready(content),
+        Poll::Pending => Polled::Pending,
+    })
 }
 
-/// Returns the mark of a task after this poll of the core, and what `poll` returns for it.
-fn outcome<T: Drop>(asked: Result<Poll<Option<T>>, Refusal>) -> (Mark, Result<Polled<T>, Refusal>)
-    ensures mark { result.0 ≡ mark_after asked }
-    ensures polled { result.1 ≡ polled_of asked }
+/// Returns the mark of a task after a poll of the core that returned this.
+fn mark_after<T>(asked: &Result<Polled<T>, Refusal>) -> Mark
+    ensures { result ≡ mark_after asked.now }
 {
     match asked {
-        Ok(Poll::Ready(content)) => (Mark::Done, Ok(Polled::Ready(content))),
-        Ok(Poll::Pending) => (Mark::Waiting, Ok(Polled::Pending)),
-        Err(why) => (Mark::Ready, Err(why)),
+        Ok(Polled::Ready(_)) => Mark::Done,
+        Ok(_) => Mark::Waiting,
+        Err(_) => Mark::Ready,
     }
 }
