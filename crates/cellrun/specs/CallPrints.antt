@@ -1,42 +1,15 @@
 -- What a call prints, and the names that a session knows of the wakers that wait.
 use Rattle.std.specs.Prelude.{◌≡◌, ◌+ℤ◌, ℕ, ℤ, Bool, true, List, [], ◌∷◌, ◌++◌, Option, Some, None, codes, decimal, if◌then◌else◌}
-use Rattle.std.specs.{BTreeSet.BTreeSet, BTreeSet.contains, Fmt.signed_decimal, Int.saturate_signed, Int.w64, Option.option_map, Ordering.nat_cmp}
+use Rattle.std.specs.{BTreeSet.BTreeSet, BTreeSet.contains, Fmt.signed_decimal, Int.saturate_signed, Int.w64, Ordering.nat_cmp}
 use Rattle.async_cell_wakers.specs.{Named.same_name, declared.named.Named.Named}
 use Rattle.async_cell_model.specs.declared.{cell.Cell.Cell, entry.Kept.Kept, refusal.Refusal.Refusal, reply.Reply.Reply}
-use Rattle.async_cell_model.specs.declared.entry.Kept.TheVariants as kept
 use Rattle.async_cell_model.specs.declared.refusal.Refusal.TheVariants as why
 use Rattle.async_cell_model.specs.declared.reply.Reply.TheVariants.{Done, Value, Is, Pending, Ready, Refused}
-use Rattle.async_cell_model.specs.Machine.{content, is_closed, owners_of, skips, State, Does}
+use Rattle.async_cell_model.specs.Machine.{owners_of, skips, State, Does}
+use Rattle.async_cell_core.specs.{Kept.kept_call as listed_call, declared.call.Call.Call}
+use Rattle.async_cell_core.specs.declared.call.Call.TheVariants as listed
 use Rattle.cellrun.specs.declared.command.Command.{Command}
 use Rattle.cellrun.specs.declared.command.Command.TheVariants.{Set, OrSet, Replace, UpdatePut, UpdateNone, UpdateKeep, UpdateSomeAdd, Take, Get, TryTake, TryGet, Own, End, Inner, Debug}
-
--- an update of this cell as a history stores it: with what its closure saw and what it returned,
--- both `None` if it was not called
-abbrev pub kept_update : Cell ℤ → Option ℤ → Kept ℤ Named
-kept_update cell put =
-    if is_closed cell then kept.Update None None else kept.Update (content cell) put
-
--- the same of an update of its value
-abbrev pub kept_update_some : Cell ℤ → (ℤ → ℤ) → Kept ℤ Named
-kept_update_some cell change = kept.UpdateSome (content cell) (option_map change (content cell))
-
--- the call of a line, on this cell, as a history stores it
-abbrev pub kept_call : Cell ℤ → Command → Kept ℤ Named
-kept_call cell (Set v) = kept.Set v
-kept_call cell (OrSet v) = kept.OrSet v
-kept_call cell (Replace v) = kept.Replace v
-kept_call cell (UpdatePut v) = kept_update cell (Some v)
-kept_call cell UpdateNone = kept_update cell None
-kept_call cell UpdateKeep = kept_update cell (content cell)
-kept_call cell (UpdateSomeAdd more) = kept_update_some cell (λ v. saturate_signed w64 (v +ℤ more))
-kept_call cell (Take w) = kept.PollTake (record { 0 = w })
-kept_call cell (Get w) = kept.PollGet (record { 0 = w })
-kept_call cell TryTake = kept.TryTake
-kept_call cell TryGet = kept.TryGet
-kept_call cell Own = kept.AddOwner
-kept_call cell End = kept.EndOwner
-kept_call cell Inner = kept.TakeInner
-kept_call cell _ = kept.IsSet
 
 -- what the closure of an update makes of the content
 abbrev pub edited : Command → Option ℤ → Option ℤ
@@ -48,6 +21,28 @@ edited call content = content
 abbrev pub increased : Command → ℤ → ℤ
 increased (UpdateSomeAdd more) v = saturate_signed w64 (v +ℤ more)
 increased call v = v
+
+-- the call of a line, as a list of calls holds it; `is_set` for `debug`, which makes none
+abbrev pub call_of : Command → Call ℤ Named Command
+call_of (Set v) = listed.Set v
+call_of (OrSet v) = listed.OrSet v
+call_of (Replace v) = listed.Replace v
+call_of (UpdatePut v) = listed.Update (UpdatePut v)
+call_of UpdateNone = listed.Update UpdateNone
+call_of UpdateKeep = listed.Update UpdateKeep
+call_of (UpdateSomeAdd more) = listed.UpdateSome (UpdateSomeAdd more)
+call_of (Take w) = listed.PollTake (record { 0 = w })
+call_of (Get w) = listed.PollGet (record { 0 = w })
+call_of TryTake = listed.TryTake
+call_of TryGet = listed.TryGet
+call_of Own = listed.AddOwner
+call_of End = listed.EndOwner
+call_of Inner = listed.TakeInner
+call_of _ = listed.IsSet
+
+-- the same on this cell, as a history stores it
+abbrev pub kept_call : Cell ℤ → Command → Kept ℤ Named
+kept_call cell command = listed_call edited increased cell (call_of command)
 
 -- why a call was refused
 abbrev pub refusal_text : Refusal → List ℕ

@@ -1,10 +1,9 @@
 //! The cell that a script steps, and what its calls print.
 ghost use Rattle.std.specs.Prelude.{◌≡◌, ◌++◌, ℤ, [], true, false, OnOk, Option, Some, None, codes, decimal};
 ghost use Rattle.std.specs.{BTreeSet.contains, Fmt.signed_decimal, Ordering.nat_cmp};
-ghost use Rattle.async_cell_model.specs.{Machine.Does, Machine.skips, Machine.waker_of, declared.cell.Cell.Cell};
+ghost use Rattle.async_cell_model.specs.{Machine.Does, Machine.skips, Machine.waker_of};
 ghost use Rattle.async_cell_wakers.specs.Named.{same_name};
-ghost use Rattle.async_cell_core.specs.Kept.{kept_call as listed_call};
-ghost use Rattle.cellrun.specs.CallPrints.{CallPrints, KnowsNames, kept_call, edited, increased, reply_text, value_text, refusal_text, end_text};
+ghost use Rattle.cellrun.specs.CallPrints.{CallPrints, KnowsNames, call_of, kept_call, edited, increased, reply_text, value_text, refusal_text, end_text};
 ghost use Rattle.cellrun.specs.Script.{new_cell};
 
 use crate::command::Command;
@@ -113,7 +112,7 @@ impl Session {
 
 /// Returns the call that the command makes: `IsSet` for `debug`, which makes none.
 fn call_of(command: Command) -> Call<i64, Named, Command>
-    ensures { (cell : Cell ℤ) → listed_call edited increased cell result ≡ kept_call cell command }
+    ensures { result ≡ call_of command }
 {
     match command {
         Command::Set(value) => Call::Set(value),

@@ -7,5 +7,5 @@ invariant_of-self-2 c =
     let is = ap (λ (s : State ℤ Named). waker_of (kept_call s.cell c.args.command)) c.is_new.ensures.core ∙ c.requires in
     record {
       known = known_if _ _ _ _ _ _ _ c.is_new.new.self.known c.step_copied.ensures.model (Some (record { 0 = c.args.name }))
-          (cc (c.call_of.ensures c.is_new.new.self.core.cell, is)) c.is_new.ensures.noted;
+          (cc (c.call_of.ensures, is)) c.is_new.ensures.noted;
     }
