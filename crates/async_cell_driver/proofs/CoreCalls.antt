@@ -9,11 +9,6 @@ from_some : {A : Type 0} (o : Option A) (P : A → Type 0) → IsSomeAnd o P →
 from_some None P has = absurd has
 from_some (Some x) P has = (x, refl, has)
 
--- the mark of a task that is marked if it is polled
-abbrev pub marked_if : Bool → Mark → Option Mark → Option Mark
-marked_if true m old = option_map (λ _. m) old
-marked_if false m old = old
-
 module _ {T : Type 0} where
   -- the names are those that the entry wakes
   pub names_are : (from to : State T Named) (call : Kept T Named) (r : Reply T) (names : List Named) → Does same_name true from (record { call = call; reply = r }) names to
@@ -24,15 +19,6 @@ module _ {T : Type 0} where
   pub begins_there : (from to : State T Named) (call : Kept T Named) (r : Reply T) (names : List Named) → Does same_name true from (record { call = call; reply = r }) names to → IsSound same_name to
   begins_there from to call r names answers =
       Runs-sound (λ (x y : T). y ≡ x) same_name true from to _ _ (up_to_clones _ same_name true from to _ _ (model_of same_name true from to call r names answers))
-
-  no_start : (event : Event T (Option T → Option T)) (r : Reply T) → is_call event ≡ true → started event (told.Reply r) ≡ []
-  no_start event r is = grind arith
-
-  fits_any : (count : ℕ) (ready : ℕ → Bool) (event : Event T (Option T → Option T)) (r : Reply T) (names : List Named) → is_call event ≡ true → FitsTold count ready event (told.Reply r) names
-  fits_any count ready event r names is = grind arith
-
-  call_any : (all : List Kind) (c : Cell T) (event : Event T (Option T → Option T)) (call : Kept T Named) → is_call event ≡ true → call_of [] c event ≡ Some call → call_of all c event ≡ Some call
-  call_any all c event call is is_call = grind arith
 
   -- the core's call of an event, with its reply and the names that it wakes
   abbrev pub CallsAs : Event T (Option T → Option T) → State T Named → Reply T → List Named → State T Named → Type 0
@@ -59,19 +45,18 @@ module _ {T : Type 0} where
       → is_call event ≡ true → NamesMatch from → CallsAs event from.core r names core
       → Drives is_clone from (line_of from event (told.Reply r) ∷ []) (record { core = core; tasks = wake_each names from.tasks })
   call_drives is_clone from core names event r is_event covered made =
-      let (call, is, answers) = from_some _ _ made in
+      let (call, is, answers) = from_some (call_of [] from.core.cell event) (λ call. Does same_name true from.core (record { call = call; reply = r }) names core) made in
       let e : Entry T Named = record { call = call; reply = r } in
       let line : Line T = record { event = event; told = told.Reply r; names = names } in
-      let entry : entry_of (call_of (map (λ task. task.kind) from.tasks) from.core.cell event) (Some r) ≡ Some e =
-      rw (call_any (map (λ task. task.kind) from.tasks) from.core.cell event call is_event is) refl in
+      let entry : entry_of (call_of (map (λ task. task.kind) from.tasks) from.core.cell event) (Some r) ≡ Some e = grind arith in
       let line_is : line_of from event (told.Reply r) ≡ line =
       λ k. record { event = event; told = told.Reply r; names = (ap (names_by from.core) entry ∙ sym (names_are from.core core call r names answers)) k } in
       let is_history : history from (line ∷ []) ≡ e ∷ [] = ap option_to_list entry in
       let is_handed : handed_out from (line ∷ []) ≡ names ∷ [] = ap (λ (o : Option (Entry T Named)). option_to_list (option_map (λ x. names) o)) entry in
       rw line_is record {
-        legal = (fits_any (length (kinds from [])) (is_ready from []) event r names is_event, tt);
+        legal = (grind arith, tt);
         core_leads = up_to_clones is_clone same_name true from.core core _ _ (rw (is_history, is_handed) (model_of same_name true from.core core call r names answers));
-        kinds_are = grind (arith, kinds-wake_each, append-nil, no_start);
+        kinds_are = grind (arith, kinds-wake_each, append-nil);
         marks_are = λ i. mark-wake_each names from.tasks i;
         none_forgotten = awake _ (begins_there from.core core call r names answers) (covered_called from core names event r is_event covered made).0;
       }
@@ -80,20 +65,12 @@ module _ {T : Type 0} where
   poll_wakes_none : (core : State T Named) (kind : Option Kind) (i : ℕ) (r : Option (Reply T)) → names_by core (entry_of (Some (poll_of kind i)) r) ≡ []
   poll_wakes_none core kind i r = grind arith
 
-  pub mark-marked : (m : Mark) (i j : ℕ) (tasks : List (Task T)) → mark_at (change (with_mark m) i tasks) j ≡ marked_if (nat_eq i j) m (mark_at tasks j)
+  pub mark-marked : (m : Mark) (i j : ℕ) (tasks : List (Task T)) → mark_at (change (with_mark m) i tasks) j ≡ (if nat_eq i j then option_map (λ _. m) (mark_at tasks j) else mark_at tasks j)
   mark-marked m i j tasks = grind (arith, nat_tests, slice_get-change_same, slice_get-change_other)
 
   -- what a task of the same number says
   this_ready : (i j : ℕ) (tasks : List (Task T)) → is_ready_mark (mark_at tasks i) ≡ true → nat_eq i j ≡ true → is_ready_mark (mark_at tasks j) ≡ true
   this_ready i j tasks ready same = subst (λ k. is_ready_mark (mark_at tasks k) ≡ true) (eqb-true i j same) ready
-
-  mark_polled : (i j : ℕ) (asked : Result (Polled T) Refusal) (reply : Reply T) (old : Option Mark) → reply_of (told_of asked) ≡ Some reply → (nat_eq i j ≡ true → is_ready_mark old ≡ true)
-      → marked_if (nat_eq i j) (mark_after asked) old ≡ mark_told j (told_of asked) (event.Poll i) old
-  mark_polled i j asked reply old is ready = grind (arith, ready)
-
-  fits_polled : (count : ℕ) (ready : ℕ → Bool) (i : ℕ) (asked : Result (Polled T) Refusal) (reply : Reply T) → reply_of (told_of asked) ≡ Some reply → ready i ≡ true
-      → IfErr asked (λ why. why ≡ Memory) → FitsTold count ready (event.Poll i) (told_of asked) []
-  fits_polled count ready i asked reply is_reply is for_memory = grind arith
 
   -- each waiting name is still in the wait list, and so is that of the polled task, if it waits
   pub covered_polled : (from : DriverState T) (core : State T Named) (i : ℕ) (asked : Result (Polled T) Refusal) → NamesMatch from → is_ready_mark (mark_at from.tasks i) ≡ true
@@ -111,16 +88,17 @@ module _ {T : Type 0} where
       → IfErr asked (λ why. (why ≡ Memory) × (core.cell ≡ from.core.cell) × (core.waiting ≡ from.core.waiting)) → IfOk asked (λ p. core.waiting ≡ waiting_when p (name_of i) from.core.waiting)
       → Drives is_clone from (line_of from (event.Poll i) (told_of asked) ∷ []) (record { core = core; tasks = change (with_mark (mark_after asked)) i from.tasks })
   poll_drives is_clone from core i kind asked sound covered is_kind ready answers refused waits =
-      let (reply, is, does) = from_some _ _ answers in
+      let (reply, is, does) =
+          from_some (reply_of (told_of asked)) (λ reply. DoesUpTo same_name true is_clone from.core (record { call = poll_of (Some kind) i; reply = reply }) [] core) answers in
       let answer : Told T = told_of asked in
       let line : Line T = record { event = event.Poll i; told = answer; names = [] } in
       let line_is : line_of from (event.Poll i) answer ≡ line =
       λ k. record { event = event.Poll i; told = answer; names = poll_wakes_none from.core (kind_at from.tasks i) i (reply_of answer) k } in
       rw line_is record {
-        legal = (fits_polled (length (kinds from [])) (is_ready from []) i asked reply is ready (grind arith), tt);
+        legal = (grind arith, tt);
         core_leads = rw (is_kind, is) (model_up_to is_clone same_name true _ _ _ _ _ does);
         kinds_are = grind (arith, map-change, append-nil);
-        marks_are = λ j. mark-marked (mark_after asked) i j from.tasks ∙ mark_polled i j asked reply (mark_at from.tasks j) is (this_ready i j from.tasks ready);
+        marks_are = λ j. grind (arith, mark-marked, this_ready);
         none_forgotten = awake _ sound (covered_polled from core i asked covered ready refused waits).0;
       }
 

@@ -10,21 +10,10 @@ module _ {T : Type 0} where
   awake at sound covered not_vacant i stands = grind (arith, woken_by, covered, sound.waits_vacant)
 
   -- within the list one task is written
-  change_within : (f : Task T → Task T) (i : ℕ) (tasks : List (Task T)) (task : Task T) → i < length tasks → task ≡ get_or tasks i task → set tasks i (f task) ≡ change f i tasks
-  change_within f i [] task within is = absurd (omega arith)
-  change_within f zero (t ∷ tasks) task within is = ap (λ (x : Task T). f x ∷ tasks) is
-  change_within f (suc i) (t ∷ tasks) task within is = ap (λ (xs : List (Task T)). t ∷ xs) (change_within f i tasks task (omega arith) is)
-
-  pub marked_within : (mark : Mark) (i : ℕ) (tasks : List (Task T)) (task : Task T) → i < length tasks → task ≡ get_or tasks i task
-      → set tasks i (record task { mark = mark }) ≡ change (with_mark mark) i tasks
-  marked_within mark i tasks task within is = change_within (with_mark mark) i tasks task within is
-
-  pub woken_within : (i : ℕ) (tasks : List (Task T)) (task : Task T) → i < length tasks → task ≡ get_or tasks i task → set tasks i (wake task) ≡ change wake i tasks
-  woken_within i tasks task within is = change_within wake i tasks task within is
-
-  pub kept_within : (result : Option (Option T)) (i : ℕ) (tasks : List (Task T)) (task : Task T) → i < length tasks → task ≡ get_or tasks i task
-      → set tasks i (record task { result = result }) ≡ change (with_result result) i tasks
-  kept_within result i tasks task within is = change_within (with_result result) i tasks task within is
+  pub change_within : (f : Task T → Task T) (i : ℕ) (tasks : List (Task T)) (task new : Task T) → i < length tasks → task ≡ get_or tasks i task → new ≡ f task → set tasks i new ≡ change f i tasks
+  change_within f i [] task new within is made = absurd (omega arith)
+  change_within f zero (t ∷ tasks) task new within is made = ap (λ (x : Task T). x ∷ tasks) (made ∙ ap f is)
+  change_within f (suc i) (t ∷ tasks) task new within is made = ap (λ (xs : List (Task T)). t ∷ xs) (change_within f i tasks task new (omega arith) is made)
 
   -- past its end none is
   pub change_past : (f : Task T → Task T) (i : ℕ) (tasks : List (Task T)) → length tasks ≤ i → change f i tasks ≡ tasks

@@ -120,7 +120,7 @@ impl<T: Drop> Tasks<T> {
     }
 
     /// Marks a task, if it was started.
-    #[tactic(auto, using(crate::proofs::TaskList::change_past, crate::proofs::TaskList::marked_within))]
+    #[tactic(auto, using(crate::proofs::TaskList::change_past, crate::proofs::TaskList::change_within))]
     pub fn set_mark(&mut self, i: usize, mark: Mark)
         ensures { self.new ≡ change (with_mark mark) i self.old }
     {
@@ -131,7 +131,7 @@ impl<T: Drop> Tasks<T> {
     }
 
     /// Stores this result of a task, if it was started, and returns the one that was stored before.
-    #[tactic(auto, using(crate::proofs::TaskList::change_past, crate::proofs::TaskList::result_within, crate::proofs::TaskList::kept_within))]
+    #[tactic(auto, using(crate::proofs::TaskList::change_past, crate::proofs::TaskList::result_within, crate::proofs::TaskList::change_within))]
     pub fn replace_result(&mut self, i: usize, content: Option<Option<T>>) -> Option<Option<T>>
         ensures gives { result ≡ result_at self.old i }
         ensures once { self.new ≡ change (with_result content) i self.old }
@@ -153,7 +153,7 @@ impl<T: Drop> Tasks<T> {
     }
 
     /// Wakes one task, if it was started.
-    #[tactic(auto, using(crate::proofs::TaskList::change_past, crate::proofs::TaskList::woken_within))]
+    #[tactic(auto, using(crate::proofs::TaskList::change_past, crate::proofs::TaskList::change_within))]
     fn wake_one(&mut self, i: usize)
         ensures { self.new ≡ change wake i self.old }
     {
