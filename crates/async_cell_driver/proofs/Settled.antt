@@ -59,9 +59,6 @@ module _ {T : Type 0} where
   events-more : (line : Line T) (log : Log T) → events_of (line ∷ log) ≡ events_of log ++ line.event ∷ []
   events-more line log = ap (map (λ l. l.event)) (reverse-append (line ∷ []) log) ∙ map-append (λ l. l.event) (reverse log) (line ∷ [])
 
-  keeps_more : (from at to : DriverState T) (log : Log T) (line : Line T) → Keeps from log at → Keeps at (line ∷ []) to → Keeps from (line ∷ log) to
-  keeps_more from at to log line first second j = grind (arith, first, second)
-
   -- the events after the poll of a ready task
   events_then : (is_clone : T → T → Type 0) (from at : DriverState T) (i polls : ℕ) (log : Log T) (answer : Told T) → SoFar is_clone from i polls log at → is_ready from [] i ≡ true
       → events_of (line_of at (Poll i) answer ∷ log) ≡ map Poll (filter (is_ready from []) (numbers (i + 1)))
@@ -75,7 +72,7 @@ module _ {T : Type 0} where
     events = events_then is_clone from at i polls log answer here ready;
     none_refused = ap (λ b. b || has_refused log) one.told ∙ here.none_refused;
     counts = grind (arith, length-append, numbers_more);
-    keeps = keeps_more from at to log (line_of at (Poll i) answer) here.keeps one.keeps;
+    keeps = λ j. grind (arith, here.keeps, one.keeps);
   }
 
   -- where a poll was refused
@@ -91,19 +88,15 @@ module _ {T : Type 0} where
           polls = (filter (is_ready from []) rest.0, grind (arith, events, rest.1, map-append, filter-append));
           counts = (one.told, here.none_refused);
         };
-        keeps = keeps_more from at to log (line_of at (Poll i) answer) here.keeps one.keeps;
+        keeps = λ j. grind (arith, here.keeps, one.keeps);
       }
-
-  keeps_over : (from at : DriverState T) (i j : ℕ) (value : Option T) → is_some (slice_get at.tasks i) ≡ true → ResultsStay from at
-      → result_at (change (with_result (Some value)) i at.tasks) j ≡ got_or (got_or (if nat_eq i j then Some value else None) None) (result_at from.tasks j)
-  keeps_over from at i j value there stay = grind (arith, nat_tests, slice_get-change_same, result-keeping_other, stay)
 
   same_size : (from at : DriverState T) → map (λ task. task.kind) at.tasks ≡ map (λ task. task.kind) from.tasks ++ [] → length at.tasks ≡ length from.tasks
   same_size from at same = let lengths = ap (λ all. length all) same in grind (arith, lengths, length-map, append-nil)
 
   pub keeps_one : (from at : DriverState T) (i : ℕ) (value : Option T) → is_ready from [] i ≡ true → map (λ task. task.kind) at.tasks ≡ map (λ task. task.kind) from.tasks ++ [] → ResultsStay from at
       → Keeps from (line_of from (Poll i) (told.Polled (Ready value)) ∷ []) (keeping i (Some value) at)
-  keeps_one from at i value ready kinds stay j = let size = same_size from at kinds in grind (arith, size, slice_get_cases, keeps_over, stay)
+  keeps_one from at i value ready kinds stay j = let size = same_size from at kinds in grind (arith, nat_tests, size, slice_get_cases, slice_get-change_same, result-keeping_other, stay)
 
   -- where the poll is refused
   pub one_refused : (is_clone : T → T → Type 0) (from at : DriverState T) (i : ℕ) (why : Refusal) → ResultsStay from at
@@ -115,14 +108,6 @@ module _ {T : Type 0} where
   size_kept from at i result kinds =
       let changed = map-change (λ (task : Task T). task.kind) (with_result result) (λ t. refl) i at.tasks in
       grind (arith, changed, length-map, same_size)
-
-  -- where no task was left out, none is ready
-  pub none_ready : (at : DriverState T) (n : ℕ) → length at.tasks ≤ n → ((j : ℕ) → j < n → is_ready at [] j ≡ false) → (j : ℕ) → is_ready at [] j ≡ false
-  none_ready at n size passed j = grind (arith, slice_get_past, passed)
-
-  -- and where the cell is full or closed then, none waits
-  pub none_waits : (at : DriverState T) → NoneForgotten at → ((j : ℕ) → is_ready at [] j ≡ false) → is_vacant at.core.cell ≡ false → (j : ℕ) → waits at [] j ≡ false
-  none_waits at awake not_ready not_vacant j = grind (arith, awake, not_ready)
 
 -- what the tactics use in `Driver::poll_and_keep`
 pub ruleset keep_steps = (poll_steps, mark-keeping, ready-keeping, size_kept)
