@@ -24,9 +24,6 @@ module _ {T : Type 0} where
   abbrev pub CallsAs : Event T (Option T → Option T) → State T Named → Reply T → List Named → State T Named → Type 0
   CallsAs event from r names to = IsSomeAnd (call_of [] from.cell event) (λ call. Does same_name true from (record { call = call; reply = r }) names to)
 
-  no_waker : (c : Cell T) (event : Event T (Option T → Option T)) (call : Kept T Named) → is_call event ≡ true → call_of [] c event ≡ Some call → waker_of call ≡ None
-  no_waker c event call is is_call = grind arith
-
   pub is_call-with_edit : {E : Type 0} (edit : E → Option T → Option T) (event : Event T E) → is_call event ≡ true → is_call (with_edit edit event) ≡ true
   is_call-with_edit edit event is = grind arith
 
@@ -34,8 +31,8 @@ module _ {T : Type 0} where
   pub covered_called : (from : DriverState T) (core : State T Named) (names : List Named) (event : Event T (Option T → Option T)) (r : Reply T)
       → is_call event ≡ true → NamesMatch from → CallsAs event from.core r names core → NamesMatch (record { core = core; tasks = wake_each names from.tasks })
   covered_called from core names event r is_event covered made =
-      let (call, is_call, answers) = from_some _ _ made in
-      let silent = no_waker from.core.cell event call is_event is_call in (
+      let (call, is, answers) = from_some (call_of [] from.core.cell event) (λ call. Does same_name true from.core (record { call = call; reply = r }) names core) made in
+      let silent : waker_of call ≡ None = grind arith in (
         λ i stands. grind (arith, model_of, names_are, mark-wake_each, named-wait_list, named-append, covered.0),
         λ i named. grind (arith, model_of, names_are, mark-wake_each, named-wait_list, append-nil, covered.1),
       )

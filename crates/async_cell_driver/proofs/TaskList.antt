@@ -1,13 +1,10 @@
 -- What the marks of tasks say, what a change does to a list of tasks, and whose names wait.
 use Rattle.async_cell_driver.proofs.Words.{slice_get_read, is_ready_mark, waits_mark, woken, AllNamed, DriverState, NamesMatch, change, is_named, mark_at, name_of, result_at, result_of, wake, wake_each, with_mark, with_result, NoneForgotten, is_ready, Mark, Waiting, Task, wait_list-distinct, IsSound, skips, wait_list, with_one_more, same_name, Named, Bool, List, Option, Some, [], ap, arith, false, get_or, length, map, not, refl, set, subst, suc, sym, true, zero, ℕ, ◌&&◌, ◌++◌, ◌<◌, ◌||◌, ◌∙◌, ◌∷◌, ◌≡◌, ◌≢◌, ◌≤◌, nat_tests, eq-eqb, eqb-true, list_any-append, get_or-map, length-map, IsDistinct-from_apart, length-le_from_distinct_below, slice_get_past, IsDistinct, list_any, option_map, AllPairs, fold, if◌then◌else◌, is_some, nat_eq, slice_get, mark_in, mark_told, woken_if}
 
-woken_by : (mark : Option Mark) → waits_mark mark ≡ true → (mark ≡ Some Waiting → ⊥) → is_ready_mark mark ≡ true
-woken_by mark stands otherwise = grind (arith, otherwise)
-
 module _ {T : Type 0} where
   -- where each waiting name stands in the waiting list, no task is forgotten
   pub awake : (at : DriverState T) → IsSound same_name at.core → AllNamed at → NoneForgotten at
-  awake at sound covered not_vacant i stands = grind (arith, woken_by, covered, sound.waits_vacant)
+  awake at sound covered not_vacant i stands = grind (arith, covered, sound.waits_vacant)
 
   -- within the list one task is written
   pub change_within : (f : Task T → Task T) (i : ℕ) (tasks : List (Task T)) (task new : Task T) → i < length tasks → task ≡ get_or tasks i task → new ≡ f task → set tasks i new ≡ change f i tasks
@@ -65,35 +62,24 @@ module _ {T : Type 0} where
 pub named-append : (i : ℕ) (xs ys : List Named) → is_named i (xs ++ ys) ≡ (is_named i xs || is_named i ys)
 named-append i xs ys = list_any-append (λ name. nat_eq name.0 i) xs ys
 
--- a name that is skipped stands in the list
-named_if : (i : ℕ) (l : List Named) (w : Named) (b : Bool) → skips same_name l w ≡ b → is_named i (if b then l else l ++ w ∷ []) ≡ (is_named i l || nat_eq w.0 i)
-named_if i l w b is = grind (arith, eqb-true, named-append)
-
 named_each : (i : ℕ) (l names : List Named) → is_named i (fold (with_one_more same_name) l names) ≡ (is_named i l || is_named i names)
 named_each i l [] = grind arith
-named_each i l (w ∷ rest) = let here = named_each i (with_one_more same_name l w) rest in grind (arith, here, named_if)
+named_each i l (w ∷ rest) = let here = named_each i (with_one_more same_name l w) rest in grind (arith, here, eqb-true, named-append)
 
 -- the names in the wait list are those that registered
 pub named-wait_list : (i : ℕ) (names : List Named) → is_named i (wait_list same_name names) ≡ is_named i names
 named-wait_list i names = named_each i [] names
-
-numbers_apart : (a b : Named) → a ≢ b → nat_eq a.0 b.0 ≡ false
-numbers_apart a b other = grind (arith, nat_tests, other)
 
 numbers_distinct : (names : List Named) → AllPairs (λ u v. u ≢ v) names → IsDistinct nat_eq (map (λ (name : Named). name.0) names)
 numbers_distinct names distinct = IsDistinct-from_apart nat_eq (map (λ (name : Named). name.0) names) (λ i j d before within.
     let high : j < length names = rw length-map at within in
     let low : i < length names = omega arith in
     rw (get_or-map (λ (name : Named). name.0) names i (name_of d) d low, get_or-map (λ (name : Named). name.0) names j (name_of d) d high)
-    (numbers_apart (get_or names i (name_of d)) (get_or names j (name_of d)) (distinct i j (name_of d) before high)))
+    (let apart = distinct i j (name_of d) before high in grind (arith, nat_tests, apart)))
 
 named_number : (q : ℕ) (names : List Named) → list_any (nat_eq q) (map (λ (name : Named). name.0) names) ≡ is_named q names
 named_number q [] = refl
 named_number q (n ∷ names) = let rest = named_number q names in grind (arith, nat_tests, rest)
-
--- a task that has a mark was started
-marked_started : {T : Type 0} (i : ℕ) (tasks : List (Task T)) (mark : Mark) → mark_at tasks i ≡ Some mark → i < length tasks
-marked_started i tasks mark is = grind (arith, slice_get_past)
 
 -- no more wakers wait than there are tasks
 pub waiting_few : {T : Type 0} (at : DriverState T) → IsSound same_name at.core → NamesMatch at → length at.core.waiting ≤ length at.tasks
@@ -102,5 +88,5 @@ waiting_few at sound covered =
     subst (λ (l : List Named). AllPairs (λ (u v : Named). u ≢ v) l) sound.none_skipped (wait_list-distinct same_name at.core.waiting (λ w. eq-eqb w.0 w.0 refl)) in
     let few =
     length-le_from_distinct_below (map (λ (name : Named). name.0) at.core.waiting) (length at.tasks) (numbers_distinct at.core.waiting distinct)
-    (λ q has. marked_started q at.tasks Waiting (covered.1 q (sym (named_number q at.core.waiting) ∙ has))) in
+    (λ q has. let stands = covered.1 q (sym (named_number q at.core.waiting) ∙ has) in grind (arith, stands, slice_get_past)) in
     rw length-map at few
