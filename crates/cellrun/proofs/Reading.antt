@@ -1,4 +1,5 @@
--- What is read after the first words of a line, the first line feed in joined bytes, and the next line.
+-- What is read after the first words of a line, the first line feed in joined bytes, and the next
+-- line.
 use Rattle.cellrun.proofs.Words.{has_operand, Command, Set, OrSet, Replace, UpdatePut, UpdateSomeAdd, Take, Get, arith, ◌≡◌, ℕ, ℤ, List, ◌++◌, Option, None, Some, true, IfSome, SomeIff, IsLine}
 use Rattle.cellrun.proofs.Words.{IsNext, is_line_feed, first_line, after_line, Bad, ◌≢◌, ◌∷◌, refl, ◌+◌, ◌<◌, ◌≤◌, Bool, [], length, take, drop, if◌then◌else◌, append_assoc, append-nil, take_all}
 use Rattle.cellrun.proofs.Words.{take-append-drop, drop_all, take-append-le, length-append, length-take, Keeps, IsAtEnd, prepend_known, nat_tests, position, position_or_len, Next, DropsConsumable}

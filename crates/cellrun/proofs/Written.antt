@@ -1,6 +1,6 @@
 -- The bytes of an output, and what a script has written, from one line to the next and at its end.
 use Rattle.cellrun.proofs.Words.{◌≡◌, ℕ, ◌+◌, List, take, drop, ◌++◌, Option, length, ◌≤◌, arith, append_assoc, take-append-drop, drop-drop, append_known-moved, drop-append-le, Keeps, Appends}
-use Rattle.cellrun.proofs.Words.{append_known, State, Named, CallPrints, IsNext, after_line, Command, Call, Blank, Done, BadLine, Failed, ℤ, [], Some, None, IfSome, IfSome_then, Result, IsErr, refl}
+use Rattle.cellrun.proofs.Words.{append_known, State, Named, CallPrints, IsNext, after_line, Command, Call, Blank, Failed, ℤ, [], Some, None, IfSome, IfSome_then, Result, IsErr, refl}
 use Rattle.cellrun.proofs.Words.{append-nil, Appends-nil, Appends-kept, Appends-trans, Keeps-refl, result_unwrap_or, Prints, StopsAt, Owes, new_cell, start, blank}
 use Rattle.cellrun.proofs.Words.{called, Ended}
 
@@ -13,8 +13,8 @@ pub gathered_more : (held : Option (List ℕ)) (gathered items text : List ℕ) 
     → Appends (append_known held (drop written gathered)) (append_known held (drop written items)) text
 gathered_more held gathered items text written within is = grind (arith, drop-append-le, append_assoc)
 
--- What is left of the input begins with line n, the calls before it lead to the cell, and they print
--- what the writer got since `before`, if its bytes are known.
+-- What is left of the input begins with line n, the calls before it lead to the cell, and they
+-- print what the writer got since `before`, if its bytes are known.
 pub record Stands (input : List ℕ) (left : Option (List ℕ)) (n : ℕ) (cell : State ℤ Named) (before now : Option (List ℕ)) : Type 0 where
   pub rest : List ℕ
   pub text : List ℕ
@@ -61,15 +61,11 @@ owes_nothing bytes before = owes_failed bytes 1 new_cell before before bytes bef
 pub owes_flushed : (bytes before total flushed after : Option (List ℕ)) (ended : Ended) → Owes bytes before total ended → Keeps total flushed → Keeps flushed after → Owes bytes before after ended
 owes_flushed bytes before total flushed after ended h k l = grind arith
 
-cut_more : (before total after : Option (List ℕ)) (text unwritten more : List ℕ) → Keeps total (append_known after unwritten) → Appends before (append_known total more) text
-    → Appends before (append_known after (unwritten ++ more)) text
-cut_more before total after text unwritten more k h = grind (arith, append_assoc)
-
 -- after a part of what was gathered is written
 pub owes_cut : (bytes before total after : Option (List ℕ)) (unwritten : List ℕ) (ended : Ended) → Owes bytes before total ended → Keeps total (append_known after unwritten)
     → Owes bytes before after Failed
 owes_cut bytes before total after unwritten ended h k =
-    IfSome_then bytes h (λ input w. (w.0, w.1, w.2, w.3, unwritten ++ w.4, w.5, tt, cut_more before total after w.3 unwritten w.4 k w.7))
+    IfSome_then bytes h (λ input w. let more = w.7 in (w.0, w.1, w.2, w.3, unwritten ++ w.4, w.5, tt, grind (arith, append_assoc, more)))
 
 -- an error is a failure
 pub err_fails : {E : Type 0} (bytes before after : Option (List ℕ)) (r : Result Ended E) → IsErr r → Owes bytes before after Failed → Owes bytes before after (result_unwrap_or r Failed)

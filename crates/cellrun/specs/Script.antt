@@ -49,8 +49,8 @@ pub data Prints (bytes : List ℕ) : ℕ → List ℕ → State ℤ Named → Li
       → rest ≢ [] → IsLine (first_line rest) (Call call) → CallPrints cell call line next
       → Prints bytes (n + 1) (after_line rest) next (text ++ line)
 
--- How a script ends where rest begins with line n: done if there is no line, or at a bad line n. All
--- that was to be written is written, unless the script failed.
+-- How a script ends where rest begins with line n: done if there is no line, or at a bad line n.
+-- All that was to be written is written, unless the script failed.
 abbrev pub StopsAt : ℕ → List ℕ → List ℕ → Ended → Type 0
 StopsAt n rest unwritten Done = (rest ≡ []) × (unwritten ≡ [])
 StopsAt n rest unwritten (BadLine number) =

@@ -1,4 +1,5 @@
--- The book's row and the share's row are set in one opening of the ledger's invariant, to an amount that contracts alone know.
+-- The book's row and the share's row are set in one opening of the ledger's invariant, to an amount
+-- that contracts alone know.
 use Rattle.async_cell_recorded.proofs.Words.{refl, sym, subst, List, [], ◌∷◌, ◌+◌, arith}
 use seplogic.Ra.Ura.{Ura}
 use mir.{MapTy.inst_fn, Syntax.Fn, Syntax.Dict, Syntax.dcons, Syntax.dnil, Syntax.a_type, Val.Val, Val.vunit, Val.vptr}
