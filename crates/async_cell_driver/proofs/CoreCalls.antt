@@ -1,6 +1,5 @@
 -- Where a call on the cell leads, and where a poll does.
-use Rattle.async_cell_driver.proofs.Words.{Polled, mark_after, waiting_when, is_ready_mark, waits_mark, AllNamed, AllWaiting, DriverState, NamesMatch, change, is_named, kind_at, mark_at, name_of, result_at, result_of, wake_each, with_mark, Drives, FitsTold, is_call, call_of, entry_of, handed_out, history, line_of, names_by, poll_of, reply_of, told_of, Line, is_poll_of, is_ready, kinds, started, was_refused, with_edit, Event, Kind, Told, Mark, Task, model_of, Runs-sound, up_to_clones, DoesUpTo, model_up_to, woken_by, Does, IsSound, State, ends_waiting, waker_of, Cell, Entry, Kept, Refusal, Memory, Reply, same_name, Named, Bool, List, None, Option, Some, [], ap, append-nil, arith, false, length, map, not, refl, subst, sym, true, ℕ, ◌&&◌, ◌++◌, ◌||◌, ◌∙◌, ◌∷◌, ◌≡◌, ◌≢◌, or-false, or-true, nat_tests, eq-eqb, eqb-true, IsSomeAnd, option_map, Err, IfErr, IfOk, IsOk, MatchOption, Ok, OnOk, Result, if◌then◌else◌, is_some, nat_eq, option_to_list, mark_in, mark_told, woken_if}
-use Rattle.async_cell_driver.specs.declared.tasks.Mark.TheVariants as mark
+use Rattle.async_cell_driver.proofs.Words.{Polled, mark_after, waiting_when, is_ready_mark, DriverState, NamesMatch, change, kind_at, mark_at, name_of, result_at, result_of, wake_each, with_mark, Drives, is_call, call_of, entry_of, handed_out, history, line_of, names_by, poll_of, reply_of, told_of, Line, is_ready, with_edit, Event, Kind, Told, Mark, Task, model_of, Runs-sound, up_to_clones, DoesUpTo, model_up_to, woken_by, Does, IsSound, State, ends_waiting, waker_of, Cell, Entry, Kept, Refusal, Memory, Reply, same_name, Named, List, None, Option, Some, [], ap, append-nil, arith, false, map, refl, subst, sym, true, ℕ, ◌∙◌, ◌∷◌, ◌≡◌, ◌≢◌, or-false, or-true, nat_tests, eq-eqb, eqb-true, IsSomeAnd, option_map, IfErr, IfOk, MatchOption, OnOk, Result, if◌then◌else◌, nat_eq, option_to_list}
 use Rattle.async_cell_driver.specs.declared.event.Event.TheVariants as event
 use Rattle.async_cell_driver.specs.declared.event.Told.TheVariants as told
 use Rattle.async_cell_driver.proofs.TaskList.{awake, kinds-wake_each, map-change, mark-wake_each, named-append, named-wait_list, says_same, slice_get-change_other, slice_get-change_same}
@@ -27,7 +26,8 @@ module _ {T : Type 0} where
   pub is_call-with_edit : {E : Type 0} (edit : E → Option T → Option T) (event : Event T E) → is_call event ≡ true → is_call (with_edit edit event) ≡ true
   is_call-with_edit edit event is = grind arith
 
-  -- each waiting name still stands in the wait list, or was woken; a call that does not wait adds none
+  -- each waiting name still stands in the wait list, or was woken; a call that does not wait adds
+  -- none
   pub covered_called : (from : DriverState T) (core : State T Named) (names : List Named) (event : Event T (Option T → Option T)) (r : Reply T)
       → is_call event ≡ true → NamesMatch from → CallsAs event from.core r names core → NamesMatch (record { core = core; tasks = wake_each names from.tasks })
   covered_called from core names event r is_event covered made =
@@ -86,7 +86,7 @@ module _ {T : Type 0} where
       → Drives is_clone from (line_of from (event.Poll i) (told_of asked) ∷ []) (record { core = core; tasks = change (with_mark (mark_after asked)) i from.tasks })
   poll_drives is_clone from core i kind asked sound covered is_kind ready answers refused waits =
       let (reply, is, does) =
-          from_some (reply_of (told_of asked)) (λ reply. DoesUpTo same_name true is_clone from.core (record { call = poll_of (Some kind) i; reply = reply }) [] core) answers in
+      from_some (reply_of (told_of asked)) (λ reply. DoesUpTo same_name true is_clone from.core (record { call = poll_of (Some kind) i; reply = reply }) [] core) answers in
       let answer : Told T = told_of asked in
       let line : Line T = record { event = event.Poll i; told = answer; names = [] } in
       let line_is : line_of from (event.Poll i) answer ≡ line =

@@ -66,13 +66,12 @@ module _ {T : Type 0} where
   -- the later lines fit the earlier ones too
   legal_join : (is_clone : T → T → Type 0) (from at : DriverState T) (earlier later : Log T) → Drives is_clone from earlier at → IsLegal at later → IsLegal from (later ++ earlier)
   legal_join is_clone from at earlier [] first legal = first.legal
-  legal_join is_clone from at earlier (line ∷ later) first legal =
-      (
-        subst (λ (ready : ℕ → Bool). FitsTold (length (kinds from (later ++ earlier))) ready line.event line.told line.names)
-            (λ k i. is_ready_mark (marks_join from at earlier later first.marks_are i k))
-            (subst (λ (all : List Kind). FitsTold (length all) (is_ready at later) line.event line.told line.names) (kinds_join from at earlier later first.kinds_are) legal.0),
-        legal_join is_clone from at earlier later first legal.1,
-      )
+  legal_join is_clone from at earlier (line ∷ later) first legal = (
+    subst (λ (ready : ℕ → Bool). FitsTold (length (kinds from (later ++ earlier))) ready line.event line.told line.names)
+        (λ k i. is_ready_mark (marks_join from at earlier later first.marks_are i k))
+        (subst (λ (all : List Kind). FitsTold (length all) (is_ready at later) line.event line.told line.names) (kinds_join from at earlier later first.kinds_are) legal.0),
+    legal_join is_clone from at earlier later first legal.1,
+  )
 
   -- the core's calls, and what they handed out
   core_join : (from at : DriverState T) (earlier later : Log T) → map (λ task. task.kind) at.tasks ≡ kinds from earlier → at.core.cell ≡ cell_after from.core.cell (history from earlier)

@@ -1,5 +1,5 @@
 -- Polls of all that are ready, one by one.
-use Rattle.async_cell_driver.proofs.Words.{slice_get_cases, is_ready_mark, DriverState, NamesMatch, change, mark_at, result_at, result_of, with_result, Drives, NoneForgotten, ResultsStay, line_of, Line, Log, is_ready, kinds, waits, Keeps, Settles, SettlesOne, events_of, got_or, has_refused, numbers, Poll, Ready, Told, Task, is_vacant, Refusal, List, None, Option, Some, [], add-one, ap, append-nil, append_assoc, arith, false, length, length-append, map, refl, suc, sym, true, zero, ℕ, ◌++◌, ◌+◌, ◌-◌, ◌<◌, ◌||◌, ◌∙◌, ◌∷◌, ◌≡◌, ◌≢◌, ◌≤◌, nat_tests, filter-append, length-map, map-append, reverse-append, slice_get_past, option_map, Err, Ok, filter, if◌then◌else◌, is_some, nat_eq, reverse, slice_get, mark_in, mark_told, woken_if, is_named}
+use Rattle.async_cell_driver.proofs.Words.{slice_get_cases, is_ready_mark, DriverState, NamesMatch, change, mark_at, result_at, result_of, with_result, Drives, ResultsStay, line_of, Line, Log, is_ready, kinds, Keeps, Settles, SettlesOne, events_of, has_refused, numbers, Poll, Ready, Told, Task, Refusal, List, None, Option, Some, [], add-one, ap, append-nil, append_assoc, arith, false, length, length-append, map, refl, suc, sym, true, zero, ℕ, ◌++◌, ◌+◌, ◌-◌, ◌<◌, ◌||◌, ◌∙◌, ◌∷◌, ◌≡◌, ◌≢◌, nat_tests, filter-append, length-map, map-append, reverse-append, option_map, Err, Ok, filter, reverse}
 use Rattle.async_cell_driver.specs.declared.event.Told.TheVariants as told
 use Rattle.async_cell_driver.proofs.{Logs.drives_join, CoreCalls.poll_steps}
 use Rattle.async_cell_driver.proofs.TaskList.{says_same, map-change, slice_get-change_same, slice_get-change_other}

@@ -274,11 +274,7 @@ impl<T: Clone> Driver<T> {
 /// Polls the core for a task of this kind. The task's name is not in the wait list, so a poll that
 /// has to wait adds it without looking for it there.
 #[tactic(auto, using(crate::proofs::CoreCalls::sure_anyway, async_cell_model::proofs::Machine::does_up_to))]
-fn ask<T: Clone>(
-    core: &mut Core<T, Named>,
-    kind: Kind,
-    name: Named,
-) -> Result<Polled<T>, Refusal>
+fn ask<T: Clone>(core: &mut Core<T, Named>, kind: Kind, name: Named) -> Result<Polled<T>, Refusal>
     requires { is_named name.0 core.old.waiting ≡ false }
     ensures model { IsSomeAnd (reply_of (told_of result)) (λ reply.
         DoesUpTo same_name true T.is_clone core.old

@@ -1,4 +1,4 @@
-use Rattle.async_cell_driver.proofs.Words.{mark_after, DriverState, change, with_mark, Drives, line_of, told_of, Poll, [], subst, sym, true, ◌∙◌, ◌∷◌}
+use Rattle.async_cell_driver.proofs.Words.{mark_after, DriverState, change, with_mark, Drives, line_of, told_of, Poll, [], subst, ◌∷◌}
 use Rattle.async_cell_driver.proofs.{Logs.not_polled, CoreCalls.covered_polled, CoreCalls.poll_drives, CoreCalls.ready_no_more}
 use Rattle.async_cell_driver.proofs.driver.Driver.poll.Goals as goal
 
