@@ -1,14 +1,10 @@
--- What is stored of a call, which replies it can have, and what it returns.
-use Rattle.std.specs.Prelude.{◌≡◌, ◌⊎◌, ◌++◌, ◌∷◌, [], Bool, List, Option, Some, None, Result, IfOk, IfErr, OnErr}
+-- What is stored of a call, and what it returns.
+use Rattle.std.specs.Prelude.{◌≡◌, ◌⊎◌, ◌++◌, ◌∷◌, [], List, Option, Result, IfOk, IfErr, OnErr}
 use Rattle.async_cell_wakers.specs.declared.named.Named.{Named}
 use Rattle.async_cell_model.specs.declared.{cell.Cell.Cell, entry.Kept.Kept, refusal.Refusal.Refusal}
-use Rattle.async_cell_model.specs.declared.entry.Entry as model
 use Rattle.async_cell_model.specs.declared.entry.Kept.TheVariants as kept
-use Rattle.async_cell_model.specs.declared.refusal.Refusal.TheVariants.{Closed, Memory, OutOfTurn, OwnersFull, StillShared}
-use Rattle.async_cell_model.specs.declared.reply.Reply.TheVariants.{Done, Value, Is, Pending, Ready, Refused}
+use Rattle.async_cell_model.specs.declared.refusal.Refusal.TheVariants.{Memory, OutOfTurn}
 use Rattle.async_cell_model.specs.{Legal.woken_by, Machine.reply}
-use Rattle.async_cell_core.specs.declared.call.Call.{Call}
-use Rattle.async_cell_core.specs.declared.call.Call.TheVariants.{Set, OrSet, Replace, Update, UpdateSome, TryTake, TryGet, IsSet, PollTake, PollGet, AddOwner, EndOwner, TakeInner}
 use Rattle.async_cell_recorded.specs.declared.history.Entry.{Entry}
 use Rattle.async_cell_recorded.specs.{Counting.ShareState, Counting.Test, Counting.share_after, Recording.Recording, Recording.IsRecorded, Recording.state, Recording.plain_entry}
 

@@ -1,7 +1,7 @@
 ghost use Rattle.std.specs.Prelude.{◌≡◌, ◌↔◌, ◌≤◌, ◌⊎◌, Bool, Option, length, vec_len};
 ghost use Rattle.std.specs.{Prelude.IsOk, Prelude.IfOk, Prelude.IfErr, List.sum_by};
 ghost use Rattle.async_cell_model.specs.Refusal.{FailsWithMemory};
-ghost use Rattle.async_cell_recorded.specs.Recording.{IsRecorded, plain_entry};
+ghost use Rattle.async_cell_recorded.specs.Recording.{IsRecorded};
 ghost use Rattle.async_cell_recorded.specs.Answering.{IsCallResult};
 ghost use Rattle.async_cell_model.specs.{Machine.reply, declared.cell.Cell.Cell};
 ghost use Rattle.async_cell_core.specs.Kept.{kept_call};

@@ -2,7 +2,7 @@
 ghost use Rattle.std.specs.Prelude.{◌≡◌, ◌≤◌, ⊤, false, [], length, vec_len, vec_capacity, map};
 ghost use Rattle.std.specs.{Prelude.IfOk, List.All, List.AllZip};
 ghost use Rattle.async_cell_model.specs.Refusal.{FailsWithMemory};
-ghost use Rattle.async_cell_recorded.specs.Counting.{ShareState, Test, new_shares};
+ghost use Rattle.async_cell_recorded.specs.Counting.{ShareState, Test};
 ghost use Rattle.async_cell_recorded.specs.Outcomes.{AreOutcomes, HasEnded, IsNew};
 ghost use Rattle.async_cell_recorded.specs.Recording.{IsRecorded};
 

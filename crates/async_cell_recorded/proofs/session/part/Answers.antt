@@ -1,4 +1,4 @@
-use Rattle.async_cell_recorded.proofs.Words.{◌∷◌, [], arith, length-append, map-append, All-head, All-tail, HasEnded, all_zipped_more}
+use Rattle.async_cell_recorded.proofs.Words.{arith, length-append, map-append, All-head, All-tail, HasEnded, all_zipped_more}
 use Rattle.async_cell_recorded.proofs.session.part.Goals as goal
 
 pub loop-seat-preserved : goal.loop-seat-preserved
