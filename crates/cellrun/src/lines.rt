@@ -1,5 +1,5 @@
 //! Reads an input a line at a time. Only the reader's buffer and one line are in memory.
-ghost use Rattle.std.specs.Prelude.{◌≡◌, ◌<◌, ◌≤◌, ℕ, List, ◌≢◌, [], ◌++◌, length, true, Option, Some, IfSome, IfNone, OnOk, IfOk, IfErr, IsOk, OnErr};
+ghost use Rattle.std.specs.Prelude.{◌≡◌, ◌<◌, ◌≤◌, ◌≢◌, [], ◌++◌, length, true, Option, Some, IfSome, IfNone, OnOk, IfOk, IfErr, IsOk, OnErr};
 ghost use Rattle.std.specs.{IoError.error_kind, List.position, List.position_or_len};
 ghost use Rattle.std.specs.Io.{Buffered.reader_buffer, Buffered.reader_remaining, KnownBytes.IsAtEnd, KnownBytes.Keeps};
 ghost use Rattle.arrayvec.specs.ArrayVec.{array_vec_len};

@@ -1,6 +1,6 @@
 //! The cell that a script steps, and what its calls print.
-ghost use Rattle.std.specs.Prelude.{◌≡◌, ◌++◌, ℤ, [], true, false, OnOk, Option, Some, None, codes, decimal};
-ghost use Rattle.std.specs.{BTreeSet.contains, Fmt.signed_decimal, Ordering.nat_cmp};
+ghost use Rattle.std.specs.Prelude.{◌≡◌, ◌++◌, [], true, false, OnOk, Option, Some, None, codes, decimal};
+ghost use Rattle.std.specs.{BTreeSet.contains, Ordering.nat_cmp};
 ghost use Rattle.async_cell_model.specs.{Machine.Does, Machine.skips, Machine.waker_of};
 ghost use Rattle.async_cell_wakers.specs.Named.{same_name};
 ghost use Rattle.cellrun.specs.CallPrints.{CallPrints, KnowsNames, call_of, kept_call, edited, increased, reply_text, value_text, refusal_text, end_text};
