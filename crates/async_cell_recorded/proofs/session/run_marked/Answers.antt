@@ -5,7 +5,8 @@ use Rattle.async_cell_recorded.proofs.session.run_marked.Goals as goal
 pub in_threads-requires-clause-new : goal.in_threads-requires-clause-new
 in_threads-requires-clause-new g c lifetimes outlived =
     All-same (λ (s : Seat ShareState g.row.O.Denot). IsNew s.share) c.deref_mut.result.now c.in_ok-seats.seats.items c.deref_mut.ensures.value
-    (rw (c.in_ok-seats.ensures.shares, c.in_ok-cell.ensures.new_shares) (All-map (λ (s : Seat ShareState g.row.O.Denot). IsNew s.share) seat_of (new_shares c.args.shares) (new_shares_unused c.args.shares)))
+    (rw (c.in_ok-seats.ensures.shares, c.in_ok-cell.ensures.new_shares)
+    (All-map (λ (s : Seat ShareState g.row.O.Denot). IsNew s.share) seat_of (new_shares c.args.shares) (new_shares_unused c.args.shares)))
 
 pub part-requires-clause-ended : goal.part-requires-clause-ended
 part-requires-clause-ended g c =
@@ -21,7 +22,8 @@ returns-in-Ok-clause-outcomes g c =
     let all : parted ≡ c.in_threads.new.seats = take_at c.in_threads.new.seats _ c.in_ok-seats.seats.len (omega (arith, c.in_threads.ensures.one_each, c.deref_mut.ensures.len)) in
     record {
       shares = c.part.new.shares.items;
-      numbered = rw (c.part.ensures.shares, all, c.in_threads.ensures.numbers, c.deref_mut.ensures.value, c.in_ok-seats.ensures.shares, c.in_ok-cell.ensures.new_shares) (numbers_of_new g.row.O.Denot c.args.shares);
+      numbered = rw (c.part.ensures.shares, all, c.in_threads.ensures.numbers, c.deref_mut.ensures.value, c.in_ok-seats.ensures.shares, c.in_ok-cell.ensures.new_shares)
+          (numbers_of_new g.row.O.Denot c.args.shares);
       described = c.part.ensures.described;
       counted = c.in-Ok.ensures.counted;
       picked_is = rw (← c.requires.pick) c.in-Ok.ensures.picked;
