@@ -1,9 +1,10 @@
-//! All that a program takes, under one name: `sync`, the cell that threads share, and `unsync`, the
-//! cell of one thread, as the Rust crate `async_cell` lays them out; `latest`, a state that many
-//! threads follow; `within`, a wait with a limit; and `Refusal`, the error of all calls.
+//! All that a program needs of the cells' crates, under one name. `sync` is the cell that threads
+//! share, and `unsync` the cell of one thread, as in the Rust crate `async_cell`. `latest` is a
+//! state that many threads follow. `within` is a wait with a limit. `Refusal` is the error of all
+//! calls.
 //!
-//! A program that makes its owners by `Owner::new` moves from one cell to the other by its import,
-//! and by the right to wait, which an owner of `sync` is given.
+//! To move a program from `unsync` to `sync`, change its imports, and pass `Owner::new` the right
+//! to wait.
 #![tactic(auto)]
 
 pub use async_cell_core::Refusal;

@@ -1,4 +1,4 @@
-//! The calls that speak of the value, and those that change nothing.
+//! The calls that write, take or read the value, and those that change nothing.
 ghost use Rattle.std.specs.Prelude.{◌≡◌, Option, Some, None, IfErr, IfOk, IfSome, IsOk, IsSome, IsTrue, OnOk};
 ghost use Rattle.std.specs.Fn.{FnOnceReturnsAt};
 ghost use Rattle.async_cell_model.specs.Machine.{IsSound};
@@ -20,7 +20,7 @@ use std::fmt;
 
 impl<M: Stores<Core = CellCore<T, W, N>>, T: Drop, W: Wakes, N: Protocol<T, W>> CellStore<M> {
     /// Sets the value, drops the old one and wakes all waiters. Fails on a closed cell, and then
-    /// returns the value.
+    /// returns `value` in the error.
     pub fn set<'a, R: Opens<'a, M>>(&'a self, value: T, rt: &R) -> Result<(), T>
         requires may { N.may (Kept.Replace value) }
         ensures comes_back { IfErr result (λ back. back ≡ value) }
@@ -30,7 +30,7 @@ impl<M: Stores<Core = CellCore<T, W, N>>, T: Drop, W: Wakes, N: Protocol<T, W>> 
         Ok(())
     }
 
-    /// `set`, where nobody reads what comes back: a closed cell drops the value.
+    /// As `set`, but returns nothing. If the cell is closed, drops `value`.
     #[inline]
     pub fn put<'a, R: Opens<'a, M>>(&'a self, value: T, rt: &R)
         requires may { N.may (Kept.Replace value) }
@@ -47,7 +47,7 @@ impl<M: Stores<Core = CellCore<T, W, N>>, T: Drop, W: Wakes, N: Protocol<T, W>> 
         }
     }
 
-    /// `set`, which returns the old value.
+    /// As `set`, but returns the old value.
     #[inline]
     pub fn replace<'a, R: Opens<'a, M>>(&'a self, value: T, rt: &R) -> Result<Option<T>, T>
         requires may { N.may (Kept.Replace value) }
@@ -68,7 +68,7 @@ impl<M: Stores<Core = CellCore<T, W, N>>, T: Drop, W: Wakes, N: Protocol<T, W>> 
         }
     }
 
-    /// `set`, if the cell holds no value. Otherwise drops `value`.
+    /// As `set`, but if the cell already holds a value, drops `value` instead.
     pub fn or_set<'a, R: Opens<'a, M>>(&'a self, value: T, rt: &R) -> Result<(), T>
         requires may { N.may (Kept.OrSet value) }
         ensures comes_back { IfErr result (λ back. back ≡ value) }
@@ -77,7 +77,8 @@ impl<M: Stores<Core = CellCore<T, W, N>>, T: Drop, W: Wakes, N: Protocol<T, W>> 
         Ok(())
     }
 
-    /// `or_set`, which fails if the cell holds a value, too: an unused `value` is in the error.
+    /// As `or_set`, but fails if the cell holds a value or is closed, and then returns `value` in
+    /// the error.
     pub fn try_set<'a, R: Opens<'a, M>>(&'a self, value: T, rt: &R) -> Result<(), T>
         requires may { N.may (Kept.OrSet value) }
         ensures comes_back { IfErr result (λ back. back ≡ value) }
@@ -102,7 +103,7 @@ impl<M: Stores<Core = CellCore<T, W, N>>, T: Drop, W: Wakes, N: Protocol<T, W>> 
         self.make(Update(change), &Anyone, &mut Nobody, rt)
     }
 
-    /// `update`, of a value: the closure is not called if there is none.
+    /// As `update`, but calls the closure on the value, and only if there is one.
     pub fn update_some<'a, F, R: Opens<'a, M>>(&'a self, change: F, rt: &R) -> Result<(), Refusal>
     where
         F: FnOnce(T) -> T + Drop,
@@ -115,7 +116,7 @@ impl<M: Stores<Core = CellCore<T, W, N>>, T: Drop, W: Wakes, N: Protocol<T, W>> 
         self.make(UpdateSome(change), &Anyone, &mut Nobody, rt)
     }
 
-    /// `put`, of a value that was taken out of the cell.
+    /// As `put`, for a value that was taken out of the cell.
     #[doc(hidden)]
     pub fn put_back<'a, R: Opens<'a, M>>(&'a self, value: T, rt: &R)
         requires may { N.may (Kept.Replace value) }
@@ -150,8 +151,9 @@ impl<M: Stores<Core = CellCore<T, W, N>>, T: Drop, W: Wakes, N: Protocol<T, W>> 
         Some(end(step, content))
     }
 
-    /// Takes the value, or waits: adds a clone of the waker (see `WaitList::skips`). `Ready(None)`
-    /// on a closed cell. Fails with `Memory` if the clone fails, or the list cannot grow.
+    /// Takes the value. If there is none, adds a clone of the waker (see `WaitList::skips`), and
+    /// returns `Pending`. Returns `Ready(None)` on a closed cell. Fails with `Memory` if the clone
+    /// fails or the list cannot grow.
     pub fn poll_take<'a, R: Opens<'a, M>>(
         &'a self,
         waker: &W,
@@ -163,8 +165,8 @@ impl<M: Stores<Core = CellCore<T, W, N>>, T: Drop, W: Wakes, N: Protocol<T, W>> 
         self.make(PollTake(waker), &Anyone, &mut Nobody, rt)
     }
 
-    /// `poll_take`, of a clone of the value, made during the step. Fails with `Memory` if that
-    /// fails, too.
+    /// As `poll_take`, but clones the value, during the step. Also fails with `Memory` if this
+    /// clone fails.
     pub fn poll_get<'a, R: Opens<'a, M>>(
         &'a self,
         waker: &W,
@@ -177,8 +179,8 @@ impl<M: Stores<Core = CellCore<T, W, N>>, T: Drop, W: Wakes, N: Protocol<T, W>> 
         self.make(PollGet(waker), &Anyone, &mut Nobody, rt)
     }
 
-    /// Makes room: the next `additional` wakers need no memory beyond their clones. A fill or a
-    /// close gives the room up. Fails with `Memory`. Does nothing on a closed cell.
+    /// Makes room for `additional` more wakers: adding these needs no memory but for their clones.
+    /// A fill or a close gives up the room. Fails with `Memory`. Does nothing on a closed cell.
     pub fn reserve<'a, R: Opens<'a, M>>(&'a self, additional: usize, rt: &R) -> Result<(), Refusal>
         ensures refused { FailsWithMemory result }
     {
@@ -187,7 +189,8 @@ impl<M: Stores<Core = CellCore<T, W, N>>, T: Drop, W: Wakes, N: Protocol<T, W>> 
         end(step, reserved)
     }
 
-    /// Ends a guard, which sets `cancel` if the cell is empty. `None`: it was released.
+    /// Ends a guard: sets `cancel`, its value, if the cell is empty. `None` is for a guard that was
+    /// released.
     #[doc(hidden)]
     pub fn end_guard<'a, R: Opens<'a, M>>(&'a self, cancel: Option<T>, rt: &R)
         requires may { IfSome cancel (λ value. N.may (Kept.OrSet value)) }
@@ -197,8 +200,8 @@ impl<M: Stores<Core = CellCore<T, W, N>>, T: Drop, W: Wakes, N: Protocol<T, W>> 
         }
     }
 
-    /// Lends the core for a look, which `end` of `async_cell_step` ends. Its state is sound,
-    /// whatever other steps did.
+    /// Lends the core for reading, until a call of `end` of `async_cell_step`. The core's state is
+    /// sound, whatever other steps did.
     #[inline(always)]
     pub fn look<'a, R: Opens<'a, M>>(&'a self, rt: &R) -> Option<R::Open>
         ensures lent { IsTrue R.always → IsSome result }
@@ -209,8 +212,8 @@ impl<M: Stores<Core = CellCore<T, W, N>>, T: Drop, W: Wakes, N: Protocol<T, W>> 
         Some(step)
     }
 
-    /// Returns a clone of the value, if there is one, made during the step. Fails with `Memory` if
-    /// the clone fails.
+    /// Returns a clone of the value, if there is one. The clone is made during the step. Fails with
+    /// `Memory` if the clone fails.
     pub fn try_get<'a, R: Opens<'a, M>>(&'a self, rt: &R) -> Result<Option<T>, Refusal>
     where
         T: Clone,

@@ -5,7 +5,8 @@ use async_cell_core::TaskWaker;
 use async_cell_history::Protocol;
 use std::marker::{Model, PhantomData};
 
-/// The value that a guard sets at its end: one that may be set. Contracts see the value.
+/// The value that a guard sets at its end. The protocol allows an `or_set` of this value. Contracts
+/// see the value.
 #[derive(Drop)]
 pub struct Cancel<T, N: Protocol<T, TaskWaker>> {
     value: T,

@@ -1,4 +1,4 @@
-//! The core of a cell in a store: how it is made and ended, and one function for all its calls.
+//! A cell's core in a store: how it is made and ended, and one function that makes any call.
 ghost use Rattle.std.specs.Prelude.{◌≡◌, [], false, None, Some, IfSome, IsTrue};
 ghost use Rattle.async_cell_model.specs.Machine.{State, content, is_closed, IsSound};
 ghost use Rattle.async_cell_history.specs.History.{Logged};
@@ -8,9 +8,10 @@ use async_cell_history::{Blank, Caller, CellCore, Op, OwnerPermit, Protocol, See
 use async_cell_step::{Opens, Step, StoredCore, Stores, finish, opened};
 
 /// The core of a cell in a `Mutex` or a `RefCell`, lent for one step at a time. A call makes its
-/// change in one step, to which `rt` is the right: behind a lock, to wait. After the step wakers
-/// are woken, and old values, unused values and the value of a closed cell are dropped. Closures,
-/// clones and prints run during the step: behind a lock, one that calls its own cell waits forever.
+/// change in one step. `rt` is the right to the step. If the core is in a `Mutex`, that is the
+/// right to wait for the lock. After the step the call wakes wakers, and drops old values, unused
+/// values and the value of a closed cell. Closures, clones and prints run during the step. With a
+/// lock, a closure, clone or print that calls its own cell waits forever.
 #[derive(Drop)]
 pub struct CellStore<M> {
     /// The store, on which futures poll.
@@ -50,8 +51,8 @@ impl<M: Stores<Core = CellCore<T, W, N>>, T: Drop, W: Wakes, N: Protocol<T, W>> 
         }
     }
 
-    /// Makes the cell of a blank, the first witness of its history, and the permit of its owner,
-    /// which `end_counted` ends.
+    /// Makes the cell of the blank. Also returns the first witness of the cell's history, and the
+    /// permit of the cell's first owner. `end_counted` ends this owner.
     pub fn of_blank(blank: Blank<T, W>) -> (Self, Witness<T, W, N>, OwnerPermit<T, W, N>)
         requires named { N.named ≡ Some blank }
         requires rule { IfSome (content blank.start.cell) N.holds }
@@ -82,7 +83,7 @@ impl<M: Stores<Core = CellCore<T, W, N>>, T: Drop, W: Wakes, N: Protocol<T, W>> 
         content
     }
 
-    /// Makes a call in one step, shows it to `seen`, and wakes whom it has to.
+    /// Makes a call in one step, shows it to `seen`, and wakes the wakers that the call hands out.
     #[inline(always)]
     pub fn make<'a, O: Op<T, W, N>, K: Caller<T, W, N>, S: Sees<T, W, N>, R: Opens<'a, M>>(
         &'a self,
@@ -114,8 +115,8 @@ impl<M: Stores<Core = CellCore<T, W, N>>, T: Drop, W: Wakes, N: Protocol<T, W>> 
     }
 }
 
-/// Makes a call that could not be made on its fast path, in the same step. Apart from the calls,
-/// which pay for it only where it is called.
+/// Makes a call that could not be made on its fast path, in the same step. It is a function of its
+/// own, so that the fast path stays small.
 #[inline(never)]
 fn make_slow<G, T, W, N, O, K, S>(mut step: G, op: O, by: &K, seen: &mut S) -> O::Answer
 where

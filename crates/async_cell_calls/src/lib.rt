@@ -1,6 +1,6 @@
-//! The calls of a cell, over any store: each makes its change in one step. And what polls ask of
-//! its core. Internal, but for what the crates of the cells re-export: it may change without
-//! notice.
+//! The calls of a cell, generic over the store of its core. Each call makes its change in one step.
+//! The crate also has the queries that polls make of the core. This crate is internal and may
+//! change without notice, except for what the cells' crates re-export.
 #![tactic(auto)]
 
 mod calls;

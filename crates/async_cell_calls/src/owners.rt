@@ -1,4 +1,5 @@
-//! The calls of owners: each that ends one takes its permit, and each that adds one gives it.
+//! The calls that add and end owners. A call that ends an owner takes the owner's permit, and a
+//! call that adds one returns a permit.
 ghost use Rattle.std.specs.Prelude.{◌≡◌, ◌⊎◌, None, IfErr, IfOk, IfSome, IsTrue};
 ghost use Rattle.async_cell_model.specs.Refusal.{FailsWithClosed};
 ghost use Rattle.async_cell_history.specs.History.{done_reply};
@@ -36,8 +37,8 @@ impl<M: Stores<Core = CellCore<T, W, N>>, T: Drop, W: Wakes, N: Protocol<T, W>> 
         self.end_counted(OwnerPermit::blind(), rt)
     }
 
-    /// Closes the cell, wakes all waiters and returns the value, if there is one owner. Fails with
-    /// `Closed` on a closed cell, and with `StillShared` if there are other owners.
+    /// If there is only one owner, closes the cell, wakes all waiters and returns the value. Fails
+    /// with `Closed` on a closed cell, and with `StillShared` if there are other owners.
     pub fn take_inner<'a, R: Opens<'a, M>>(&'a self, rt: &R) -> Result<Option<T>, Refusal>
         requires nameless { N.named ≡ None }
         requires may { N.may Kept.TakeInner }
@@ -54,8 +55,8 @@ impl<M: Stores<Core = CellCore<T, W, N>>, T: Drop, W: Wakes, N: Protocol<T, W>> 
         }
     }
 
-    /// `add_owner`, which returns the permit of the new owner. An owner never gets `Closed`: its
-    /// permit shows that the cell is open.
+    /// As `add_owner`, but returns the permit of the new owner. A caller that is an owner never
+    /// gets `Closed`: its permit shows that the cell is open.
     pub fn add_counted<'a, K: Caller<T, W, N>, S: Sees<T, W, N>, R: Opens<'a, M>>(
         &'a self,
         by: &K,
@@ -78,7 +79,7 @@ impl<M: Stores<Core = CellCore<T, W, N>>, T: Drop, W: Wakes, N: Protocol<T, W>> 
         end(step, added)
     }
 
-    /// `end_owner`, of the owner with this permit.
+    /// As `end_owner`, for the owner with this permit.
     pub fn end_counted<'a, R: Opens<'a, M>>(
         &'a self,
         permit: OwnerPermit<T, W, N>,
@@ -103,7 +104,7 @@ impl<M: Stores<Core = CellCore<T, W, N>>, T: Drop, W: Wakes, N: Protocol<T, W>> 
         }
     }
 
-    /// `take_inner`, by the owner with this permit, which comes back in the error.
+    /// As `take_inner`, for the owner with this permit. The permit comes back in the error.
     pub fn take_counted<'a, R: Opens<'a, M>>(
         &'a self,
         permit: OwnerPermit<T, W, N>,

@@ -62,7 +62,7 @@ impl<T: Clone, N: Protocol<T, TaskWaker>> Query<CellCore<T, TaskWaker, N>> for C
     }
 }
 
-/// A query by a caller: an owner never gets `Closed`.
+/// A query and its caller. A caller that is an owner never gets `Closed`.
 #[derive(Drop)]
 pub struct By<'a, K, Q> {
     caller: &'a K,
@@ -109,15 +109,15 @@ where
     }
 }
 
-/// `Taking`, which this witness sees.
+/// As `Taking`, but this witness sees the take.
 #[derive(Drop)]
 pub struct TakingAs<T, N: Protocol<T, TaskWaker>>(pub Witness<T, TaskWaker, N>);
 
-/// `Cloning`, which this witness sees.
+/// As `Cloning`, but this witness sees the get.
 #[derive(Drop)]
 pub struct CloningAs<T, N: Protocol<T, TaskWaker>>(pub Witness<T, TaskWaker, N>);
 
-/// Returns the witness, too, which has seen that the value was taken.
+/// The answer also holds the witness, which has then seen that the value was taken.
 impl<T: Drop, N: Protocol<T, TaskWaker>> Query<CellCore<T, TaskWaker, N>> for TakingAs<T, N> {
     type Answer = (T, Witness<T, TaskWaker, N>);
 
@@ -149,7 +149,7 @@ impl<T: Drop, N: Protocol<T, TaskWaker>> Query<CellCore<T, TaskWaker, N>> for Ta
     }
 }
 
-/// Returns the witness, too, which has seen that the value was cloned.
+/// The answer also holds the witness, which has then seen that the value was cloned.
 impl<T: Clone, N: Protocol<T, TaskWaker>> Query<CellCore<T, TaskWaker, N>> for CloningAs<T, N> {
     type Answer = (T, Witness<T, TaskWaker, N>);
 

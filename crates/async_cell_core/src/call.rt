@@ -3,8 +3,8 @@ ghost use Rattle.async_cell_core.specs.Polled.{poll_reply};
 
 use crate::{Poll, Refusal, Reply, Wakers};
 
-/// A call on a cell, as a list of calls holds it. `W` is the type of the wakers, `E` that of the
-/// edits. The replies below are those of calls that are not refused.
+/// A call on a cell, as an element of a list of calls. `W` is the type of the wakers, `E` that of
+/// the edits. The replies below are those of calls that are not refused.
 #[derive(Clone, Copy, Debug, Drop, PartialEq, Eq)]
 pub enum Call<T, W, E> {
     /// `Core::set`. The reply is `Done`.
@@ -35,10 +35,12 @@ pub enum Call<T, W, E> {
     TakeInner,
 }
 
-/// A change of a cell's content, which a list of calls holds in place of a closure. What it makes
-/// of a content, and of a value, depends on the edit and on that alone, and contracts can name it.
+/// A change of a cell's content. A list of calls holds it in place of a closure. The result of an
+/// edit depends only on the edit and on the content or value that it is given, so contracts can
+/// name the result.
 ///
-/// An `impl` for a concrete type, such as `Edit<u64>`, repeats the two clauses at its functions.
+/// An `impl` for a concrete value type, such as `Edit<u64>`, repeats this trait's two `ensures`
+/// clauses at its own two functions.
 pub trait Edit<T> {
     /// The new content that the edit makes of a content.
     ghost edit: { Self → Option T → Option T };

@@ -17,8 +17,8 @@ use std::marker::Model;
 use std::{fmt, mem};
 
 /// A cell with an optional value, counted owners and the wait list of the wakers that wait for a
-/// value. It wakes nobody but by its drop: wake what a call returns by `wake_all`. `Wakers` that
-/// are dropped wake nobody.
+/// value. Its calls wake nobody. They return the wakers, and you wake these by `wake_all`: dropping
+/// the `Wakers` wakes nobody. Only the drop of the `Core` itself wakes.
 pub struct Core<T, W: Wakes> {
     value: Option<T>,
     /// 0 once the cell is closed.
@@ -51,7 +51,8 @@ impl<T: Drop, W: Wakes> Core<T, W> {
         Core::owned_by(alloc, Some(value), 1)
     }
 
-    /// Creates an open cell with this content and this number of owners: at least one.
+    /// Creates an open cell with this content and this number of owners, which must be at least
+    /// one.
     pub fn owned_by(alloc: Global, value: Option<T>, owners: u32) -> Self
         requires { 1 ≤ owners }
         ensures { result ≡ record { cell = Cell.Open value owners; waiting = []; room = 0 } }
@@ -219,7 +220,7 @@ impl<T: Drop, W: Wakes> Core<T, W> {
         }
     }
 
-    /// Returns whether a poll would wait: the cell is open without a value.
+    /// Returns whether the cell is open without a value, so that a poll would wait.
     pub fn is_vacant(&self) -> bool
         ensures { result ≡ is_vacant self.now.cell }
     {
@@ -234,7 +235,7 @@ impl<T: Drop, W: Wakes> Core<T, W> {
         self.owners == 0
     }
 
-    /// The drop, for the drop of what holds a core: a level of calls less.
+    /// Does what the drop does. For the drop of a type that holds a core, this is one call less.
     #[doc(hidden)]
     #[inline(always)]
     pub fn end(self) {
@@ -252,8 +253,8 @@ impl<T: Drop, W: Wakes> Core<T, W> {
     }
 }
 
-/// Dropping a `Core` drops its value, or wakes all waiting wakers, in order: while it holds a
-/// value, nobody waits.
+/// Dropping a `Core` drops its value, if it holds one. Otherwise it wakes all waiting wakers, in
+/// order.
 impl<T: Drop, W: Wakes> Drop for Core<T, W> {
     #[inline(always)]
     fn drop(self) {
@@ -261,7 +262,7 @@ impl<T: Drop, W: Wakes> Drop for Core<T, W> {
     }
 }
 
-/// Wakes all waiting wakers. Apart from `end`, which is then small where nobody waits.
+/// Wakes all waiting wakers. It is not part of `end`, so `end` is small where nobody waits.
 #[inline(never)]
 fn wake<W: Wakes>(mut waiting: WaitList<W>) {
     waiting.hand_out().wake_all();

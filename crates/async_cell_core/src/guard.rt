@@ -1,4 +1,4 @@
-//! The end of a guard: the write of its cancel value, unless the guard was released.
+//! The end of a guard. It writes the cancel value, unless the guard was released.
 ghost use Rattle.std.specs.Prelude.{◌≡◌, [], true, IfSome, IfNone, if◌then◌else◌, None};
 ghost use Rattle.async_cell_model.specs.Machine.{is_vacant};
 ghost use Rattle.async_cell_core.specs.IsStep.{IsStep, end_guard_answer};
@@ -7,10 +7,10 @@ use crate::{Core, Wakers, Wakes};
 use async_cell_model::Kept;
 
 /// Ends a guard of this cell. `cancel` is its cancel value, or `None` if the guard was released. An
-/// unreleased guard makes one `or_set` of its cancel value; a released one makes no call.
+/// unreleased guard makes one `or_set` of its cancel value. A released one makes no call.
 ///
-/// Returns the value if it was not used, because the cell holds one already or is closed, and the
-/// waiting wakers, to be woken by the caller. Needs no memory and is never refused.
+/// Returns the waiting wakers, to be woken by the caller. Also returns the cancel value, if it was
+/// not used because the cell holds a value or is closed. Needs no memory, and is never refused.
 pub fn end_guard<T: Drop, W: Wakes>(
     core: &mut Core<T, W>,
     cancel: Option<T>,

@@ -5,9 +5,10 @@ ghost use Rattle.async_cell_model.specs.{Machine.State, Legal.{Runs, RunsUpTo}};
 ghost use Rattle.async_cell_core.specs.declared.call.Call.{Call};
 ghost use Rattle.async_cell_core.specs.Kept.{history_of};
 
-/// Two runs, the second from the state where the first ends, are one run of the joined calls, with
-/// the replies and the woken wakers of both. `edit` gives the content that an edit makes of a
-/// content, and `edit_some` the value that it makes of a value.
+/// If a second run starts in the state where a first one ends, the two are one run of the joined
+/// calls. It has the replies and the woken wakers of both. The function `edit` maps an edit and an
+/// old content to the new content. The function `edit_some` maps an edit and an old value to the
+/// new value.
 pub fn two_runs_are_one<T: Clone, W, E>()
     ensures { (will_wake : W → W → Bool) (sure_wakers : Bool)
         (edit : E → Option T → Option T) (edit_some : E → T → T)
@@ -23,7 +24,8 @@ pub fn two_runs_are_one<T: Clone, W, E>()
         (first ++ second) to }
 {}
 
-/// The same of exact runs, in which each reply is the model's own: values need no `Clone`.
+/// The same is true of exact runs, in which each reply is the model's own. Values then need no
+/// `Clone`.
 pub fn two_exact_runs_are_one<T, W, E>()
     ensures { (will_wake : W → W → Bool) (sure_wakers : Bool)
         (edit : E → Option T → Option T) (edit_some : E → T → T)

@@ -1,7 +1,7 @@
 //! The cell as a pure state machine: each call returns its reply and the wakers to be woken.
 //!
-//! What is `doc(hidden)` is internal: for the crates that build on this one. It may change without
-//! notice.
+//! Items that are `doc(hidden)` are internal, and may change without notice. They are for the
+//! crates that build on this one.
 #![tactic(auto)]
 
 mod call;

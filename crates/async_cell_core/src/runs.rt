@@ -60,8 +60,8 @@ fn step_no_get<T: Drop, W: Wakes, E: Edit<T> + Drop>(
 
 /// Makes one call. Returns its reply or its refusal, and the wakers, to be woken by the caller.
 ///
-/// The reply is the model's up to clones: a get of a full cell may return a clone of the value. It
-/// is exactly the model's if the call is no get or the type's clones are exact.
+/// The reply equals the model's reply up to clones: a get of a full cell may return a clone of the
+/// value. It is exactly the model's if the call is no get or the type's clones are exact.
 #[tactic(auto, using(async_cell_model::proofs::Machine::does_up_to))]
 pub fn step<T: Clone, W: Wakes, E: Edit<T> + Drop>(
     core: &mut Core<T, W>,
@@ -105,14 +105,14 @@ pub fn step_copied<T: Copy, W: Wakes, E: Edit<T> + Drop>(
 }
 
 /// Makes the calls in order, and returns one answer for each. The reply of a refused call is its
-/// refusal, and the calls after it are made. The memory for the answers is allocated first: if
-/// there is none, no call is made and the list is returned in the error. An empty list is never
+/// refusal, and the calls after it are still made. The memory for the answers is allocated first:
+/// if there is none, no call is made and the list is returned in the error. An empty list is never
 /// refused.
 ///
-/// The replies are the model's up to clones, for every type: a get of a full cell may return a
-/// clone of the value. They are exactly the model's if the list has no get. With a get they are,
-/// too, if the type's clones are exact: by `up_to_clones` and the law
-/// `with_exact_clones_a_history_is_exact` of `async_cell_model`.
+/// For every type, the replies equal the model's replies up to clones: a get of a full cell may
+/// return a clone of the value. They are exactly the model's if the list has no get. If the list
+/// has a get, they are still exactly the model's if the type's clones are exact. This follows from
+/// `up_to_clones` and the law `with_exact_clones_a_history_is_exact` of `async_cell_model`.
 pub fn run<T: Clone, W: Wakes, E: Edit<T> + Drop>(
     core: &mut Core<T, W>,
     calls: Vec<Call<T, W, E>>,

@@ -17,8 +17,8 @@ use async_cell_model::Cell;
 use std::alloc::Global;
 use std::marker::Model;
 
-/// Numbered tasks that wait for the value of one cell. The driver owns the cell, and knows of each
-/// task whether it is ready to be polled.
+/// Numbered tasks that wait for the value of one cell. The driver owns the cell. It knows which
+/// tasks are ready to be polled.
 ///
 /// ```rust
 /// let mut driver = Driver::new(rt.alloc(), Some(7));
@@ -73,8 +73,8 @@ impl<T: Clone> Driver<T> {
     }
 
     /// Polls a task that is ready. Returns `NotReady`, without a poll, for a task that is done, not
-    /// ready or not there. Fails with `Memory` if there is no memory for the waker's place or for a
-    /// clone of the value. The task is then still ready.
+    /// ready or not there. Fails with `Memory` if there is no memory for the waker's place in the
+    /// wait list or for a clone of the value. The task is then still ready.
     #[tactic(auto, using(crate::proofs::CoreCalls::poll_steps))]
     pub fn poll(&mut self, i: usize) -> Result<Polled<T>, Refusal>
         ensures drives { Happens T.is_clone self.old (Event.Poll i) (told_of result) self.new }
@@ -114,9 +114,9 @@ impl<T: Clone> Driver<T> {
         asked
     }
 
-    /// Makes room in the core's wait list: the next `additional` wakers that polls add need no
-    /// memory, until a fill or a close gives the room up. Fails with `Memory` if there is no memory
-    /// for so many. Does nothing on a closed cell.
+    /// Makes room in the core's wait list for `additional` more wakers. Polls that add these need
+    /// no memory, until a fill or a close gives up the room. Fails with `Memory` if there is no
+    /// memory for so many. Does nothing on a closed cell.
     pub fn reserve(&mut self, additional: usize) -> Result<(), Refusal>
         ensures tasks_stay { self.new.tasks ≡ self.old.tasks }
         ensures cell_stays { self.new.core.cell ≡ self.old.core.cell }
@@ -132,8 +132,8 @@ impl<T: Clone> Driver<T> {
         self.core.reserve(additional)
     }
 
-    /// Returns whether a task is ready. A task that was started and is not done is ready if it was
-    /// never polled, its last poll was refused, or its name was woken since.
+    /// Returns whether a task is ready. A task that was started and is not done is ready in three
+    /// cases: it was never polled, its last poll was refused, or it was woken since its last poll.
     pub fn is_ready(&self, i: usize) -> bool
         ensures { result ≡ is_ready self.now [] i }
     {
@@ -151,8 +151,8 @@ impl<T: Clone> Driver<T> {
         matches!(self.tasks.get(i), Some((_, Mark::Waiting | Mark::Woken)))
     }
 
-    /// Returns how many wakers wait for a value of the cell: at most as many as tasks were started,
-    /// however often they are polled.
+    /// Returns how many wakers wait for a value of the cell. This is never more than the number of
+    /// tasks that were started, however often they are polled.
     pub fn waiting(&self) -> usize
         ensures list { result ≡ length self.now.core.waiting }
         ensures at_most { result ≤ length self.now.tasks }
@@ -161,8 +161,8 @@ impl<T: Clone> Driver<T> {
         self.core.waiting()
     }
 
-    /// Takes out what `settle` got for a task: `Some(Some(v))`, or `Some(None)` from a closed cell.
-    /// Returns `None` if there is nothing, or if it was taken out already.
+    /// Takes out the result that `settle` got for a task: `Some(Some(v))`, or `Some(None)` from a
+    /// closed cell. Returns `None` if there is no result, or if it was taken out already.
     #[tactic(auto, using(crate::proofs::Settled::result_steps))]
     pub fn result(&mut self, i: usize) -> Option<Option<T>>
         ensures gives { result ≡ result_at self.old.tasks i }
@@ -174,10 +174,11 @@ impl<T: Clone> Driver<T> {
         self.tasks.replace_result(i, None)
     }
 
-    /// Polls each task that is ready now once, in order of number, and returns the number of these
-    /// polls. Stores what a poll is ready with for `result`. A refused poll ends the call: its task
-    /// and the ready tasks after it are still ready. The call visits every task that was ever
-    /// started, since done tasks stay in the list.
+    /// Makes one poll of each task that is now ready, in order of task number, and returns how many
+    /// polls were made. If a poll returns `Ready`, stores the poll's result, so that the method
+    /// `result` can return it. A refused poll ends the call: its task and the ready tasks after it
+    /// are still ready. The call visits every task that was ever started, since done tasks stay in
+    /// the list.
     #[tactic(auto, using(crate::proofs::CoreCalls::poll_steps))]
     pub fn settle(&mut self) -> Result<usize, Refusal>
         ensures settles { (log : Log T) × Settles T.is_clone self.old result log self.new }
@@ -200,7 +201,7 @@ impl<T: Clone> Driver<T> {
         Ok(polls)
     }
 
-    /// Polls a task that is ready, and stores what the poll is ready with.
+    /// Polls a task that is ready. If the poll is ready, stores its result.
     #[tactic(auto, using(crate::proofs::Settled::keep_steps))]
     fn poll_and_keep(&mut self, i: usize) -> Result<(), Refusal>
         requires { is_ready self.old [] i ≡ true }
@@ -219,10 +220,10 @@ impl<T: Clone> Driver<T> {
         Ok(())
     }
 
-    /// Makes the events happen in order, and returns one outcome for each. The outcome of a refused
-    /// event is its refusal, and the events after it happen. Room for the outcomes is reserved
-    /// first. If there is no memory for it, nothing is done and the list is returned in the error.
-    /// An empty list needs no memory.
+    /// Makes the events happen in order, and returns one outcome for each. If an event is refused,
+    /// its outcome is the refusal, and the events after it still happen. Room for the outcomes is
+    /// reserved first. If there is no memory for it, nothing is done and the list is returned in
+    /// the error. An empty list needs no memory.
     pub fn apply<E: Edit<T> + Drop>(
         &mut self,
         events: Vec<Event<T, E>>,
@@ -271,8 +272,8 @@ impl<T: Clone> Driver<T> {
     }
 }
 
-/// Polls the core for a task of this kind. The task's name is not in the wait list, so a poll that
-/// has to wait adds it without looking for it there.
+/// Polls the core for a task of this kind. The task's name is not in the wait list. So a poll that
+/// has to wait adds the name without searching the list.
 #[tactic(auto, using(crate::proofs::CoreCalls::sure_anyway, async_cell_model::proofs::Machine::does_up_to))]
 fn ask<T: Clone>(core: &mut Core<T, Named>, kind: Kind, name: Named) -> Result<Polled<T>, Refusal>
     requires { is_named name.0 core.old.waiting ≡ false }

@@ -9,7 +9,8 @@ pub enum Kind {
     Get,
 }
 
-/// What can happen to a driver, as an item of a list of events. `E` is the type of the edits.
+/// Something that can happen to a driver. A list of events has such items. `E` is the type of the
+/// edits.
 #[derive(Clone, Copy, Debug, Drop, PartialEq, Eq)]
 pub enum Event<T, E> {
     /// `Driver::start`, of a task of this kind. The outcome is `Started`, with the task's number.

@@ -8,19 +8,19 @@ ghost use Rattle.async_cell_driver.specs.declared.{event.Event.Event, event.Told
 ghost use Rattle.async_cell_driver.specs.{DriverState.DriverState, Drives.Drives, Log.Log, Log.log_of, Log.with_edit, History.history, History.handed_out};
 ghost use Rattle.async_cell_wakers.specs.Named.{same_name};
 
-/// Two logs are one, if the second starts from the state in which the first ends. So what each call
-/// promises holds of any number of calls, one after the other. A log has its last line first, so
-/// the later log comes first.
+/// If a second log starts in the state where a first one ends, the two joined are one log. So a
+/// promise that is made for one call is also true for any number of calls, one after the other. A
+/// log has its last line first, so the later log comes first.
 pub fn two_logs_are_one<T: Clone>()
     ensures { (from at to : DriverState T) (earlier later : Log T)
         → Drives T.is_clone from earlier at → Drives T.is_clone at later to
         → Drives T.is_clone from (later ++ earlier) to }
 {}
 
-/// Two lists of events, the second after the first, are one list. The outcomes and the woken names
-/// are joined in the same way. The log of the joined list is that of the second in front of that of
-/// the first. So two calls of `apply`, one after the other, promise what one call with the joined
-/// list does.
+/// If a second list of events happens after a first one, this is as if the joined list had
+/// happened. The outcomes and the woken names are joined in the same way. The log of the joined
+/// list is the second log followed by the first. So two calls of `apply`, one after the other,
+/// promise the same as one call with the joined list.
 #[tactic(auto, using(crate::proofs::Logs::joined_lists))]
 pub fn two_lists_are_one<T, E>()
     ensures joined { (events more : List (Event T (Option T → Option T)))
@@ -36,16 +36,17 @@ pub fn two_lists_are_one<T, E>()
         ++ log_of (map (with_edit edit) events) told handed }
 {}
 
-/// The names in a log are those of the wakers that the core's calls wake, call by call. A fill or a
-/// close names every task whose waker is registered then, in order, and no other call names any.
+/// For each call on the core, the names in the call's line of a log are those of the wakers that
+/// the call wakes. The line of a fill or a close has the name of every task whose waker is
+/// registered then, in order. The lines of other calls have no names.
 pub fn a_log_names_those_handed_out<T: Clone>()
     ensures { (from to : DriverState T) (log : Log T)
         → Drives T.is_clone from log to
         → handed_out from log ≡ wakes_after same_name from.core [] (history from log) }
 {}
 
-/// If a clone of a value equals its source, the outcomes in a log are exactly what the model of the
-/// cell replies. If the log polls no getter, this holds for every type.
+/// If a clone of a value equals its source, the outcomes in a log are exactly the replies of the
+/// cell's model. If the log has no poll of a `Get` task, this is true for every type.
 pub fn a_log_is_exact_where_clones_are<T: Clone>()
     ensures { (from to : DriverState T) (log : Log T)
         → (list_any copies (history from log) ≡ true → IsExact T.is_clone)

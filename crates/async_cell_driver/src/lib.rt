@@ -1,4 +1,5 @@
-//! Numbered tasks over one cell: only tasks that are ready are polled, and no task is forgotten.
+//! Numbered tasks that wait for the value of one cell: only tasks that are ready are polled, and no
+//! task is forgotten.
 #![tactic(auto)]
 
 mod driver;

@@ -45,7 +45,7 @@ impl Mark {
 pub(crate) struct Task<T> {
     pub kind: Kind,
     pub mark: Mark,
-    /// What `settle` got for it, until `result` returns it.
+    /// What `settle` got for the task. It stays here until `result` returns it.
     pub result: Option<Option<T>>,
 }
 
@@ -66,7 +66,7 @@ impl<T> Model for Tasks<T> {
 }
 
 impl<T: Drop> Tasks<T> {
-    /// Makes an empty list of tasks, without memory.
+    /// Makes an empty list of tasks. Needs no memory.
     pub fn new(alloc: Global) -> Self
         ensures { result ≡ [] }
     {

@@ -10,15 +10,16 @@ use ghost_log::{Log, Makes};
 use std::alloc::Global;
 use std::marker::Model;
 
-/// A cell that is not made yet, with its content. Its history begins. A type can name the history:
-/// write a function generic in that type, and call it at `std::marker::Brand` (see `Protocol`).
+/// A cell that is not made yet, with its content. Its history begins here. A type can name the
+/// history. Write a function that is generic in this type, and call the function with
+/// `std::marker::Brand` as the type argument (see `Protocol`).
 pub struct Blank<T: Drop, W: Wakes> {
     core: Core<T, W>,
     opened: Opened<T, W>,
     permit: Permit,
 }
 
-/// Contracts see how it begins.
+/// Contracts see how the history begins.
 impl<T: Drop, W: Wakes> Model for Blank<T, W> {
     ghost use Rattle.std.specs.Prelude.{◌≡◌, IsSome};
     ghost use Rattle.async_cell_history.specs.History.{Begun};
@@ -72,7 +73,7 @@ impl<T: Drop, W: Wakes> Drop for Blank<T, W> {
     }
 }
 
-/// A history that begins with a core, and that no type names yet.
+/// A history that begins with a core. No type names it yet.
 #[derive(Drop)]
 pub struct Opened<T, W: Wakes> {
     pub(crate) log: Log<Signed<T, W>>,
@@ -80,7 +81,7 @@ pub struct Opened<T, W: Wakes> {
     pub(crate) count: Count,
 }
 
-/// Contracts see how it begins.
+/// Contracts see how the history begins.
 impl<T, W: Wakes> Model for Opened<T, W> {
     ghost use Rattle.std.specs.Prelude.{◌≡◌, []};
     ghost use Rattle.async_cell_model.specs.Machine.{owners_of};

@@ -1,5 +1,5 @@
-//! The calls that a step may make of a core. Only this module and `ops` see the core. Each function
-//! makes one call of it, and holds what comes out in a `Deferred`, until the step ends.
+//! The calls that a step may make on a core. Only this module and `ops` see the core. Each function
+//! makes one call of the core, and holds what comes out in a `Deferred` until the step ends.
 ghost use Rattle.std.specs.Prelude.{◌≡◌, [], Some, None, IfErr, IfOk, IfSome, IsSomeAnd};
 ghost use Rattle.std.specs.Fn.{FnOnceReturnsAt};
 ghost use Rattle.async_cell_model.specs.Machine.{content, is_vacant, IsSound};
@@ -18,15 +18,15 @@ use std::alloc::Global;
 use std::fmt;
 use std::marker::{Model, PhantomData};
 
-/// The core of a cell, with its history. It hides the core's own calls: what they return could be
-/// woken or dropped during a step.
+/// The core of a cell, with its history. A `CellCore` hides the core's own calls, because what
+/// these calls return could be woken or dropped during a step.
 #[derive(Drop)]
 pub struct CellCore<T, W: Wakes, N: Protocol<T, W> = Unruled> {
     inner: Core<T, W>,
     pub(crate) past: Past<T, W, N>,
 }
 
-/// Contracts see the state of the core, and its past, which leads to it. Its value keeps the rule.
+/// Contracts see the state of the core, and the past that led to it. The value satisfies the rule.
 impl<T, W: Wakes, N: Protocol<T, W>> Model for CellCore<T, W, N> {
     ghost use Rattle.std.specs.Prelude.{◌≡◌};
     ghost use Rattle.async_cell_model.specs.Machine.{owners_of};
@@ -86,7 +86,7 @@ impl<T: Drop, W: Wakes, N: Protocol<T, W>> CellCore<T, W, N> {
         (core, witness, OwnerPermit::of(permit))
     }
 
-    /// Returns the core. Ensures what holds of every core.
+    /// Returns the core. Ensures what is true of the core in every `CellCore`.
     pub fn into_core(self) -> Core<T, W>
         ensures sound { IsSound W.will_wake result }
         ensures rule { IfSome (content result.cell) N.holds }
@@ -96,7 +96,7 @@ impl<T: Drop, W: Wakes, N: Protocol<T, W>> CellCore<T, W, N> {
         inner
     }
 
-    /// Does nothing. Its contract states what holds of every core: its state is sound.
+    /// Does nothing. Its contract states that the state of every core is sound.
     #[inline(always)]
     pub fn soundness(&self)
         ensures { IsSound W.will_wake self.now.inner }
@@ -104,7 +104,7 @@ impl<T: Drop, W: Wakes, N: Protocol<T, W>> CellCore<T, W, N> {
         self.inner.soundness();
     }
 
-    /// Makes a call, and adds its entry, signed `by`.
+    /// Makes a call, and adds the call's entry to the history. The entry is signed by `by`.
     #[inline(always)]
     pub fn make<O: Op<T, W, N>, B: Signs>(&mut self, op: O, by: &B) -> Deferred<O::Answer, O::After>
         requires can { O.can op }
@@ -121,7 +121,8 @@ impl<T: Drop, W: Wakes, N: Protocol<T, W>> CellCore<T, W, N> {
         held
     }
 
-    /// `make`, on the fast path of the call. Returns the call if it cannot take that.
+    /// As `make`, but on the fast path of the call. If the call cannot take that path, returns the
+    /// call.
     #[inline(always)]
     pub fn fast<O: Op<T, W, N>, B: Signs>(
         &mut self,
@@ -150,7 +151,7 @@ impl<T: Drop, W: Wakes, N: Protocol<T, W>> CellCore<T, W, N> {
         self.inner.is_set()
     }
 
-    /// Returns whether the cell is open and has no value: then a poll waits.
+    /// Returns whether the cell is open and has no value, so that a poll would wait.
     #[inline(always)]
     pub fn is_vacant(&self) -> bool
         ensures { result ≡ is_vacant self.now.inner.cell }
@@ -176,7 +177,8 @@ impl<T: Drop, W: Wakes, N: Protocol<T, W>> CellCore<T, W, N> {
         self.inner.wakes_nobody()
     }
 
-    /// Calls the closure on the value. Returns the closure if there is none.
+    /// Calls the closure on the value, and returns what it returns. If there is no value, returns
+    /// the closure in the error.
     #[inline(always)]
     #[tactic(auto, using(crate::proofs::Found::found_and))]
     pub fn peek<A, F: FnOnce(&T) -> A>(&self, look: F) -> Deferred<Result<A, F>>

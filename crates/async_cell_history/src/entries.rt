@@ -1,4 +1,4 @@
-//! Which call of the model each call of the core is, and how it was answered.
+//! For each call of the core, the call of the model that it is, and its reply.
 ghost use Rattle.std.specs.Prelude.{[], Some, None, Ok};
 ghost use Rattle.async_cell_model.specs.declared.entry.Kept.TheVariants as kept;
 ghost use Rattle.async_cell_model.specs.declared.reply.Reply.TheVariants as reply;

@@ -13,8 +13,8 @@ use crate::Protocol;
 use async_cell_core::Wakes;
 use async_cell_model::{Kept, Reply};
 
-/// A call that fills or closes a cell wakes each waker that still waits there, or in its place one
-/// that would wake it.
+/// For each waker that still waits on a cell, a call that fills or closes the cell wakes this
+/// waker, or another one that would wake the same task.
 pub fn a_fill_or_close_wakes_who_waits<T, W: Wakes, N: Protocol<T, W>>()
     ensures { (seen now : History T W) (call : Called T W) (reply : Replied T) (w : W)
         (made : IsLinearized W.Wakes N.named seen call reply now)
@@ -25,7 +25,7 @@ pub fn a_fill_or_close_wakes_who_waits<T, W: Wakes, N: Protocol<T, W>>()
         → IsCovered W.will_wake made.woken w }
 {}
 
-/// As `a_fill_or_close_wakes_who_waits`, of a `set` that succeeded.
+/// As `a_fill_or_close_wakes_who_waits`, for a `set` that succeeded.
 pub fn a_set_wakes_who_waits<T, W: Wakes, N: Protocol<T, W>>()
     ensures { (seen now : History T W) (v : T) (w : W)
         (made : IsLinearized W.Wakes N.named seen (Kept.Set v) Reply.Done now)
@@ -50,8 +50,8 @@ pub fn an_exact_get_is_linearized<T: Clone, W: Wakes, N: Protocol<T, W>>()
         → IsLinearized W.Wakes N.named seen Kept.TryGet (Reply.Value (Some v)) now }
 {}
 
-/// If `or_set` is the only change that may be made, all `try_get`s that find a value find the same.
-/// Each returned that value or a clone of it.
+/// If `or_set` is the only change that may be made, all `try_get`s that find a value find the same
+/// one. Each returned this value, or a clone of it.
 pub fn what_is_set_once_all_get<T, W: Wakes, N: Protocol<T, W>>()
     ensures { (now : History T W) (v w : T)
         → OnlyMakes N.may IsOrSet
@@ -60,10 +60,11 @@ pub fn what_is_set_once_all_get<T, W: Wakes, N: Protocol<T, W>>()
         → HasEntry now Kept.TryGet (Reply.Value (Some w)) → v ≡ w }
 {}
 
-/// What is got never goes back. Of two `try_get`s, if the second has seen the first, the value that
-/// it finds follows that of the first, by a reflexive and transitive test. Only `or_set`s may be
-/// made, and updates that leave in a full cell a value that follows the one there. Each `try_get`
-/// returned the value that it found, or a clone of it.
+/// What is got never goes back. `follows` is a reflexive and transitive relation. The only changes
+/// that may be made are `or_set`s and updates. An update of a full cell must put in a value that
+/// follows the old one. Then if a second `try_get` has seen a first one, the value that the second
+/// finds follows the value that the first found. Each returned the value that it found, or a clone
+/// of it.
 pub fn what_is_got_never_goes_back<T, W: Wakes, N: Protocol<T, W>>()
     ensures { (follows : T → T → Bool) (seen first later now : History T W) (v w : T)
         → ((a : T) → follows a a ≡ true)
@@ -76,7 +77,8 @@ pub fn what_is_got_never_goes_back<T, W: Wakes, N: Protocol<T, W>>()
         → follows v w ≡ true }
 {}
 
-/// A take that an author signed is one of its own, also in all that is seen later.
+/// If a witness made a take, the witness's author signed it. Whatever is seen later still shows
+/// this signature.
 #[tactic(auto, using(crate::proofs::TwoTakers::took, crate::proofs::TwoTakers::still_took))]
 pub fn a_seen_take_is_of_its_author<T, W: Wakes, N: Protocol<T, W>>()
     ensures linearized { (seen now : Seen T W) (v : T)
@@ -93,8 +95,10 @@ pub fn of_takers_alone_one_gets<T, W: Wakes, N: Protocol<T, W>>()
         → Took m v all → Took n w all → m ≡ n }
 {}
 
-/// What goes in comes out. Of whatever values are counted, as many as were there at the start and
-/// went in have come out, were dropped by a `set`, or are left. Without a `set` none is dropped.
+/// What goes in comes out. Choose any kind of values, and count only the values of this kind. The
+/// number in the cell at the start plus the number that went in equals the number that came out,
+/// plus the number that a `set` dropped, plus the number that is left. Without a `set` none is
+/// dropped.
 pub fn as_many_come_out_or_are_left_as_went_in<T, W: Wakes, N: Protocol<T, W>>()
     ensures as_many { (is_counted : T → Bool) (now : History T W)
         → IsLawful W.will_wake W.SURE_CLONE N.may (start_of N.named) now

@@ -1,5 +1,5 @@
-//! A cell's core with its history, which exists only in proofs. A call is a value (`Op`). Internal,
-//! except what the crates of the cells re-export: it may change without notice.
+//! A cell's core with its history, which exists only in proofs. A call is a value (`Op`). This
+//! crate is internal and may change without notice, except for what the cells' crates re-export.
 #![tactic(auto)]
 
 mod blank;

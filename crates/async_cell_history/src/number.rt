@@ -6,7 +6,7 @@ use async_cell_model::Entry;
 use ghost_log::{Log, Makes, Seen};
 use std::marker::PhantomData;
 
-/// A number that calls are signed with. Only contracts read it; 0 is nobody.
+/// A number that calls are signed with. Only contracts read it. 0 stands for nobody.
 pub trait Author {
     /// The number.
     ghost number: { ℕ };

@@ -15,7 +15,7 @@ pub trait Op<T: Drop, W: Wakes, N: Protocol<T, W>>: Sized {
     /// What it returns.
     type Answer;
 
-    /// What is woken and dropped after the step.
+    /// The wakers to wake, and the values to drop, after the step.
     type After: After<W>;
 
     /// The same, on its fast path.
@@ -54,7 +54,8 @@ pub trait Op<T: Drop, W: Wakes, N: Protocol<T, W>>: Sized {
         ensures gives { gives core.old self result.answer core.new }
         ensures leaves { leaves core.old self result.woken };
 
-    /// Makes the call, if it has a fast path and wakes one waker at most. Otherwise returns it.
+    /// Makes the call, if it has a fast path and wakes at most one waker. Otherwise returns the
+    /// call in the error.
     #[inline(always)]
     fn fast(self, core: &mut Core<T, W>) -> Result<Deferred<Self::Answer, Self::Few>, Self>
         requires can { can self }
@@ -74,7 +75,7 @@ pub trait Op<T: Drop, W: Wakes, N: Protocol<T, W>>: Sized {
         Err(self)
     }
 
-    /// Returns what the call returns where no core is lent: as if the cell were closed.
+    /// Returns what the call returns if no core is lent: the same as on a closed cell.
     fn unlent(self) -> Self::Answer
         ensures gives { gives (start_of None) self result (start_of None) };
 }

@@ -1,5 +1,5 @@
-//! The calls of a cell. (`CellStore` also has code of its own for plain writes: ends shared with
-//! other calls would cost 13 instructions more.)
+//! The calls of a cell. (`CellStore` also has code of its own for plain writes. Sharing code with
+//! other calls would cost 13 instructions.)
 mod looks;
 mod writes;
 

@@ -13,7 +13,7 @@ use ghost_log::{Log, Makes};
 use std::marker::{Model, PhantomData};
 use std::snapshot::Snapshot;
 
-/// Says which call of the model a call of the core is, and how it was answered. Only contracts read
+/// Says which call of the model a call of the core is, and which reply it got. Only contracts read
 /// it.
 pub(crate) trait Enters<C, A, T, W> {
     ghost use Rattle.async_cell_model.specs.declared.entry.Kept.{Kept};
@@ -115,9 +115,10 @@ impl<C, T, W: Wakes> Before<C, T, W> {
 }
 
 impl<T, W: Wakes> Before<W, T, W> {
-    /// `enter`, of a call that stored a waker in a place. If it replaced a waker, it has no entry:
-    /// its future waited already. This is not `inline(always)`, so that the compiler finds it empty
-    /// first: otherwise its branch would cost the caller an instruction.
+    /// As `enter`, for a call that stored a waker in a place. If it replaced a waker, it adds no
+    /// entry: its future waited already. This function is not `inline(always)`, so that the
+    /// compiler first finds that it is empty. Otherwise its branch would cost the caller an
+    /// instruction.
     pub(crate) fn enter_stored<N: Protocol<T, W>>(
         &self,
         past: &mut Past<T, W, N>,
@@ -142,7 +143,7 @@ impl<T, W: Wakes> Before<W, T, W> {
     }
 }
 
-/// A call that was made: what it returned, the core that it left, and who signed it.
+/// A call that was made: what it returned, the core after it, and who signed it.
 #[derive(Drop)]
 struct Made<'a, C, A, T, W: Wakes, B> {
     before: &'a Before<C, T, W>,

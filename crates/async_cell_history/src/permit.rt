@@ -1,4 +1,4 @@
-//! The permits of a cell's owners. As many are out as its core counts owners.
+//! The permits of a cell's owners. As many are given out as its core counts owners.
 ghost use Rattle.std.specs.Prelude.{◌≡◌, ◌+◌, ◌-◌, ◌<◌, false, None, IsSome, IsTrue};
 ghost use Rattle.async_cell_model.specs.Machine.{is_closed};
 ghost use Rattle.async_cell_history.specs.History.{permits_of};
@@ -10,14 +10,14 @@ use ghost_count::Permit;
 use ghost_log::Log;
 use std::marker::{Model, PhantomData};
 
-/// The permit of one owner of a cell. It is not `Drop`: the end of its owner takes it. It has no
-/// bytes.
+/// The permit of one owner of a cell. A permit is not `Drop`: the call that ends its owner takes
+/// the permit. A permit has no bytes.
 pub struct OwnerPermit<T, W, N: Protocol<T, W>> {
     permit: Permit,
     of: PhantomData<Log<(T, W, N)>>, // As a log, it may be sent and shared with any `T`.
 }
 
-/// Its count is that of the cell that `N` names.
+/// The permit belongs to the owner count of the cell that `N` names.
 impl<T, W, N: Protocol<T, W>> Model for OwnerPermit<T, W, N> {
     ghost use Rattle.std.specs.Prelude.{◌≡◌};
     ghost use Rattle.async_cell_history.specs.History.{permits_of};
@@ -49,7 +49,7 @@ impl<T, W, N: Protocol<T, W>> OwnerPermit<T, W, N> {
         OwnerPermit::of(Permit::blind())
     }
 
-    /// Lets go a permit of a cell whose owners are not counted.
+    /// Drops a permit of a cell whose owners are not counted.
     #[inline(always)]
     pub fn let_go(self)
         requires nameless { N.named ≡ None }
@@ -58,7 +58,7 @@ impl<T, W, N: Protocol<T, W>> OwnerPermit<T, W, N> {
         permit.lose();
     }
 
-    /// Lets go the permit of the last owner. The cell ends next, and nobody else can call it.
+    /// Drops the permit of the last owner. The cell ends next, and nobody else can call it.
     #[inline(always)]
     pub fn rest<M: Stores<Core = CellCore<T, W, N>>>(self, _: &mut StoredCore<M>)
     where
@@ -68,7 +68,8 @@ impl<T, W, N: Protocol<T, W>> OwnerPermit<T, W, N> {
         permit.lose();
     }
 
-    /// Lets go a permit where no step could be lent: then nobody closes the cell.
+    /// Drops a permit, for use when no core could be lent. The owner stays counted, so the cell is
+    /// never closed.
     #[inline(always)]
     pub fn lose<'a, M: Stores, R: Opens<'a, M>>(self, _: &R)
         requires unlent { IsTrue R.always → ⊥ }
@@ -96,7 +97,8 @@ impl<T, W: Wakes, N: Protocol<T, W>> Past<T, W, N> {
         self.count.take(permit);
     }
 
-    /// Does nothing. Its contract states that an owner is counted, since its permit is here.
+    /// Does nothing. Its contract states that at least one owner is counted, since `permit` is that
+    /// of an owner.
     #[inline(always)]
     pub(crate) fn shows(&mut self, permit: &OwnerPermit<T, W, N>)
         ensures stays { self.new ≡ self.old }
@@ -106,7 +108,7 @@ impl<T, W: Wakes, N: Protocol<T, W>> Past<T, W, N> {
     }
 }
 
-/// Who makes a call: an owner, whose cell is open, or anyone.
+/// Who makes a call: an owner, or anyone. The cell of an owner is open.
 pub trait Caller<T, W: Wakes, N: Protocol<T, W>> {
     /// It is an owner that is counted.
     ghost owns: { Type 0 };

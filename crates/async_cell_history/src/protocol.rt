@@ -5,10 +5,10 @@ ghost use Rattle.async_cell_history.specs.History.{Begun, IsTake, Puts, puts_any
 use async_cell_step::{Rule, Ruled};
 use std::marker::Brand;
 
-/// Which cell it is, which changes of its content may be made, and what is known of its values.
-/// Only contracts read it.
+/// Names a cell, and says which changes of its content may be made, and what is known of its
+/// values. Only contracts read it.
 pub trait Protocol<T, W> {
-    /// How the cell began. `None`: it has no name, and nobody sees its history.
+    /// How the cell began. If it is `None`, the cell has no name, and nobody sees its history.
     ghost named: { Option (Begun T W) };
 
     /// The changes that may be made: writes and takes.
@@ -17,19 +17,20 @@ pub trait Protocol<T, W> {
     /// The rule: what is known of each value that the cell holds.
     ghost holds: { T → Type 0 };
 
-    /// A value that a change may put in keeps the rule.
+    /// Each value that an allowed change puts in satisfies the rule.
     ghost keeps: { (call : Kept T W) → may call → Puts holds call };
 }
 
 /// A cell whose values may be taken.
 pub trait Takeable<T, W>: Protocol<T, W> {
-    /// Each take may be made.
+    /// Every take may be made.
     ghost takes: { (call : Kept T W) → IsTake call → Self.may call };
 }
 
-/// A cell to which each change may be made that keeps its rule.
+/// A cell to which every change may be made, if the change puts in only values that satisfy the
+/// cell's rule.
 pub trait Free<T, W>: Protocol<T, W> {
-    /// Each such change may be made.
+    /// Every such change may be made.
     ghost free: { (call : Kept T W) → Puts Self.holds call → Self.may call };
 }
 
@@ -88,8 +89,8 @@ impl<T, W, P: Rule<T>> Unwitnessed<T, W> for Ruled<P> {
     ghost nameless = { refl };
 }
 
-/// A call at `Brand` may pick other members, in an `Invariants.antt`. They may name the program's
-/// values.
+/// A caller that passes `Brand` may define its own members in place of these, in an
+/// `Invariants.antt`. The caller's members may name the program's values.
 impl<T, W> Protocol<T, W> for Brand {
     ghost named = { None };
 

@@ -1,4 +1,4 @@
-//! Who signs a call, and who is told of it.
+//! Who signs a call, and who sees it.
 ghost use Rattle.std.specs.Prelude.{◌≡◌, ℕ, List};
 ghost use Rattle.async_cell_model.specs.declared.entry.Kept.{Kept};
 ghost use Rattle.async_cell_model.specs.declared.reply.Reply.{Reply};
@@ -13,9 +13,9 @@ pub trait Signs {
     ghost number: { Self → ℕ };
 }
 
-/// Who signs a call and is told of it: a witness, or nobody.
+/// Who signs a call, and then has seen it: a witness, or nobody.
 pub trait Sees<T: Drop, W: Wakes, N: Protocol<T, W>>: Signs {
-    /// The second is the first, after it caught up: it has seen all that led to this core.
+    /// The second is the first after `catch_up`: it has seen all calls that led to this core.
     ghost ready: { Self → Self → Logged T W → Type 0 };
 
     /// The second has seen that this call was made, with this reply, after what the first has seen.
@@ -35,7 +35,7 @@ pub trait Sees<T: Drop, W: Wakes, N: Protocol<T, W>>: Signs {
             → sees first call reply self.new };
 }
 
-/// Nobody is told, or makes a call.
+/// Nobody sees the call, or signs it.
 #[derive(Drop)]
 pub struct Nobody;
 

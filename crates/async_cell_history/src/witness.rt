@@ -7,8 +7,9 @@ use async_cell_core::Wakes;
 use ghost_log::Seen;
 use std::marker::{Model, PhantomData};
 
-/// What one thread has seen of the history of the cell that `N` names, the number that its own
-/// calls are signed with, and how many it has made. It has no bytes.
+/// What one thread has seen of the history of the cell that `N` names. A witness also has the
+/// number that the thread's own calls are signed with, and how many calls the thread has made. A
+/// witness has no bytes.
 #[derive(Drop)]
 pub struct Witness<T, W: Wakes, N: Protocol<T, W>> {
     seen: Seen<Signed<T, W>>,
@@ -17,8 +18,8 @@ pub struct Witness<T, W: Wakes, N: Protocol<T, W>> {
     of: PhantomData<N>,
 }
 
-/// Contracts see the calls that were seen, who made each, who the thread is, and how many were made
-/// with it.
+/// Contracts see the calls that were seen, who made each, who the thread is, and how many calls
+/// were made with the witness.
 impl<T, W: Wakes, N: Protocol<T, W>> Model for Witness<T, W, N> {
     ghost use Rattle.std.specs.Prelude.{map};
     ghost use Rattle.async_cell_history.specs.History.{first_number, IsSeen, Seen as SeenCalls};
@@ -54,7 +55,7 @@ impl<T, W: Wakes, N: Protocol<T, W>> Witness<T, W, N> {
         }
     }
 
-    /// Sees the whole history. What was seen before begins it.
+    /// Sees the whole history. What it saw before is a prefix of that.
     #[inline(always)]
     pub(crate) fn learn(&mut self, past: &Past<T, W, N>)
         ensures calls { self.new.calls ≡ past.now.calls }
@@ -68,7 +69,7 @@ impl<T, W: Wakes, N: Protocol<T, W>> Witness<T, W, N> {
         self.seen.learn(&past.log);
     }
 
-    /// `learn`, of a history whose last call was made with this.
+    /// As `learn`, for a history whose last call was made with this witness.
     #[inline(always)]
     pub(crate) fn learn_own(&mut self, past: &Past<T, W, N>)
         ensures calls { self.new.calls ≡ past.now.calls }
@@ -80,8 +81,8 @@ impl<T, W: Wakes, N: Protocol<T, W>> Witness<T, W, N> {
         self.own = number_after(&self.own);
     }
 
-    /// Does nothing. Its contract states what holds of all that was seen: its calls are legal, its
-    /// changes may be made, each call has one author, and the owners of the cell are counted.
+    /// Does nothing. Its contract states what is true of all that was seen: the calls are legal,
+    /// the changes may be made, each call has one author, and the owners of the cell are counted.
     #[inline(always)]
     pub fn lawful(&self)
         ensures lawful { IsLawful W.will_wake W.SURE_CLONE N.may (start_of N.named) self.now.calls }
@@ -114,8 +115,9 @@ impl<T, W: Wakes, N: Protocol<T, W>> Witness<T, W, N> {
         }
     }
 
-    /// Returns a witness of the longer of what the two have seen. What each has seen begins it. It
-    /// signs as `self` does, and has made as many calls.
+    /// Returns a witness that has seen what `self` has seen or what `other` has seen, whichever is
+    /// longer. What each of the two has seen is a prefix of what the result has seen. The result
+    /// signs as `self` does, and has made as many calls as `self`.
     pub fn longer(&self, other: &Self) -> Self
         ensures one_of_both { (result.calls ≡ self.now.calls) ⊎ (result.calls ≡ other.now.calls) }
         ensures begins { IsPrefix self.now.calls result.calls }

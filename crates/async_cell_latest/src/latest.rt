@@ -16,8 +16,8 @@ use std::alloc::{AllocError, Global};
 use std::marker::Model;
 use std::{fmt, mem};
 
-/// A value that is always there, with its version, counted writers, and the wait list of the wakers
-/// of followers that have seen this version.
+/// A value that is always there, with its version and counted writers. Its wait list holds the
+/// wakers of followers that have seen this version.
 pub struct Latest<T, W: Wakes> {
     value: T,
     /// Begins with 1 and grows by 1 with each write.
@@ -42,7 +42,7 @@ impl<T, W: Wakes> Model for Latest<T, W> {
 
 impl<T: Drop, W: Wakes> Latest<T, W> {
     /// Creates an open state that holds `value`, with one writer. Its version is 1. A follower that
-    /// has seen no version passes 0 as the one that it has seen.
+    /// has seen no version yet passes 0 to polls.
     pub fn new(alloc: Global, value: T) -> Self
         ensures { result ≡ record
             { value = value; version = 1; writers = 1; waiting = []; room = 0 } }
@@ -50,8 +50,8 @@ impl<T: Drop, W: Wakes> Latest<T, W> {
         Latest::from_parts(alloc, value, 1, 1)
     }
 
-    /// Creates an open state that holds `value` as this version, with this number of writers: at
-    /// least 1 each.
+    /// Creates an open state that holds `value`, with this version and this number of writers. Both
+    /// must be at least 1.
     pub fn from_parts(alloc: Global, value: T, version: u64, writers: u32) -> Self
         requires versioned { 1 ≤ version }
         requires counted { 1 ≤ writers }
@@ -89,9 +89,9 @@ impl<T: Drop, W: Wakes> Latest<T, W> {
         Ok((old, self.waiting.hand_out()))
     }
 
-    /// `write`, to a state whose list has no memory for more than one waker. Returns the old value,
-    /// and that waker, if one waits, to be woken by the caller. Otherwise it changes nothing, and
-    /// returns `value` in the error.
+    /// As `write`, but only if the list has no memory for more than one waker. Returns the old
+    /// value and that waker, if one waits, to be woken by the caller. In other cases changes
+    /// nothing, and returns `value` in the error.
     #[doc(hidden)]
     #[inline(always)]
     pub fn write_first(&mut self, value: T) -> Result<(T, Option<W>), T>

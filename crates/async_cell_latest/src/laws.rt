@@ -8,9 +8,9 @@ ghost use Rattle.async_cell_latest.specs.Step.{Write, PollChanged, Shown, ends_w
 ghost use Rattle.async_cell_latest.specs.History.{Entry, History, IsLegal, Runs, after, is_memory};
 ghost use Rattle.async_cell_latest.specs.Follower.{IsFollower, IsRising, is_old, seen_after, has_write, has_end, pending_waker};
 
-/// The versions that a follower is told rise: each poll shows one that is larger than all that the
-/// follower saw before. A follower is any choice of reads and polls of the history, in order, in
-/// which each poll passes the version that was shown last.
+/// The versions of a follower rise: each poll that shows a version shows a larger version than the
+/// follower has seen. Here a follower is any selection of reads and polls of the history, in order,
+/// in which the argument of each poll is the version that was shown last.
 #[tactic(auto, using(crate::proofs::Versions::rising))]
 pub fn the_versions_of_a_follower_rise<T, W>()
     ensures { (will_wake : W → W → Bool) (sure_wakers : Bool)
@@ -19,8 +19,9 @@ pub fn the_versions_of_a_follower_rise<T, W>()
         → IsFollower seen mine → seen ≤ b.version → IsRising seen mine }
 {}
 
-/// A poll after the last write shows the last state, its version and its value, or its follower has
-/// seen that version. The last state is what the last write put in, also once it is closed.
+/// A poll after the last write shows the version of the last state, and so the value of the last
+/// state, unless the poll's follower has seen this version. The last state is what the last write
+/// put in, even after the state is closed.
 #[tactic(auto, using(crate::proofs::Versions::last_state))]
 pub fn a_poll_shows_the_last_state<T, W>()
     ensures written { (will_wake : W → W → Bool) (sure_wakers : Bool)
@@ -50,7 +51,7 @@ pub fn the_last_state_stays<T, W>()
         → is_closed b ≡ true → Stays b (after will_wake b h) }
 {}
 
-/// A version is the name of one value: whoever is shown the same version is shown the same value.
+/// A version belongs to one value: any two replies that show the same version show the same value.
 #[tactic(auto, using(crate::proofs::Versions::legal_rest, crate::proofs::Versions::shown_own, crate::proofs::Versions::after_same))]
 pub fn a_version_names_one_value<T, W>()
     ensures { (will_wake : W → W → Bool) (sure_wakers : Bool)
@@ -61,8 +62,8 @@ pub fn a_version_names_one_value<T, W>()
 {}
 
 /// No waiting follower is forgotten. Until the next write or the close, the waker of each poll that
-/// returned `Pending` waits, or some waiting waker would wake it. The write or the close wakes all
-/// that wait, and then nobody waits, so each is woken once.
+/// returned `Pending` waits, or some waiting waker would wake the same task. That write or close
+/// wakes every waiting waker, and then no waker waits. So each waiting waker is woken once.
 #[tactic(auto, using(crate::proofs::CoveredWakers::stays_covered, crate::proofs::Versions::legal_rest, crate::proofs::Versions::after_append))]
 pub fn no_waiting_follower_is_forgotten<T, W>()
     ensures covered { (will_wake : W → W → Bool) (sure_wakers : Bool)
@@ -84,8 +85,8 @@ pub fn no_waiting_follower_is_forgotten<T, W>()
         → (after will_wake b (g ++ last ∷ [])).waiting ≡ [] }
 {}
 
-/// Two histories, the second from the state where the first ends, are one. So the steps of the
-/// calls of a `Latest`, one after the other, are one legal history.
+/// If a second history starts in the state where a first one ends, joining the two gives one
+/// history. So the calls of a `Latest`, one after the other, are one legal history.
 #[tactic(auto, using(crate::proofs::JoinedHistories::joined_histories))]
 pub fn two_histories_are_one<T, W>()
     ensures { (will_wake : W → W → Bool) (sure_wakers : Bool)

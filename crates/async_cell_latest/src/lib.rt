@@ -1,7 +1,7 @@
-//! A state that any number of followers follow, as a pure state machine. Each write replaces the
-//! value and moves its version on, and returns the wakers of the followers that wait. The last
-//! state stays when the last writer ends. What is `doc(hidden)` is internal, and may change
-//! without notice.
+//! A state that any number of followers follow, implemented as a pure state machine. Each write
+//! replaces the value, makes its version one larger, and returns the wakers of the followers that
+//! wait. The last state stays when the last writer ends. Items marked `doc(hidden)` are internal,
+//! and may change without notice.
 #![tactic(auto)]
 
 mod latest;

@@ -55,10 +55,10 @@ impl<T: Drop, R: Wait + Drop, N: Protocol<T>> Follower<T, R, N> {
 }
 
 impl<T: Clone, R: Wait + Copy, N: Protocol<T>> Follower<T, R, N> {
-    /// Returns a future that waits for a value that the witness has not seen. It returns a clone of
-    /// the value, and the witness, which has then seen it; `None` for the value once the state is
-    /// closed and all values were seen. Fails with `Memory` if there is no memory to wait or for
-    /// the clone. What this follower has seen stays as it is.
+    /// Returns a future that waits for a value that the witness has not seen. It gives a clone of
+    /// the value, and the witness, which has then seen it. Once the state is closed and all values
+    /// were seen, it gives `None` for the value. Fails with `Memory` if there is no memory to wait
+    /// or for the clone. Marks nothing as seen by this follower.
     pub fn next_as(&self, seen: Witness<T, N>) -> With<NextAs<'_, T, N>, R>
         ensures of_this { result.polled.cell.now ≡ cell_followed self.now }
         ensures seen { result.polled.seen ≡ seen }
@@ -70,7 +70,7 @@ impl<T: Clone, R: Wait + Copy, N: Protocol<T>> Follower<T, R, N> {
 
 /// The future of `Follower::changed`.
 ///
-/// It waits, and may be dropped, as `With`: **its drop may wait for the lock**.
+/// It waits as a `With` does, and may be dropped. **Its drop may wait for the lock.**
 #[derive_where(Debug)]
 pub struct Changed<'a, T: Drop, R: Wait + Drop, N: Protocol<T> = Unruled> {
     #[derive_where(skip)]
@@ -80,14 +80,15 @@ pub struct Changed<'a, T: Drop, R: Wait + Drop, N: Protocol<T> = Unruled> {
 }
 
 impl<T: Drop, R: Wait + Drop, N: Protocol<T>> Changed<'_, T, R, N> {
-    /// As `With::cancel`. Call it on a state that is written seldom: a write removes the waker too.
+    /// As `With::cancel`. It is meant for states that are seldom written, because each write
+    /// removes the waker, too.
     pub fn cancel(self) {
         let Changed { follower, place } = self;
         follower.cell.core.cancel(place, &follower.rt);
     }
 }
 
-/// Leaves its place in the wait list free.
+/// Frees its place in the wait list.
 impl<T: Drop, R: Wait + Drop, N: Protocol<T>> Drop for Changed<'_, T, R, N> {
     fn drop(self) {
         let Changed { follower, place } = self;
@@ -128,7 +129,7 @@ impl<T: Drop, R: Wait + Drop, N: Protocol<T>> Future for Changed<'_, T, R, N> {
 
 /// The future of `Follower::wait_for`.
 ///
-/// It waits, and may be dropped, as `Changed`: **its drop may wait for the lock**.
+/// It waits as a `Changed` does, and may be dropped. **Its drop may wait for the lock.**
 #[derive_where(Debug)]
 pub struct WaitFor<'a, T: Drop, R: Wait + Drop, F: Drop, N: Protocol<T> = Unruled> {
     #[derive_where(skip)]
@@ -155,7 +156,7 @@ impl<T: Drop, R: Wait + Drop, F: Drop, N: Protocol<T>> WaitFor<'_, T, R, F, N> {
     }
 }
 
-/// Leaves its place in the wait list free.
+/// Frees its place in the wait list.
 impl<T: Drop, R: Wait + Drop, F: Drop, N: Protocol<T>> Drop for WaitFor<'_, T, R, F, N> {
     fn drop(self) {
         let WaitFor {
@@ -228,12 +229,14 @@ impl<T: Clone, R: Wait + Drop, F: FnMut(&T) -> bool + Drop, N: Protocol<T>> Futu
     }
 }
 
-/// The stream of `Follower::states`: clones of the unseen states that it is in time for. It ends
-/// after the last state, once the last owner has ended.
+/// The stream of `Follower::states`. Its items are clones of unseen states. A state that is
+/// overwritten before the stream is polled is skipped. Once the last owner has ended, the stream
+/// ends after the last state.
 ///
-/// If a poll fails with `Memory`, the item is that error. Poll the stream again: it missed nothing.
+/// If a poll fails with `Memory`, the item is that error, and nothing was marked as seen: poll the
+/// stream again.
 ///
-/// It waits, and may be dropped, as `Changed`: **its drop may wait for the lock**.
+/// It waits as a `Changed` does, and may be dropped. **Its drop may wait for the lock.**
 #[derive_where(Debug)]
 pub struct States<T: Drop, R: Wait + Drop, N: Protocol<T> = Unruled> {
     #[derive_where(skip)]
@@ -250,7 +253,7 @@ impl<T: Drop, R: Wait + Drop, N: Protocol<T>> States<T, R, N> {
     }
 }
 
-/// Leaves its place in the wait list free.
+/// Frees its place in the wait list.
 impl<T: Drop, R: Wait + Drop, N: Protocol<T>> Drop for States<T, R, N> {
     fn drop(self) {
         let States { follower, place } = self;
@@ -292,7 +295,7 @@ impl<T: Clone, R: Wait + Drop, N: Protocol<T>> Stream for States<T, R, N> {
     }
 }
 
-/// The request of `Follower::next_as`, of which `With` makes the future.
+/// The request of `Follower::next_as`. `With` makes a future of it.
 #[derive(Drop)]
 pub struct NextAs<'a, T: Drop, N: Protocol<T>> {
     cell: &'a LatestCell<T, N>,

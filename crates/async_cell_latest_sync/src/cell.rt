@@ -1,5 +1,5 @@
-//! The state behind a lock, as owners and followers point to it: the looks at it, and what polls
-//! ask it. Closures, and clones of the value, run while the lock is held.
+//! The state behind a lock, which owners and followers point to: the calls that read it, and what
+//! polls ask of it. Closures, and clones of the value, run while the lock is held.
 mod calls;
 
 ghost use Rattle.std.specs.Prelude.{◌≡◌, ◌≢◌, IsOk, IfOk, IfSome, IfNone};
@@ -106,11 +106,11 @@ fn find<T: Clone, P: FnMut(&T) -> bool>(value: &T, predicate: &mut P) -> Result<
     Ok(Some(copy?))
 }
 
-/// Asks a state for its version, unless it is this one.
+/// Asks a state for its version, if the version differs from the one given here.
 #[derive(Clone, Copy, Drop)]
 pub struct Unseen(pub u64);
 
-/// `Unseen`, with a clone of the value, made during the step.
+/// As `Unseen`, and asks for a clone of the value, made during the step.
 #[derive(Clone, Copy, Drop)]
 pub struct UnseenState(pub u64);
 

@@ -12,13 +12,14 @@ use std::alloc::AllocError;
 use std::sync::{Arc, Wait};
 
 /// One follower of a state, with the right to wait for its lock. It knows which state it has seen,
-/// and waits for a later one. It is no owner. `Owner::follow` makes one, and a clone another.
+/// and waits for a later one. It is no owner. `Owner::follow` makes a follower. A clone of a
+/// follower is another follower.
 ///
-/// A follower sees the last state, and not each one: of those that are written before it looks, it
-/// sees the last. A new one has seen the state of that moment: it is shown what is written later.
-/// The last state of all stays when the last owner ends, so no follower misses it.
+/// A follower need not see each state: when it looks, it sees only the last state that was written.
+/// A new follower has seen the current state, and is shown what is written later. The last state of
+/// all stays when the last owner ends, so no follower misses it.
 ///
-/// Its drop does not take the lock. Dropping a future that it made may wait for it.
+/// The drop of a follower takes no lock. Dropping a future that it made may wait for the lock.
 #[derive(Drop)]
 #[derive_where(Debug)]
 pub struct Follower<T: Drop, R, N: Protocol<T> = Unruled> {
@@ -40,9 +41,10 @@ impl<T: Drop, R: Wait + Drop, N: Protocol<T>> Follower<T, R, N> {
         Follower { cell, seen, rt }
     }
 
-    /// Returns a future that is ready once there is a state that this follower has not seen, which
-    /// is then marked as seen. It fails with `Closed` once the last owner has ended and the last
-    /// state was seen, and with `Memory` if it has to wait and there is no memory for that.
+    /// Returns a future that is ready once there is a state that this follower has not seen. It
+    /// then marks this state as seen. It fails with `Closed` once the last owner has ended and the
+    /// last state was seen. It fails with `Memory` if it has to wait and there is no memory for
+    /// that.
     ///
     /// ```rust
     /// let setting = Owner::new(rt.alloc(), 1, rt)?;
@@ -60,14 +62,15 @@ impl<T: Drop, R: Wait + Drop, N: Protocol<T>> Follower<T, R, N> {
         }
     }
 
-    /// Returns a future that is ready with a clone of the first state that the predicate holds of.
-    /// It looks at the current state, whether it was seen or not, and then at each later one that
-    /// it is in time for, at each once; these are then marked as seen. The predicate runs while the
-    /// lock is held: one that calls its own state waits forever.
+    /// Returns a future that gives a clone of the first state of which the predicate is true. It
+    /// looks at the current state, seen or not, and then at later ones, each once. A state that is
+    /// overwritten before the future is polled is skipped. The states that it looked at are marked
+    /// as seen. The predicate runs while the lock is held. So a predicate that calls this state
+    /// waits forever.
     ///
     /// The future fails with `Closed` once the last owner has ended and the last state was looked
-    /// at, and with `Memory` if there is no memory for the clone or to wait: then that state is not
-    /// marked, and the next poll looks at it again.
+    /// at. It fails with `Memory` if there is no memory for the clone or to wait. Then the state
+    /// that this poll looked at is not marked, and the next poll looks at that state again.
     ///
     /// ```rust
     /// let setting = Owner::new(rt.alloc(), 1, rt)?;
@@ -88,7 +91,8 @@ impl<T: Drop, R: Wait + Drop, N: Protocol<T>> Follower<T, R, N> {
         }
     }
 
-    /// Returns the stream of unseen states, as clones. Once closed, it ends after the last state.
+    /// Returns a stream of clones of the unseen states. Once the last owner has ended, the stream
+    /// ends after the last state.
     ///
     /// ```rust
     /// let setting = Owner::new(rt.alloc(), 1, rt)?;
@@ -118,7 +122,7 @@ impl<T: Drop, R: Wait + Drop, N: Protocol<T>> Follower<T, R, N> {
         Ok(self.cell.get(&self.rt)?.1)
     }
 
-    /// `read`, of a value that is then marked as seen. Nothing is marked if the clone fails.
+    /// As `read`, but marks the value as seen, unless the clone fails.
     pub fn read_and_update(&mut self) -> Result<T, Refusal>
     where
         T: Clone,
@@ -141,7 +145,7 @@ impl<T: Drop, R: Wait + Drop, N: Protocol<T>> Follower<T, R, N> {
         self.cell.peek(look, &self.rt).1
     }
 
-    /// `peek`, of a value that is then marked as seen.
+    /// As `peek`, but marks the value as seen.
     pub fn peek_and_update<A, F: FnOnce(&T) -> A>(&mut self, look: F) -> A
         requires { F.IsAlwaysCallable look }
         ensures called { (seen : T) × N.holds seen × FnOnceReturnsAt F.FnOnce look seen result }
@@ -152,12 +156,13 @@ impl<T: Drop, R: Wait + Drop, N: Protocol<T>> Follower<T, R, N> {
         answer
     }
 
-    /// Returns whether there is an unseen state, also once the last owner has ended. Marks nothing.
+    /// Returns whether there is an unseen state. This works after the last owner has ended, too.
+    /// Marks nothing.
     pub fn has_changed(&self) -> bool {
         self.cell.version(&self.rt) != self.seen
     }
 
-    /// Returns whether the last owner has ended: the state is then the last one.
+    /// Returns whether the last owner has ended. If so, the current state is the last one.
     pub fn is_closed(&self) -> bool {
         self.cell.is_closed(&self.rt)
     }
@@ -179,7 +184,7 @@ impl<T: Drop, R: Wait + Drop, N: Protocol<T>> Follower<T, R, N> {
 }
 
 impl<T: Clone, R: Wait + Drop, N: Protocol<T>> Follower<T, R, N> {
-    /// `read_and_update`, which shows the witness all values so far.
+    /// As `read_and_update`, and the witness then has seen all values so far.
     pub fn read_and_update_as(&mut self, seen: &mut Witness<T, N>) -> Result<T, Refusal>
         ensures linearized { IfOk result (λ copy. IsShown T.is_clone seen.old copy seen.new) }
         ensures rule { IfOk result (IsCloneOfOne T.is_clone N.holds) }

@@ -1,5 +1,5 @@
-//! The list of the values that a state has had, which exists in the proofs alone, and what is known
-//! of them.
+//! The list of the values that a state has had, and what is known of them. The list exists only in
+//! proofs.
 ghost use Rattle.std.specs.Prelude.{◌≡◌, ◌⊎◌, ⊤, ℕ, List, [], ◌∷◌, ◌++◌, length, true, false, Option, Some, None, IsSome};
 ghost use Rattle.async_cell_latest_sync.specs.Life.{Fits, GoesOn, IsLawful, Life, life_of, values_of};
 
@@ -8,19 +8,20 @@ use async_cell_step::{Rule, Ruled};
 use ghost_log::{Log, Makes, Seen};
 use std::marker::{Brand, Model, PhantomData};
 
-/// Which state it is, which values may be written, and what is known of each. Only contracts read
-/// it.
+/// Names a state, and says which values may be written to the state, and what is known of each
+/// value. Only contracts read a protocol.
 pub trait Protocol<T> {
-    /// The name of the list of its values. `None`: it has none, and no witness sees it.
+    /// The name of the list of its values. If it is `None`, the list has no name, and no witness
+    /// sees it.
     ghost named: { Option ℕ };
 
-    /// After these values this one may be written.
+    /// Whether this value may be written after these.
     ghost may: { List T → T → Type 0 };
 
     /// The rule: what is known of each value.
     ghost holds: { T → Type 0 };
 
-    /// A value that may be written keeps the rule.
+    /// Each value that may be written satisfies the rule.
     ghost keeps: { (before : List T) → (value : T) → may before value → holds value };
 }
 
@@ -37,7 +38,7 @@ impl<T> Protocol<T> for Unruled {
     ghost keeps = { λ _ _ may. may };
 }
 
-/// A state without a name, whose values keep the rule `P`.
+/// A state without a name, whose values satisfy the rule `P`.
 impl<T, P: Rule<T>> Protocol<T> for Ruled<P> {
     ghost named = { None };
 
@@ -48,7 +49,8 @@ impl<T, P: Rule<T>> Protocol<T> for Ruled<P> {
     ghost keeps = { λ _ _ may. may };
 }
 
-/// A call at `Brand` gives its own definitions in place of these: they may name its values.
+/// A caller that passes `Brand` defines its own members in place of these. The caller's members may
+/// name the program's values.
 impl<T> Protocol<T> for Brand {
     ghost named = { None };
 
@@ -59,8 +61,9 @@ impl<T> Protocol<T> for Brand {
     ghost keeps = { λ _ _ may. may };
 }
 
-/// The empty list of a state that is not made yet. A protocol can name it in a function over the
-/// protocol, which is called at `std::marker::Brand`. It has no bytes.
+/// The empty list of a state that is not made yet. A protocol can name this list. For that, write a
+/// function generic in the protocol, and call the function with `std::marker::Brand`. A `Blank` has
+/// no bytes.
 #[derive(Drop)]
 pub struct Blank<T> {
     log: Log<Option<T>>,
@@ -150,9 +153,10 @@ impl<T> Makes<(), Option<T>> for Entry {
     ghost entry = { λ _. None };
 }
 
-/// What was seen of the values of the state that `N` names: all up to some moment. A call that ends
-/// in `_as` shows it all values of that moment. It belongs to no owner or follower: each of its
-/// state can take it. At run time it is the version of the last value that was seen.
+/// Knows the values of the state that `N` names, up to some moment. After a call whose name ends in
+/// `_as`, it knows all values so far. It belongs to no owner or follower: every owner and every
+/// follower of the state can be called with it. At run time it is the version of the last value
+/// that it has seen.
 #[derive(Drop)]
 pub struct Witness<T, N: Protocol<T>> {
     version: u64,
@@ -185,7 +189,7 @@ impl<T, N: Protocol<T>> Witness<T, N> {
         }
     }
 
-    /// Sees the whole life, up to this version. It has gone on from what was seen.
+    /// Sees the whole life, up to this version. What it saw before is a beginning of that.
     #[inline(always)]
     #[tactic(auto, using(crate::proofs::Lives::more_goes_on))]
     pub(crate) fn learn(&mut self, values: &Values<T, N>, version: u64)
@@ -206,14 +210,16 @@ impl<T, N: Protocol<T>> Witness<T, N> {
         self.version
     }
 
-    /// Ensures what holds of all values that were seen: each may be written after those before it.
+    /// Does nothing. Its contract states that `N.may` allows each seen value after the values
+    /// before it.
     pub fn lawful(&self)
         ensures { IsLawful N.may self.now.values }
     {
         let _ = &self.seen;
     }
 
-    /// Ensures that what one of both has seen begins what the other has.
+    /// Does nothing. Its contract states that what one of the two has seen is a prefix of what the
+    /// other has seen.
     #[tactic(auto, using(crate::proofs::Lives::more_goes_on))]
     pub fn agrees(&self, other: &Self)
         ensures { GoesOn self.now other.now ⊎ GoesOn other.now self.now }

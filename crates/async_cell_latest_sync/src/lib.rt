@@ -1,4 +1,4 @@
-//! A state that many threads follow: owners write it, and each follower sees the last one.
+//! A state that many threads follow. Owners write the state, and each follower sees the last value.
 #![tactic(auto)]
 
 mod awaited;

@@ -12,21 +12,21 @@ use futures::task::Source;
 use std::alloc::{AllocFailed, Global};
 use std::sync::{Arc, Wait};
 
-/// One counted owner of a state, with the right to wait for its lock. Owners write the state; any
-/// number of followers see it. It ends by its drop. The end of the last owner closes the state: the
-/// last value stays, and each follower is told of it before the end.
+/// One counted owner of a state, with the right to wait for its lock. Owners write the state. Any
+/// number of followers read it. An owner ends by its drop. The end of the last owner closes the
+/// state: the last value stays, and followers see it before they get `Closed`.
 ///
 /// Wakers are woken and old values are dropped after the lock is released, so whatever runs then
-/// may call the state. Closures, and clones of the value, run while the lock is held: one that
-/// calls its own state, or drops an owner or a waiting future of it, waits forever. What a closure
-/// owns is dropped there too.
+/// may call the state. Closures, and clones of the value, run while the lock is held. A closure or
+/// a clone waits forever if it calls this state, or drops an owner or a waiting future of this
+/// state. What a closure owns is dropped under the lock, too.
 ///
 /// A state takes 18,446,744,073,709,551,614 writes, and no further one.
 ///
-/// **Letting one go may wait for the lock**, as its other calls may.
+/// **Dropping an owner may wait for the lock**, as its calls may.
 ///
-/// `N` says what is known of the values (see `Rule`), and names the list of them that a witness
-/// sees. A state of `Owner::new` has neither.
+/// `N` says what is known of the values (see `Rule`). It also gives a name to the list of values
+/// that a witness sees. A state of `Owner::new` has neither rule nor name.
 #[derive_where(Debug)]
 pub struct Owner<T: Drop, R: Wait + Drop, N: Protocol<T> = Unruled> {
     #[derive_where(skip)]
@@ -36,7 +36,8 @@ pub struct Owner<T: Drop, R: Wait + Drop, N: Protocol<T> = Unruled> {
 }
 
 impl<T: Drop, R: Wait + Copy> Owner<T, R> {
-    /// Makes a state of this value, and its first owner. Fails with `Memory`, and drops the value.
+    /// Makes a state of this value, and its first owner. Fails with `Memory` if there is no memory,
+    /// and then drops the value.
     ///
     /// ```rust
     /// let setting = Owner::new(rt.alloc(), 1, rt)?;
@@ -51,8 +52,9 @@ impl<T: Drop, R: Wait + Copy> Owner<T, R> {
 }
 
 impl<T: Drop, R: Wait + Copy, P: Rule<T>> Owner<T, R, Ruled<P>> {
-    /// Makes a state of this value, whose values keep the rule `P`, and its first owner: each write
-    /// requires that it holds, and each read ensures it. Fails with `Memory`, and drops the value.
+    /// Makes a state of this value, and its first owner. All values satisfy the rule `P`: each
+    /// write requires this, and each read ensures it. Fails with `Memory` if there is no memory,
+    /// and then drops the value.
     pub fn ruled(alloc: Global, value: T, rt: R) -> Result<Self, Refusal>
         requires rule { P.holds value }
         ensures refused { FailsWithMemory result }
@@ -62,8 +64,8 @@ impl<T: Drop, R: Wait + Copy, P: Rule<T>> Owner<T, R, Ruled<P>> {
 }
 
 impl<T: Drop, R: Wait + Copy, N: Protocol<T>> Owner<T, R, N> {
-    /// Makes a state of this value, which `N` names, its first owner, and a witness that has seen
-    /// the value. Fails with `Memory`, and drops the value.
+    /// Makes a state of this value, its first owner, and a witness that has seen the value. `N`
+    /// names the state. Fails with `Memory` if there is no memory, and then drops the value.
     pub fn witnessed(
         alloc: Global,
         value: T,
@@ -95,8 +97,9 @@ impl<T: Drop, R: Wait + Copy, N: Protocol<T>> Owner<T, R, N> {
         }
     }
 
-    /// Returns a follower that has seen the current state: call `mark_changed` for it to begin with
-    /// that one. Fails with `Memory` if the pointer cannot be counted.
+    /// Returns a follower that has seen the current state. For a follower that begins with this
+    /// state, call `mark_changed`. Fails with `Memory` if one more pointer to the state cannot be
+    /// counted.
     ///
     /// ```rust
     /// let setting = Owner::new(rt.alloc(), 1, rt)?;
@@ -112,8 +115,9 @@ impl<T: Drop, R: Wait + Copy, N: Protocol<T>> Owner<T, R, N> {
         Ok(Follower::new(Arc::try_clone(&self.cell)?, self.rt))
     }
 
-    /// Adds an owner, in place of a clone. Fails with `Memory` if the pointer cannot be counted, or
-    /// with `OwnersFull`; `Closed` is in the contract, but cannot happen while this owner lives.
+    /// Adds an owner. Use this in place of a clone. Fails with `Memory` if one more pointer to the
+    /// state cannot be counted, or with `OwnersFull`. The contract also allows `Closed`, which
+    /// cannot happen while this owner lives.
     pub fn another(&self) -> Result<Self, Refusal>
         ensures of_this { IfOk result (λ owner. cell_owned owner ≡ cell_owned self.now) }
         ensures refused { IfErr result IsOwnerRefusal }
@@ -164,7 +168,7 @@ impl<T: Drop, R: Wait + Drop, N: Protocol<T>> Owner<T, R, N> {
         }
     }
 
-    /// `set`, where the lock is not free.
+    /// As `set`, where the lock is not free.
     #[inline(never)]
     fn set_in_turn(&self, value: T)
         requires may { (before : List T) → N.may before value }
@@ -173,7 +177,7 @@ impl<T: Drop, R: Wait + Drop, N: Protocol<T>> Owner<T, R, N> {
     }
 
     /// Sets the value and returns the old one. Wakes all followers that wait. If the state takes no
-    /// further write, the value is returned in the error.
+    /// further write, the new value is returned in the error.
     pub fn replace(&self, value: T) -> Result<T, T>
         requires may { (before : List T) → N.may before value }
         ensures rule { IfOk result N.holds }
@@ -184,8 +188,8 @@ impl<T: Drop, R: Wait + Drop, N: Protocol<T>> Owner<T, R, N> {
         end_and_wake(step, written)
     }
 
-    /// Calls the closure on the value, under the lock, sets the one that it returns, and drops the
-    /// old one. Wakes all followers that wait.
+    /// Calls the closure on the value, under the lock. Sets the value that it returns, and drops
+    /// the old one. Wakes all followers that wait.
     pub fn update<F: FnOnce(&T) -> T>(&self, change: F)
         requires callable { F.IsAlwaysCallable change }
         requires may { (before : List T) (old new : T) → N.holds old
@@ -198,10 +202,11 @@ impl<T: Drop, R: Wait + Drop, N: Protocol<T>> Owner<T, R, N> {
         let _ = end_and_wake(step, written);
     }
 
-    /// Calls the closure on the value, which it may change in place, and returns what it returns.
-    /// Wakes all followers that wait. The lock is held meanwhile: a value that the closure drops
-    /// must not call the state, either. Fails with `Closed` if the state takes no further write,
-    /// and then does not call the closure.
+    /// Calls the closure on the value, and returns what the closure returns. The closure may change
+    /// the value in place. Wakes all followers that wait. The closure runs under the lock. So the
+    /// closure must not call the state. The drop of a value inside the closure must not call the
+    /// state, either. Fails with `Closed` if the state takes no further write, and then does not
+    /// call the closure.
     ///
     /// ```rust
     /// let setting = Owner::new(rt.alloc(), 1u32, rt)?;
@@ -221,10 +226,11 @@ impl<T: Drop, R: Wait + Drop, N: Protocol<T>> Owner<T, R, N> {
         end_and_wake(step, modified)
     }
 
-    /// `modify`, if the closure returns `true`. If it returns `false`, nothing is written: nobody
-    /// is woken, and no follower is told of a new state. Returns what the closure returned.
+    /// As `modify`, if the closure returns `true`. If it returns `false`, nobody is woken, and
+    /// followers see no new state. Returns what the closure returned.
     ///
-    /// A closure that returns `false` should change nothing: what it did stays, and nobody is told.
+    /// A closure that returns `false` should leave the value as it was: a change would stay, and
+    /// nobody would be woken.
     pub fn modify_if<F: FnOnce(&mut T) -> bool + Drop>(&self, change: F) -> Result<bool, Refusal>
         requires callable { F.IsAlwaysCallable change }
         requires unnamed { N.named ≡ None }
@@ -239,10 +245,12 @@ impl<T: Drop, R: Wait + Drop, N: Protocol<T>> Owner<T, R, N> {
         end_and_wake(step, modified)
     }
 
-    /// Lets go of the wakers that dropped futures left; the task of each of these is polled again.
+    /// Drops the wakers that dropped futures left in the state, so the task of each such waker is
+    /// polled once more.
     ///
-    /// A dropped future leaves its waker until the next write, and a waker keeps what its executor
-    /// needs. Call this where many waits end early. It locks once for each place.
+    /// Without this call these wakers stay until the next write. A waker that stays keeps alive
+    /// what its executor needs to wake the task. Call it if many waits end early. It takes the lock
+    /// once for each place in the wait list.
     pub fn purge(&self) {
         self.cell.core.purge(&self.rt);
     }
@@ -253,7 +261,8 @@ impl<T: Drop, R: Wait + Drop, N: Protocol<T>> Owner<T, R, N> {
         self.cell.core.places(&self.rt)
     }
 
-    /// `set`. If the state takes no further write, the value is returned in the error.
+    /// As `set`, but shows the write to the witness. If the state takes no further write, the value
+    /// is returned in the error.
     pub fn set_as(&self, seen: &mut Witness<T, N>, value: T) -> Result<(), T>
         requires may { MayWrite N.may seen.old value }
         ensures linearized { OnOk result (IsWritten seen.old value seen.new) }
@@ -264,7 +273,7 @@ impl<T: Drop, R: Wait + Drop, N: Protocol<T>> Owner<T, R, N> {
         self.replace_as(seen, value).map(drop)
     }
 
-    /// `set_as`, which returns the old value: the one that was written before this one.
+    /// As `set_as`, but returns the old value, which was written just before the new one.
     pub fn replace_as(&self, seen: &mut Witness<T, N>, value: T) -> Result<T, T>
         requires may { MayWrite N.may seen.old value }
         ensures linearized { OnOk result (IsWritten seen.old value seen.new) }
@@ -284,7 +293,8 @@ impl<T: Drop, R: Wait + Drop, N: Protocol<T>> Owner<T, R, N> {
         end_and_wake(step, replaced)
     }
 
-    /// `update`. If the state takes no further write, the new value is returned in the error.
+    /// As `update`, but shows the write to the witness. If the state takes no further write, the
+    /// new value is returned in the error.
     pub fn update_as<F: FnOnce(&T) -> T>(
         &self,
         seen: &mut Witness<T, N>,
@@ -312,8 +322,9 @@ impl<T: Drop, R: Wait + Drop, N: Protocol<T>> Owner<T, R, N> {
         }
     }
 
-    /// Ends this owner, as its drop does. Returns whether the state is closed, as this was the last
-    /// one: then it takes no further write, and a follower that has seen all values is told so.
+    /// Ends this owner, as its drop does. Returns whether this was the last owner, that is, whether
+    /// the state is now closed. A closed state takes no further write, and a follower that has seen
+    /// all values gets `Closed`.
     pub fn end_as(self, seen: &mut Witness<T, N>) -> bool
         ensures linearized { GoesOn seen.old seen.new }
         ensures closed { result ≡ seen.new.closed }

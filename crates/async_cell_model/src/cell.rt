@@ -1,5 +1,5 @@
 /// A cell of the model: closed, or open with an optional value and a number of owners. It holds no
-/// wakers: a state has the wait list beside it.
+/// wakers: these are in the state's wait list.
 #[derive(Clone, Copy, Debug, Drop, PartialEq, Eq)]
 pub enum Cell<T> {
     /// The last owner is gone, and the value with it.

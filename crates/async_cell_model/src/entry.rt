@@ -36,7 +36,7 @@ pub enum Kept<T, W> {
 /// A call and its reply.
 #[derive(Clone, Copy, Debug, Drop, PartialEq, Eq)]
 pub struct Entry<T, W> {
-    /// The call, with what its closure was called with and returned.
+    /// The call, with the argument and the result of its closure.
     pub call: Kept<T, W>,
     /// Its reply.
     pub reply: Reply<T>,

@@ -23,7 +23,7 @@ pub fn only_a_vacant_cell_keeps_waiting<T: Clone, W>()
 {}
 
 /// No waiting poll is forgotten. Until the next fill or close, the waker of each poll that returned
-/// `Pending` waits, or some waiting waker would wake it.
+/// `Pending` waits, or some waiting waker would wake the same task.
 #[tactic(auto, using(crate::proofs::Whole::stays_covered))]
 pub fn a_pending_waker_stays_covered<T: Clone, W>()
     ensures { (will_wake : W → W → Bool) (sure_wakers : Bool)
@@ -33,10 +33,11 @@ pub fn a_pending_waker_stays_covered<T: Clone, W>()
         → IsCovered will_wake (waiting will_wake b (g ++ e ∷ rest)) w }
 {}
 
-/// A value is taken once. In a history without updates, the values that the replies move out of the
-/// cell are, in order, some of those that it held at the start and that were passed to the writes,
-/// each at most once. So if the latter differ, no value is returned by two replies. A clone that a
-/// get returns is not taken out of the cell, and does not count.
+/// A value is taken once. Consider a history without updates, and the list of all its values: first
+/// the value that the cell held at the start, then the values that were passed to the writes. The
+/// values that replies move out of the cell are some of the values in this list, in the order of
+/// the list, each at most once. So if all values in the list differ, no value is moved out by two
+/// replies. A clone that a get returns is not taken out of the cell, and does not count.
 #[tactic(auto, using(crate::proofs::Once::given_in_order, crate::proofs::Once::given_once))]
 pub fn a_value_is_taken_once<T: Clone, W>()
     ensures in_order { (will_wake : W → W → Bool) (sure_wakers : Bool)
@@ -49,9 +50,9 @@ pub fn a_value_is_taken_once<T: Clone, W>()
 {}
 
 /// Only the current state matters. After a joined history `g ++ h`, the cell, the wait list and the
-/// room are those after `h` alone, started from the state after `g`. If the joined history is
-/// legal, so is `g`, and so is `h` from that state. A legal history from a sound state ends in a
-/// sound state.
+/// room are the same as after `h` alone, if `h` starts from the state after `g`. If the joined
+/// history is legal, then `g` is legal, and `h` is legal from the state after `g`. A legal history
+/// from a sound state ends in a sound state.
 pub fn a_history_can_begin_anew<T: Clone, W>()
     ensures begins { (will_wake : W → W → Bool) (sure_wakers : Bool)
         (b : State T W) (g : History T W)
@@ -73,8 +74,8 @@ pub fn a_history_can_begin_anew<T: Clone, W>()
         → IsSound will_wake b → room will_wake b (g ++ h) ≡ room will_wake (after will_wake b g) h }
 {}
 
-/// Two histories, the second from the state where the first ends, are one. So two runs, one after
-/// the other, are one run of the joined calls.
+/// If a second history starts in the state where a first one ends, joining the two gives one
+/// history. So two runs, one after the other, are one run of the joined calls.
 pub fn two_histories_are_one<T: Clone, W>()
     ensures { (will_wake : W → W → Bool) (sure_wakers : Bool)
         (from at to : State T W) (g h : History T W)
@@ -99,8 +100,8 @@ pub fn one_more_waker_is_last_or_skipped<T: Clone, W>()
         then waiting will_wake b h else waiting will_wake b h ++ w ∷ []) }
 {}
 
-/// The wait list, from its first waker on. The first registered waker waits. After it comes the
-/// wait list of the other registrations, without those that the first would wake.
+/// How a wait list begins. The first registered waker waits. After this waker comes the wait list
+/// of the other registrations that the first waker would not wake.
 #[tactic(auto, using(crate::proofs::OneMoreWaker::keep_first))]
 pub fn the_first_waker_skips_all_that_it_would_wake<W>()
     ensures none { (will_wake : W → W → Bool) → wait_list will_wake [] ≡ [] }
@@ -109,8 +110,8 @@ pub fn the_first_waker_skips_all_that_it_would_wake<W>()
         ≡ w ∷ wait_list will_wake (filter (λ v. not (will_wake w v)) rest) }
 {}
 
-/// No waker waits twice if a waker would wake another exactly if the two are equal, as with
-/// `Named`.
+/// If a waker would wake another exactly when the two are equal, as with `Named`, then no waker
+/// waits twice.
 #[tactic(auto, using(crate::proofs::Whole::waits_once))]
 pub fn no_waker_waits_twice<T, W>()
     ensures { (will_wake : W → W → Bool) (b : State T W) (h : History T W)
@@ -118,9 +119,9 @@ pub fn no_waker_waits_twice<T, W>()
         → IsDistinct (waiting will_wake b h) }
 {}
 
-/// How each entry changes the room. A fill or a close leaves none. Any other entry uses up one
-/// place, if there is one, where it made the wait list longer, and otherwise leaves the room as it
-/// was.
+/// How each entry changes the room. A fill or a close leaves no room. An entry that makes the wait
+/// list longer uses up the room for one waker, if there is any. Any other entry leaves the room as
+/// it was.
 #[tactic(auto, using(crate::proofs::Whole::one_more_entry))]
 pub fn the_room_goes_by_one<T, W>()
     ensures ended { (will_wake : W → W → Bool) (b : State T W) (h : History T W) (e : Entry T W)
@@ -163,8 +164,8 @@ pub fn a_refused_call_changes_nothing<T: Clone, W>()
         → is_refused e.reply ≡ true → woken ≡ [] ∷ [] }
 {}
 
-/// A fill or a close ends all waiting: it wakes every waiting waker, and nobody waits after it. No
-/// other entry wakes any waker.
+/// A fill or a close ends all waiting. It wakes every waiting waker, and after it no waker waits.
+/// No other entry wakes a waker.
 #[tactic(auto, using(crate::proofs::Whole::one_more_entry))]
 pub fn a_fill_or_close_ends_all_waiting<T: Clone, W>()
     ensures nobody_waits { (will_wake : W → W → Bool)
@@ -181,9 +182,8 @@ pub fn a_fill_or_close_ends_all_waiting<T: Clone, W>()
         → ends_waiting from.cell (next from.cell e) ≡ false → woken ≡ [] ∷ [] }
 {}
 
-/// A history that is legal up to clones is an exact one if the type's clones are exact or the
-/// history has no get: each reply is then the model's own. And an exact history is one up to
-/// clones.
+/// A history that is legal up to clones is exact if the type's clones are exact, or if the history
+/// has no get. Each reply is then the model's own. Every exact history is also legal up to clones.
 pub fn with_exact_clones_a_history_is_exact<T: Clone, W>()
     ensures exact { (will_wake : W → W → Bool) (sure_wakers : Bool)
         (from to : State T W) (h : History T W) (woken : List (List W))
@@ -203,8 +203,8 @@ pub fn with_exact_clones_a_history_is_exact<T: Clone, W>()
         → IsLegal will_wake sure_wakers b h → IsLegalUpTo will_wake sure_wakers T.is_clone b h }
 {}
 
-/// The machine is the model: a step that is read off a history of one entry is what the machine
-/// does, and the other way round.
+/// The two definitions of a step agree: a history of one entry is legal exactly if this entry is
+/// what the machine does.
 pub fn a_step_is_the_machines<T: Clone, W>()
     ensures machine { (will_wake : W → W → Bool) (sure_wakers : Bool) (from to : State T W)
         (call : Kept T W) (answer : Reply T) (woken : List W)

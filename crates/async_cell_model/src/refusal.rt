@@ -5,8 +5,8 @@ use std::{fmt, io};
 /// The reason why a call was refused. A refused call changes nothing.
 #[derive(Clone, Copy, Debug, PartialEq, Eq)]
 pub enum Refusal {
-    /// There was no memory: to grow a list, for a clone, or for the waker of a task. Also if the
-    /// count of a pointer is full.
+    /// There was no memory to grow a list, for a clone, or for the waker of a task. Or the count of
+    /// a pointer is full.
     Memory,
     /// The cell is closed. Writes, owner calls and strong futures fail with this.
     Closed,
@@ -53,7 +53,7 @@ impl From<AllocError> for Refusal {
     }
 }
 
-/// For `?` in code whose errors are those of input and output. The kind is `OutOfMemory` for
+/// For `?` in code whose errors are of the type `io::Error`. The kind is `OutOfMemory` for
 /// `Memory`, and otherwise `Other`.
 impl From<Refusal> for io::Error {
     ghost use Rattle.std.specs.Prelude.{◌≡◌};

@@ -7,7 +7,8 @@ use crate::{Named, PlainHistory, Refusal, Reply};
 use async_cell_model::laws::exact::a_value_is_taken_once;
 use std::marker::Model;
 
-/// A call as a history stores it: an update with what its edit saw and what it returned.
+/// A call as a history stores it. If the call is an update, it is stored with the argument and the
+/// result of its edit.
 pub type Kept<T> = async_cell_model::Kept<T, Named>;
 
 /// A call of a recorded cell and its reply, without the share that made it.
@@ -19,13 +20,15 @@ pub struct Entry<T> {
     /// The number of the share that made the call.
     pub share: u32,
 
-    /// How many calls the share made before this one: its calls are numbered 0, 1, 2, .. in order.
+    /// How many calls the share made before this one. So its calls have the serials 0, 1, 2, .. in
+    /// order.
     pub serial: u64,
 
-    /// The call, with what its edit saw and returned if it has one.
+    /// The call. If it has an edit, the argument and the result of the edit are stored with the
+    /// call.
     pub call: Kept<T>,
 
-    /// The reply of the cell. A refusal of the cell is a reply, too.
+    /// The reply of the cell. A refusal is a reply, too.
     pub reply: Reply<T>,
 }
 
@@ -68,8 +71,9 @@ impl<T> History<T> {
         self.entries.is_empty()
     }
 
-    /// Returns the entries, in order. They are a legal history from the start, and none replies
-    /// that there was no memory. The serials of each share's entries are 0, 1, 2, .. in order.
+    /// Returns the entries, in order. They are a legal history from the first state of the cell,
+    /// and no reply says that there was no memory. The serials of each share's entries are 0, 1, 2,
+    /// .. in order.
     pub fn entries(&self) -> &[Entry<T>]
         ensures entries { result.now ≡ self.now.entries }
         ensures recorded { IsRecorded self.now }
@@ -77,9 +81,9 @@ impl<T> History<T> {
         self.entries.as_slice()
     }
 
-    /// No value is taken twice: if no call is an update, and the values that the calls put in all
-    /// differ, then the values that the replies move out all differ, too. A get moves none out.
-    /// Does nothing: its contract is the law.
+    /// Does nothing. Its contract is a law: no value is taken twice. If no call is an update, and
+    /// all values that the calls put in differ, then all values that the replies move out differ. A
+    /// get moves none out.
     pub fn a_value_is_taken_once(&self)
         ensures law { has_update (map plain_entry self.now.entries) ≡ false
             → IsDistinct (put_in (map plain_entry self.now.entries))
@@ -112,8 +116,9 @@ impl<T: Copy> History<T> {
         })
     }
 
-    /// Returns a plain history as if share 0 had made all of its calls, with the serials 0, 1, 2,
-    /// .. in their order. If there is no memory, it is returned in the error, beside `Memory`.
+    /// Makes a history from a plain history, as if share 0 had made all calls. The serials of the
+    /// calls are 0, 1, 2, .. in order. If there is no memory, the plain history is returned in the
+    /// error, beside `Memory`.
     pub fn carry(old: PlainHistory<T>) -> Result<History<T>, (Refusal, PlainHistory<T>)>
         ensures entries { IfOk result (λ history. history ≡ with_one_share old) }
         ensures recorded { IfOk result (λ history. IsRecorded history) }
@@ -139,7 +144,8 @@ impl<T: Copy> History<T> {
         Ok(History { begin, entries })
     }
 
-    /// As `carry`, but drops the plain history if there is no memory, so that `?` serves.
+    /// As `carry`, but drops the plain history if there is no memory, so that `?` can be used on
+    /// the result.
     pub fn carry_or_drop(old: PlainHistory<T>) -> Result<History<T>, Refusal>
         ensures entries { IfOk result (λ history. history ≡ with_one_share old) }
         ensures recorded { IfOk result (λ history. IsRecorded history) }

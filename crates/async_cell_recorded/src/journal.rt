@@ -14,8 +14,8 @@ use std::alloc::{AllocError, Global};
 use std::marker::Model;
 use std::sync::ledger::{self, Ledger};
 
-/// The value under the lock of a recorded cell: the cell, its history, and the books of what the
-/// shares count. `M` names the cell.
+/// What the lock of a recorded cell guards: the cell, its history, and the books, which count the
+/// calls of the shares. `M` names the cell.
 #[derive(Drop)]
 pub struct Journal<T, M: Pick<T>> {
     core: Core<T, Named>,
@@ -24,8 +24,9 @@ pub struct Journal<T, M: Pick<T>> {
     books: Books<M>,
 }
 
-/// Contracts see the history. It is legal, the serials of each share's entries are 0, 1, 2, .. in
-/// order, it leads to the cell and its wait list, and it has as many entries as the books count.
+/// Contracts see the history. It is legal, and leads to the cell and its wait list. The serials of
+/// each share's entries are 0, 1, 2, .. in order. The number of entries in the history is the
+/// number of calls that the books count.
 impl<T, M: Pick<T>> Model for Journal<T, M> {
     ghost Value = { Recording T };
 
@@ -37,8 +38,8 @@ impl<T, M: Pick<T>> Model for Journal<T, M> {
 }
 
 impl<T: Copy, M: Pick<T>> Journal<T, M> {
-    /// Makes an open cell without a value, with an owner for each share, and its shares, numbered
-    /// from 0. Fails with `Memory` if there is no memory.
+    /// Makes an open cell without a value and with one owner for each share. Also makes the shares
+    /// of the cell, numbered from 0. Fails with `Memory` if there is no memory.
     #[tactic(auto, using(crate::proofs::Counted::length_new_shares))]
     pub fn new(alloc: Global, shares: u32, blanks: Blanks) -> Result<(Self, Vec<Share<M>>), Refusal>
         requires some { 1 ≤ shares }
@@ -61,12 +62,12 @@ impl<T: Copy, M: Pick<T>> Journal<T, M> {
     }
 
     /// Makes a call. Returns its entry, and the wakers that the caller must wake. The entry has the
-    /// number of the share, and the share's count before the call as its serial. A refusal of the
-    /// cell is a reply, and has an entry.
+    /// share's number. Its serial is the share's count before the call. A refusal of the cell is a
+    /// reply, and has an entry.
     ///
-    /// A call that fails leaves no entry. It fails with `OutOfTurn`, which is checked first, if the
-    /// share's count is not the number of its entries in the history, and with `Memory` if there is
-    /// no memory.
+    /// A call that fails leaves no entry. It fails with `OutOfTurn` if the share's count is not the
+    /// number of its entries in the history: this is checked first. It fails with `Memory` if there
+    /// is no memory.
     pub fn step<E: Edit<T> + Drop>(
         &mut self,
         share: &mut Share<M>,
@@ -141,8 +142,8 @@ impl<T: Copy, M: Pick<T>> Journal<T, M> {
     }
 }
 
-/// The books of what a cell's shares count, each beside the part of its ledger that no share has,
-/// and the serial of the next call of each share.
+/// Two books, which count what a cell's shares count, and the serial of each share's next call.
+/// Beside each book is the part of its ledger that no share has.
 #[derive(Drop)]
 struct Books<M: Marker> {
     calls: ledger::Book<CallsLedger<M>>,
@@ -152,7 +153,7 @@ struct Books<M: Marker> {
     next_serials: Vec<u64>,
 }
 
-/// Contracts see what the shares add up to, and the serials.
+/// Contracts see the sum of the shares' counts, and the serial of each share's next call.
 impl<M: Marker> Model for Books<M> {
     ghost Value = { Totals };
 
@@ -212,7 +213,7 @@ impl<M: Marker> Books<M> {
     }
 }
 
-/// Counts a call. The amount that is added to what was picked depends on the call's answer alone,
+/// Counts a call. Also counts the call's result, if it is picked: the call's answer decides this,
 /// and only contracts know it.
 fn count<T, M: Marker>(
     books: &mut Books<M>,
@@ -238,8 +239,8 @@ fn count<T, M: Marker>(
     add_unseen(&mut books.picked, &mut share.picked);
 }
 
-/// Adds an amount to a share and to its book, as `Book::add` does. The amount is not a number of
-/// the program: the caller's proof picks it. Does nothing at run time.
+/// Adds an amount to a share and to its book, as `Book::add` does. The caller's proof picks the
+/// amount, which exists only in proofs. Does nothing at run time.
 fn add_unseen<L: Ledger>(book: &mut ledger::Book<L>, share: &mut ledger::Share<L>)
     ghost amount: { ℕ }
     requires { 0 < share.old.parts }

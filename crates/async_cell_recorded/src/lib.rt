@@ -1,5 +1,5 @@
 //! A cell whose calls are recorded, in order, under its lock. Each caller has a share, which counts
-//! its calls. When all shares are back, the cell is finished. Its history is legal and has the
+//! its calls. The cell is finished by giving back all shares. Its history is then legal and has the
 //! calls of all shares, for any number of threads and any schedule.
 #![tactic(auto)]
 

@@ -43,8 +43,8 @@ impl<T> PlainHistory<T> {
         self.entries.is_empty()
     }
 
-    /// Returns the entries, in order. They are a legal history from the start, and none replies
-    /// that there was no memory.
+    /// Returns the entries, in order. They are a legal history from the first state of the cell,
+    /// and no reply says that there was no memory.
     pub fn entries(&self) -> &[Plain<T>]
         ensures entries { result.now ≡ self.now.entries }
         ensures legal { IsPlain self.now }

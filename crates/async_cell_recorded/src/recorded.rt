@@ -18,13 +18,13 @@ use std::sync::{Mutex, Wait};
 /// A cell whose calls are recorded, in the order in which they take effect. Threads share it by
 /// reference, and each makes its calls with a share of its own. `M` names the cell.
 ///
-/// A call waits for the cell's lock, and then makes one step of its journal. It returns its entry,
-/// and the names of the wakers that its caller must wake. A refusal of the cell, such as `Closed`,
-/// is the reply of an entry.
+/// A call waits for the cell's lock, then takes effect in one step, and adds one entry to the
+/// history. It returns its entry, and the names of the wakers that its caller must wake. A refusal
+/// of the cell, such as `Closed`, is the reply of an entry.
 ///
 /// A call that fails leaves no entry. It fails with `Memory`, or with `OutOfTurn` if the share's
-/// count is not the number of its entries in the history: no test sees that, but no contract
-/// excludes it. An edit runs under the lock. If it calls its own cell, it waits forever.
+/// count is not the number of its entries in the history. `OutOfTurn` happens in no test, but no
+/// contract excludes it. An edit runs under the lock. If it calls its own cell, it waits forever.
 #[derive(Drop)]
 pub struct Recorded<T, M: Pick<T>> {
     journal: Mutex<Journal<T, M>>,
@@ -60,8 +60,8 @@ impl<T> Edit<T> for NoEdit {
 }
 
 impl<T: Copy, M: Pick<T>> Recorded<T, M> {
-    /// Makes an open cell without a value, with an owner for each share, and its shares, numbered
-    /// from 0. Fails with `Memory` if there is no memory.
+    /// Makes an open cell without a value and with one owner for each share. Also makes the shares
+    /// of the cell, numbered from 0. Fails with `Memory` if there is no memory.
     pub fn new(alloc: Global, shares: u32, blanks: Blanks) -> Result<(Self, Vec<Share<M>>), Refusal>
         requires some { 1 ≤ shares }
         requires shares { shares ≡ M.shares }
@@ -81,8 +81,9 @@ impl<T: Copy, M: Pick<T>> Recorded<T, M> {
 
     /// Takes the cell and all of its shares, in any order, and returns the history. If a share is
     /// missing, the cell and the shares are returned in the error as they were. The history is
-    /// legal, and has as many entries as the shares count. As many of its entries pass the marker's
-    /// test as results of the shares were picked. Takes no lock and no memory.
+    /// legal. Its length is the sum of the shares' counts of calls. The number of its entries that
+    /// pass the marker's test is the sum of the shares' counts of picked results. Takes no lock and
+    /// no memory.
     pub fn finish(
         self,
         shares: Vec<Share<M>>,
@@ -129,8 +130,9 @@ impl<T: Copy, M: Pick<T>> Recorded<T, M> {
         self.call(share, NoEditCall::<T>::Set(value), rt)
     }
 
-    /// Sets the value if the cell holds none, and then returns the waiting wakers. Otherwise the
-    /// reply has the value. A closed cell refuses it, and the reply has it, too.
+    /// Sets the value if the cell holds none, and in this case returns the waiting wakers. If the
+    /// cell holds a value, the reply has the value that was passed. A closed cell refuses the
+    /// value, and the reply has it, too.
     pub fn or_set(&self, share: &mut Share<M>, value: T, rt: &impl Wait) -> CallResult<T>
         ensures call { IsCallResult M.pick (λ _. Kept.OrSet value) share.old result share.new }
         ensures replied { IfOk result (λ answer.
@@ -152,8 +154,8 @@ impl<T: Copy, M: Pick<T>> Recorded<T, M> {
         self.call(share, NoEditCall::<T>::Replace(value), rt)
     }
 
-    /// Makes the new content of the old one. If that puts a value into an empty cell, returns the
-    /// waiting wakers. A closed cell refuses, and the edit is not called.
+    /// Replaces the content by what the edit makes of it. If that puts a value into an empty cell,
+    /// returns the waiting wakers. A closed cell refuses, and the edit is not called.
     pub fn update<E: Edit<T> + Drop>(
         &self,
         share: &mut Share<M>,
@@ -172,8 +174,8 @@ impl<T: Copy, M: Pick<T>> Recorded<T, M> {
         self.call(share, Call::Update(edit), rt)
     }
 
-    /// Makes the new value of the old one, if there is one. A closed cell refuses, and the edit is
-    /// not called.
+    /// If there is a value, replaces it by what the edit makes of it. A closed cell refuses, and
+    /// the edit is not called.
     pub fn update_some<E: Edit<T> + Drop>(
         &self,
         share: &mut Share<M>,
@@ -219,7 +221,7 @@ impl<T: Copy, M: Pick<T>> Recorded<T, M> {
         self.call(share, NoEditCall::<T>::IsSet, rt)
     }
 
-    /// Takes the value, or waits for one under this name.
+    /// Takes the value, or registers this name to wait for a value.
     pub fn poll_take(&self, share: &mut Share<M>, name: Named, rt: &impl Wait) -> CallResult<T>
         ensures call { IsCallResult M.pick (λ _. Kept.PollTake name) share.old result share.new }
         ensures replied { IfOk result (λ answer.
@@ -229,7 +231,7 @@ impl<T: Copy, M: Pick<T>> Recorded<T, M> {
         self.call(share, NoEditCall::<T>::PollTake(name), rt)
     }
 
-    /// Copies the value, or waits for one under this name.
+    /// Copies the value, or registers this name to wait for a value.
     pub fn poll_get(&self, share: &mut Share<M>, name: Named, rt: &impl Wait) -> CallResult<T>
         ensures call { IsCallResult M.pick (λ _. Kept.PollGet name) share.old result share.new }
         ensures replied { IfOk result (λ answer.
@@ -250,8 +252,8 @@ impl<T: Copy, M: Pick<T>> Recorded<T, M> {
         self.call(share, NoEditCall::<T>::AddOwner, rt)
     }
 
-    /// Ends one owner. The last one closes the cell: the reply has its value, and the waiting
-    /// wakers are returned.
+    /// Ends one owner. If it was the last owner, the cell is closed, the reply has the value of the
+    /// cell, and the waiting wakers are returned.
     pub fn end_owner(&self, share: &mut Share<M>, rt: &impl Wait) -> CallResult<T>
         ensures call { IsCallResult M.pick (λ _. Kept.EndOwner) share.old result share.new }
         ensures replied { IfOk result (λ answer.
@@ -261,8 +263,8 @@ impl<T: Copy, M: Pick<T>> Recorded<T, M> {
         self.call(share, NoEditCall::<T>::EndOwner, rt)
     }
 
-    /// Closes the cell if it has one owner: the reply has its value, and the waiting wakers are
-    /// returned. Otherwise the cell refuses.
+    /// If the cell has exactly one owner, closes the cell, replies with its value, and returns the
+    /// waiting wakers. Otherwise the cell refuses.
     pub fn take_inner(&self, share: &mut Share<M>, rt: &impl Wait) -> CallResult<T>
         ensures call { IsCallResult M.pick (λ _. Kept.TakeInner) share.old result share.new }
         ensures replied { IfOk result (λ answer.

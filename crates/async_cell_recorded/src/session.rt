@@ -23,8 +23,8 @@ pub trait Session {
     /// Which results of calls are picked, as [`Pick`] says. If you leave it out, none is.
     ghost pick: { Test Self.Value } = { λ _ _. false };
 
-    /// What an outcome says of the share of its thread: of its number, its count, and how many of
-    /// its results were picked. If you leave it out, it says nothing.
+    /// What an outcome says of its thread's share: of the share's number, its count of calls, and
+    /// how many of its results were picked. If you leave it out, an outcome says nothing.
     ghost describes: { Self.Outcome → ShareState → Type 0 } = { λ _ _. ⊤ };
 
     /// What one thread does with the cell, through its share, which is new. Each thread has a share
@@ -41,16 +41,17 @@ pub trait Session {
 }
 
 /// Runs a session on a new cell, once for each share, each run in a thread of its own. The cell
-/// begins open, without a value and with an owner for each share. It is finished once all have
-/// ended.
+/// begins open, without a value and with an owner for each share. Once all runs have ended, the
+/// cell is finished, by `Recorded::finish`.
 ///
 /// Returns what the threads returned, in the order of the shares' numbers, and the history. Each
-/// outcome is related to its share as `Session::describes` says. The history has as many entries as
-/// the shares count. As many of its entries pass the test as results of the shares were picked.
+/// outcome is related to its share as `Session::describes` says. The length of the history is the
+/// sum of the shares' counts of calls. The number of the history's entries that pass the test
+/// `Session::pick` is the sum of the shares' counts of picked results.
 ///
 /// Fails with `Memory` if there is no memory for the cell, its shares or the outcomes. All of that
 /// is allocated before the first run begins. If calls of a run fail, its outcome may say so. If no
-/// thread can be made, the runs come one after another, so none may wait for another.
+/// thread can be made, the runs come one after another. So a run must not wait for another run.
 pub fn with_recorded<
     T: Copy + Send,
     O: Send + Drop,
@@ -155,7 +156,7 @@ fn in_threads<
     );
 }
 
-/// Runs the session for one share, whose number stays, whatever the session does with the share.
+/// Runs the session for one share. Whatever the session does, the share's number stays the same.
 fn run_one<T: Copy, O: Drop, S: Session<Value = T, Outcome = O>, R: Wait, M: Pick<T>>(
     rt: &R,
     cell: &Recorded<T, M>,

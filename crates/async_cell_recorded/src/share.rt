@@ -17,7 +17,8 @@ pub trait Marker {
     ghost shares: { ℕ };
 }
 
-/// Which results of calls are picked: the cell's second ledger counts those. Any test will do.
+/// Says which results of calls are picked. The cell's second ledger counts the picked results. Any
+/// condition on an entry may decide which results are picked.
 pub trait Pick<T>: Marker {
     /// A test on the entry and the list of names that a call returned.
     ghost pick: { Test T };
@@ -53,7 +54,7 @@ impl<M: Marker> Ledger for PickedLedger<M> {
     ghost parts = { M.shares };
 }
 
-/// The two blank ledgers that a new recorded cell uses up, with a part for each share.
+/// Two blank ledgers, each with a part for each share. A new recorded cell uses them up.
 #[derive(Drop)]
 pub struct Blanks {
     /// The ledger of the calls.
@@ -85,7 +86,7 @@ pub(crate) struct ShareCount<M: Marker> {
 }
 
 impl<M: Marker> ShareCount<M> {
-    /// Stores the number, of which contracts know that it is the marker's.
+    /// Stores the number. Contracts know that it is the marker's.
     pub(crate) fn new(shares: u32) -> Self
         requires { shares ≡ M.shares }
         ensures { result.shares ≡ shares }
@@ -97,8 +98,8 @@ impl<M: Marker> ShareCount<M> {
     }
 }
 
-/// The right to make calls on a recorded cell, and the number of those that were made with it. Each
-/// call borrows it, and all shares together finish the cell. `M` names the cell.
+/// The right to make calls on a recorded cell, and the count of calls made with it. Each call
+/// borrows a share. All shares together are needed to finish the cell. `M` names the cell.
 #[derive(Drop)]
 pub struct Share<M: Marker> {
     pub(crate) number: u32,

@@ -1,5 +1,6 @@
-//! The end of a step, and what comes out of a core during it. An end releases the core, then wakes
-//! wakers, and then gives the caller what it may drop. Only an end lets go of what is held.
+//! The end of a step, and what comes out of a core during the step. An end first releases the core,
+//! then wakes wakers, and then returns what the caller may drop. Until then, what came out is held
+//! in a `Deferred`.
 ghost use Rattle.std.specs.Prelude.{◌≡◌, ⊤, List, [], Ok, Err, None, Some, IfOk, IfErr, IsSome, IsTrue, OnErr, option_to_list};
 ghost use Rattle.async_cell_model.specs.Refusal.{FailsWithClosed, FailsWithMemory, FailsWithMemoryOrClosed};
 ghost use Rattle.async_cell_step.specs.Deferred.{all_of};
@@ -11,15 +12,16 @@ use async_cell_model::Refusal;
 use async_cell_wakers::{Place, TaskWaker, Wakers, Wakes};
 use futures::task::Waker;
 
-/// What came out of a core during a step: an answer, and whom to wake. That is nobody (`()`), at
-/// most one waker, or all that a call handed out (`None` if it handed out none). It is not `Drop`:
-/// the end of its kind consumes it, wakes them and returns the answer.
+/// What came out of a core during a step: an answer, and the wakers to wake. `K` is `()` for no
+/// waker, `Option<W>` for at most one, or `Option<Wakers<W>>` for all that a call handed out. A
+/// `Deferred` is not `Drop`. The function that ends the step consumes it, wakes the wakers, and
+/// returns the answer.
 pub struct Deferred<X, K = ()> {
     answer: X,
     woken: K,
 }
 
-/// What a call leaves for after its step: whom to wake, and what to drop.
+/// What a call leaves to be done after its step: there are wakers to wake, and values to drop.
 pub trait After<W> {
     /// The wakers.
     ghost wakes: { Self → List W };
@@ -41,7 +43,7 @@ pub struct All<W: Wakes, X = ()> {
 }
 
 impl<W, X> One<W, X> {
-    /// Wakes this waker, if any, and drops this.
+    /// Returns a `One` that will wake `woken`, if it is a waker, and drop `dropped`.
     #[inline(always)]
     pub fn waking(woken: Option<W>, dropped: X) -> Self
         ensures wakes { result.woken ≡ woken }
@@ -52,7 +54,7 @@ impl<W, X> One<W, X> {
 }
 
 impl<W: Wakes, X> All<W, X> {
-    /// Wakes these wakers, if any, and drops this.
+    /// Returns an `All` that will wake the wakers in `woken`, if any, and drop `dropped`.
     #[inline(always)]
     pub fn waking(woken: Option<Wakers<W>>, dropped: X) -> Self
         ensures wakes { result.woken ≡ woken }
@@ -118,7 +120,7 @@ pub fn end_and_wake<G: Step, X, W: Wakes>(step: G, held: Deferred<X, Option<Wake
     answer
 }
 
-/// Ends the step: gives the core back, does what the call left, and returns the answer.
+/// Ends the step: gives the core back, wakes and drops what the call left, and returns the answer.
 #[inline(always)]
 pub fn finish<G: Step, X, W, K: After<W>>(step: G, held: Deferred<X, K>) -> X
     ensures answers { result ≡ held.answer }
@@ -129,7 +131,7 @@ pub fn finish<G: Step, X, W, K: After<W>>(step: G, held: Deferred<X, K>) -> X
     answer
 }
 
-/// `end_and_wake`, of at most one waker.
+/// As `end_and_wake`, for at most one waker.
 #[inline(always)]
 pub fn end_and_wake_one<G: Step, X, W: Wakes>(step: G, held: Deferred<X, Option<W>>) -> X
     ensures answers { result ≡ held.answer }
@@ -142,7 +144,8 @@ pub fn end_and_wake_one<G: Step, X, W: Wakes>(step: G, held: Deferred<X, Option<
     answer
 }
 
-/// Lends the core for a step that holds this from the start. Drops it if the core is not lent.
+/// Lends the core for a step, together with `held`, which is kept until the step ends. If the core
+/// is not lent, drops `held`.
 #[inline(always)]
 pub fn open_holding<'a, M: Stores, X: Drop, R: Opens<'a, M>>(
     store: &'a StoredCore<M>,
@@ -156,7 +159,7 @@ pub fn open_holding<'a, M: Stores, X: Drop, R: Opens<'a, M>>(
 }
 
 impl<X, W: Wakes> Deferred<X, All<W>> {
-    /// Holds the same: nothing is to be dropped.
+    /// The result holds the same answer and wakers, and nothing to be dropped.
     #[inline(always)]
     pub fn waking_all(self) -> Deferred<X, Option<Wakers<W>>>
         ensures { result.answer ≡ self.answer }
@@ -168,7 +171,7 @@ impl<X, W: Wakes> Deferred<X, All<W>> {
 }
 
 impl<X> Deferred<X> {
-    /// Holds this until the step ends.
+    /// Makes a `Deferred` of an answer. The answer is held until the step ends.
     #[inline(always)]
     pub fn of(answer: X) -> Self
         ensures { result.answer ≡ answer }
@@ -176,7 +179,7 @@ impl<X> Deferred<X> {
         Deferred { answer, woken: () }
     }
 
-    /// Holds both.
+    /// The result holds what both hold.
     #[inline(always)]
     pub fn and<Y>(self, other: Deferred<Y>) -> Deferred<(X, Y)>
         ensures { result.answer ≡ (self.answer, other.answer) }
@@ -201,15 +204,16 @@ pub trait Writes<T> {
     /// What is known of what was replaced.
     ghost gives: { Self.Old → Type 0 } = { λ _. ⊤ };
 
-    /// Writes the value, and holds the old one. If that is refused, the value comes back.
+    /// Writes the value, and holds the old one. If the write is refused, holds `value` in the
+    /// error.
     fn write(&mut self, value: T) -> Deferred<Result<Self::Old, T>, Option<Wakers<Self::Waker>>>
         requires may { may value }
         ensures gives { IfOk result.answer gives }
         ensures comes_back { IfErr result.answer (λ back. back ≡ value) };
 }
 
-/// Writes a value that came back during the step, and ends the step. It is not inlined, so that
-/// calls without such a write cost no more.
+/// Writes a value that this step holds, and ends the step. This function is not inlined, so that it
+/// adds no cost to calls without such a write.
 #[inline(never)]
 pub fn write_held<C: Writes<T>, G: Step<Core = C>, T>(
     mut step: G,
@@ -224,7 +228,7 @@ pub fn write_held<C: Writes<T>, G: Step<Core = C>, T>(
     end_and_wake(step, written)
 }
 
-/// `write_held`, whose old value is dropped.
+/// As `write_held`, but drops the old value.
 #[inline(never)]
 pub fn put_held<C: Writes<T>, G: Step<Core = C>, T: Drop>(step: G, value: Deferred<T>)
 where
@@ -235,7 +239,7 @@ where
 }
 
 impl<X> Deferred<Option<X>> {
-    /// Holds what was found, or `Closed` if nothing was.
+    /// The result holds what was found, or `Closed` if nothing was found.
     #[inline(always)]
     pub fn or_closed(self) -> Deferred<Result<X, Refusal>>
         ensures found { IfOk result.answer (λ found. self.answer ≡ Some found) }
@@ -248,7 +252,7 @@ impl<X> Deferred<Option<X>> {
 }
 
 impl<X> Deferred<Result<Option<X>, Refusal>> {
-    /// Holds what was found, `Closed` if nothing was, or the error.
+    /// The result holds what was found, or the error, or `Closed` if nothing was found.
     #[inline(always)]
     pub fn or_closed(self) -> Deferred<Result<X, Refusal>>
         requires { FailsWithMemory self.answer }
@@ -265,7 +269,7 @@ impl<X> Deferred<Result<Option<X>, Refusal>> {
 }
 
 impl<X, E> Deferred<Result<X, E>> {
-    /// Holds this beside what was found.
+    /// The result also holds `other`, beside what was found.
     #[inline(always)]
     pub fn beside<Y: Drop>(self, other: Y) -> Deferred<Result<(X, Y), E>>
         ensures found { IfOk result.answer (λ both.
@@ -281,7 +285,7 @@ impl<X, E> Deferred<Result<X, E>> {
 }
 
 impl Deferred<Waker> {
-    /// Stores the waker in the place, or as the last (see `Room::store`).
+    /// Stores the waker in the place, or at the end of the list (see `Room::store`).
     #[inline(always)]
     pub fn store_in<C: Room>(
         self,
@@ -296,7 +300,7 @@ impl Deferred<Waker> {
 }
 
 impl<X, K> Deferred<X, K> {
-    /// Holds an answer, and whom to wake.
+    /// Makes a `Deferred` of an answer and of the wakers to wake.
     #[inline(always)]
     pub fn waking(answer: X, woken: K) -> Self
         ensures answers { result.answer ≡ answer }

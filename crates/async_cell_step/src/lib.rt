@@ -1,6 +1,7 @@
-//! What lends a core for one step at a time, how a step ends, and the polls and futures that are
-//! made of steps. The core is that of a cell, or of a latest state. Internal, but for what the
-//! cells' crates re-export: it may change without notice.
+//! This crate has the stores that lend a core for one step at a time, the functions that end a
+//! step, and the polls and futures that are made of steps. The core is that of a cell, or of a
+//! latest state. Except for what the cells' crates re-export, this crate is internal and may change
+//! without notice.
 #![tactic(auto)]
 
 mod ended;

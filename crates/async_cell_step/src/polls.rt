@@ -1,6 +1,7 @@
-//! Polls, over any store: each gives an answer, or registers the task and adds its waker to the
-//! wait list, at the place of its future if that has one. And what becomes of a place when its
-//! future ends. A waker that is dropped wakes its task, so none is dropped during a step.
+//! Polls, generic over the store of the core. A poll gives an answer, or registers the task and
+//! adds its waker to the wait list: at the place of its future, if the future has one. Also what
+//! happens to a place when its future ends. Dropping a waker wakes its task, so none is dropped
+//! during a step.
 ghost use Rattle.std.specs.Prelude.{◌≡◌, Err, IfErr, IfOk};
 ghost use Rattle.futures.specs.Poll.{IfReady, OnPending};
 ghost use Rattle.futures.specs.Task.{Hears, IsArmed, Keeps};
@@ -15,8 +16,10 @@ use async_cell_model::Refusal;
 use async_cell_wakers::{Place, TaskWaker};
 use futures::task::{Context, Poll, Source};
 
-/// Answers the query, or waits, at the place if there is one. Fails with `Memory` if there is none
-/// for the task's waker, or to grow the list. If the core is not lent, asks to be polled again.
+/// Answers the query. If the query has no answer yet, registers the task to be woken. `place` is
+/// the future's place in the wait list, if the future has one. Fails with `Memory` if there is no
+/// memory for the task's waker, or to grow the list. If the core is not lent, asks to be polled
+/// again.
 #[inline(always)]
 pub fn poll<'a, C: Room, M: Stores<Core = C>, Q: Query<C>, R: Opens<'a, M>>(
     store: &'a StoredCore<M>,
@@ -51,9 +54,9 @@ pub fn poll<'a, C: Room, M: Stores<Core = C>, Q: Query<C>, R: Opens<'a, M>>(
     }
 }
 
-/// Registers the task, and adds its waker as the last, or at the new place, which is the waker's
-/// from then on. It is a new one: nothing is dropped, and nobody woken, during the step. Fails with
-/// `Memory`.
+/// Registers the task, and adds its waker at the end of the list. If there is a `place`, it is the
+/// waker's position from then on. The waker is a new one, so nothing is dropped and nobody is woken
+/// during the step. Fails with `Memory`.
 fn add_at<C: Room, G: Step<Core = C>, A>(
     mut step: G,
     source: &Source,
@@ -82,8 +85,9 @@ fn add_at<C: Room, G: Step<Core = C>, A>(
     }
 }
 
-/// Registers the task with the waker that was at the place, and stores it again. To register drops
-/// a waker of another task, which wakes that task. So it is done between two steps.
+/// Takes the waker out of the place, registers the task with it, and stores it again. If the waker
+/// was another task's, registering drops it, which wakes that task. So the task is registered
+/// between two steps.
 #[inline(never)]
 fn renew<'a, C: Room, M: Stores<Core = C>, Q: Query<C>, R: Opens<'a, M>>(
     store: &'a StoredCore<M>,
@@ -128,7 +132,7 @@ fn renew<'a, C: Room, M: Stores<Core = C>, Q: Query<C>, R: Opens<'a, M>>(
 
 #[doc(hidden)]
 impl<M: Stores<Core: Room>> StoredCore<M> {
-    /// Lets go of all wakers that dropped futures left.
+    /// Drops all wakers that dropped futures left.
     pub fn purge<'a, R: Opens<'a, M>>(&'a self, rt: &R) {
         for index in 0..self.places(rt) {
             if let Some(mut step) = rt.open(self) {
@@ -147,7 +151,7 @@ impl<M: Stores<Core: Room>> StoredCore<M> {
         end(step, Deferred::of(places))
     }
 
-    /// Leaves the place of a future that is dropped.
+    /// Gives up the place of a future that is dropped.
     #[inline(always)]
     pub fn vacate<'a, R: Opens<'a, M>>(&'a self, place: Place, rt: &R) {
         if place.was_held() {
@@ -155,7 +159,7 @@ impl<M: Stores<Core: Room>> StoredCore<M> {
         }
     }
 
-    /// `vacate`, of a place that may still be held.
+    /// As `vacate`, for a place that may still be held.
     #[inline(never)]
     fn vacate_held<'a, R: Opens<'a, M>>(&'a self, place: Place, rt: &R) {
         if let Some(mut step) = rt.open(self) {
@@ -164,7 +168,7 @@ impl<M: Stores<Core: Room>> StoredCore<M> {
         }
     }
 
-    /// Leaves the place of a future that is cancelled, and lets go of its waker.
+    /// Gives up the place of a future that is cancelled, and drops its waker.
     pub fn cancel<'a, R: Opens<'a, M>>(&'a self, place: Place, rt: &R) {
         if !place.was_held() {
             return;

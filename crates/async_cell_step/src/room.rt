@@ -8,8 +8,8 @@ use async_cell_model::Refusal;
 use async_cell_wakers::{Place, TaskWaker};
 use futures::task::Waker;
 
-/// The calls of a core for futures that wait. A waker that is dropped wakes its task, so each that
-/// is not stored is held until the step ends.
+/// The calls of a core for futures that wait. Dropping a waker wakes its task, so a waker that is
+/// not stored is held until the step ends.
 pub trait Room {
     /// A waker can be stored: a poll has to wait.
     ghost vacant: { Self → Type 0 };
@@ -20,17 +20,19 @@ pub trait Room {
     /// How many more can be added without memory.
     ghost room: { Self → ℕ };
 
-    /// Adds a waker as the last. If there is no memory to grow the list, it comes back.
+    /// Adds a waker at the end of the list. If there is no memory to grow the list, the waker comes
+    /// back.
     fn add(&mut self, waker: TaskWaker) -> Deferred<Result<(), TaskWaker>>
         requires { vacant self.old }
         ensures first_waits { waiting self.old ≡ [] → IsOk result.answer }
         ensures room_suffices { 0 < room self.old → IsOk result.answer }
         ensures unchanged { OnErr result.answer (self.new ≡ self.old) };
 
-    /// Returns whether a future with this place has to be added: it has none, and none is free.
+    /// Returns whether the list must grow for a future with this place: it holds no place, and none
+    /// is free.
     fn is_new(&self, place: &Place) -> bool;
 
-    /// `add`, at a place: that of the waker from then on.
+    /// As `add`. `place` is the waker's position from then on.
     fn store_new(&mut self, place: &mut Place, waker: TaskWaker) -> Deferred<Result<(), TaskWaker>>
         requires { vacant self.old }
         ensures stored { OnOk result.answer
@@ -41,13 +43,14 @@ pub trait Room {
         ensures place_stays { OnErr result.answer (place.new ≡ place.old) }
         ensures unchanged { OnErr result.answer (self.new ≡ self.old) };
 
-    /// Takes the waker out of the place, or out of a free place that is taken over. Holds `None` if
-    /// there is neither. The waker may be another task's.
+    /// Takes the waker out of this place. If there is none, takes over a free place, and takes its
+    /// waker out: this one may be another task's. The result holds `None` if no place is free.
     fn take_back(&mut self, place: &mut Place) -> Deferred<Option<Waker>>
         ensures unchanged { self.new ≡ self.old };
 
-    /// Stores a waker in the place, in a free place that is taken over, or as the last. Returns the
-    /// one that was there, if any. If there is no memory to grow the list, the waker comes back.
+    /// Stores a waker in this place. If there is none, takes over a free place, or adds one at the
+    /// end of the list. Returns the waker that was there, if any. If there is no memory to grow the
+    /// list, the waker comes back.
     fn store(
         &mut self,
         place: &mut Place,
@@ -63,10 +66,12 @@ pub trait Room {
         ensures place_stays { OnErr result.answer (place.new ≡ place.old) }
         ensures unchanged { OnErr result.answer (self.new ≡ self.old) };
 
-    /// Leaves the place free, with its waker. Returns its index, unless the place was given up.
+    /// Gives up the place, with its waker in it. Returns its index, or `None` if the place was
+    /// already given up.
     fn vacate(&mut self, place: Place) -> Option<usize>;
 
-    /// Takes the waker out of the place at `index`, if that place is free.
+    /// Takes out the waker that was left in the place at `index`. The result holds `None` if a
+    /// future has this place.
     fn take_left(&mut self, index: usize) -> Deferred<Option<Waker>>;
 
     /// Returns the number of places in the wait list.

@@ -2,8 +2,8 @@ ghost use Rattle.std.specs.Prelude.{⊤};
 
 use std::marker::{Brand, PhantomData};
 
-/// A rule on values: whoever writes one to the cell shows that it holds, so whoever takes or gets
-/// one knows it. Only contracts read it.
+/// A rule on values. Whoever writes a value to the cell proves that the value satisfies the rule,
+/// so whoever takes or gets a value may rely on the rule. Only contracts read the rule.
 ///
 /// ```rust
 /// struct Even;
@@ -17,11 +17,12 @@ pub trait Rule<T> {
     ghost holds: { T → Type 0 };
 }
 
-/// Says that the values of a cell without a name keep the rule `P`: every change may be made that
-/// puts in such a value, or none.
+/// Says that the values of a cell without a name satisfy the rule `P`. A change may be made if it
+/// puts only such values into the cell.
 pub struct Ruled<P>(PhantomData<P>);
 
-/// A call at `Brand` gives its own rule in place of this one: it may name values of the program.
+/// A caller that passes `Brand` as a type defines its own rule in place of this one. That rule may
+/// name values of the program.
 impl<T> Rule<T> for Brand {
     ghost holds = { λ _. ⊤ };
 }

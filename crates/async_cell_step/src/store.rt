@@ -16,7 +16,7 @@ pub trait Stores: From<Self::Core> {
     /// The type of the core.
     type Core;
 
-    /// Returns the core. Waits for no step.
+    /// Returns the core, without waiting for any step to end.
     fn into_core(self) -> Self::Core;
 }
 
@@ -26,13 +26,14 @@ impl<M: Stores> StoredCore<M> {
         StoredCore { store: core.into() }
     }
 
-    /// Returns the core. Waits for no step.
+    /// Returns the core, without waiting for any step to end.
     pub fn into_stored(self) -> M::Core {
         self.store.into_core()
     }
 }
 
-/// The right to a step on a store `M`: to wait for its lock, or to be its one thread.
+/// The right to make a step on a store `M`. This is the right to wait for the store's lock, or the
+/// right of the only thread that uses the store.
 pub trait Opens<'a, M: Stores> {
     /// The core while it is lent.
     type Open: Step<Core = M::Core>;
@@ -40,21 +41,21 @@ pub trait Opens<'a, M: Stores> {
     /// Each step waits until the core is free, so `open` always lends it.
     ghost always: { Bool };
 
-    /// Lends the core. Returns `None` during another step of a store that cannot wait for its end.
-    /// No caller sees that: no step in one thread runs code that could call the cell.
+    /// Lends the core. If another step runs, and the store cannot wait for its end, returns `None`.
+    /// No caller sees this `None`: in one thread, no step runs code that could call the cell.
     fn open(&self, store: &'a StoredCore<M>) -> Option<Self::Open>
         ensures lent { IsTrue always → IsSome result };
 
-    /// `open`, if no other step runs.
+    /// As `open`, but returns `None` if another step runs.
     fn try_open(&self, store: &'a StoredCore<M>) -> Option<Self::Open>;
 
-    /// `open`, for where `try_open` found another step: never inlined.
+    /// As `open`, for use after `try_open` returned `None`. It is never inlined.
     fn wait_open(&self, store: &'a StoredCore<M>) -> Option<Self::Open>
         ensures lent { IsTrue always → IsSome result };
 }
 
-/// `open` for the calls that are made most, with an `else` for `None`. Only what waits is a
-/// function: after another one the compiler would test its result once more.
+/// Does what `open` does, with an `else` for `None`, in the calls that are made most. Only the part
+/// that waits is a function: of another one the compiler would test the result twice.
 #[doc(hidden)]
 #[macro_export]
 macro_rules! opened {
@@ -69,7 +70,8 @@ macro_rules! opened {
     };
 }
 
-/// A core that is lent for one step. It must be consumed: by `end`, or by an end that wakes.
+/// A core that is lent for one step. It must be consumed, by `end` or by a function that ends the
+/// step and wakes wakers.
 pub trait Step {
     /// The type of the core.
     type Core;
@@ -81,7 +83,7 @@ pub trait Step {
     fn shown(&self) -> &Self::Core
         ensures { result.now ≡ shows self.now };
 
-    /// Lends the core to one call, after which nothing is known of it.
+    /// Lends the core to one call. After the call nothing is known of the core.
     fn lend(&mut self) -> &mut Self::Core
         ensures { result.now ≡ shows self.old };
 
@@ -89,7 +91,7 @@ pub trait Step {
     fn release(self);
 }
 
-/// The right of a step on a store of one thread.
+/// The right to a step on a store of one thread.
 #[derive(Clone, Copy, Drop)]
 pub struct OneThread;
 

@@ -16,14 +16,14 @@ pub type At<'a> = Option<&'a mut Place>;
 
 /// A cell in which futures hold places. `R` is the right that a step on it needs.
 pub trait Places<R> {
-    /// Leaves the place of a future that is dropped.
+    /// Gives up the place of a future that is dropped.
     fn vacate(&self, place: Place, rt: &R);
 
-    /// Leaves the place of a future that is cancelled, and lets go of its waker.
+    /// Gives up the place of a future that is cancelled, and drops its waker.
     fn cancel(&self, place: Place, rt: &R);
 }
 
-/// A `Take`, a `Get`, a `TakeWeak` or a `GetWeak`: what `With` makes a future of.
+/// A `Take`, a `Get`, a `TakeWeak` or a `GetWeak`. `With` makes a future of it.
 pub trait Request<R>: Drop {
     /// The type of the cell.
     type Cell: Places<R>;
@@ -35,7 +35,7 @@ pub trait Request<R>: Drop {
     fn cell(&self) -> Option<&Self::Cell>;
 }
 
-/// A request that can be polled: a `Get` and a `GetWeak` if their value can be cloned.
+/// A request that can be polled. A `Get` or a `GetWeak` can be polled if the value can be cloned.
 pub trait Polled<R>: Request<R> {
     /// What the future returns.
     type Output;
@@ -62,7 +62,7 @@ pub trait Upgrade<R>: Request<R> {
     /// The owner is of the cell that the request points to.
     ghost owned_by: { Self → Self.Owning → Type 0 };
 
-    /// Makes the request of a new owner. Fails, and returns `None`, as `With::upgrade` does.
+    /// Makes the same request by a new owner. Fails or returns `None` when `With::upgrade` does.
     fn owning(&self, rt: &R) -> Result<Option<Self::Owning>, Refusal>
         ensures of_this { IfOk result (λ found. IfSome found (owned_by self.now)) }
         ensures lost { Self.is_lost self.now → result ≡ Err Refusal.Memory }
@@ -70,13 +70,13 @@ pub trait Upgrade<R>: Request<R> {
 }
 
 /// The future of a `Take`, a `Get`, a `TakeWeak` or a `GetWeak`, with the right that a step needs.
-/// Their `with` makes it, as do the calls of an `Owner` and a `WeakOwner`.
+/// The `with` of such a request makes this future, as do the calls of an `Owner` and a `WeakOwner`.
 ///
-/// While it waits it holds one place in the cell's wait list, and each poll renews the waker there:
-/// the task that polled it last is woken. **Dropping it may wait for the lock**, and wakes nobody.
-/// The place is then free for the next such future, and the task that polled the dropped one may be
-/// woken once more. **So keep a future and poll it again.** Two tasks that each make a new one for
-/// every poll wake each other forever.
+/// While the future waits, it holds one place in the cell's wait list. Each poll renews the waker
+/// in this place, so the task that will be woken is the one that polled the future last. **Dropping
+/// it may wait for the lock**, and wakes nobody. The place is then free for the next such future,
+/// and the task that polled the dropped one may be woken once more. **So keep a future and poll it
+/// again.** Two tasks that each make a new one for every poll wake each other forever.
 #[derive_where(Debug)]
 pub struct With<P: Request<R>, R> {
     #[derive_where(skip)]
@@ -103,9 +103,9 @@ impl<P: Request<R>, R> With<P, R> {
 
 impl<P: Request<R>, R: Drop> With<P, R> {
     /// Drops the future and the waker that it left in the cell: the task that polled it last is
-    /// polled once more. A waker that stays keeps what its executor needs to wake the task. So call
-    /// this where a wait ends early, as after a timeout, and the cell lives on. May wait for the
-    /// lock.
+    /// polled once more. A waker that stays in the cell keeps alive what its executor needs to wake
+    /// the task. So call this if a wait ends early, as after a timeout, while the cell lives on.
+    /// May wait for the lock.
     pub fn cancel(self) {
         let With { polled, rt, place } = self;
         if let Some(cell) = polled.cell() {
@@ -115,8 +115,9 @@ impl<P: Request<R>, R: Drop> With<P, R> {
 }
 
 impl<P: Upgrade<R>, R: Copy> With<P, R> {
-    /// Makes a future of the same request that is a new owner; `Ok(None)` if the cell is closed.
-    /// This future stays as it is. Fails with `Memory` (checked first) or `OwnersFull`.
+    /// Returns a future of the same request. The returned future is a new owner. Returns `Ok(None)`
+    /// if the cell is closed. This future stays as it is. Fails with `Memory` (checked first) or
+    /// `OwnersFull`.
     pub fn upgrade(&self) -> Result<Option<With<P::Owning, R>>, Refusal>
         ensures of_this { IfOk result (λ found. IfSome found (λ future.
             P.owned_by self.now.polled future.polled)) }
@@ -130,7 +131,7 @@ impl<P: Upgrade<R>, R: Copy> With<P, R> {
     }
 }
 
-/// Leaves its place in the wait list free.
+/// Gives up its place in the wait list.
 impl<P: Request<R>, R: Drop> Drop for With<P, R> {
     fn drop(self) {
         let With { polled, rt, place } = self;
@@ -154,7 +155,8 @@ impl<P: Polled<R>, R: Drop> Future for With<P, R> {
     }
 }
 
-/// Makes the answer of a request that is no owner: `Ok(None)` in place of `Closed`.
+/// Returns the answer `polled` as a request that is no owner gives it, with `Ok(None)` in place of
+/// `Closed`.
 #[inline(always)]
 pub fn weakly<T>(polled: Poll<Result<T, Refusal>>) -> Poll<Result<Option<T>, Refusal>>
     requires { IfReady polled FailsWithMemoryOrClosed }
@@ -188,12 +190,13 @@ pub trait Takes<R>: Polled<R, Output = Result<Option<Self::Value>, Refusal>> {
         → IfOk given (λ found. IfSome found holds) };
 }
 
-/// The values of a cell, as a stream: it takes each value that it is in time for, and ends when the
-/// last owner has ended. It is no owner.
+/// The values of a cell, as a stream. The stream takes each value that is still there when the
+/// stream is polled, and ends when the last owner has ended. It is no owner.
 ///
-/// **Several takers do not take turns.** Each value goes to the first that is polled, and a write
-/// wakes them in the order in which they began to wait. So of several streams, or of takes in
-/// loops, the first may get every value on one executor: it is the first again when it polls again.
+/// **Several takers do not take turns.** A value goes to the first that is polled, and a write
+/// wakes them in the order in which they began to wait. So if several streams, or loops of takes,
+/// run on one executor, the first may get every value: it polls again before the others, and so is
+/// the first to wait again.
 ///
 /// **The last value may be lost**: the end of the last owner drops a value that was not yet taken.
 /// If a poll fails with `Memory`, the item is that error, and the stream may be polled again.
@@ -205,8 +208,8 @@ pub struct Values<P: Takes<R>, R: Drop> {
 }
 
 impl<P: Takes<R>, R: Drop> With<P, R> {
-    /// Returns the stream of the values that this future would take, one after another. Of several
-    /// such streams of a cell one may get every value (see `Values`).
+    /// Returns a stream of the values that this future would take, one after another. If a cell has
+    /// several such streams, one may get every value (see `Values`).
     pub fn values(self) -> Values<P, R>
         ensures takes { result.taker ≡ self }
     {

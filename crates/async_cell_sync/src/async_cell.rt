@@ -17,23 +17,26 @@ use futures::task::Source;
 use std::alloc::Global;
 use std::sync::{Mutex, Wait};
 
-/// A core behind a lock. Each call holds the lock while it makes its change: `rt` is the right to
-/// wait for it. `N` names the cell to the contracts of a [`Witness`](crate::Witness).
+/// A core behind a lock. Each call holds the lock while it makes its change. `rt` is the right to
+/// wait for the lock. `N` names the cell, for the contracts of a [`Witness`](crate::Witness).
 ///
-/// **What runs under the lock** is as for `AsyncCell`; also `clone` and `will_wake` of wakers.
+/// **What runs under the lock** is what `AsyncCell` says, and also `clone` and `will_wake` of
+/// wakers.
 pub type LockedCore<T, W, N = Unruled> = CellStore<Mutex<CellCore<T, W, N>>>;
 
 /// A cell that threads share. It holds an optional value, and futures wait on it for a value. Its
 /// drop takes no lock, and wakes all waiters.
 ///
 /// **What runs under the lock:** closures, the drop of what they own, and `clone` and `Debug` of
-/// the value. **Call no cell there.** Code that calls the same cell waits forever. So does code
-/// that drops an `Owner`, a `Guard`, a waiting future or a stream of it, or waits for a thread that
-/// calls it. Wakers are woken and values dropped after the lock is released: these may call it.
+/// the value. **Call no cell there.** Code that runs under the lock waits forever if it calls the
+/// same cell, or drops an `Owner`, a `Guard`, a waiting future or a stream of that cell. It also
+/// waits forever if it waits for a thread which calls the cell. Wakers are woken and values are
+/// dropped after the lock is released, so a wake or a drop may call the cell.
 ///
 /// A future made by `with` holds one place in the wait list while it waits (see `With`). So the
-/// list is no longer than the number of such futures that were alive at once. Each `poll_shared`
-/// that waits adds one waker, which stays until the next write or close. `N` is as for an `Owner`.
+/// length of the list is at most the number of such futures that were alive at the same time. Each
+/// `poll_shared` that waits adds one waker, which stays until the next write or close. `N` is as
+/// for an `Owner`.
 pub struct AsyncCell<T, N: Protocol<T, TaskWaker> = Unruled> {
     pub(crate) core: LockedCore<T, TaskWaker, N>,
     /// The source that waiting tasks register with.
@@ -74,12 +77,12 @@ impl<T: Drop> AsyncCell<T> {
 }
 
 impl<T: Drop, P: Rule<T>> AsyncCell<T, Ruled<P>> {
-    /// Makes a cell without a value, whose values keep the rule `P`. Otherwise it is `new`.
+    /// As `new`, but the values of the cell satisfy the rule `P`.
     pub fn ruled(alloc: Global) -> Self {
         AsyncCell::of(alloc, Core::new(alloc))
     }
 
-    /// Makes a cell that holds a value, whose values keep the rule `P`. Otherwise it is `new_with`.
+    /// As `new_with`, but the values of the cell satisfy the rule `P`.
     pub fn ruled_with(alloc: Global, value: T) -> Self
         requires rule { P.holds value }
     {
@@ -110,7 +113,8 @@ impl<T: Drop, N: Protocol<T, TaskWaker>> AsyncCell<T, N> {
     }
 
     /// Makes the first owner of this cell, with the right to wait. Fails with `Memory`, and then
-    /// returns the cell. For `?` write `Owner::new_with`, or `into_shared_or_drop()?.with(rt)`.
+    /// returns the cell. To use `?`, call `Owner::new_with` instead, or write
+    /// `into_shared_or_drop()?.with(rt)`.
     pub fn into_owner<R: Wait + Drop>(self, rt: R) -> Result<Owner<T, R, N>, (Refusal, Self)>
         requires nameless { N.named ≡ None }
         ensures owns { IfOk result (λ owner. cell_owned owner ≡ self) }
@@ -119,7 +123,8 @@ impl<T: Drop, N: Protocol<T, TaskWaker>> AsyncCell<T, N> {
         Ok(self.into_shared()?.with(rt))
     }
 
-    /// As `into_shared`, but drops the cell if there is no memory, so that `?` serves.
+    /// As `into_shared`, but drops the cell if there is no memory, so that `?` can be used on the
+    /// result.
     pub fn into_shared_or_drop(self) -> Result<Shared<T, N>, Refusal>
         requires nameless { N.named ≡ None }
         ensures owns { IfOk result (λ owner. cell_of owner ≡ self) }
@@ -162,7 +167,8 @@ impl<T: Drop, N: Protocol<T, TaskWaker>> AsyncCell<T, N> {
         Get(self)
     }
 
-    /// Returns a guard, to be consumed: `cancel` sets this value, unless the cell then holds one.
+    /// Returns a guard, which must be consumed. Its call `cancel` sets this value, unless the cell
+    /// then holds one.
     pub fn guard(&self, cancel: T) -> GuardedCell<T, &Self>
         requires may { N.may (Kept.OrSet cancel) }
         ensures of_this { result.pointer.now ≡ self.now }

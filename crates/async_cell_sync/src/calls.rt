@@ -1,4 +1,5 @@
-//! The calls of a cell, and those of an owner, which are its cell's with the right that it keeps.
+//! The calls of a cell, and those of an owner. An owner's calls are its cell's calls, with the
+//! right to wait that the owner keeps.
 ghost use Rattle.std.specs.Prelude.{◌≡◌, Option, Some, None, IsOk, IfErr, IfOk, IfSome};
 ghost use Rattle.std.specs.Fn.{FnOnceReturnsAt};
 ghost use Rattle.async_cell_model.specs.Refusal.{FailsWithMemory};
@@ -103,8 +104,9 @@ impl<T: Drop, N: Protocol<T, TaskWaker>> AsyncCell<T, N> {
         self.core.is_closed(rt)
     }
 
-    /// Returns `AsyncCell::Empty`, `AsyncCell::Pending` if a task waits, `AsyncCell::Full(..)` with
-    /// the value's text, made under the lock, or `AsyncCell::Closed`. Fails with `Memory`.
+    /// Returns one of four texts: `AsyncCell::Empty`, `AsyncCell::Pending` if a task waits,
+    /// `AsyncCell::Closed`, or `AsyncCell::Full(..)` with the text of the value. The text of the
+    /// value is made under the lock. Fails with `Memory`.
     pub fn debug_text<R: Wait>(&self, rt: &R) -> Result<String, Refusal>
     where
         T: fmt::Debug,
@@ -113,9 +115,9 @@ impl<T: Drop, N: Protocol<T, TaskWaker>> AsyncCell<T, N> {
         self.core.debug_text(self.alloc, rt)
     }
 
-    /// Drops the wakers that dropped futures left, which wakes their tasks. A waker keeps what its
-    /// executor needs: call this where many waits end early and the cell lives on. It takes the
-    /// lock once for each place.
+    /// Drops the wakers that dropped futures left, which wakes their tasks. A waker keeps alive
+    /// what its executor needs. So call this if many waits end early while the cell lives on. This
+    /// call takes the lock once for each place in the wait list.
     pub fn purge<R: Wait>(&self, rt: &R) {
         self.core.store.purge(rt);
     }
@@ -152,9 +154,10 @@ impl<T: Drop, R: Wait + Drop, N: Protocol<T, TaskWaker>> Owner<T, R, N> {
         self.shared.cell.replace(value, &self.rt)
     }
 
-    /// Stores what the closure makes of the content. Wakes all waiters if an empty cell gets a
-    /// value. The closure runs under the lock, and what it owns is dropped there: if that calls the
-    /// cell or drops an `Owner` of it, it waits forever.
+    /// Calls the closure on the content, and stores what it returns. Wakes all waiters if an empty
+    /// cell gets a value. The closure runs under the lock, and what the closure owns is dropped
+    /// under the lock. Code that runs under the lock waits forever if it calls the cell or drops an
+    /// `Owner` of the cell.
     ///
     /// ```rust
     /// let sum = Owner::new(rt.alloc(), rt)?;
@@ -170,7 +173,8 @@ impl<T: Drop, R: Wait + Drop, N: Protocol<T, TaskWaker>> Owner<T, R, N> {
         self.shared.cell.update(change, &self.rt);
     }
 
-    /// As `update`, of a value: the closure is not called if there is none.
+    /// As `update`, but the closure is given a value and returns a value. If the cell holds no
+    /// value, the closure is not called.
     pub fn update_some<F: FnOnce(T) -> T + Drop>(&self, change: F)
         requires callable { F.IsAlwaysCallable change }
         requires may { (old new : T) → N.holds old → F.post change old new
@@ -211,8 +215,9 @@ impl<T: Drop, R: Wait + Drop, N: Protocol<T, TaskWaker>> Owner<T, R, N> {
         self.shared.cell.core.try_get(&self.rt)
     }
 
-    /// Calls the closure on the value, if there is one, and returns what it returns. The closure
-    /// runs under the lock: one that calls its own cell waits forever (see `AsyncCell`).
+    /// Calls the closure on the value, if there is one, and returns the closure's result. The
+    /// closure runs under the lock, so a closure that calls the same cell waits forever (see
+    /// `AsyncCell`).
     pub fn peek<A, F: FnOnce(&T) -> A + Drop>(&self, look: F) -> Option<A>
         requires { F.IsAlwaysCallable look }
         ensures called { IfSome result (λ answer. (seen : T)
@@ -244,8 +249,9 @@ impl<T: Drop, R: Wait + Drop, N: Protocol<T, TaskWaker>> Owner<T, R, N> {
 }
 
 impl<R: Wait + Drop> Owner<(), R> {
-    /// Sets the value and wakes all waiters. One `wait` is ready: the first that is polled takes
-    /// the value, and the others wait on. A `get` leaves it, and is ready until somebody takes it.
+    /// Sets the value and wakes all waiters. The first `wait` that is polled takes the value, and
+    /// the other ones keep waiting. A `get` leaves the value in the cell, and is ready until
+    /// somebody takes the value.
     pub fn notify(&self) {
         self.set(());
     }

@@ -1,5 +1,6 @@
-//! The calls that extend a witness: it then knows the cell's history up to the call, and its reply
-//! there. Any number of threads may make them, each with a witness.
+//! The calls that extend a witness. After such a call, the witness knows the cell's history up to
+//! the call, and the call's reply. Any number of threads may make them, each with a witness of its
+//! own.
 ghost use Rattle.std.specs.Prelude.{◌≡◌, Option, Some, None, IfErr, IfOk, IfSome, IsOk, IsSomeAnd, OnErr, OnOk};
 ghost use mathlib.Core.List.{IsPrefix};
 ghost use Rattle.async_cell_model.specs.Refusal.{FailsWithClosed, FailsWithMemory, IsOwnerRefusal};
@@ -18,7 +19,8 @@ use async_cell_model::{Kept, Reply};
 use std::sync::{Arc, Wait};
 
 impl<T: Drop, N: Protocol<T, TaskWaker>> AsyncCell<T, N> {
-    /// Sets the value, drops the old one and wakes all waiters. A closed cell gives the value back.
+    /// Sets the value, drops the old one and wakes all waiters. Fails on a closed cell, and then
+    /// returns the value.
     pub fn set_as<R: Wait>(
         &self,
         seen: &mut Witness<T, TaskWaker, N>,
@@ -34,7 +36,8 @@ impl<T: Drop, N: Protocol<T, TaskWaker>> AsyncCell<T, N> {
         self.core.make(Set(value), &Anyone, seen, rt)
     }
 
-    /// Sets the value, wakes all waiters, returns the old one. A closed cell gives the value back.
+    /// Sets the value, wakes all waiters and returns the old value. Fails on a closed cell, and
+    /// then returns the new one.
     pub fn replace_as<R: Wait>(
         &self,
         seen: &mut Witness<T, TaskWaker, N>,
@@ -51,8 +54,8 @@ impl<T: Drop, N: Protocol<T, TaskWaker>> AsyncCell<T, N> {
         self.core.make(Replace(value), &Anyone, seen, rt)
     }
 
-    /// If there is no value, sets this one and wakes all waiters. Returns an unused `value`; a
-    /// closed cell returns it in the error.
+    /// If an open cell holds no value, sets `value` and wakes all waiters. Otherwise returns
+    /// `value`, in `Ok` if the cell already holds a value, and in `Err` if the cell is closed.
     pub fn or_set_as<R: Wait>(
         &self,
         seen: &mut Witness<T, TaskWaker, N>,
@@ -105,8 +108,8 @@ impl<T: Drop, N: Protocol<T, TaskWaker>> AsyncCell<T, N> {
         self.core.make(IsSet, &Anyone, seen, rt)
     }
 
-    /// As `Owner::update`. On a closed cell it fails with `Closed`, as the witness then knows, and
-    /// does not call the closure.
+    /// As `Owner::update`. On a closed cell it fails with `Closed`, and does not call the closure.
+    /// The witness then knows that the cell is closed.
     pub fn update_as<F: FnOnce(Option<T>) -> Option<T> + Drop, R: Wait>(
         &self,
         seen: &mut Witness<T, TaskWaker, N>,
@@ -127,7 +130,8 @@ impl<T: Drop, N: Protocol<T, TaskWaker>> AsyncCell<T, N> {
         self.core.make(Update(change), &Anyone, seen, rt)
     }
 
-    /// As `update_as`, of a value: the closure is not called if there is none.
+    /// As `update_as`, but the closure is given a value and returns a value. If the cell holds no
+    /// value, the closure is not called.
     pub fn update_some_as<F: FnOnce(T) -> T + Drop, R: Wait>(
         &self,
         seen: &mut Witness<T, TaskWaker, N>,
@@ -151,7 +155,7 @@ impl<T: Drop, N: Protocol<T, TaskWaker>> AsyncCell<T, N> {
 }
 
 impl<T: Drop, R: Wait + Drop, N: Protocol<T, TaskWaker>> Owner<T, R, N> {
-    /// As `AsyncCell::set_as`, and never fails.
+    /// As `AsyncCell::set_as`, but never fails.
     pub fn set_as(&self, seen: &mut Witness<T, TaskWaker, N>, value: T) -> Result<(), T>
         requires may { N.may (Kept.Set value) }
         ensures linearized { IsLinearized ⟦<TaskWaker as Wakes>⟧ N.named seen.old.calls
@@ -165,7 +169,7 @@ impl<T: Drop, R: Wait + Drop, N: Protocol<T, TaskWaker>> Owner<T, R, N> {
         cell.core.make(Set(value), permit, seen, &self.rt)
     }
 
-    /// As `AsyncCell::replace_as`, and never fails.
+    /// As `AsyncCell::replace_as`, but never fails.
     pub fn replace_as(&self, seen: &mut Witness<T, TaskWaker, N>, value: T) -> Result<Option<T>, T>
         requires may { N.may (Kept.Replace value) }
         ensures linearized { IsLinearized ⟦<TaskWaker as Wakes>⟧ N.named seen.old.calls
@@ -180,7 +184,7 @@ impl<T: Drop, R: Wait + Drop, N: Protocol<T, TaskWaker>> Owner<T, R, N> {
         cell.core.make(Replace(value), permit, seen, &self.rt)
     }
 
-    /// As `AsyncCell::or_set_as`, and never fails.
+    /// As `AsyncCell::or_set_as`, but never fails.
     pub fn or_set_as(&self, seen: &mut Witness<T, TaskWaker, N>, value: T) -> Result<Option<T>, T>
         requires may { N.may (Kept.OrSet value) }
         ensures linearized { IsLinearized ⟦<TaskWaker as Wakes>⟧ N.named seen.old.calls
@@ -227,7 +231,7 @@ impl<T: Drop, R: Wait + Drop, N: Protocol<T, TaskWaker>> Owner<T, R, N> {
         self.shared.cell.is_set_as(seen, &self.rt)
     }
 
-    /// As `AsyncCell::update_as`, and never fails.
+    /// As `AsyncCell::update_as`, but never fails.
     pub fn update_as<F: FnOnce(Option<T>) -> Option<T> + Drop>(
         &self,
         seen: &mut Witness<T, TaskWaker, N>,
@@ -250,7 +254,7 @@ impl<T: Drop, R: Wait + Drop, N: Protocol<T, TaskWaker>> Owner<T, R, N> {
         cell.core.make(Update(change), permit, seen, &self.rt)
     }
 
-    /// As `AsyncCell::update_some_as`, and never fails.
+    /// As `AsyncCell::update_some_as`, but never fails.
     pub fn update_some_as<F: FnOnce(T) -> T + Drop>(
         &self,
         seen: &mut Witness<T, TaskWaker, N>,

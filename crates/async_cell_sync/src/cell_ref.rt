@@ -10,7 +10,7 @@ use async_cell_core::TaskWaker;
 use async_cell_history::{Protocol, Takeable};
 use std::sync::{Arc, Wait};
 
-/// A pointer to a cell. `Take`, `Get` and guards work over any.
+/// A pointer to a cell. `Take`, `Get` and guards work with any such pointer.
 pub trait CellRef {
     /// The type of the value in the cell.
     type Value: Drop;
@@ -26,7 +26,7 @@ pub trait CellRef {
     fn cell(&self) -> &AsyncCell<Self::Value, Self::Rules>
         ensures { (s : ℕ) → waits_for self.now s → s ≡ source_of result.now };
 
-    /// Gives the pointer up: an owner ends, and any other pointer is only dropped.
+    /// Gives up the pointer. If it is an owner, the owner ends. Any other pointer is only dropped.
     fn leave<R: Wait>(self, rt: &R);
 }
 
@@ -74,7 +74,7 @@ impl<T: Drop, N: Protocol<T, TaskWaker>> CellRef for Shared<T, N> {
     }
 }
 
-/// A reference to a pointer is one too, and no owner.
+/// A reference to a pointer is a pointer, too. It is no owner.
 impl<C: CellRef> CellRef for &C {
     type Value = C::Value;
 
@@ -91,7 +91,7 @@ impl<C: CellRef> CellRef for &C {
 
 /// A pointer to a cell whose values may be taken.
 pub trait TakeRef: CellRef {
-    /// Each take may be made.
+    /// Every take may be made.
     ghost takes: { (call : Kept Self.Value Waker) → IsTake call → Self.Rules.may call };
 }
 

@@ -8,8 +8,8 @@ use async_cell_model::Kept;
 use std::sync::Wait;
 
 /// A guard of a cell. It must be consumed: by `cancel`, which sets its cancel value if the cell
-/// holds no value, or by `release`, `set` or `or_set`. Each also ends the owner, if the guard is
-/// one. `with` makes it a `Guard`, which ends by its drop.
+/// holds no value, or by `release`, `set` or `or_set`. If the guard is an owner, each of these also
+/// ends the owner. `with` turns the guard into a `Guard`, which ends when it is dropped.
 #[derive_where(Debug)]
 pub struct GuardedCell<T, C: CellRef<Value = T>> {
     #[derive_where(skip)]
@@ -28,7 +28,7 @@ impl<T: Drop, C: CellRef<Value = T>> GuardedCell<T, C> {
         GuardedCell { pointer, cancel }
     }
 
-    /// Keeps the right to wait beside this guard, which then ends by its drop.
+    /// Makes a `Guard` of this guard and the right to wait. The `Guard` ends when it is dropped.
     pub fn with<R: Wait + Drop>(self, rt: R) -> Guard<T, C, R>
         ensures guards { result.guarded ≡ self }
     {
@@ -72,12 +72,14 @@ impl<T: Drop, C: CellRef<Value = T>> GuardedCell<T, C> {
     }
 }
 
-/// A guard of a cell, with the right to wait for the lock. Its drop sets its cancel value if the
-/// cell holds no value, also at `?` or an early `return`. `release`, `set` and `or_set` end it
-/// otherwise. Each end also ends the owner, if the guard is one. The last owner's end drops the
-/// value, so who waits for it has to be an owner (`take_shared`).
+/// A guard of a cell, with the right to wait for the lock. The drop of the guard, also at `?` or an
+/// early `return`, sets the guard's cancel value if the cell holds no value. `release`, `set` and
+/// `or_set` end the guard without setting the cancel value. If the guard is an owner, the drop and
+/// each of these calls also end the owner. The end of the last owner drops the value, so whoever
+/// waits for the value has to be an owner (`take_shared`).
 ///
-/// **Dropping it may wait for the lock**, as its calls may. A `GuardedCell` is ended by a call.
+/// **Dropping it may wait for the lock**, as its calls may. A `GuardedCell`, in contrast, is not
+/// ended by a drop but by a call.
 #[derive_where(Debug)]
 pub struct Guard<T: Drop, C: CellRef<Value = T>, R: Wait + Drop> {
     #[derive_where(skip)]

@@ -21,12 +21,14 @@ use std::sync::{Arc, Wait};
 
 /// One counted owner of a cell, with the right to wait for the lock. It ends by its drop, in any
 /// thread, also at `?` or an early `return`. Its calls and futures take no `rt`. The end of the
-/// last owner closes the cell: the value is dropped, waiters are woken, weak futures give `None`.
+/// last owner closes the cell: the value is dropped, waiters are woken, and weak futures give
+/// `None`.
 ///
-/// **Dropping it may wait for the lock**, as its calls may. A `Shared` is ended by a call.
+/// **Dropping it may wait for the lock**, as its calls may. A `Shared`, in contrast, is not ended
+/// by a drop but by a call.
 ///
 /// `N` says what is known of the values (see `Rule`), and which history a witness sees. `Unruled`,
-/// the default, has neither.
+/// the default, has neither a rule nor a history.
 #[derive_where(Debug)]
 pub struct Owner<T: Drop, R: Wait + Drop, N: Protocol<T, TaskWaker> = Unruled> {
     #[derive_where(skip)]
@@ -51,7 +53,8 @@ impl<T: Drop, R: Wait + Copy> Owner<T, R> {
     }
 
     /// Makes a cell that holds a value, and its first owner. Fails with `Memory`, and then drops
-    /// the value: `AsyncCell::new_with` and `AsyncCell::into_owner` return it instead.
+    /// the value. To keep the value in this case, call `AsyncCell::new_with`, and then
+    /// `AsyncCell::into_owner`, which returns the cell if it fails.
     pub fn new_with(alloc: Global, value: T, rt: R) -> Result<Self, Refusal>
         ensures refused { FailsWithMemory result }
     {
@@ -61,8 +64,9 @@ impl<T: Drop, R: Wait + Copy> Owner<T, R> {
 }
 
 impl<T: Drop, R: Wait + Copy, P: Rule<T>> Owner<T, R, Ruled<P>> {
-    /// Makes a cell without a value, whose values keep the rule `P`, and its first owner. Fails
-    /// with `Memory`. With a rule `Even`: `Owner::<u64, _, Ruled<Even>>::ruled(rt.alloc(), rt)?`.
+    /// Makes a cell without a value, and its first owner. The values of the cell satisfy the rule
+    /// `P`. Fails with `Memory`. For example, if the rule is `Even`, write
+    /// `Owner::<u64, _, Ruled<Even>>::ruled(rt.alloc(), rt)?`.
     pub fn ruled(alloc: Global, rt: R) -> Result<Self, Refusal>
         ensures refused { FailsWithMemory result }
     {
@@ -81,10 +85,10 @@ impl<T: Drop, R: Wait + Copy, P: Rule<T>> Owner<T, R, Ruled<P>> {
 }
 
 impl<T: Drop, R: Wait + Copy, N: Protocol<T, TaskWaker>> Owner<T, R, N> {
-    /// Makes the cell of this blank, which `N` names, its first owner, and the first witness of its
-    /// history. Fails with `Memory`. Call it in a function generic over `N`, and that function at
-    /// `std::marker::Brand`. The caller's `Invariants.antt` picks the name, the changes that may be
-    /// made, and the rule.
+    /// Makes the cell of this blank, the first owner of the cell, and the first witness of the
+    /// cell's history. `N` names this blank. Fails with `Memory`. Call it in a function generic
+    /// over `N`, and call that function with `std::marker::Brand` for `N`. The caller's
+    /// `Invariants.antt` defines the name, the changes that may be made, and the rule.
     pub fn witnessed(
         alloc: Global,
         blank: Blank<T, TaskWaker>,
@@ -111,8 +115,9 @@ impl<T: Drop, R: Wait + Copy, N: Protocol<T, TaskWaker>> Owner<T, R, N> {
             }
         }
     }
-    /// Adds an owner, in place of a clone. Fails with `Memory` if the pointer cannot be counted, or
-    /// with `OwnersFull`. `Closed` is in the contract, but cannot happen while this owner lives.
+    /// Adds an owner. Use this in place of `clone`. Fails with `Memory` if one more pointer to the
+    /// cell cannot be counted, or with `OwnersFull`. `Closed` is in the contract, but cannot happen
+    /// while this owner lives.
     pub fn another(&self) -> Result<Self, Refusal>
         ensures of_this { IfOk result (λ owner. cell_owned owner ≡ cell_owned self.now) }
         ensures refused { IfErr result IsOwnerRefusal }
@@ -129,8 +134,8 @@ impl<T: Drop, R: Wait + Copy, N: Protocol<T, TaskWaker>> Owner<T, R, N> {
         self.shared.downgrade().with(self.rt)
     }
 
-    /// Closes the cell and returns its content, if this is the only owner. Wakes all waiters.
-    /// Otherwise this owner is returned in the error.
+    /// If this is the only owner, closes the cell, wakes all waiters and returns the content of the
+    /// cell. Otherwise this owner is returned in the error.
     pub fn try_into_inner(self) -> Result<Option<T>, Self>
         requires may { N.may Kept.TakeInner }
         ensures rule { IfOk result (λ content. IfSome content N.holds) }
@@ -141,8 +146,8 @@ impl<T: Drop, R: Wait + Copy, N: Protocol<T, TaskWaker>> Owner<T, R, N> {
         ended.map_err(|shared| Owner { shared, rt })
     }
 
-    /// Returns a future that takes the value (`try_take` takes it at once). It borrows this owner,
-    /// which keeps the cell open: it waits forever if nobody sets a value.
+    /// Returns a future that takes the value (`try_take` takes it at once). The future borrows this
+    /// owner, so the cell stays open, and the future waits forever if nobody sets a value.
     ///
     /// ```rust
     /// let slot = Owner::new_with(rt.alloc(), 7, rt)?;
@@ -155,8 +160,8 @@ impl<T: Drop, R: Wait + Copy, N: Protocol<T, TaskWaker>> Owner<T, R, N> {
         self.cell().take().with(self.rt)
     }
 
-    /// Returns a future that clones the value and leaves it: polled again, it is ready at once. It
-    /// borrows this owner, which keeps the cell open.
+    /// Returns a future that clones the value and leaves the value in the cell. If the future is
+    /// polled again, it is ready at once. The future borrows this owner, so the cell stays open.
     ///
     /// ```rust
     /// let setting = Owner::new_with(rt.alloc(), 7, rt)?;
@@ -171,8 +176,8 @@ impl<T: Drop, R: Wait + Copy, N: Protocol<T, TaskWaker>> Owner<T, R, N> {
         self.cell().get().with(self.rt)
     }
 
-    /// Returns a future that takes the value and is a new owner: while it waits the cell stays
-    /// open, so it waits forever if nobody sets a value. Fails as `another` does.
+    /// Returns a future that takes the value and is a new owner. While the future waits, the cell
+    /// stays open. So the future waits forever if nobody sets a value. Fails as `another` does.
     ///
     /// ```rust
     /// let slot = Owner::new(rt.alloc(), rt)?;
@@ -197,8 +202,8 @@ impl<T: Drop, R: Wait + Copy, N: Protocol<T, TaskWaker>> Owner<T, R, N> {
         Ok(Get(self.another()?).with(self.rt))
     }
 
-    /// Returns a future that takes the value and is not an owner. It is `None` once the last owner
-    /// has ended: a value that was not taken by then is lost.
+    /// Returns a future that takes the value and is not an owner. The future gives `None` once the
+    /// last owner has ended. A value that was not taken by then is lost.
     ///
     /// ```rust
     /// let slot = Owner::new_with(rt.alloc(), 7, rt)?;
@@ -222,7 +227,8 @@ impl<T: Drop, R: Wait + Copy, N: Protocol<T, TaskWaker>> Owner<T, R, N> {
         self.shared.get_weak().with(self.rt)
     }
 
-    /// Returns a guard that sets this value when it is dropped, unless the cell then holds one.
+    /// Returns a guard that sets the value `cancel` when the guard is dropped, unless the cell then
+    /// holds a value.
     pub fn guard(&self, cancel: T) -> Guard<T, &AsyncCell<T, N>, R>
         requires may { N.may (Kept.OrSet cancel) }
         ensures of_this { result.guarded.pointer.now ≡ cell_owned self.now }
@@ -231,8 +237,9 @@ impl<T: Drop, R: Wait + Copy, N: Protocol<T, TaskWaker>> Owner<T, R, N> {
         self.cell().guard(cancel).with(self.rt)
     }
 
-    /// Makes this owner a guard: its drop sets this value, if the cell holds none, and ends the
-    /// owner. Who waits for the value has to be an owner (see `Guard`). Needs no memory.
+    /// Makes a guard of this owner. The drop of the guard sets the value `cancel`, if the cell
+    /// holds no value, and ends the owner. Whoever waits for the value has to be an owner (see
+    /// `Guard`). Needs no memory.
     ///
     /// ```rust
     /// let slot = Owner::new(rt.alloc(), rt)?;
@@ -264,7 +271,7 @@ impl<T: Drop, R: Wait + Copy, N: Protocol<T, TaskWaker>> Owner<T, R, N> {
         }
     }
 
-    /// As `guard_shared`, but drops the value if it fails, so that `?` serves.
+    /// As `guard_shared`, but drops the value if it fails, so that `?` can be used on the result.
     ///
     /// ```rust
     /// let slot = Owner::new(rt.alloc(), rt)?;
@@ -285,7 +292,7 @@ impl<T: Drop, R: Wait + Copy, N: Protocol<T, TaskWaker>> Owner<T, R, N> {
 
 impl<R: Wait + Copy> Owner<(), R> {
     /// Returns a future that waits for `notify`. It takes the value, so each `notify` ends at most
-    /// one `wait`: where several tasks wait, use `get`.
+    /// one `wait`. If several tasks wait, use `get`.
     pub fn wait(&self) -> With<Take<&AsyncCell<()>>, R>
         ensures of_this { result.polled.0.now ≡ cell_owned self.now }
     {

@@ -34,9 +34,9 @@ pub struct Replier<T: Drop, R: Wait + Drop, N: Unwitnessed<T, TaskWaker> = Unrul
 /// `Replier` was dropped without a `set`, and at each poll after it was ready. It fails with
 /// `Memory` if there is no memory to wait, and may then be polled again.
 ///
-/// If it is dropped before it was ready, the slot is closed: a value that was set is dropped, and
-/// one that is set later comes back. **That may wait for the lock**, and wakes the task that polled
-/// it last.
+/// If the `Reply` is dropped before it was ready, the slot is closed. Then a value that was already
+/// set is dropped, and a later `set` returns its value in the error. **This drop may wait for the
+/// lock**, and wakes the task that polled the reply last.
 ///
 /// ```rust
 /// let (replier, reply) = reply_slot::<u32, _>(rt.alloc(), rt)?;
@@ -73,8 +73,8 @@ pub fn reply_slot<T: Drop, R: Wait + Copy>(
     sides(alloc, rt)
 }
 
-/// Makes a reply slot whose value keeps the rule `P`: `set` requires it, and the poll of the reply
-/// ensures it. Otherwise it is a `reply_slot`. The program `example_even` has such a slot.
+/// As `reply_slot`, but the value satisfies the rule `P`: `set` requires this, and a poll of the
+/// reply ensures it. The program `example_even` has such a slot.
 pub fn reply_slot_of<P: Rule<T>, T: Drop, R: Wait + Copy>(
     alloc: Global,
     rt: R,
@@ -110,7 +110,8 @@ fn sides<T: Drop, R: Wait + Copy, N: Unwitnessed<T, TaskWaker>>(
 
 impl<T: Drop, R: Wait + Drop, N: Unwitnessed<T, TaskWaker>> Replier<T, R, N> {
     /// Sets the value, and wakes the task that waits for it. The value stays until the `Reply`
-    /// takes it or is dropped. If the `Reply` was dropped before, the value comes back.
+    /// takes it or is dropped. If the `Reply` was already dropped, the value is returned in the
+    /// error.
     ///
     /// ```rust
     /// let (replier, reply) = reply_slot(rt.alloc(), rt)?;
@@ -125,7 +126,8 @@ impl<T: Drop, R: Wait + Drop, N: Unwitnessed<T, TaskWaker>> Replier<T, R, N> {
         cell.core.set(value, &rt)
     }
 
-    /// Returns whether the `Reply` was dropped, so that a value would come back.
+    /// Returns whether the `Reply` was dropped. If it was, `set` would return the value in the
+    /// error.
     pub fn is_closed(&self) -> bool {
         self.cell.is_closed(&self.rt)
     }
@@ -140,8 +142,8 @@ impl<T: Drop, R: Wait + Drop, N: Unwitnessed<T, TaskWaker>> Drop for Replier<T, 
 }
 
 impl<T: Drop, R: Wait + Drop, N: Unwitnessed<T, TaskWaker>> Reply<T, R, N> {
-    /// Takes the value without waiting; `Ok(None)` if it may still come. Fails with `Closed` if the
-    /// `Replier` was dropped without a `set`, and after the value was taken.
+    /// Takes the value without waiting. `Ok(None)` says that it may still come. Fails with `Closed`
+    /// if the `Replier` was dropped without a `set`, and after the value was taken.
     ///
     /// ```rust
     /// let (replier, mut reply) = reply_slot(rt.alloc(), rt)?;
@@ -168,8 +170,9 @@ impl<T: Drop, R: Wait + Drop, N: Unwitnessed<T, TaskWaker>> Reply<T, R, N> {
         content
     }
 
-    /// Closes the slot, and returns the value if it was set: where the wait has a limit, a reply
-    /// that came too late is not lost. One that is set later comes back to the `Replier`.
+    /// Closes the slot, and returns the value if it was set. So if you call this after a wait with
+    /// a time limit, a reply that came too late is not lost. A value that is set later comes back
+    /// to the `Replier`.
     ///
     /// ```rust
     /// let (replier, reply) = reply_slot(rt.alloc(), rt)?;
@@ -219,7 +222,7 @@ impl<T: Drop, R: Wait + Drop, N: Unwitnessed<T, TaskWaker>> Future for Reply<T, 
     }
 }
 
-/// Closes the slot, unless it was ready. May wait for the lock.
+/// Closes the slot, unless this future has already given its result. May wait for the lock.
 impl<T: Drop, R: Wait + Drop, N: Unwitnessed<T, TaskWaker>> Drop for Reply<T, R, N> {
     fn drop(self) {
         let Reply { cell, rt, place: _ } = self;

@@ -14,8 +14,9 @@ use async_cell_model::Kept;
 use std::alloc::{AllocFailed, Global};
 use std::sync::{Arc, Wait};
 
-/// One counted owner of a cell. The end of the last owner closes the cell (see `Owner`). It must be
-/// consumed: by `end`, `leave` or `try_into_inner`, or by `with`, which makes it an `Owner`.
+/// One counted owner of a cell. The end of the last owner closes the cell (see `Owner`). A `Shared`
+/// must be consumed, by `end`, `leave` or `try_into_inner`, or by `with`, which turns it into an
+/// `Owner`.
 #[derive_where(Debug)]
 pub struct Shared<T, N: Protocol<T, TaskWaker> = Unruled> {
     #[derive_where(skip)]
@@ -34,8 +35,9 @@ impl<T: Drop> Shared<T> {
 }
 
 impl<T: Drop, N: Protocol<T, TaskWaker>> Shared<T, N> {
-    /// Makes the first owner of this cell. Fails with `Memory`, and then returns the cell (for `?`
-    /// write `AsyncCell::into_shared_or_drop`). `Owner::witnessed` makes a cell with a history.
+    /// Makes the first owner of this cell. Fails with `Memory`, and then returns the cell. To use
+    /// `?`, call `AsyncCell::into_shared_or_drop` instead. To make a cell with a history, call
+    /// `Owner::witnessed`.
     pub fn into_shared(cell: AsyncCell<T, N>) -> Result<Self, (Refusal, AsyncCell<T, N>)>
         requires nameless { N.named ≡ None }
         ensures owns { IfOk result (λ owner. cell_of owner ≡ cell) }
@@ -57,7 +59,7 @@ impl<T: Drop, N: Protocol<T, TaskWaker>> Shared<T, N> {
         self.cell.as_ref()
     }
 
-    /// Keeps the right to wait beside this owner, which then ends by its drop.
+    /// Makes an `Owner` of this owner and the right to wait. The `Owner` ends when it is dropped.
     pub fn with<R: Wait + Drop>(self, rt: R) -> Owner<T, R, N>
         ensures keeps { result.shared ≡ self }
     {
@@ -108,7 +110,7 @@ impl<T: Drop, N: Protocol<T, TaskWaker>> Shared<T, N> {
         }
     }
 
-    /// As `guard_shared`, but drops the value if it fails, so that `?` serves.
+    /// As `guard_shared`, but drops the value if it fails, so that `?` can be used on the result.
     pub fn guard_shared_or_drop<R: Wait>(
         &self,
         cancel: T,
@@ -122,7 +124,8 @@ impl<T: Drop, N: Protocol<T, TaskWaker>> Shared<T, N> {
         self.guard_shared(cancel, rt).map_err(|(why, _)| why)
     }
 
-    /// Returns a weak pointer to the cell. If it cannot be counted, its calls fail with `Memory`.
+    /// Returns a weak pointer to the cell. If the pointer cannot be counted, the calls of the
+    /// pointer fail with `Memory`.
     pub fn downgrade(&self) -> Weak<T, N>
         ensures of_this { NamesAtMost result (cell_of self.now) }
     {
@@ -168,7 +171,7 @@ impl<T: Drop, N: Protocol<T, TaskWaker>> Shared<T, N> {
         let _ = cell.core.end_counted(permit, rt);
     }
 
-    /// Ends the owner. The only pointer is the end of the cell, for which no lock is taken.
+    /// Ends the owner. If it has the only pointer, the cell ends, and no lock is taken.
     #[inline(always)]
     pub(crate) fn let_go<R: Wait>(self, rt: &R) {
         let Shared { mut cell, permit } = self;
@@ -192,7 +195,7 @@ impl<T: Drop, N: Protocol<T, TaskWaker>> Shared<T, N> {
 }
 
 impl Shared<()> {
-    /// Returns a new owner that waits for `notify`. Fails as `another` does.
+    /// Returns a `Take` that waits for `notify` and is a new owner. Fails as `another` does.
     pub fn wait_shared<R: Wait>(&self, rt: &R) -> Result<Take<Self>, Refusal>
         ensures of_this { IfOk result (λ polled. cell_of polled.0 ≡ cell_of self.now) }
         ensures refused { IfErr result IsOwnerRefusal }

@@ -23,8 +23,8 @@ use futures::task::{Context, Poll};
 use std::sync::Wait;
 
 /// Takes the value of a cell. Make the future by `with`. Once ready, it may be polled again, for
-/// the next value: of several that do so, one may get all. For the waker that `poll_shared` may
-/// add, see `AsyncCell`.
+/// the next value. If several such futures of a cell are polled again in this way, one of them may
+/// get all values. For the waker that `poll_shared` may add, see `AsyncCell`.
 ///
 /// A `Take` of a `Shared` must be consumed, by `.0.end(rt)`. It has no `with`: use `poll_shared`.
 #[derive(Clone, Copy, Drop)]
@@ -32,8 +32,9 @@ use std::sync::Wait;
 pub struct Take<C>(#[derive_where(skip)] pub C);
 
 impl<C: TakeRef> Take<C> {
-    /// Polls by a shared reference. Takes the value, which leaves the cell empty, or waits. Fails
-    /// with `Memory` if there is no memory to wait, and with `Closed` on a closed cell.
+    /// Polls by a shared reference. Takes the value, and the cell is then empty. If there is no
+    /// value, waits. Fails with `Memory` if there is no memory to wait, and with `Closed` on a
+    /// closed cell.
     pub fn poll_shared<R: Wait>(
         &self,
         cx: &mut Context<'_>,
@@ -85,15 +86,15 @@ impl<C: TakeRef + Drop, R: Wait> Polled<R> for Take<C> {
     }
 }
 
-/// Clones the value of a cell, and otherwise is like `Take`. Polled again, it is ready at once
-/// while the cell holds a value.
+/// Clones the value of a cell, and otherwise is like `Take`. If a `Get` is polled again while the
+/// cell holds a value, the `Get` is ready at once.
 #[derive(Clone, Copy, Drop)]
 #[derive_where(Debug)]
 pub struct Get<C>(#[derive_where(skip)] pub C);
 
 impl<C: CellRef<Value: Clone>> Get<C> {
     /// Polls by a shared reference. Clones the value, or waits. Fails with `Memory` if there is no
-    /// memory for that, and with `Closed` on a closed cell.
+    /// memory for the clone or to wait, and with `Closed` on a closed cell.
     pub fn poll_shared<R: Wait>(
         &self,
         cx: &mut Context<'_>,
@@ -142,15 +143,16 @@ impl<C: CellRef<Value: Clone> + Drop, R: Wait> Polled<R> for Get<C> {
     }
 }
 
-/// A `Take` over a weak pointer, so no owner: it is `None` once the last owner has ended.
+/// Like `Take`, but has a weak pointer to the cell, so it is not an owner. The future gives `None`
+/// once the last owner has ended.
 #[derive(Drop)]
 #[derive_where(Clone; T: Drop)]
 #[derive_where(Debug)]
 pub struct TakeWeak<T, N: Protocol<T, TaskWaker> = Unruled>(pub Weak<T, N>);
 
 impl<T: Drop, N: Takeable<T, TaskWaker>> TakeWeak<T, N> {
-    /// Polls by a shared reference. Takes the value, or waits; `None` on a closed cell. Fails with
-    /// `Memory` if there is no memory to wait.
+    /// Polls by a shared reference. Takes the value, or waits. Returns `None` on a closed cell.
+    /// Fails with `Memory` if there is no memory to wait.
     pub fn poll_shared<R: Wait>(
         &self,
         cx: &mut Context<'_>,
@@ -231,15 +233,16 @@ impl<T: Drop, R: Wait, N: Takeable<T, TaskWaker>> Takes<R> for TakeWeak<T, N> {
     ghost gives_held = { λ _ _ given. given.2 };
 }
 
-/// A `Get` over a weak pointer, so no owner: it is `None` once the last owner has ended.
+/// Like `Get`, but has a weak pointer to the cell, so it is not an owner. The future gives `None`
+/// once the last owner has ended.
 #[derive(Drop)]
 #[derive_where(Clone; T: Drop)]
 #[derive_where(Debug)]
 pub struct GetWeak<T, N: Protocol<T, TaskWaker> = Unruled>(pub Weak<T, N>);
 
 impl<T: Clone, N: Protocol<T, TaskWaker>> GetWeak<T, N> {
-    /// Polls by a shared reference. Clones the value, or waits; `None` on a closed cell. Fails with
-    /// `Memory` if there is no memory for that.
+    /// Polls by a shared reference. Clones the value, or waits. Returns `None` on a closed cell.
+    /// Fails with `Memory` if there is no memory for the clone or to wait.
     pub fn poll_shared<R: Wait>(
         &self,
         cx: &mut Context<'_>,
@@ -310,9 +313,9 @@ impl<T: Drop, R: Wait + Copy, N: Protocol<T, TaskWaker>> Upgrade<R> for GetWeak<
     }
 }
 
-/// The stream of the values of a cell: `values` makes it of the future of a `TakeWeak`. **Several
-/// streams of a cell do not take turns**: one may get every value. **Dropping it may wait for the
-/// lock**, as dropping that future may (see `With`).
+/// The stream of the values of a cell. To make the stream, call `values` on the future of a
+/// `TakeWeak`. **Several streams of a cell do not take turns**: one may get every value. **Dropping
+/// a stream may wait for the lock**, as dropping the future of a `TakeWeak` may (see `With`).
 ///
 /// ```rust
 /// let states = Owner::new_with(rt.alloc(), 7, rt)?;

@@ -61,8 +61,8 @@ impl<T, N: Protocol<T, TaskWaker>> Taker<T, N> {
     }
 }
 
-/// A `Take` that extends a witness, and gives it back with the value. The poll that gives them is a
-/// `try_take` of the history. It borrows an owner, so it never fails with `Closed`.
+/// A `Take` that extends a witness, and gives it back with the value. The history lists the poll
+/// that gives both as a `try_take`. A `TakeAs` borrows an owner, so it never fails with `Closed`.
 #[derive(Drop)]
 pub struct TakeAs<'a, T: Drop, R: Wait + Drop, N: Protocol<T, TaskWaker>> {
     owner: &'a Owner<T, R, N>,
@@ -95,8 +95,8 @@ impl<T: Drop, R: Wait + Drop, N: Protocol<T, TaskWaker>> Polled<R> for TakeAs<'_
     }
 }
 
-/// A `Get` that extends a witness, and gives it back with the clone. The poll that gives them is a
-/// `try_get` of the history. It borrows an owner, so it never fails with `Closed`.
+/// A `Get` that extends a witness, and gives it back with the clone. The history lists the poll
+/// that gives both as a `try_get`. A `GetAs` borrows an owner, so it never fails with `Closed`.
 #[derive(Drop)]
 pub struct GetAs<'a, T: Drop, R: Wait + Drop, N: Protocol<T, TaskWaker>> {
     owner: &'a Owner<T, R, N>,
@@ -152,8 +152,9 @@ impl<T: Drop, R: Wait + Copy, N: Protocol<T, TaskWaker>> Owner<T, R, N> {
     }
 }
 
-/// A `TakeAs` over a weak pointer: it is `None` once the last owner has ended. Of the items of its
-/// `values` the contract says the rule alone.
+/// Like `TakeAs`, but has a weak pointer in place of an owner. The future gives `None` once the
+/// last owner has ended. If you make a stream of the future by `values`, the contract says of the
+/// values in the stream only that they satisfy the rule.
 #[derive(Drop)]
 pub struct TakeWeakAs<T, N: Protocol<T, TaskWaker>> {
     weak: Weak<T, N>,
@@ -201,7 +202,8 @@ impl<T: Drop, R: Wait, N: Protocol<T, TaskWaker>> Takes<R> for TakeWeakAs<T, N> 
     ghost gives_held = { λ _ _ given. given.2 };
 }
 
-/// A `GetAs` over a weak pointer: it is `None` once the last owner has ended.
+/// Like `GetAs`, but has a weak pointer in place of an owner. The future gives `None` once the last
+/// owner has ended.
 #[derive(Drop)]
 pub struct GetWeakAs<T, N: Protocol<T, TaskWaker>> {
     weak: Weak<T, N>,

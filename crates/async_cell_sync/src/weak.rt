@@ -16,8 +16,9 @@ use async_cell_step::With;
 use std::alloc::AllocError;
 use std::sync::{Arc, Wait};
 
-/// A weak pointer to a cell, which does not count as an owner. `Shared::downgrade` makes one.
-/// `TakeWeak` and `GetWeak` make a future of it, `with` a `WeakOwner`, whose calls take no `rt`.
+/// A weak pointer to a cell. It does not count as an owner. `Shared::downgrade` makes one.
+/// `TakeWeak` and `GetWeak` make a future of it. `with` makes it a `WeakOwner`, whose calls take no
+/// `rt`.
 #[derive(Drop)]
 #[derive_where(Debug)]
 pub struct Weak<T, N: Protocol<T, TaskWaker> = Unruled> {
@@ -52,7 +53,8 @@ impl<T: Drop, N: Protocol<T, TaskWaker>> Weak<T, N> {
         copy.unwrap_or(Weak { cell: None })
     }
 
-    /// Keeps the right to wait beside this pointer, so that its calls take no `rt`.
+    /// Makes a `WeakOwner` of this pointer and the right to wait. The calls of the `WeakOwner` take
+    /// no `rt`.
     pub fn with<R: Wait>(self, rt: R) -> WeakOwner<T, R, N>
         ensures points { result.weak ≡ self }
     {
@@ -68,7 +70,8 @@ impl<T: Drop, N: Protocol<T, TaskWaker>> Weak<T, N> {
         Ok(self.cell()?.is_closed(rt))
     }
 
-    /// Makes an owner; `None` if closed. Fails with `Memory` (checked first) or `OwnersFull`.
+    /// Makes an owner. Returns `None` if the cell is closed. Fails with `Memory` (checked first) or
+    /// `OwnersFull`.
     pub fn upgrade<R: Wait>(&self, rt: &R) -> Result<Option<Shared<T, N>>, Refusal>
         ensures of_this { IfOk result (λ found. IfSome found (OwnsNamed self.now)) }
         ensures lost { IsLost self.now → result ≡ Err Refusal.Memory }
@@ -105,7 +108,7 @@ pub struct WeakOwner<T, R, N: Protocol<T, TaskWaker> = Unruled> {
 }
 
 impl<T: Drop, R: Wait + Copy, N: Protocol<T, TaskWaker>> WeakOwner<T, R, N> {
-    /// As `Weak::upgrade`, but the owner keeps the right to wait.
+    /// As `Weak::upgrade`, but makes an `Owner`, which has the right to wait.
     ///
     /// ```rust
     /// let slot = Owner::new_with(rt.alloc(), 7, rt)?;

@@ -17,17 +17,19 @@ use std::fmt;
 
 /// A cell of one thread. It holds an optional value, and futures wait on it for a value.
 ///
-/// A call wakes tasks and drops values when it is done with the cell, so the code that runs then
-/// may call the cell. No call waits. Dropping a cell wakes all waiters.
+/// A call wakes tasks and drops values only after it has finished its work on the cell. So the code
+/// that runs in a wake or a drop may call the cell. No call waits. Dropping a cell wakes all
+/// waiters.
 ///
 /// **While a closure, a clone or a value's `Debug` runs, the value is taken out**: calls see an
-/// empty cell. Owners made or ended then are counted. Afterwards the value, or what an update made
-/// of it, is stored over whatever was set meanwhile. `peek` instead puts the value back only if the
-/// cell is still empty.
+/// empty cell. Owners that are made or ended during this time are counted. Afterwards the value, or
+/// what an update made of it, is stored in place of whatever was set meanwhile. `peek` instead puts
+/// the value back only if the cell is still empty.
 ///
-/// A future made by `with` holds one place in the wait list while it waits (see `With`), so the
-/// list is no longer than the number of such futures that were alive at once. Each poll of any
-/// other future that waits adds a waker. It outlives that future, until the next write or close.
+/// A future made by `with` holds one place in the wait list while it waits (see `With`). So the
+/// length of the list is at most the number of such futures that were alive at the same time. For
+/// any other future, each poll that waits adds a waker. This waker stays until the next write or
+/// close, even after the future is dropped.
 ///
 /// `N` says what is known of the values (see `Rule`).
 pub struct AsyncCell<T, N: Free<T, TaskWaker> = Unruled> {
@@ -70,12 +72,12 @@ impl<T: Drop> AsyncCell<T> {
 }
 
 impl<T: Drop, P: Rule<T>> AsyncCell<T, Ruled<P>> {
-    /// Makes a cell without a value, whose values keep the rule `P`. Otherwise it is `new`.
+    /// As `new`, but the values of the cell satisfy the rule `P`.
     pub fn ruled(alloc: Global) -> Self {
         AsyncCell::of(alloc, Core::new(alloc))
     }
 
-    /// Makes a cell that holds a value, whose values keep the rule `P`. Otherwise it is `new_with`.
+    /// As `new_with`, but the values of the cell satisfy the rule `P`.
     pub fn ruled_with(alloc: Global, value: T) -> Self
         requires rule { P.holds value }
     {
@@ -105,7 +107,8 @@ impl<T: Drop, N: Free<T, TaskWaker>> AsyncCell<T, N> {
         Shared::into_shared(self)
     }
 
-    /// As `into_shared`, but drops the cell if there is no memory, so that `?` serves.
+    /// As `into_shared`, but drops the cell if there is no memory, so that `?` can be used on the
+    /// result.
     pub fn into_shared_or_drop(self) -> Result<Shared<T, N>, Refusal>
         requires nameless { N.named ≡ None }
         ensures owns { IfOk result (λ owner. cell_of owner ≡ self) }
@@ -128,7 +131,8 @@ impl<T: Drop, N: Free<T, TaskWaker>> AsyncCell<T, N> {
         let _ = self.core.or_set(value, &OneThread);
     }
 
-    /// As `or_set`, but returns an unused `value` in the error, also on a closed cell.
+    /// As `or_set`, but if `value` is not stored, returns it in the error. This includes the case
+    /// of a closed cell.
     pub fn try_set(&self, value: T) -> Result<(), T>
         requires rule { N.holds value }
         ensures comes_back { IfErr result (λ back. back ≡ value) }
@@ -145,7 +149,7 @@ impl<T: Drop, N: Free<T, TaskWaker>> AsyncCell<T, N> {
         self.core.replace(value, &OneThread).unwrap_or(None)
     }
 
-    /// Calls the closure on the content, and stores what it returns over whatever was set
+    /// Calls the closure on the content, and stores what it returns, in place of whatever was set
     /// meanwhile. Wakes all waiters if the closure returns a value.
     pub fn update<F: FnOnce(Option<T>) -> Option<T> + Drop>(&self, change: F)
         requires callable { F.IsAlwaysCallable change }
@@ -157,7 +161,8 @@ impl<T: Drop, N: Free<T, TaskWaker>> AsyncCell<T, N> {
         }
     }
 
-    /// As `update`, but of a value: if there is none, the closure is not called.
+    /// As `update`, but the closure is given a value and returns a value. If the cell holds no
+    /// value, the closure is not called.
     pub fn update_some<F: FnOnce(T) -> T + Drop>(&self, change: F)
         requires callable { F.IsAlwaysCallable change }
         requires rule { (old new : T) → N.holds old → F.post change old new → N.holds new }
@@ -174,8 +179,9 @@ impl<T: Drop, N: Free<T, TaskWaker>> AsyncCell<T, N> {
         self.core.try_take(&OneThread)
     }
 
-    /// Returns a clone of the value, if there is one. If that fails with `Memory`, the value stays.
-    /// What `clone` itself sets in the cell is overwritten.
+    /// Returns a clone of the value, if there is one. Fails with `Memory` if the clone fails, and
+    /// the value then stays in the cell. If `clone` itself sets a value in the cell, that value is
+    /// overwritten.
     pub fn try_get(&self) -> Result<Option<T>, Refusal>
     where
         T: Clone,
@@ -189,9 +195,10 @@ impl<T: Drop, N: Free<T, TaskWaker>> AsyncCell<T, N> {
         }
     }
 
-    /// Calls the closure on the value, if there is one, and returns what it returns. The value is
-    /// taken out meanwhile. If the closure sets another one, or closes the cell, that stays, and
-    /// the value taken out is dropped.
+    /// Calls the closure on the value, if there is one, and returns the closure's result. The value
+    /// is taken out while the closure runs. If the closure sets another value, this other value
+    /// stays in the cell. If the closure closes the cell, the cell stays closed. In both cases the
+    /// value that was taken out is dropped.
     pub fn peek<A, F: FnOnce(&T) -> A + Drop>(&self, look: F) -> Option<A>
         requires { F.IsAlwaysCallable look }
         ensures called { IfSome result (λ answer. (seen : T)
@@ -214,7 +221,7 @@ impl<T: Drop, N: Free<T, TaskWaker>> AsyncCell<T, N> {
         self.core.is_closed(&OneThread)
     }
 
-    /// Returns the text that this cell prints. Fails with `Memory`.
+    /// Returns the text that `{:?}` prints for this cell. Fails with `Memory`.
     pub fn debug_text(&self) -> Result<String, Refusal>
     where
         T: fmt::Debug,
@@ -223,9 +230,10 @@ impl<T: Drop, N: Free<T, TaskWaker>> AsyncCell<T, N> {
         Ok(format!(in self.alloc; "{self:?}")?)
     }
 
-    /// Drops the wakers that dropped futures left: the task of each is polled once more. Call it
-    /// if many waits end early and the cell lives on: a waker keeps what its executor needs to wake
-    /// the task. Needs no memory. The waker of a poll without a place stays (see `AsyncCell`).
+    /// Drops the wakers that dropped futures left. The task of each of these wakers is then polled
+    /// once more. A waker that stays in the cell keeps alive what its executor needs to wake the
+    /// task. So call this if many waits end early while the cell lives on. Needs no memory. A waker
+    /// that was added by a poll of a future without a place is not dropped (see `AsyncCell`).
     pub fn purge(&self) {
         self.core.store.purge(&OneThread);
     }
@@ -268,7 +276,7 @@ impl<T: Drop, N: Free<T, TaskWaker>> AsyncCell<T, N> {
         Take(self)
     }
 
-    /// Returns a future that clones the value and leaves it.
+    /// Returns a future that clones the value and leaves the value in the cell.
     pub fn get(&self) -> Get<&Self>
     where
         T: Clone,
@@ -277,7 +285,8 @@ impl<T: Drop, N: Free<T, TaskWaker>> AsyncCell<T, N> {
         Get(self)
     }
 
-    /// Returns a guard. Its drop sets this value if the cell then is empty, unless it was released.
+    /// Returns a guard. When the guard is dropped, it sets the value `cancel` if the cell is then
+    /// empty, unless the guard was released.
     pub fn guard(&self, cancel: T) -> GuardedCell<T, &Self>
         requires rule { N.holds cancel }
         ensures of_this { result.pointer.now ≡ self.now }
@@ -286,7 +295,8 @@ impl<T: Drop, N: Free<T, TaskWaker>> AsyncCell<T, N> {
         GuardedCell::new(self, cancel)
     }
 
-    /// Stores a content again, over whatever came meanwhile. A cell that was closed stays closed.
+    /// Stores a content again, in place of whatever was set meanwhile. A cell that was closed stays
+    /// closed.
     fn put_back(&self, content: Option<T>)
         requires rule { IfSome content N.holds }
     {
@@ -314,13 +324,14 @@ impl<T: Drop, N: Free<T, TaskWaker>> AsyncCell<T, N> {
 
 impl AsyncCell<()> {
     /// Sets the value and wakes all waiters. The first `wait` that is polled takes the value, and
-    /// the others wait on. A `get` leaves it, and is ready until somebody takes it.
+    /// the other ones keep waiting. A `get` leaves the value in the cell, and is ready until
+    /// somebody takes the value.
     pub fn notify(&self) {
         self.set(());
     }
 
     /// Returns a future that waits for `notify`. It takes the value, so each `notify` ends at most
-    /// one `wait`: where several tasks wait, use `get`.
+    /// one `wait`. If several tasks wait, use `get`.
     pub fn wait(&self) -> Take<&AsyncCell<()>>
         ensures of_this { result.0.now ≡ self.now }
     {
@@ -341,7 +352,7 @@ impl<T: Drop, N: Free<T, TaskWaker>> Places<OneThread> for AsyncCell<T, N> {
 
 /// Prints `AsyncCell::Empty`, `AsyncCell::Pending` if a task waits, `AsyncCell::Full(..)` with the
 /// value's own text, or `AsyncCell::Closed`. The value is taken out while it prints, and then
-/// stored over whatever was set meanwhile.
+/// stored in place of whatever was set meanwhile.
 impl<T: fmt::Debug + Drop, N: Free<T, TaskWaker>> fmt::Debug for AsyncCell<T, N> {
     fn fmt<F: fmt::Write>(&self, f: &mut fmt::Formatter<F>) -> fmt::Result {
         let Some(value) = self.try_take() else {

@@ -6,7 +6,7 @@ use async_cell_core::TaskWaker;
 use async_cell_history::Free;
 use std::rc::Rc;
 
-/// A pointer to a cell. `Take`, `Get` and guards work over any.
+/// A pointer to a cell. `Take`, `Get` and guards work with any such pointer.
 pub trait CellRef: Drop {
     /// The type of the value in the cell.
     type Value: Drop;
@@ -59,7 +59,7 @@ impl<T: Drop, N: Free<T, TaskWaker>> CellRef for Shared<T, N> {
     }
 }
 
-/// A reference to a pointer is one too.
+/// A reference to a pointer is a pointer, too.
 impl<C: CellRef> CellRef for &C {
     type Value = C::Value;
 

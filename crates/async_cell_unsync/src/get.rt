@@ -11,15 +11,16 @@ use async_cell_step::{At, OneThread, Polled, Request, poll};
 use futures::future::Future;
 use futures::task::{Context, Poll};
 
-/// A future that clones the value of a cell. It may be polled again once ready: while the cell
-/// holds a value, it is ready at once. **Each poll that waits adds a waker** (see `Take`).
+/// A future that clones the value of a cell. Once a `Get` was ready, it may be polled again. If it
+/// is polled while the cell holds a value, it is ready at once. **Each poll that waits adds a
+/// waker** (see `Take`).
 #[derive(Clone, Copy, Drop)]
 #[derive_where(Debug)]
 pub struct Get<C>(#[derive_where(skip)] pub C);
 
 impl<C: CellRef> Get<C> {
     /// Polls by a shared reference. Clones the value, or waits. Fails with `Memory` if there is no
-    /// memory for that, and with `Closed` on a closed cell.
+    /// memory for the clone or to wait, and with `Closed` on a closed cell.
     #[inline]
     pub fn poll_shared(&self, cx: &mut Context<'_>) -> Poll<Result<C::Value, Refusal>>
     where

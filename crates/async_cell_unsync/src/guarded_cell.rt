@@ -5,8 +5,9 @@ use crate::{AsyncCell, CellRef};
 use async_cell_calls::Cancel;
 use async_cell_step::OneThread;
 
-/// A guard of a cell. Its drop sets its cancel value if the cell holds none, unless the guard was
-/// released. It then drops its pointer to the cell: a guard that is an owner ends its owner.
+/// A guard of a cell. The drop of the guard sets the guard's cancel value if the cell holds no
+/// value, unless the guard was released. Then the guard's pointer to the cell is dropped. If the
+/// guard is an owner, this ends the owner.
 #[derive_where(Debug)]
 pub struct GuardedCell<T, C: CellRef<Value = T>> {
     #[derive_where(skip)]
@@ -16,7 +17,8 @@ pub struct GuardedCell<T, C: CellRef<Value = T>> {
     cancel: Option<Cancel<T, C::Rules>>,
 }
 
-/// The same type, under the name that `async_cell_sync` has for a guard that ends by its drop.
+/// A second name for `GuardedCell`. In `async_cell_sync`, `Guard` is the name of a guard that ends
+/// when it is dropped.
 pub type Guard<T, C> = GuardedCell<T, C>;
 
 impl<T: Drop, C: CellRef<Value = T>> GuardedCell<T, C> {

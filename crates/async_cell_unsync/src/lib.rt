@@ -1,6 +1,6 @@
 //! A cell of one thread: an optional value that the futures of one thread wait for.
 //!
-//! What is `doc(hidden)` is internal: for the crates that build on this one. It may change without
+//! Items marked `doc(hidden)` are for the crates that build on this one, and may change without
 //! notice.
 #![tactic(auto)]
 

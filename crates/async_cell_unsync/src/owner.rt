@@ -13,12 +13,13 @@ use async_cell_step::{Rule, Ruled};
 use std::alloc::Global;
 use std::ops::Deref;
 
-/// One counted owner of a cell. It derefs to its cell, so it has its calls. It ends by its drop,
-/// also at `?` or an early `return`. Its futures hold places (see `With`). The end of the last
-/// owner closes the cell: the value is dropped, waiters are woken, and weak futures give `None`.
+/// One counted owner of a cell. The owner derefs to its cell, so the calls of the cell can be made
+/// on the owner. The owner ends when it is dropped, also at `?` or an early `return`. Its futures
+/// hold places (see `With`). The end of the last owner closes the cell: the value is dropped,
+/// waiters are woken, and weak futures give `None`.
 ///
-/// A `Shared` is an owner, too: its calls are made on its `cell()`, and its futures hold no place
-/// until their `with` is called.
+/// A `Shared` is an owner, too, but does not deref: its cell's calls are made on its `cell()`. Its
+/// futures hold no place until you call their `with`.
 #[derive(Drop)]
 #[derive_where(Debug)]
 pub struct Owner<T: Drop, N: Free<T, TaskWaker> = Unruled> {
@@ -27,8 +28,8 @@ pub struct Owner<T: Drop, N: Free<T, TaskWaker> = Unruled> {
 }
 
 impl<T: Drop, N: Free<T, TaskWaker>> AsyncCell<T, N> {
-    /// Makes the first owner of this cell. Fails with `Memory`, and then gives the cell back. For
-    /// `?` write `Owner::new_with`, or `into_shared_or_drop()?.with()`.
+    /// Makes the first owner of this cell. Fails with `Memory`, and then gives the cell back. To
+    /// use `?`, call `Owner::new_with` instead, or write `into_shared_or_drop()?.with()`.
     pub fn into_owner(self) -> Result<Owner<T, N>, (Refusal, AsyncCell<T, N>)>
         requires nameless { N.named ≡ None }
         ensures owns { IfOk result (λ owner. cell_owned owner ≡ self) }
@@ -55,7 +56,8 @@ impl<T: Drop> Owner<T> {
     }
 
     /// Makes a cell that holds a value, and its first owner. Fails with `Memory`, and then drops
-    /// the value: `AsyncCell::new_with` and `AsyncCell::into_owner` return it instead.
+    /// the value. To keep the value in this case, call `AsyncCell::new_with`, and then
+    /// `AsyncCell::into_owner`, which returns the cell if it fails.
     pub fn new_with(alloc: Global, value: T) -> Result<Self, Refusal>
         ensures refused { FailsWithMemory result }
     {
@@ -65,8 +67,8 @@ impl<T: Drop> Owner<T> {
 }
 
 impl<T: Drop, P: Rule<T>> Owner<T, Ruled<P>> {
-    /// Makes a cell without a value, whose values keep the rule `P`, and its first owner. Fails
-    /// with `Memory`.
+    /// Makes a cell without a value, and its first owner. The values of the cell satisfy the rule
+    /// `P`. Fails with `Memory`.
     pub fn ruled(alloc: Global) -> Result<Self, Refusal>
         ensures refused { FailsWithMemory result }
     {
@@ -75,7 +77,7 @@ impl<T: Drop, P: Rule<T>> Owner<T, Ruled<P>> {
         Ok(owner.with())
     }
 
-    /// As `ruled`, but the cell holds a value, which is dropped if this fails.
+    /// As `ruled`, but the cell holds a value. If it fails, it drops the value.
     pub fn ruled_with(alloc: Global, value: T) -> Result<Self, Refusal>
         requires rule { P.holds value }
         ensures refused { FailsWithMemory result }
@@ -86,8 +88,9 @@ impl<T: Drop, P: Rule<T>> Owner<T, Ruled<P>> {
 }
 
 impl<T: Drop, N: Free<T, TaskWaker>> Owner<T, N> {
-    /// Adds an owner, in place of a clone. Fails with `Memory` if the pointer cannot be counted, or
-    /// with `OwnersFull`; `Closed` is in the contract, but cannot happen while this owner lives.
+    /// Adds an owner. Use this in place of `clone`. Fails with `Memory` if one more pointer to the
+    /// cell cannot be counted, or with `OwnersFull`. `Closed` is in the contract, but cannot happen
+    /// while this owner lives.
     pub fn another(&self) -> Result<Self, Refusal>
         ensures of_this { IfOk result (λ owner. cell_owned owner ≡ cell_owned self.now) }
         ensures refused { IfErr result IsOwnerRefusal }
@@ -102,8 +105,8 @@ impl<T: Drop, N: Free<T, TaskWaker>> Owner<T, N> {
         self.shared.downgrade().with()
     }
 
-    /// Closes the cell and returns its content, if this is the only owner. Wakes all waiters.
-    /// Otherwise this owner is returned in the error.
+    /// If this is the only owner, closes the cell, wakes all waiters and returns the content of the
+    /// cell. Otherwise this owner is returned in the error.
     pub fn try_into_inner(self) -> Result<Option<T>, Self>
         ensures rule { IfOk result (λ content. IfSome content N.holds) }
         ensures comes_back { IfErr result (λ back. back ≡ self) }
@@ -118,15 +121,16 @@ impl<T: Drop, N: Free<T, TaskWaker>> Owner<T, N> {
         self.shared.cell()
     }
 
-    /// Returns a future that takes the value (`try_take` takes it at once). It borrows this owner,
-    /// which keeps the cell open: it waits forever if nobody sets a value.
+    /// Returns a future that takes the value (`try_take` takes it at once). The future borrows this
+    /// owner, so the cell stays open, and the future waits forever if nobody sets a value.
     pub fn take(&self) -> With<Take<&AsyncCell<T, N>>>
         ensures of_this { result.polled.0.now ≡ cell_owned self.now }
     {
         self.cell().take().with()
     }
 
-    /// As `take`, but clones the value and leaves it: polled again, it is ready at once.
+    /// As `take`, but the future clones the value and leaves the value in the cell. If the future
+    /// is polled again, it is ready at once.
     pub fn get(&self) -> With<Get<&AsyncCell<T, N>>>
     where
         T: Clone,
@@ -135,8 +139,8 @@ impl<T: Drop, N: Free<T, TaskWaker>> Owner<T, N> {
         self.cell().get().with()
     }
 
-    /// Returns a future that takes the value and is a new owner: while it waits the cell stays
-    /// open, so it waits forever if nobody sets a value. Fails as `another` does.
+    /// Returns a future that takes the value and is a new owner. While the future waits, the cell
+    /// stays open. So the future waits forever if nobody sets a value. Fails as `another` does.
     pub fn take_shared(&self) -> Result<With<Take<Self>>, Refusal>
         ensures of_this { IfOk result (λ made. cell_owned made.polled.0 ≡ cell_owned self.now) }
         ensures refused { IfErr result IsOwnerRefusal }
@@ -144,7 +148,7 @@ impl<T: Drop, N: Free<T, TaskWaker>> Owner<T, N> {
         Ok(Take(self.another()?).with())
     }
 
-    /// As `take_shared`, but clones the value and leaves it.
+    /// As `take_shared`, but the future clones the value and leaves the value in the cell.
     pub fn get_shared(&self) -> Result<With<Get<Self>>, Refusal>
     where
         T: Clone,
@@ -154,15 +158,15 @@ impl<T: Drop, N: Free<T, TaskWaker>> Owner<T, N> {
         Ok(Get(self.another()?).with())
     }
 
-    /// Returns a future that takes the value and is not an owner. It is `None` once the last owner
-    /// has ended: a value that was not taken by then is lost.
+    /// Returns a future that takes the value and is not an owner. The future gives `None` once the
+    /// last owner has ended. A value that was not taken by then is lost.
     pub fn take_weak(&self) -> With<TakeWeak<T, N>>
         ensures of_this { NamesAtMost result.polled.0 (cell_owned self.now) }
     {
         self.shared.take_weak().with()
     }
 
-    /// As `take_weak`, but clones the value and leaves it.
+    /// As `take_weak`, but the future clones the value and leaves the value in the cell.
     pub fn get_weak(&self) -> With<GetWeak<T, N>>
     where
         T: Clone,
@@ -171,9 +175,9 @@ impl<T: Drop, N: Free<T, TaskWaker>> Owner<T, N> {
         self.shared.get_weak().with()
     }
 
-    /// Makes this owner a guard: its drop sets this value, if the cell holds none, and ends the
-    /// owner. The end of the last owner drops the value, so who waits for it has to be an owner, as
-    /// a future of `take_shared` is. Needs no memory.
+    /// Makes a guard of this owner. The drop of the guard sets the value `cancel`, if the cell
+    /// holds no value, and ends the owner. The end of the last owner drops the value. So whoever
+    /// waits for the value has to be an owner, as a future of `take_shared` is. Needs no memory.
     pub fn into_guard(self, cancel: T) -> Guard<T, Self>
         requires rule { N.holds cancel }
         ensures of_this { result.pointer ≡ self }
@@ -196,7 +200,7 @@ impl<T: Drop, N: Free<T, TaskWaker>> Owner<T, N> {
         }
     }
 
-    /// As `guard_shared`, but drops the value if it fails, so that `?` serves.
+    /// As `guard_shared`, but drops the value if it fails, so that `?` can be used on the result.
     pub fn guard_shared_or_drop(&self, cancel: T) -> Result<Guard<T, Self>, Refusal>
         requires rule { N.holds cancel }
         ensures of_this { IfOk result (λ guard. cell_owned guard.pointer ≡ cell_owned self.now) }
@@ -209,7 +213,7 @@ impl<T: Drop, N: Free<T, TaskWaker>> Owner<T, N> {
 
 impl Owner<()> {
     /// Returns a future that waits for `notify`. It takes the value, so each `notify` ends at most
-    /// one `wait`. Where several tasks wait for one `notify`, let all use `get`.
+    /// one `wait`. If several tasks wait for one `notify`, let all use `get`.
     pub fn wait(&self) -> With<Take<&AsyncCell<()>>>
         ensures of_this { result.polled.0.now ≡ cell_owned self.now }
     {

@@ -26,12 +26,14 @@ pub struct Replier<T: Drop, N: Unwitnessed<T, TaskWaker> = Unruled> {
     cell: Rc<ManuallyDrop<AsyncCell<T, N>>>,
 }
 
-/// The side of a reply slot that waits: a future of the value. It fails with `Closed` if the
-/// `Replier` was dropped without a `set`, and at each poll after it was ready. It fails with
-/// `Memory` if there is no memory to wait, and may then be polled again.
+/// The side of a reply slot that waits: a future of the value. A `Reply` fails with `Closed` if the
+/// `Replier` was dropped without a `set`. Once the `Reply` was ready, each later poll also fails
+/// with `Closed`. A `Reply` fails with `Memory` if there is no memory to wait, and may then be
+/// polled again.
 ///
-/// If it is dropped before it was ready, the slot is closed: a value that was set is dropped, and
-/// one that is set later comes back. That wakes the task that polled it last.
+/// If the `Reply` is dropped before it was ready, the slot is closed. Then a value that was already
+/// set is dropped, and a later `set` returns its value in the error. This drop wakes the task that
+/// polled the reply last.
 #[derive_where(Debug)]
 pub struct Reply<T: Drop, N: Unwitnessed<T, TaskWaker> = Unruled> {
     /// `None` once it was ready.
@@ -57,8 +59,8 @@ pub fn reply_slot<T: Drop>(alloc: Global) -> Result<(Replier<T>, Reply<T>), Refu
     sides(alloc)
 }
 
-/// Makes a reply slot whose value keeps the rule `P`: `set` requires it, and the poll of the reply
-/// ensures it. Otherwise it is a `reply_slot`. The program `example_even` has one of `sync`.
+/// As `reply_slot`, but the value satisfies the rule `P`: `set` requires this, and a poll of the
+/// reply ensures it. The program `example_even` has such a slot, made with `async_cell_sync`.
 pub fn reply_slot_of<P: Rule<T>, T: Drop>(
     alloc: Global,
 ) -> Result<(Replier<T, Ruled<P>>, Reply<T, Ruled<P>>), Refusal>
@@ -91,7 +93,8 @@ fn sides<T: Drop, N: Unwitnessed<T, TaskWaker>>(
 
 impl<T: Drop, N: Unwitnessed<T, TaskWaker>> Replier<T, N> {
     /// Sets the value, and wakes the task that waits for it. The value stays until the `Reply`
-    /// takes it or is dropped. If the `Reply` was dropped before, the value comes back.
+    /// takes it or is dropped. If the `Reply` was already dropped, the value is returned in the
+    /// error.
     pub fn set(self, value: T) -> Result<(), T>
         requires rule { N.holds value }
         ensures comes_back { IfErr result (λ back. back ≡ value) }
@@ -100,7 +103,8 @@ impl<T: Drop, N: Unwitnessed<T, TaskWaker>> Replier<T, N> {
         cell.core.set(value, &OneThread)
     }
 
-    /// Returns whether the `Reply` was dropped, so that a value would come back.
+    /// Returns whether the `Reply` was dropped. If it was, `set` would return the value in the
+    /// error.
     pub fn is_closed(&self) -> bool {
         self.cell.is_closed()
     }
@@ -116,7 +120,7 @@ impl<T: Drop, N: Unwitnessed<T, TaskWaker>> Drop for Replier<T, N> {
 
 impl<T: Drop, N: Unwitnessed<T, TaskWaker>> Reply<T, N> {
     /// Takes the value without waiting. `Ok(None)` says that it may still come. Fails with `Closed`
-    /// if the `Replier` was dropped without a `set`, and once the reply was taken.
+    /// if the `Replier` was dropped without a `set`, and after the value was taken.
     pub fn try_take(&mut self) -> Result<Option<T>, Refusal>
         ensures rule { IfOk result (λ found. IfSome found N.holds) }
         ensures closed { self.old.cell ≡ None → result ≡ Err Refusal.Closed }
@@ -136,8 +140,9 @@ impl<T: Drop, N: Unwitnessed<T, TaskWaker>> Reply<T, N> {
         content
     }
 
-    /// Closes the slot, and returns the value if it was set: where the wait has a limit, a reply
-    /// that came too late is not lost. One that is set later comes back to the `Replier`.
+    /// Closes the slot, and returns the value if it was set. So if you call this after a wait with
+    /// a time limit, a reply that came too late is not lost. A value that is set later comes back
+    /// to the `Replier`.
     pub fn close(self) -> Option<T>
         ensures rule { IfSome result N.holds }
         ensures over { self.cell ≡ None → result ≡ None }
@@ -182,7 +187,7 @@ impl<T: Drop, N: Unwitnessed<T, TaskWaker>> Future for Reply<T, N> {
     }
 }
 
-/// Closes the slot, unless it was ready.
+/// Closes the slot, unless this future has already given its result.
 impl<T: Drop, N: Unwitnessed<T, TaskWaker>> Drop for Reply<T, N> {
     fn drop(self) {
         let Reply { cell, place: _ } = self;

@@ -10,8 +10,8 @@ use async_cell_step::OneThread;
 use std::alloc::{AllocFailed, Global};
 use std::rc::Rc;
 
-/// One counted owner of a cell. Dropping it ends the owner. The last one closes the cell: the value
-/// is dropped, all waiters are woken, and weak futures are ready with `None`.
+/// One counted owner of a cell. Dropping it ends the owner. The end of the last owner closes the
+/// cell: the value is dropped, all waiters are woken, and weak futures are ready with `None`.
 #[derive_where(Debug)]
 pub struct Shared<T, N: Free<T, TaskWaker> = Unruled> {
     #[derive_where(skip)]
@@ -30,8 +30,8 @@ impl<T: Drop> Shared<T> {
 }
 
 impl<T: Drop, N: Free<T, TaskWaker>> Shared<T, N> {
-    /// Makes the first owner of this cell. Fails with `Memory`; the cell is then returned in the
-    /// error. `AsyncCell::into_shared_or_drop` is the form for `?`.
+    /// Makes the first owner of this cell. Fails with `Memory`, and then returns the cell in the
+    /// error. To use `?`, call `AsyncCell::into_shared_or_drop` instead.
     pub fn into_shared(cell: AsyncCell<T, N>) -> Result<Self, (Refusal, AsyncCell<T, N>)>
         requires nameless { N.named ≡ None }
         ensures owns { IfOk result (λ owner. cell_of owner ≡ cell) }
@@ -53,15 +53,16 @@ impl<T: Drop, N: Free<T, TaskWaker>> Shared<T, N> {
         self.cell.as_ref()
     }
 
-    /// Makes this owner one with the cell's calls.
+    /// Turns this owner into an `Owner`, on which the cell's calls can be made.
     pub fn with(self) -> Owner<T, N>
         ensures keeps { result.shared ≡ self }
     {
         Owner { shared: self }
     }
 
-    /// Adds an owner, in place of a clone. Fails with `Memory` if the pointer cannot be counted, or
-    /// with `OwnersFull`; `Closed` is in the contract, but cannot happen while this owner lives.
+    /// Adds an owner. Use this in place of `clone`. Fails with `Memory` if one more pointer to the
+    /// cell cannot be counted, or with `OwnersFull`. `Closed` is in the contract, but cannot happen
+    /// while this owner lives.
     pub fn another(&self) -> Result<Self, Refusal>
         ensures of_this { IfOk result (λ owner. cell_of owner ≡ cell_of self.now) }
         ensures refused { IfErr result IsOwnerRefusal }
@@ -101,7 +102,7 @@ impl<T: Drop, N: Free<T, TaskWaker>> Shared<T, N> {
         }
     }
 
-    /// As `guard_shared`, but drops the value if it fails, so that `?` serves.
+    /// As `guard_shared`, but drops the value if it fails, so that `?` can be used on the result.
     pub fn guard_shared_or_drop(&self, cancel: T) -> Result<GuardedCell<T, Self>, Refusal>
         requires rule { N.holds cancel }
         ensures of_this { IfOk result (λ guard. cell_of guard.pointer ≡ cell_of self.now) }
@@ -111,7 +112,8 @@ impl<T: Drop, N: Free<T, TaskWaker>> Shared<T, N> {
         self.guard_shared(cancel).map_err(|(why, _)| why)
     }
 
-    /// Returns a weak pointer to the cell. If it cannot be counted, its calls fail with `Memory`.
+    /// Returns a weak pointer to the cell. If the pointer cannot be counted, the calls of the
+    /// pointer fail with `Memory`.
     pub fn downgrade(&self) -> Weak<T, N>
         ensures of_this { NamesAtMost result (cell_of self.now) }
     {
@@ -125,7 +127,8 @@ impl<T: Drop, N: Free<T, TaskWaker>> Shared<T, N> {
         TakeWeak(Weak::of(&self.cell))
     }
 
-    /// Returns a future that clones the value, leaves it, and is not an owner.
+    /// Returns a future that clones the value and leaves the value in the cell. The future is not
+    /// an owner.
     pub fn get_weak(&self) -> GetWeak<T, N>
     where
         T: Clone,
@@ -134,8 +137,8 @@ impl<T: Drop, N: Free<T, TaskWaker>> Shared<T, N> {
         GetWeak(Weak::of(&self.cell))
     }
 
-    /// Closes the cell and returns its content, if this is the only owner. Wakes all waiters.
-    /// Otherwise this owner is returned in the error.
+    /// If this is the only owner, closes the cell, wakes all waiters and returns the content of the
+    /// cell. Otherwise this owner is returned in the error.
     pub fn try_into_inner(self) -> Result<Option<T>, Self>
         ensures rule { IfOk result (λ content. IfSome content N.holds) }
         ensures comes_back { IfErr result (λ back. back ≡ self) }
@@ -163,7 +166,7 @@ impl<T: Drop, N: Free<T, TaskWaker>> Shared<T, N> {
 }
 
 impl Shared<()> {
-    /// Returns a new owner that waits for `notify`. Fails as `another` does.
+    /// Returns a `Take` that waits for `notify` and is a new owner. Fails as `another` does.
     pub fn wait_shared(&self) -> Result<Take<Self>, Refusal>
         ensures of_this { IfOk result (λ polled. cell_of polled.0 ≡ cell_of self.now) }
         ensures refused { IfErr result IsOwnerRefusal }

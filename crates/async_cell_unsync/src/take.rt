@@ -12,15 +12,17 @@ use futures::task::{Context, Poll};
 
 /// A future that takes the value of a cell. It may be polled again once ready, for further values.
 ///
-/// **Each poll that waits adds a waker**, which stays until the next write or close. The future of
-/// `with`, or of an `Owner`, keeps one waker, and renews it.
+/// **Each poll that waits adds a waker**, which stays until the next write or close. The future
+/// that `with` or an `Owner` makes has only one waker in the cell, and each poll that waits renews
+/// this waker.
 #[derive(Clone, Copy, Drop)]
 #[derive_where(Debug)]
 pub struct Take<C>(#[derive_where(skip)] pub C);
 
 impl<C: CellRef> Take<C> {
-    /// Polls by a shared reference. Takes the value, which leaves the cell empty, or waits. Fails
-    /// with `Memory` if there is no memory to wait, and with `Closed` on a closed cell.
+    /// Polls by a shared reference. Takes the value, and the cell is then empty. If there is no
+    /// value, waits. Fails with `Memory` if there is no memory to wait, and with `Closed` on a
+    /// closed cell.
     #[inline]
     pub fn poll_shared(&self, cx: &mut Context<'_>) -> Poll<Result<C::Value, Refusal>>
         ensures rule { IfReady result (λ given. IfOk given C.Rules.holds) }

@@ -20,16 +20,17 @@ use futures::task::{Context, Poll};
 use std::alloc::AllocError;
 use std::rc::Rc;
 
-/// The future of a `Take`, a `Get`, a `TakeWeak` or a `GetWeak` that holds a place in the cell's
-/// wait list. Their `with` makes it, as do the calls of an `Owner` and a `WeakOwner`.
+/// The future of a `Take`, a `Get`, a `TakeWeak` or a `GetWeak`. This future holds a place in the
+/// cell's wait list. The `with` of each of these four types makes such a future, as do the calls of
+/// an `Owner` and a `WeakOwner`.
 pub type With<P> = async_cell_step::With<P, OneThread>;
 
-/// The stream of the values of a cell, which `values` of a future of a `TakeWeak` makes. **Several
-/// streams of a cell do not take turns**: one may get every value.
+/// The stream of the values of a cell. To make the stream, call `values` on the future of a
+/// `TakeWeak`. **Several streams of a cell do not take turns**: one may get every value.
 pub type Values<T, N = Unruled> = async_cell_step::Values<TakeWeak<T, N>, OneThread>;
 
 /// A weak pointer to a cell. It does not count as an owner. `Shared::downgrade` makes one.
-/// `TakeWeak` and `GetWeak` make it a future, `with` makes it a `WeakOwner`.
+/// `TakeWeak` and `GetWeak` make a future of it. `with` makes it a `WeakOwner`.
 #[derive(Drop)]
 #[derive_where(Debug)]
 pub struct Weak<T, N: Free<T, TaskWaker> = Unruled> {
@@ -64,7 +65,7 @@ impl<T: Drop, N: Free<T, TaskWaker>> Weak<T, N> {
         copy.unwrap_or(Weak { cell: None })
     }
 
-    /// Makes this pointer a weak owner: what it upgrades to is an `Owner`.
+    /// Turns this pointer into a `WeakOwner`, whose `upgrade` makes an `Owner`.
     pub fn with(self) -> WeakOwner<T, N>
         ensures points { result.weak ≡ self }
     {
@@ -80,7 +81,8 @@ impl<T: Drop, N: Free<T, TaskWaker>> Weak<T, N> {
         Ok(self.cell()?.is_closed())
     }
 
-    /// Makes an owner; `None` if closed. Fails with `Memory` (checked first) or `OwnersFull`.
+    /// Makes an owner. Returns `None` if the cell is closed. Fails with `Memory` (checked first) or
+    /// `OwnersFull`.
     pub fn upgrade(&self) -> Result<Option<Shared<T, N>>, Refusal>
         ensures of_this { IfOk result (λ found. IfSome found (OwnsNamed self.now)) }
         ensures lost { IsLost self.now → result ≡ Err Refusal.Memory }
@@ -105,8 +107,9 @@ impl<T: Drop, N: Free<T, TaskWaker>> Clone for Weak<T, N> {
     }
 }
 
-/// A weak pointer to a cell, which makes owners and futures. It does not count as an owner, and
-/// keeps the cell's memory alive, not its value. `Owner::downgrade` makes one.
+/// A weak pointer to a cell. The calls of a `WeakOwner` make owners and futures. A `WeakOwner` does
+/// not count as an owner. It keeps the cell's memory alive, but not the cell's value.
+/// `Owner::downgrade` makes one.
 #[derive(Drop)]
 #[derive_where(Debug)]
 pub struct WeakOwner<T, N: Free<T, TaskWaker> = Unruled> {
@@ -115,7 +118,8 @@ pub struct WeakOwner<T, N: Free<T, TaskWaker> = Unruled> {
 }
 
 impl<T: Drop, N: Free<T, TaskWaker>> WeakOwner<T, N> {
-    /// Makes an owner; `None` if closed. Fails with `Memory` (checked first) or `OwnersFull`.
+    /// Makes an owner. Returns `None` if the cell is closed. Fails with `Memory` (checked first) or
+    /// `OwnersFull`.
     pub fn upgrade(&self) -> Result<Option<Owner<T, N>>, Refusal>
         ensures of_this { IfOk result (λ found. IfSome found (λ owner.
             Names self.now.weak (cell_owned owner))) }
@@ -134,15 +138,15 @@ impl<T: Drop, N: Free<T, TaskWaker>> WeakOwner<T, N> {
         self.weak.is_closed()
     }
 
-    /// Returns a future that takes the value and is no owner: `None` once the last owner has ended.
-    /// If the pointer cannot be counted, it fails with `Memory`.
+    /// Returns a future that takes the value and is no owner. The future gives `None` once the last
+    /// owner has ended. If the pointer cannot be counted, the future fails with `Memory`.
     pub fn take(&self) -> With<TakeWeak<T, N>>
         ensures of_this { NameAtMostTheSame self.now.weak result.polled.0 }
     {
         TakeWeak(self.weak.again()).with()
     }
 
-    /// As `take`, but clones the value and leaves it.
+    /// As `take`, but the future clones the value and leaves the value in the cell.
     pub fn get(&self) -> With<GetWeak<T, N>>
     where
         T: Clone,
@@ -162,15 +166,16 @@ impl<T: Drop, N: Free<T, TaskWaker>> Clone for WeakOwner<T, N> {
 }
 
 /// A future that takes the value of a cell and is no owner of it. It may be polled again once
-/// ready. **Each poll that waits adds a waker**: the future of `with` keeps one (see `Take`).
+/// ready. **Each poll that waits adds a waker.** The future that `with` makes, in contrast, has
+/// only one waker in the cell (see `Take`).
 #[derive(Drop)]
 #[derive_where(Clone; T: Drop)]
 #[derive_where(Debug)]
 pub struct TakeWeak<T, N: Free<T, TaskWaker> = Unruled>(pub Weak<T, N>);
 
 impl<T: Drop, N: Free<T, TaskWaker>> TakeWeak<T, N> {
-    /// Polls by a shared reference. Takes the value, or waits; `None` on a closed cell. Fails with
-    /// `Memory` if there is no memory to wait.
+    /// Polls by a shared reference. Takes the value, or waits. Returns `None` on a closed cell.
+    /// Fails with `Memory` if there is no memory to wait.
     pub fn poll_shared(&self, cx: &mut Context<'_>) -> Poll<Result<Option<T>, Refusal>>
         ensures rule { IfReady result (λ given. IfOk given (λ found. IfSome found N.holds)) }
         ensures lost { IsLost self.now.0 → result ≡ Poll.Ready (Err Refusal.Memory) }
@@ -256,15 +261,16 @@ impl<T: Drop, N: Free<T, TaskWaker>> Future for TakeWeak<T, N> {
 }
 
 /// A future that clones the value of a cell and is no owner of it. It may be polled again once
-/// ready. **Each poll that waits adds a waker**: the future of `with` keeps one (see `Take`).
+/// ready. **Each poll that waits adds a waker.** The future that `with` makes, in contrast, has
+/// only one waker in the cell (see `Take`).
 #[derive(Drop)]
 #[derive_where(Clone; T: Drop)]
 #[derive_where(Debug)]
 pub struct GetWeak<T, N: Free<T, TaskWaker> = Unruled>(pub Weak<T, N>);
 
 impl<T: Drop, N: Free<T, TaskWaker>> GetWeak<T, N> {
-    /// Polls by a shared reference. Clones the value, or waits; `None` on a closed cell. Fails with
-    /// `Memory` if there is no memory for that.
+    /// Polls by a shared reference. Clones the value, or waits. Returns `None` on a closed cell.
+    /// Fails with `Memory` if there is no memory for the clone or to wait.
     pub fn poll_shared(&self, cx: &mut Context<'_>) -> Poll<Result<Option<T>, Refusal>>
     where
         T: Clone,

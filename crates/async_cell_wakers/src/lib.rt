@@ -1,8 +1,8 @@
 //! The trait of wakers, the wait list of a cell with the places of waiting futures, and the list of
 //! the wakers to wake.
 //!
-//! What is `doc(hidden)` is internal: for the crates that build on this one. The others are
-//! re-exported by `async_cell_core`.
+//! Items marked `doc(hidden)` are for the crates that build on this one. `async_cell_core`
+//! re-exports all other items.
 #![tactic(auto)]
 
 mod named;

@@ -1,7 +1,7 @@
 use crate::wakes::Wakes;
 
-/// A waker that is only a number, for tests, models and numbered tasks. It would wake the wakers of
-/// its own number. Its `wake` does nothing.
+/// A waker that is only a number, for tests, models and numbered tasks. Its `will_wake` is true for
+/// the wakers that have the same number. Its `wake` does nothing.
 #[derive(Clone, Copy, Debug, PartialEq, Eq)]
 pub struct Named(pub u64);
 

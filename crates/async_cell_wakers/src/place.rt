@@ -1,7 +1,7 @@
 ghost use Rattle.std.specs.Prelude.{◌≡◌};
 
-/// The place of a waiting future in a wait list: while the future waits, each of its polls renews
-/// the waker there. When the wakers are handed out, all places are given up.
+/// The place of a waiting future in a wait list. While the future waits, each of its polls renews
+/// the waker there. When the list hands out its wakers, no future has a place any more.
 #[derive(Drop)]
 pub struct Place {
     /// The round of the list in which the place was taken: 0 if there is no place.
@@ -11,14 +11,15 @@ pub struct Place {
 }
 
 impl Place {
-    /// Returns no place yet.
+    /// Makes the value that stands for no place.
     pub fn new() -> Place
         ensures { result.round ≡ 0 }
     {
         Place { round: 0, index: 0 }
     }
 
-    /// Gives the place up without a look at the list, once the wakers were handed out.
+    /// Gives up the place. This is for use after the list has handed out its wakers, so the list
+    /// need not be changed.
     #[inline(always)]
     pub fn forget(&mut self)
         ensures { self.new.round ≡ 0 }
@@ -26,7 +27,7 @@ impl Place {
         self.round = 0;
     }
 
-    /// Returns whether there may be a place to be left.
+    /// Returns whether there may be a place to give up.
     #[inline(always)]
     pub fn was_held(&self) -> bool {
         self.round != 0

@@ -19,8 +19,8 @@ const FREE: usize = 1;
 pub struct TaskWaker {
     /// `None` while the waker is taken out of its place.
     waker: Option<Waker>,
-    /// `HELD`, or for a free place `FREE` and the number of the next free one. A place becomes free
-    /// where it lies, also while the list is only looked at.
+    /// `HELD`, or for a free place `FREE` plus the number of the next free one. It is a `Cell`, so
+    /// that a place can be given up through `&self`.
     link: Cell<usize>,
 }
 
@@ -32,7 +32,7 @@ impl Model for TaskWaker {
 }
 
 impl TaskWaker {
-    /// Makes what is stored in the place of a future: its waker.
+    /// Wraps the waker of a future, to be stored in its place.
     pub fn of(waker: Waker) -> TaskWaker {
         TaskWaker {
             waker: Some(waker),
@@ -40,13 +40,13 @@ impl TaskWaker {
         }
     }
 
-    /// Makes the place of this waker a free one, before the one of this number.
+    /// Marks the place of this waker as free, before the free place of this number.
     pub(crate) fn leave_before(&self, next: usize) {
         self.link.set(FREE.saturating_add(next));
     }
 
-    /// Makes the place of this waker one that is held. Returns the number of the next free place: 0
-    /// if there is none.
+    /// Marks the place of this waker as held. Returns the number of the next free place, or 0 if
+    /// there is none.
     pub(crate) fn hold(&self) -> usize {
         self.link.replace(HELD).saturating_sub(FREE)
     }

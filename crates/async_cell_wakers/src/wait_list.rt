@@ -12,11 +12,11 @@ use std::cell::Cell;
 use std::marker::Model;
 use std::mem;
 
-/// For how many wakers room is made at once, at most.
+/// The largest number of wakers that room is made for at once.
 const MOST: usize = 64;
 
 /// The wakers that wait on a cell, in order of registration. The first is stored inline, the others
-/// in a vector. Dropping the list drops its wakers without waking them.
+/// in a vector. Dropping the list drops its wakers without calling their `wake`.
 #[derive(Drop)]
 pub struct WaitList<W> {
     first: Option<W>,
@@ -29,7 +29,8 @@ pub struct WaitList<W> {
     expected: usize,
 }
 
-/// Contracts see the wakers in order of registration, the room for more, and the round of places.
+/// Contracts see the wakers in order of registration, the room for more wakers, and the number of
+/// the round in which places are taken now.
 impl<W> Model for WaitList<W> {
     ghost Value = { ListState W };
 
@@ -73,8 +74,8 @@ impl<W: Drop> WaitList<W> {
         self.first.is_none()
     }
 
-    /// Returns whether no waker waits and there is no memory for more than one: a drop of the list
-    /// would do nothing.
+    /// Returns whether no waker waits and the list has allocated no memory. If so, a drop of the
+    /// list would do nothing.
     #[inline(always)]
     pub fn is_bare(&self) -> bool
         ensures { IsTrue result → (self.now.wakers ≡ []) × (self.now.room ≡ 0) }
@@ -82,9 +83,9 @@ impl<W: Drop> WaitList<W> {
         self.is_empty() && self.rest.capacity() == 0
     }
 
-    /// Makes room: the next `additional` wakers need no memory beyond their clones, until
-    /// `hand_out` empties the list. Fails if there is no memory for them; the list is then
-    /// unchanged.
+    /// Makes room for `additional` more wakers. Until `hand_out` empties the list, adding these
+    /// wakers needs memory only for the clones of the wakers. If there is no memory for the room,
+    /// fails, and the list is unchanged.
     pub fn reserve(&mut self, additional: usize) -> Result<(), AllocError>
         ensures wakers_stay { self.new.wakers ≡ self.old.wakers }
         ensures places_stay { self.new.round ≡ self.old.round }
@@ -96,8 +97,8 @@ impl<W: Drop> WaitList<W> {
         self.rest.reserve(additional)
     }
 
-    /// Adds a waker, by value, as the last. Needs no memory if the list is empty or has room. If
-    /// there is no memory, the list is unchanged and the waker is returned in the error.
+    /// Adds a waker at the end of the list, by value. Needs no memory if the list is empty or has
+    /// room. If there is no memory, the list is unchanged and the waker is returned in the error.
     pub fn add(&mut self, waker: W) -> Result<(), W>
         ensures added { OnOk result (self.new.wakers ≡ self.old.wakers ++ waker ∷ []) }
         ensures takes_room { OnOk result (self.old.room - 1 ≤ self.new.room) }
@@ -119,8 +120,8 @@ impl<W: Drop> WaitList<W> {
         Ok(())
     }
 
-    /// Removes all wakers and returns them, in order of registration. Leaves neither wakers nor
-    /// room, and gives up all places. Takes constant time and allocates nothing.
+    /// Removes all wakers and returns them, in order of registration. The list then has neither
+    /// wakers nor room, and all places are given up. Takes constant time and allocates nothing.
     #[inline(always)]
     pub fn hand_out(&mut self) -> Wakers<W>
         ensures hands_out_all { result ≡ self.old.wakers }
@@ -133,8 +134,9 @@ impl<W: Drop> WaitList<W> {
         }
     }
 
-    /// `hand_out` of a list that has no memory for more than its first waker: returns that one, if
-    /// there is one. Returns `None` if the list has more memory, and changes nothing.
+    /// As `hand_out`, but only for a list that has no allocated memory, and so has at most one
+    /// waker. Returns this waker, or `Some(None)` if no waker waits. If the list has allocated
+    /// memory, returns `None` and changes nothing.
     #[inline(always)]
     pub fn hand_out_first(&mut self) -> Option<Option<W>>
         ensures hands_out_all { IfSome result (λ first. self.old.wakers ≡ first_then first []) }
@@ -152,7 +154,8 @@ impl<W: Drop> WaitList<W> {
         Some(first)
     }
 
-    /// `hand_out`. Apart from it, which is then small where no more than one waker waits.
+    /// Does what `hand_out` does. It is a function of its own, so that `hand_out` is small where at
+    /// most one waker waits.
     #[inline(never)]
     fn hand_out_all(&mut self) -> Wakers<W>
         ensures hands_out_all { result ≡ self.old.wakers }
@@ -167,8 +170,8 @@ impl<W: Drop> WaitList<W> {
         Wakers { first, rest }
     }
 
-    /// Makes room in the vector, which is full: if it has no memory, for as many wakers as it had
-    /// when they were last handed out. Fails if there is no memory.
+    /// Makes room in the vector, which is full. If the vector has no memory yet, makes room for as
+    /// many wakers as it had when they were last handed out. Fails if there is no memory.
     #[inline(never)]
     fn grow(&mut self) -> Result<(), AllocError>
         ensures wakers_stay { self.new.wakers ≡ self.old.wakers }
@@ -195,11 +198,10 @@ impl<W: Drop> WaitList<W> {
 }
 
 impl<W: Wakes> WaitList<W> {
-    /// Returns whether a waker need not be registered: some waiting waker would wake it. This is
-    /// the one rule that leaves a waker out of the list.
+    /// Returns whether `waker` need not be registered, because some waiting waker would wake the
+    /// task of `waker`. This is the only rule by which a waker is not added to the list.
     ///
-    /// The waiting wakers are tested with `will_wake`, in order, up to the first that would wake
-    /// it.
+    /// Calls `will_wake` on the waiting wakers, in order, until a call returns true.
     pub fn skips(&self, waker: &W) -> bool
         ensures { result ≡ skips W.will_wake self.now.wakers waker.now }
     {
@@ -209,8 +211,8 @@ impl<W: Wakes> WaitList<W> {
         }
     }
 
-    /// Adds a clone of the waker as the last. Fails if there is no memory or the clone fails; the
-    /// wakers are then unchanged. Room is made before the clone, so a clone is made only if it will
+    /// Adds a clone of the waker at the end of the list. If there is no memory, or the clone fails,
+    /// the wakers are unchanged. Room is made before the clone, so a clone is made only if it will
     /// be stored. If the list is empty or has room, only the clone can fail.
     pub fn push(&mut self, waker: &W) -> Result<(), AllocError>
         ensures added { OnOk result (self.new.wakers ≡ self.old.wakers ++ waker.now ∷ []) }
@@ -236,7 +238,7 @@ impl<W: Wakes> WaitList<W> {
         Ok(())
     }
 
-    /// Returns whether no waking of these wakers would wake anybody (see `Wakes::wakes_nobody`).
+    /// Returns whether waking all these wakers would wake no task (see `Wakes::wakes_nobody`).
     pub fn wakes_nobody(&self) -> bool {
         let mut wakers = self.first.iter().chain(&self.rest);
         wakers.all(|waker| waker.wakes_nobody())

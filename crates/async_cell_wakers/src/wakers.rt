@@ -6,8 +6,8 @@ use crate::wakes::Wakes;
 use std::marker::Model;
 use std::{fmt, vec};
 
-/// Waiting wakers that a call returned, in order of registration. The caller must wake them:
-/// dropping the list drops the wakers that are left without waking them.
+/// Waiting wakers that a call returned, in order of registration. The caller must wake them.
+/// Dropping the list drops the wakers that are left, but does not call their `wake`.
 #[derive(Drop)]
 pub struct Wakers<W> {
     pub(crate) first: Option<W>,
@@ -53,8 +53,8 @@ impl<W> Wakers<W> {
 }
 
 impl<W: Drop> Wakers<W> {
-    /// Removes and returns the next waker: `None` once none is left. Allocates nothing. Taking all
-    /// of them one by one takes time in proportion to their number.
+    /// Removes and returns the next waker, or `None` if none is left. Allocates nothing. Taking out
+    /// all wakers takes time in proportion to their number.
     #[inline(always)]
     pub fn next(&mut self) -> Option<W>
         ensures first { IfSome result (λ waker. self.old ≡ waker ∷ self.new) }
@@ -71,7 +71,7 @@ impl<W: Drop> Wakers<W> {
     }
 }
 
-/// Iterates over the wakers that are left, as `next` returns them.
+/// Iterates over the wakers that are left, in the order in which `next` returns them.
 impl<W: Drop> Iterator for Wakers<W> {
     type Item = W;
 
@@ -85,7 +85,7 @@ impl<W: Drop> Iterator for Wakers<W> {
 }
 
 impl<W: Wakes> Wakers<W> {
-    /// Wakes all wakers that are left, the next one first.
+    /// Wakes all wakers that are left, in order.
     #[inline(always)]
     pub fn wake_all(self) {
         let Wakers { first, rest } = self;
@@ -98,7 +98,8 @@ impl<W: Wakes> Wakers<W> {
     }
 }
 
-/// Wakes these wakers. Apart from `wake_all`, which is then small where there is one or none.
+/// Wakes these wakers. It is not part of `wake_all`, so `wake_all` is small where there is one or
+/// none.
 #[inline(never)]
 fn wake_rest<W: Wakes>(rest: vec::IntoIter<W>) {
     for waker in rest {

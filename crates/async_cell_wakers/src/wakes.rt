@@ -1,8 +1,8 @@
 ghost use Rattle.std.specs.Prelude.{◌≡◌, Bool, IsTrue};
 
-/// A waker that a cell can store. `will_wake` has to be a function of its arguments alone, which
-/// contracts can name. It need be neither reflexive nor symmetric, and nothing else is required of
-/// it.
+/// A waker that a cell can store. The result of `will_wake` has to depend on the arguments alone,
+/// and contracts have to be able to name this function. `will_wake` need be neither reflexive nor
+/// symmetric. Nothing else is required of `will_wake`.
 pub trait Wakes: Clone {
     /// Whether waking the first also wakes what the second would wake.
     ghost will_wake: { Self → Self → Bool };
@@ -17,8 +17,8 @@ pub trait Wakes: Clone {
     fn will_wake(&self, other: &Self) -> bool
         ensures { result ≡ will_wake self.now other.now };
 
-    /// Returns whether waking `self` wakes nobody: false, unless the type says otherwise. It is
-    /// asked only by the debug text of a cell.
+    /// Returns whether waking `self` wakes nobody: `false`, unless the type defines it otherwise.
+    /// Only the debug text of a cell depends on it.
     fn wakes_nobody(&self) -> bool {
         false
     }

@@ -1,4 +1,4 @@
-//! A wait on the calling thread that ends when its limit has passed.
+//! A wait for a future on the calling thread, with a time limit.
 #![tactic(auto)]
 
 ghost use Rattle.std.specs.Prelude.{IfErr, IfNone, IfOk, IfSome};
@@ -13,16 +13,16 @@ use std::io;
 use std::random::RandomSource;
 use std::time::{Clock, Duration, Instant};
 
-/// Polls `future` on this thread until it is ready, or until `limit` has passed: then it returns
-/// `None`. The future stays with its caller: after a `None` or an error it may be waited for again.
+/// Polls `future` on this thread until it is ready. Returns `None` if it is not ready when `limit`
+/// has passed. The caller keeps the future: after a `None` or an error it may be waited for again.
 ///
-/// The future is polled at once, when it is woken, and once more when the limit has passed, so what
-/// is there by then is returned. A wait is never shorter than its limit. A poll that takes long is
-/// not cut off.
+/// The future is polled at once, and again after it is woken. It is polled once more when the limit
+/// has passed, so an output that is there by then is returned. A wait is never shorter than its
+/// limit. A poll that takes long is not cut off.
 ///
 /// The thread naps and looks whether the future was woken. A nap takes a sixteenth of the time that
-/// the wait took so far, from 50 microseconds up to 5 milliseconds, so what wakes the future is
-/// seen that much late. `block_on`, which has no limit, sleeps until it is woken.
+/// the wait took so far, but at least 50 microseconds and at most 5 milliseconds. A wake is noticed
+/// at most one nap late. `block_on`, which has no limit, sleeps until it is woken.
 ///
 /// Fails if there is no memory, no random name for the task that polls, or no clock.
 ///

@@ -14,10 +14,11 @@ const SHORTEST_NAP_NANOS: u64 = 50_000;
 
 const LONGEST_NAP_NANOS: u64 = 5_000_000;
 
-/// What part of the time that a wait took so far the next nap takes.
+/// The next nap takes one part in `PART` of the time that the wait took so far.
 const PART: u32 = 16;
 
-/// One task. No thread ever waits at its doorbell, so a wake rings for nobody.
+/// One task. No thread ever waits at the `Doorbell` of the task, so a wake of the task ends no
+/// thread's wait.
 #[derive(Drop)]
 pub struct Napper {
     task: Solo,
@@ -46,8 +47,8 @@ impl Napper {
         polled
     }
 
-    /// Naps until the task is woken, or until `limit` has passed since `start`. Takes no nap if it
-    /// was woken since its last poll began.
+    /// Naps until the task is woken, or until `limit` has passed since `start`. Takes no nap if the
+    /// task was woken since its last poll began.
     pub fn nap_until_woken(
         &self,
         clock: &impl Clock,

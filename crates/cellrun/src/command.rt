@@ -93,7 +93,7 @@ fn with_operand(line: &[u8]) -> Option<Command>
     None
 }
 
-/// Returns the value after these words, if the line is that.
+/// Returns the value after these words, if the line is these words and a value.
 fn value_after(words: &[u8], line: &[u8]) -> Option<i64>
     ensures some { IfSome result (EndsWithValue words.now line.now) }
     ensures none { IfNone result ((v : ℤ) → ¬ (EndsWithValue words.now line.now v)) }
@@ -102,7 +102,7 @@ fn value_after(words: &[u8], line: &[u8]) -> Option<i64>
     value(text)
 }
 
-/// Returns the name of a waker after these words, if the line is that.
+/// Returns the name of a waker after these words, if the line is these words and a name.
 fn waker_after(words: &[u8], line: &[u8]) -> Option<u64>
     ensures some { IfSome result (EndsWithWaker words.now line.now) }
     ensures none { IfNone result ((w : ℕ) → ¬ (EndsWithWaker words.now line.now w)) }

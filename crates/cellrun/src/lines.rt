@@ -150,7 +150,7 @@ fn last(held: &mut ArrayVec<u8, MAX_LINE>) -> Next
     complete(held, &[])
 }
 
-/// Judges the line that begins with `held` and ends with `rest`. Empties `held`.
+/// Says what the line is that begins with `held` and ends with `rest`. Empties `held`.
 fn complete(held: &mut ArrayVec<u8, MAX_LINE>, rest: &[u8]) -> Next
     ensures line { IsLine (held.old.items ++ rest.now) result }
     ensures emptied { held.new.items ≡ [] }

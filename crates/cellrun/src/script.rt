@@ -27,9 +27,9 @@ pub enum Ended {
 ///
 /// The contract is about readers whose bytes contracts know, such as a slice. It promises nothing
 /// for any other reader, such as standard input. If contracts also know the bytes of the writer, as
-/// they do for a `Vec`, the writer gets the text that the model gives for the calls before the end
-/// or the bad line. If the script failed, it gets a prefix of the text of some first lines. `debug`
-/// leaves the cell as it was, and what it prints is left open.
+/// they do for a `Vec`, the writer gets the text of the calls before the end or the bad line, as
+/// the model defines it. If the script failed, it gets a prefix of the text of some first lines.
+/// `debug` leaves the cell as it was. The contract does not say what it prints.
 #[tactic(auto, using(crate::proofs::Written::owes_nothing, crate::proofs::Written::owes_kept))]
 pub fn script<R: Read + Drop, W: Write + Drop>(alloc: Global, input: R, output: W) -> (Ended, W)
     ensures { Owes (R.remaining input) (W.contents output) (W.contents result.1) result.0 }

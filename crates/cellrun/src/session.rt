@@ -13,14 +13,14 @@ use std::alloc::{AllocError, Global};
 use std::collections::BTreeSet;
 use std::io::Write;
 
-/// The cell of a script, and the names of those that wait: a name that is not among these need not
-/// be compared with each.
+/// The cell of a script, and the names that wait. A poll by a name that is not among these need not
+/// compare it with each.
 #[derive(Drop)]
 pub struct Session {
     core: Core<i64, Named>,
-    /// Names that were polled since nobody waited.
+    /// The names that polled since the last time when nobody waited.
     names: BTreeSet<u64>,
-    /// Whether these are all that wait: not so if there was no memory for one of them.
+    /// Whether these are all that wait. It is false if there was no memory for one of them.
     are_all: bool,
     ghost known: { KnowsNames core.waiting names are_all },
 }
@@ -87,7 +87,8 @@ impl Session {
         step_copied(&mut self.core, call_of(command))
     }
 
-    /// Adds the name to those that are known. Returns whether it is known to be none that waits.
+    /// Adds the name to the known ones. Returns whether it is known that no poll of this name
+    /// waits.
     #[tactic(auto, using(crate::proofs::Calls::nobody, crate::proofs::Calls::noted, crate::proofs::Calls::not_known, crate::proofs::Calls::no_skip))]
     fn is_new(&mut self, name: u64) -> bool
         ensures core { self.new.core ≡ self.old.core }

@@ -6,9 +6,9 @@ ghost use Rattle.ghost_count.specs.Owned.{count_owns, permit_owns};
 
 use std::marker::{Model, PhantomData};
 
-/// How many permits of its name are out, and the right to give one and to take one back. Without a
-/// name it is the number alone, of which no permit shows anything. Keep it where one thread at a
-/// time has it.
+/// The number of permits of its name that are given out, with the right to give one and to take one
+/// back. A count without a name is only the number, and no permit shows anything of it. Keep a
+/// count where one thread at a time has it.
 #[derive(Drop)]
 pub struct Count {
     marker: PhantomData<()>,
@@ -20,8 +20,8 @@ impl Model for Count {
     ghost also_owns = { λ c. count_owns c.name c.out };
 }
 
-/// One permit of the count of its name. It is not `Drop`, and cannot be copied. It may be sent to
-/// another thread, and shared.
+/// One of the permits that the count of its name has given out. It is not `Drop`, and cannot be
+/// copied. It may be sent to another thread, and shared.
 pub struct Permit {
     marker: PhantomData<()>,
     pub ghost name: { Option ℕ },
@@ -35,7 +35,7 @@ impl Model for Permit {
 }
 
 impl Count {
-    /// Begins a count under a new name: no permit is out.
+    /// Begins a count under a new name: no permit is given out yet.
     pub fn open() -> Count
         ensures named { IsSome result.name }
         ensures none { result.out ≡ 0 }
@@ -45,7 +45,7 @@ impl Count {
         }
     }
 
-    /// A count without a name, of so many permits, which show nothing.
+    /// A count of `out` permits, without a name.
     pub fn blind(out: u32) -> Count
         ensures nameless { result.name ≡ None }
         ensures all { result.out ≡ out }
@@ -67,7 +67,7 @@ impl Count {
         }
     }
 
-    /// Takes a permit back, which was out.
+    /// Takes a permit back.
     pub fn take(&mut self, permit: Permit)
         requires of_this { permit.name ≡ self.old.name }
         ensures of_this { self.new.name ≡ self.old.name }
@@ -77,7 +77,8 @@ impl Count {
         let Permit { marker: _ } = permit;
     }
 
-    /// Does nothing. Its contract states that a permit of this name is out, since it is here.
+    /// Does nothing. Its contract states that a permit of this name has been given out: `permit` is
+    /// one.
     pub fn shows(&mut self, permit: &Permit)
         requires of_this { permit.now.name ≡ self.old.name }
         ensures stays { self.new ≡ self.old }

@@ -1,5 +1,5 @@
-//! A list that exists in the proofs alone, and that only the holder of one token makes longer. The
-//! tokens have no bytes, and their functions do nothing at run time.
+//! A list that exists only in proofs. Only the holder of a certain token can add to it. The tokens
+//! have no bytes, and their functions do nothing at run time.
 #![tactic(auto)]
 
 mod tokens;

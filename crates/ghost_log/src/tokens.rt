@@ -8,8 +8,8 @@ ghost use Rattle.ghost_log.specs.Owned.{log_owns, seen_owns};
 
 use std::marker::{Model, PhantomData};
 
-/// Says which entry is made of an `X`: of snapshots of what a call was passed and returned, say.
-/// Only contracts read it.
+/// Says which entry is made of an `X`, for example of what a call was passed and returned. Only
+/// contracts read it.
 pub trait Makes<X, E> {
     ghost entry: { X → E };
 }
@@ -28,8 +28,8 @@ impl<E> Model for Log<E> {
     ghost also_shares = { λ l _. one (log_owns E.row.coded.code l.name l.list) };
 }
 
-/// The knowledge that the list of this name begins so. It stays true, can be copied by `again`, and
-/// may be sent to another thread.
+/// Knows how the list of this name begins. That stays true, as the list only grows. It can be
+/// copied by `again`, and sent to another thread.
 pub struct Seen<E> {
     marker: PhantomData<E>,
     pub ghost name: { ℕ },
@@ -52,13 +52,13 @@ impl<E> Log<E> {
         }
     }
 
-    /// Adds an entry at the end: the one that `M` makes of this.
+    /// Adds an entry at the end: the one that `M` makes of `about`.
     pub fn push<X, M: Makes<X, E>>(&mut self, about: &X)
         ensures of_this { self.new.name ≡ self.old.name }
         ensures pushed { self.new.list ≡ self.old.list ++ M.entry about.now ∷ [] }
     {}
 
-    /// Returns what the list is now.
+    /// Returns a `Seen` of the whole list, as it is now.
     pub fn seen(&self) -> Seen<E>
         ensures of_this { result.name ≡ self.now.name }
         ensures whole { result.list ≡ self.now.list }
@@ -70,7 +70,8 @@ impl<E> Log<E> {
 }
 
 impl<E> Seen<E> {
-    /// Learns the whole list. What was seen of it is a beginning of that.
+    /// Makes this the knowledge of the whole list, as it is now. What it knew before is a beginning
+    /// of that.
     pub fn learn(&mut self, log: &Log<E>)
         requires of_this { self.old.name ≡ log.now.name }
         ensures of_this { self.new.name ≡ self.old.name }
@@ -87,7 +88,7 @@ impl<E> Seen<E> {
         }
     }
 
-    /// Returns the longer of two beginnings of one list. The other one is a beginning of it.
+    /// Returns the longer of two beginnings of one list. The shorter one is a beginning of it.
     pub fn longer(&self, other: &Seen<E>) -> Seen<E>
         requires of_this { other.now.name ≡ self.now.name }
         ensures of_this { result.name ≡ self.now.name }

@@ -1,5 +1,5 @@
-//! Calls for the crates that build on this one. In the fast paths of a write and of an end, a waker
-//! that waits alone is returned by itself, and no list is made.
+//! Calls for the crates that build on this one. They include the fast paths of a write and of an
+//! owner's end. There at most one waker waits: it is returned by itself, and no list is made.
 ghost use Rattle.std.specs.Prelude.{◌≡◌, ◌↔◌, ◌-◌, [], None, true, false, Ok, Some, IsOk, IfSome, IfNone, IfOk, IfErr, OnOk, OnErr};
 ghost use Rattle.async_cell_model.specs.Machine.{content, is_full, is_vacant, owners_of, IsSound};
 ghost use Rattle.async_cell_wakers.specs.WaitList.{first_then};
@@ -30,8 +30,8 @@ impl<T: Drop, W: Wakes> Core<T, W> {
         }
     }
 
-    /// `replace` on a vacant cell on which nobody waits, and whose list has no memory. On others it
-    /// changes nothing, and returns `value` in the error.
+    /// As `replace`, but only for a vacant cell on which nobody waits, and whose list has no
+    /// memory. On other cells it changes nothing, and returns `value` in the error.
     #[doc(hidden)]
     #[inline(always)]
     pub fn put_quiet(&mut self, value: T) -> Result<(), T>
@@ -47,9 +47,9 @@ impl<T: Drop, W: Wakes> Core<T, W> {
         Ok(())
     }
 
-    /// `replace` on a vacant cell whose list has no memory for more than one waker. Returns that
-    /// waker, if one waits, to be woken by the caller. On other cells it changes nothing, and
-    /// returns `value` in the error.
+    /// As `replace`, but only for a vacant cell whose list has no memory for more than one waker.
+    /// Returns that waker, if one waits, to be woken by the caller. On other cells it changes
+    /// nothing, and returns `value` in the error.
     #[doc(hidden)]
     #[inline(always)]
     pub fn fill_first(&mut self, value: T) -> Result<Option<W>, T>
@@ -72,9 +72,9 @@ impl<T: Drop, W: Wakes> Core<T, W> {
         Ok(first)
     }
 
-    /// `end_owner` of the last owner of a cell whose list has no memory for more than one waker.
-    /// Returns the value and that waker, if one waits, to be woken by the caller. Otherwise it
-    /// changes nothing, and returns `None`.
+    /// As `end_owner`, but only for the last owner of a cell whose list has no memory for more than
+    /// one waker. Returns the value and that waker, if one waits, to be woken by the caller. In
+    /// other cases it changes nothing, and returns `None`.
     #[doc(hidden)]
     #[inline(always)]
     pub fn close_first(&mut self) -> Option<(Option<T>, Option<W>)>
@@ -96,8 +96,8 @@ impl<T: Drop, W: Wakes> Core<T, W> {
         Some((self.value.take(), first))
     }
 
-    /// `end_owner` of an owner that is not the last: nobody is woken, and nothing comes out.
-    /// Returns whether it is so; if not, nothing changes.
+    /// Ends an owner that is not the last. Nobody is woken, and nothing comes out. Returns `false`
+    /// if it is the last, and then changes nothing.
     #[doc(hidden)]
     #[inline(always)]
     pub fn end_other(&mut self) -> bool
@@ -114,13 +114,14 @@ impl<T: Drop, W: Wakes> Core<T, W> {
         true
     }
 
-    /// Returns whether to wake the waiting wakers would wake nobody (see `Wakes::wakes_nobody`).
+    /// Returns whether no task would be woken if all waiting wakers were (see
+    /// `Wakes::wakes_nobody`).
     #[doc(hidden)]
     pub fn wakes_nobody(&self) -> bool {
         self.waiting.wakes_nobody()
     }
 
-    /// Does nothing. Its contract states what holds of every core: its state is sound.
+    /// Does nothing. Its contract states that the state of every core is sound.
     pub fn soundness(&self)
         ensures { IsSound W.will_wake self.now }
     {

@@ -10,9 +10,9 @@ use async_cell_wakers::{Place, TaskWaker, Wakes};
 use futures::task::Waker;
 
 impl<T: Drop, W: Wakes> Core<T, W> {
-    /// Adds a waker, by value, as the last, for a poll that has to wait. The cell must be vacant,
-    /// and the waker of a type of which none would wake another, so it is never skipped. If there
-    /// is no memory to grow the list, fails and returns the waker in the error.
+    /// Adds a waker at the end of the list, by value, for a poll that has to wait. The cell must be
+    /// vacant. No waker of this type may wake another one, so it is never skipped. If there is no
+    /// memory to grow the list, the waker is returned in the error.
     #[doc(hidden)]
     #[tactic(auto, using(async_cell_model::proofs::OneMoreWaker::keep_added, async_cell_model::proofs::OneMoreWaker::never_skipped))]
     pub fn add(&mut self, waker: W) -> Result<(), W>
@@ -31,14 +31,14 @@ impl<T: Drop, W: Wakes> Core<T, W> {
 }
 
 impl<T: Drop> Core<T, TaskWaker> {
-    /// As `WaitList::is_new`: whether a future with this place has to be added.
+    /// As `WaitList::is_new`.
     #[doc(hidden)]
     #[inline(always)]
     pub fn is_new(&self, place: &Place) -> bool {
         self.waiting.is_new(place)
     }
 
-    /// `add`, at a place: that of the waker from then on.
+    /// As `add`. `place` is the waker's position from then on.
     #[doc(hidden)]
     #[inline(always)]
     #[tactic(auto, using(async_cell_model::proofs::OneMoreWaker::keep_added, async_cell_model::proofs::OneMoreWaker::never_skipped))]

@@ -1,4 +1,4 @@
-//! Polls and gets: what waits, and what copies the value.
+//! Polls and gets: the calls that wait, and those that copy the value.
 ghost use Rattle.std.specs.Prelude.{◌≡◌, ◌≤◌, ◌<◌, [], ◌∷◌, ◌++◌, None, Ok, length, true, false, IsOk, IfOk, OnOk, OnErr, MatchOption};
 ghost use Rattle.async_cell_model.specs.{Machine.{content, is_closed, is_full, is_vacant, IsSound, wait_list, skips, needs_no_memory}, Refusal.FailsWithMemory};
 ghost use Rattle.async_cell_core.specs.{IsStep.{IsStep, IsStepUpTo, get_answer, poll_answer, wait_answer}, Polled.{IsExact, IsCloneOf, IsReadyWith}};
@@ -12,9 +12,9 @@ use std::alloc::AllocError;
 
 impl<T: Drop, W: Wakes> Core<T, W> {
     /// Takes the value. If there is none yet, returns `Pending` and registers the waker: a clone of
-    /// it is added as the last, unless it is skipped (see `WaitList::skips`). Returns `Ready(None)`
-    /// if the cell is closed. Fails with `Memory` if there is no memory for the clone or to grow
-    /// the wait list.
+    /// the waker is added at the end of the wait list, unless the waker is skipped (see
+    /// `WaitList::skips`). Returns `Ready(None)` if the cell is closed. Fails with `Memory` if
+    /// there is no memory for the clone or to grow the wait list.
     ///
     /// ```rust
     /// let mut core = Core::new_with(rt.alloc(), 7);
@@ -40,9 +40,9 @@ impl<T: Drop, W: Wakes> Core<T, W> {
         Ok(Poll::Ready(self.value.take()))
     }
 
-    /// Makes room: the next `additional` wakers that are added need no memory beyond their clones,
-    /// until a fill or a close gives the room up. A poll that adds no waker uses up none. Fails
-    /// with `Memory` if there is no memory for so many. Does nothing if the cell is closed.
+    /// Makes room for `additional` more wakers. Until a fill or a close gives up the room, adding
+    /// these wakers needs memory only for the clones of the wakers. Fails with `Memory` if there is
+    /// no memory for so many. Does nothing if the cell is closed.
     pub fn reserve(&mut self, additional: usize) -> Result<(), Refusal>
         ensures cell_stays { self.new.cell ≡ self.old.cell }
         ensures waiting_stay { self.new.waiting ≡ self.old.waiting }
@@ -90,10 +90,10 @@ impl<T: Drop, W: Wakes> Core<T, W> {
         Ok(())
     }
 
-    /// Registers a unique waker, for a poll that has to wait: a clone of it is added as the last.
-    /// The cell must be vacant, and no waiting waker one that would wake it. So none is asked, and
-    /// the time does not grow with their number. Fails with `Memory` if there is no memory for the
-    /// clone or to grow the list.
+    /// Registers a waker for a poll that has to wait: adds a clone of it at the end of the list.
+    /// The cell must be vacant, and no waiting waker may be one that would wake it. So the waiting
+    /// wakers are not compared, and the time does not grow with their number. Fails with `Memory`
+    /// if there is no memory for the clone or to grow the list.
     #[doc(hidden)]
     #[tactic(auto, using(async_cell_model::proofs::WaitingPoll::get_added, async_cell_model::proofs::WaitingPoll::get_refused, async_cell_model::proofs::WaitingPoll::take_added, async_cell_model::proofs::WaitingPoll::take_refused))]
     pub fn add_unique(&mut self, waker: &W) -> Result<(), Refusal>
@@ -121,8 +121,8 @@ impl<T: Drop, W: Wakes> Core<T, W> {
 
 impl<T: Clone, W: Wakes> Core<T, W> {
     /// Returns a clone of the value, if there is one. Fails with `Memory` if there is no memory for
-    /// the clone. The reply is the model's up to clones, and exactly the model's if the type's
-    /// clones are exact.
+    /// the clone. The reply equals the model's reply up to clones. It is exactly the model's reply
+    /// if the type's clones are exact.
     #[tactic(auto, using(crate::proofs::Steps::get_cloned, crate::proofs::Steps::get_refused, async_cell_model::proofs::Machine::does_up_to))]
     pub fn try_get(&self) -> Result<Option<T>, Refusal>
         ensures up_to_clones { IsStepUpTo T.is_clone W.Wakes
@@ -147,12 +147,13 @@ impl<T: Clone, W: Wakes> Core<T, W> {
         }
     }
 
-    /// Returns a clone of the value and leaves the value in place. If there is none yet, waits for
-    /// one as `poll_take` does. Returns `Ready(None)` if the cell is closed. Fails with `Memory` if
-    /// there is no memory for the clone of the value or of the waker, or to grow the wait list.
+    /// Returns a clone of the value and leaves the value in place. If there is no value yet,
+    /// returns `Pending` and registers the waker as `poll_take` does. Returns `Ready(None)` if the
+    /// cell is closed. Fails with `Memory` if there is no memory for the clone of the value or of
+    /// the waker, or to grow the wait list.
     ///
-    /// The reply is the model's up to clones. It is exactly the model's if the type's clones are
-    /// exact or there is no value.
+    /// The reply equals the model's reply up to clones. It is exactly the model's reply if the
+    /// type's clones are exact or there is no value.
     #[tactic(auto, using(crate::proofs::Steps::poll_cloned, async_cell_model::proofs::Machine::does_up_to))]
     pub fn poll_get(&mut self, waker: &W) -> Result<Poll<Option<T>>, Refusal>
         ensures up_to_clones { IsStepUpTo T.is_clone W.Wakes

@@ -49,8 +49,9 @@ impl<T: Clone> Driver<T> {
         }
     }
 
-    /// Sets the value if the cell holds none; every waiting task is then ready. Drops `value`
-    /// otherwise. Fails on a closed cell; the value is returned in the error.
+    /// If the cell is empty, sets the value, and every waiting task is then ready. If the cell
+    /// holds a value already, drops `value`. Fails on a closed cell; the value is returned in the
+    /// error.
     pub fn or_set(&mut self, value: T) -> Result<(), T>
         ensures done { OnOk result
             (Happens T.is_clone self.old (Event.OrSet value)

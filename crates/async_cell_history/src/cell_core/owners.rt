@@ -1,4 +1,5 @@
-//! The calls that add an owner, and give its permit, and those that end one, and take it.
+//! The calls that add and end owners. One that adds an owner gives its permit. One that ends an
+//! owner takes its permit.
 ghost use Rattle.std.specs.Prelude.{◌≡◌, ◌⊎◌, [], None, IfErr, IfOk, IfSome, OnOk};
 ghost use Rattle.async_cell_model.specs.Refusal.{FailsWithClosed};
 ghost use Rattle.async_cell_wakers.specs.WaitList.{first_then};
@@ -30,7 +31,8 @@ impl<T: Drop, W: Wakes, N: Protocol<T, W>> CellCore<T, W, N> {
         }
     }
 
-    /// Ends one of several owners. Otherwise returns its permit.
+    /// Ends an owner that is not the last. If it is the last, changes nothing and returns its
+    /// permit.
     #[inline(always)]
     pub fn end_other(&mut self, permit: OwnerPermit<T, W, N>) -> Result<(), OwnerPermit<T, W, N>>
         ensures made { OnOk result (Made W.will_wake W.SURE_CLONE self.old
@@ -46,7 +48,8 @@ impl<T: Drop, W: Wakes, N: Protocol<T, W>> CellCore<T, W, N> {
         Ok(())
     }
 
-    /// Ends the last owner, if one waker at most waits. Otherwise returns its permit.
+    /// Ends the last owner of a cell on which at most one waker waits. In other cases changes
+    /// nothing and returns the permit.
     #[inline(always)]
     pub fn close_first(
         &mut self,

@@ -1,4 +1,5 @@
-//! The places of futures that wait. A future that begins to wait is entered as a `poll_get`.
+//! The places of futures that wait. When a future begins to wait, the history gets an entry: a
+//! `poll_get`.
 use super::CellCore;
 use crate::entries::Waits;
 use crate::{Before, Nobody, Protocol};

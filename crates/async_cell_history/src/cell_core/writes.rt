@@ -1,4 +1,4 @@
-//! The most frequent writes. Each wakes one waker at most, and has no `Op`.
+//! The most frequent writes. Each wakes at most one waker, and has no `Op`.
 ghost use Rattle.std.specs.Prelude.{◌≡◌, [], Some, None, IfErr, IfOk, IfSome, OnOk};
 ghost use Rattle.async_cell_wakers.specs.WaitList.{first_then};
 ghost use Rattle.async_cell_history.specs.History.{Made};
@@ -11,7 +11,8 @@ use async_cell_model::{Kept, Reply};
 use async_cell_step::{Deferred, Writes};
 
 impl<T: Drop, W: Wakes, N: Protocol<T, W>> CellCore<T, W, N> {
-    /// Replaces the value of a full cell. Otherwise fails, with the new value.
+    /// Replaces the value of a full cell. Fails on other cells, and then returns the new value in
+    /// the error.
     #[inline(always)]
     pub fn overwrite(&mut self, value: T) -> Deferred<Result<T, T>>
         requires may { N.may (Kept.Replace value) }
@@ -28,7 +29,8 @@ impl<T: Drop, W: Wakes, N: Protocol<T, W>> CellCore<T, W, N> {
         Deferred::of(written)
     }
 
-    /// Fills a vacant cell on which one waker at most waits. Otherwise fails, with the value.
+    /// Fills a vacant cell on which at most one waker waits. Fails on other cells, and then returns
+    /// the value in the error.
     #[inline(always)]
     pub fn fill_first(&mut self, value: T) -> Result<Deferred<(), Option<W>>, Deferred<T>>
         requires may { N.may (Kept.Replace value) }
@@ -46,7 +48,8 @@ impl<T: Drop, W: Wakes, N: Protocol<T, W>> CellCore<T, W, N> {
         }
     }
 
-    /// Fills a vacant cell on which nobody waits. Otherwise fails, with the value.
+    /// Fills a vacant cell on which nobody waits. Fails on other cells, and then returns the value
+    /// in the error.
     #[inline(always)]
     pub fn put_quiet(&mut self, value: T) -> Result<(), Deferred<T>>
         requires may { N.may (Kept.Replace value) }

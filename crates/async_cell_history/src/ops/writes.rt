@@ -9,7 +9,7 @@ use crate::{Op, Protocol};
 use async_cell_core::{Core, Refusal, Wakes};
 use async_cell_step::{All, Deferred, One};
 
-/// Sets the value, and drops the old one. Returns the value if the cell is closed.
+/// Sets the value, and drops the old one. Returns the new value in `Err` if the cell is closed.
 #[derive(Drop)]
 pub struct Set<T>(pub T);
 
@@ -70,8 +70,8 @@ impl<T: Drop, W: Wakes, N: Protocol<T, W>> Op<T, W, N> for Set<T> {
     }
 }
 
-/// Sets the value, if there is none. Returns it in `Ok` if there is one, in `Err` if the cell is
-/// closed.
+/// Sets the value, if the cell holds none. Returns an unused value: in `Ok` if the cell holds a
+/// value already, in `Err` if the cell is closed.
 #[derive(Drop)]
 pub struct OrSet<T>(pub T);
 
@@ -105,7 +105,7 @@ impl<T: Drop, W: Wakes, N: Protocol<T, W>> Op<T, W, N> for OrSet<T> {
     }
 }
 
-/// Sets the value, and returns the old one. Returns the value in `Err` if the cell is closed.
+/// Sets the value, and returns the old one. Returns the new value in `Err` if the cell is closed.
 #[derive(Drop)]
 pub struct Replace<T>(pub T);
 
@@ -156,12 +156,12 @@ impl<T: Drop, W: Wakes, N: Protocol<T, W>> Op<T, W, N> for Replace<T> {
     }
 }
 
-/// Calls the closure on the content, and stores what it returns. Fails with `Closed`: then the
-/// closure is not called, and is dropped after the step.
+/// Calls the closure on the content, and stores what it returns. Fails with `Closed` on a closed
+/// cell. The closure is then not called, and is dropped after the step.
 #[derive(Drop)]
 pub struct Update<F>(pub F);
 
-/// `Update`, of a value: if there is none, the closure is not called, either.
+/// As `Update`, but calls the closure on the value, and only if there is one.
 #[derive(Drop)]
 pub struct UpdateSome<F>(pub F);
 

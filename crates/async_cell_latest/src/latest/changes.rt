@@ -1,4 +1,4 @@
-//! Writes whose value is made of the value that was there, each in one step.
+//! Writes that make the new value from the old one, each in one step.
 ghost use Rattle.std.specs.Prelude.{◌≡◌, ◌↔◌, ◌+◌, true, is_some, IsOk, IfOk, IfErr, IsSome, IfSome, IfNone, OnOk, OnErr};
 ghost use Rattle.std.specs.Fn.{FnOnceReturnsAt, FnOnceReturnsAtMut};
 ghost use Rattle.async_cell_latest.specs.State.{is_writable};
@@ -10,9 +10,9 @@ use async_cell_model::Refusal;
 use async_cell_wakers::{Wakers, Wakes};
 
 impl<T: Drop, W: Wakes> Latest<T, W> {
-    /// Calls the closure on the value, and writes what it returns, as `write` does: in one step.
-    /// The closure is called also if the state takes no further write; what it returned is then
-    /// returned in the error.
+    /// Calls the closure on the value, and writes what it returns, as `write` does. The call of the
+    /// closure and the write are one step. If the state takes no further write, the closure is
+    /// still called, and what it returned is in the error.
     pub fn update<F: FnOnce(&T) -> T>(&mut self, change: F) -> Result<(T, Wakers<W>), T>
         requires { F.IsAlwaysCallable change }
         ensures model { (value : T) × FnOnceReturnsAt F.FnOnce change self.old.value value
@@ -31,10 +31,10 @@ impl<T: Drop, W: Wakes> Latest<T, W> {
         self.write(value)
     }
 
-    /// Calls the closure on the value, which it may change in place, and moves the version on by
-    /// one: a write of what the closure left there. Returns what the closure returned and all
-    /// waiting wakers, to be woken by the caller. Fails with `Closed` if the state takes no further
-    /// write; the closure is then not called.
+    /// Calls the closure on the value, which it may change in place. This counts as a write: the
+    /// version grows by one. Returns what the closure returned and all waiting wakers, to be woken
+    /// by the caller. Fails with `Closed` if the state takes no further write. The closure is then
+    /// not called.
     pub fn modify<A, F: FnOnce(&mut T) -> A + Drop>(
         &mut self,
         change: F,
@@ -57,10 +57,9 @@ impl<T: Drop, W: Wakes> Latest<T, W> {
         Ok((answer, self.waiting.hand_out()))
     }
 
-    /// `modify`, if the closure returns `true`. If it returns `false`, nothing is written: the
-    /// version and the wait list stay, and the answer is `None`. The value stands as the closure
-    /// left it, so a closure that says `false` is to leave it as it was: of a change that it made
-    /// nobody would be told.
+    /// As `modify`, if the closure returns `true`. If it returns `false`, this is no write: the
+    /// version and the wait list stay as they are, and the answer is `None`. A closure that returns
+    /// `false` should leave the value as it was: a change would stay, but wake nobody.
     pub fn modify_if<F: FnOnce(&mut T) -> bool + Drop>(
         &mut self,
         change: F,
@@ -87,7 +86,7 @@ impl<T: Drop, W: Wakes> Latest<T, W> {
         Ok(None)
     }
 
-    /// Returns the version of the next write: `None` if the state takes no further write.
+    /// Returns the version of the next write, or `None` if the state takes no further write.
     #[inline(always)]
     pub(crate) fn next_version(&self) -> Option<u64>
         ensures writable { IsSome result ↔ (is_writable self.now ≡ true) }

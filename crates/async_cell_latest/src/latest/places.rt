@@ -10,16 +10,17 @@ use async_cell_wakers::{Place, TaskWaker, Wakes};
 use futures::task::Waker;
 
 impl<T: Drop> Latest<T, TaskWaker> {
-    /// Returns whether a future with this place has to be added: it has none, and none is free.
+    /// Returns whether the list must grow for a future with this place: it holds no place, and none
+    /// is free.
     #[doc(hidden)]
     #[inline(always)]
     pub fn is_new(&self, place: &Place) -> bool {
         self.waiting.is_new(place)
     }
 
-    /// Stores a waker, by value, as the last of the list, for a poll that has to wait. The place is
-    /// its own from then on. The state must be open. If there is no memory to grow the list, the
-    /// waker is returned in the error.
+    /// Stores a waker at the end of the list, by value, for a poll that has to wait. `place` is the
+    /// waker's position from then on. The state must be open. If there is no memory to grow the
+    /// list, the waker is returned in the error.
     #[doc(hidden)]
     #[inline(always)]
     #[tactic(auto, using(async_cell_model::proofs::OneMoreWaker::keep_added, async_cell_model::proofs::OneMoreWaker::never_skipped, crate::proofs::JoinedHistories::added))]
@@ -39,8 +40,8 @@ impl<T: Drop> Latest<T, TaskWaker> {
         self.waiting.store_new(place, waker)
     }
 
-    /// Takes the waker out of the place, or out of a free place that is taken over. Returns `None`
-    /// if there is neither. The waker may be another task's.
+    /// Takes the waker out of this place. If there is none, takes over a free place, and takes its
+    /// waker out: this one may be another task's. Returns `None` if no place is free.
     #[doc(hidden)]
     #[inline(always)]
     pub fn take_back(&mut self, place: &mut Place) -> Option<Waker>
@@ -49,9 +50,9 @@ impl<T: Drop> Latest<T, TaskWaker> {
         self.waiting.take_back(place)
     }
 
-    /// Stores a waker in the place, in a free place that is taken over, or as the last of the list.
-    /// The state must be open. Returns the waker that was there, if any, which wakes its task when
-    /// it is dropped. If there is no memory to grow the list, the waker is returned in the error.
+    /// Stores a waker in this place. If there is none, takes over a free place, or adds one at the
+    /// end of the list. The state must be open. Returns the waker that was there, if any: its drop
+    /// wakes its task. If there is no memory to grow the list, the waker is returned in the error.
     #[doc(hidden)]
     #[inline(always)]
     #[tactic(auto, using(async_cell_model::proofs::OneMoreWaker::keep_added, async_cell_model::proofs::OneMoreWaker::never_skipped, crate::proofs::JoinedHistories::added))]
@@ -77,8 +78,9 @@ impl<T: Drop> Latest<T, TaskWaker> {
         self.waiting.store(place, waker)
     }
 
-    /// Leaves the place free. Its waker stays there: to drop it would wake the task. Returns the
-    /// index of the place, unless it was given up.
+    /// Gives up the place, which is free from then on. Its waker stays in it: dropping the waker
+    /// would wake the task. Returns the index of the place, or `None` if the place was already
+    /// given up.
     #[doc(hidden)]
     pub fn vacate(&mut self, place: Place) -> Option<usize>
         ensures unchanged { self.new ≡ self.old }
@@ -86,7 +88,8 @@ impl<T: Drop> Latest<T, TaskWaker> {
         self.waiting.vacate(place)
     }
 
-    /// Takes the waker out of the place at `index`, if that place is free.
+    /// Takes out the waker that was left in the place at `index`. Returns `None` if a future holds
+    /// this place.
     #[doc(hidden)]
     pub fn take_left(&mut self, index: usize) -> Option<Waker>
         ensures unchanged { self.new ≡ self.old }

@@ -1,4 +1,4 @@
-//! Polls: what a follower is told, and what waits.
+//! Polls: what a follower is told, and how its waker waits.
 ghost use Rattle.std.specs.Prelude.{◌≡◌, ◌≢◌, ◌≤◌, ◌<◌, ◌↔◌, [], None, Some, Ok, true, false, IsOk, IfOk, IfErr, OnOk, OnErr};
 ghost use Rattle.async_cell_model.specs.Machine.{with_one_more};
 ghost use Rattle.async_cell_latest.specs.State.{IsSound, Stays, is_closed, is_waited_for};
@@ -12,17 +12,17 @@ use async_cell_wakers::Wakes;
 use futures::task::Poll;
 
 impl<T: Drop, W: Wakes> Latest<T, W> {
-    /// Returns whether the state has another version than this one, which a follower has seen. It
-    /// is told so also of a state that is closed.
+    /// Returns whether the state's version differs from `seen`, the version that a follower has
+    /// seen. The answer for a closed state is found in the same way.
     pub fn is_unseen(&self, seen: u64) -> bool
         ensures { (result ≡ true) ↔ (seen ≢ self.now.version) }
     {
         seen != self.version
     }
 
-    /// Returns what a follower is told that has seen this version: `Ready(Some(version))` if the
-    /// state has another version, `Ready(None)` if it has this one and is closed, and `Pending` if
-    /// a poll would wait. Registers nothing.
+    /// Returns what a poll would tell a follower that has seen the version `seen`:
+    /// `Ready(Some(version))` if the state has another version, `Ready(None)` if it has this one
+    /// and is closed, and `Pending` if a poll would wait. Registers nothing.
     pub fn changed_since(&self, seen: u64) -> Poll<Option<u64>>
         ensures model { (w : W) → is_waited_for self.now seen ≡ false → IsStep W.Wakes self.now
             (PollChanged seen w) (changed_answer self.now.value (Ok result)) self.now }
@@ -42,10 +42,10 @@ impl<T: Drop, W: Wakes> Latest<T, W> {
     }
 
     /// Polls for another version than `seen`, and returns it. The value can then be read. If the
-    /// state has no other version, returns `Pending` and registers the waker: a clone of it is
-    /// added as the last, unless it is skipped (see `WaitList::skips`). Returns `Ready(None)` if
-    /// the state has no other version and is closed. Fails with `Memory` if there is no memory for
-    /// the clone or to grow the wait list.
+    /// state is open and has no other version, returns `Pending` and registers the waker: a clone
+    /// of the waker is added at the end of the wait list, unless the waker is skipped (see
+    /// `WaitList::skips`). Returns `Ready(None)` if the state has no other version and is closed.
+    /// Fails with `Memory` if there is no memory for the clone or to grow the wait list.
     pub fn poll_changed(&mut self, seen: u64, waker: &W) -> Result<Poll<Option<u64>>, Refusal>
         ensures model { IsStep W.Wakes self.old
             (PollChanged seen waker.now) (changed_answer self.old.value result) self.new }
@@ -77,9 +77,9 @@ impl<T: Drop, W: Wakes> Latest<T, W> {
         Ok(Poll::Pending)
     }
 
-    /// Makes room: the next `additional` wakers that are added need no memory beyond their clones,
-    /// until a write or the close gives the room up. A poll that adds no waker uses up none. Fails
-    /// with `Memory` if there is no memory for so many. Does nothing if the state is closed.
+    /// Makes room for `additional` more wakers. Until a write or the close gives up the room,
+    /// adding these wakers needs memory only for the clones of the wakers. Fails with `Memory` if
+    /// there is no memory for so many. Does nothing if the state is closed.
     pub fn reserve(&mut self, additional: usize) -> Result<(), Refusal>
         ensures state_stays { Stays self.old self.new }
         ensures waiting_stay { self.new.waiting ≡ self.old.waiting }

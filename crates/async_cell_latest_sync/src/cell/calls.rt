@@ -17,15 +17,16 @@ use futures::task::Waker;
 use std::alloc::Global;
 use std::marker::Model;
 
-/// A state, and the list of its values, to which each write adds one. It hides the state's own
-/// calls, as what these return could be woken or dropped during a step: its calls hold that.
+/// A state, and the list of its values, to which each write adds one. `LatestCore` hides the
+/// state's own calls, because what they return could be woken or dropped during a step. The calls
+/// of `LatestCore` hold what the state returns until the step ends.
 #[derive(Drop)]
 pub struct LatestCore<T, N: Protocol<T> = Unruled> {
     state: Latest<T, TaskWaker>,
     values: Values<T, N>,
 }
 
-/// Contracts see the state, and its life. Its value keeps the rule.
+/// Contracts see the state, and its life. The value of the state satisfies the rule.
 impl<T, N: Protocol<T>> Model for LatestCore<T, N> {
     ghost Value = { Desk T TaskWaker };
 
@@ -275,8 +276,8 @@ impl<T: Drop, N: Protocol<T>> Room for LatestCore<T, N> {
     }
 }
 
-/// Asks a state for what comes next for a witness: a clone of the value, if it was not seen yet, or
-/// nothing, if the state is closed.
+/// Asks a state for a clone of its value, if the witness has not seen this value. If the witness
+/// has seen the value, and the state is closed, the answer is `None`.
 #[derive(Drop)]
 pub struct Next<T, N: Protocol<T>>(pub Witness<T, N>);
 

@@ -1,6 +1,6 @@
 //! The places of futures in a wait list. A future takes its waker back from its place, and stores
-//! it again; one that is dropped leaves its place free, with the waker in it. The free places form
-//! a list: each has the number of the next one, counted from 1, beside its waker.
+//! it again. A future that is dropped leaves its place free, with the waker in it. The free places
+//! form a list: each has, beside its waker, the number of the next free place, counted from 1.
 ghost use Rattle.std.specs.Prelude.{◌≡◌, ◌<◌, ◌≤◌, ◌-◌, ◌↔◌, [], ◌∷◌, ◌++◌, length, false, IsSome, IsOk, IfSome, IfOk, OnSome, OnOk, OnErr, IfNone, MatchOption};
 ghost use Rattle.async_cell_wakers.specs.Place.{Holds};
 
@@ -11,7 +11,8 @@ use futures::task::Waker;
 use std::mem;
 
 impl WaitList<TaskWaker> {
-    /// Returns whether a future with this place has to be added: it has none, and none is free.
+    /// Returns whether the list must grow for a future with this place. This is so if the future
+    /// holds no place in the list, and no place is free.
     #[inline(always)]
     pub fn is_new(&self, place: &Place) -> bool
         ensures { Holds self.now place.now → result ≡ false }
@@ -19,8 +20,8 @@ impl WaitList<TaskWaker> {
         place.round != self.round && self.free.get() == 0
     }
 
-    /// Stores a waker as the last of the list, which is the place from then on. If there is no
-    /// memory to grow the list, the waker is returned in the error.
+    /// Stores a waker at the end of the list, and sets `place` to the position of the waker. If
+    /// there is no memory to grow the list, the waker is returned in the error.
     #[inline(always)]
     pub fn store_new(&mut self, place: &mut Place, waker: TaskWaker) -> Result<(), TaskWaker>
         ensures stored { OnOk result (self.new.wakers ≡ self.old.wakers ++ waker ∷ []) }
@@ -40,8 +41,9 @@ impl WaitList<TaskWaker> {
         Ok(())
     }
 
-    /// Takes the waker out of the place, or out of a free place that is taken over. Returns `None`
-    /// if there is neither. The waker may be another task's.
+    /// Takes the waker out of this place. If the future holds no place in the list, takes over a
+    /// free place, and takes out the waker that is there. That waker may be another task's. Returns
+    /// `None` if no place is free.
     #[inline(always)]
     pub fn take_back(&mut self, place: &mut Place) -> Option<Waker>
         ensures held { OnSome result (Holds self.new place.new) }
@@ -52,9 +54,10 @@ impl WaitList<TaskWaker> {
         self.take_out(index)
     }
 
-    /// Stores a waker in the place, in a free place that is taken over, or as the last of the list.
-    /// Returns the waker that was there, if any, which wakes its task when it is dropped. If there
-    /// is no memory to grow the list, the waker is returned in the error.
+    /// Stores a waker in this place. If the future holds no place in the list, takes over a free
+    /// place. If no place is free, adds one at the end of the list. Returns the waker that was
+    /// there, if any. Dropping the returned waker wakes its task. If there is no memory to grow the
+    /// list, the new waker is returned in the error.
     #[inline(always)]
     pub fn store(
         &mut self,
@@ -79,8 +82,9 @@ impl WaitList<TaskWaker> {
         }
     }
 
-    /// Leaves the place free, also while the list is only looked at. Its waker stays there: to drop
-    /// it would wake the task. Returns the index of the place, unless it was given up.
+    /// Gives up the place, which is free from then on. Needs only `&self`. The waker stays in the
+    /// place, because dropping the waker would wake the task. Returns the index of the place, or
+    /// `None` if the place was already given up.
     pub fn vacate(&self, place: Place) -> Option<usize>
         ensures held { IsSome result ↔ Holds self.now place }
         ensures there { IfSome result (λ index. index ≡ place.index) }
@@ -94,7 +98,8 @@ impl WaitList<TaskWaker> {
         Some(index)
     }
 
-    /// Takes the waker out of the place at `index`, if that place is free.
+    /// Takes out the waker that was left in the place at `index`. Returns `None` if a future holds
+    /// this place.
     pub fn take_left(&mut self, index: usize) -> Option<Waker>
         ensures in_the_list { OnSome result (index < length self.old.wakers) }
         ensures unchanged { self.new ≡ self.old }
@@ -105,8 +110,8 @@ impl WaitList<TaskWaker> {
         self.take_out(index)
     }
 
-    /// Returns the index of the place, or of a free place that is taken over: the place from then
-    /// on. Returns `None` if there is neither.
+    /// Returns the index of this place. If there is none, takes over a free place, and returns its
+    /// index. Returns `None` if no place is free.
     #[inline(always)]
     fn claim(&self, place: &mut Place) -> Option<usize>
         ensures held { IfSome result (λ index.
@@ -146,8 +151,8 @@ impl WaitList<TaskWaker> {
         }
     }
 
-    /// Stores a waker in place of the one at `index`, which is returned. If there is none, the
-    /// waker is returned in the error.
+    /// Stores a waker at `index`, and returns the one that was there. If there was none, returns
+    /// the waker in the error.
     fn exchange(&mut self, index: usize, waker: TaskWaker) -> Result<TaskWaker, TaskWaker>
         ensures in_the_list { IsOk result ↔ (index < length self.old.wakers) }
         ensures unchanged { self.new ≡ self.old }
