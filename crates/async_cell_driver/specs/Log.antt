@@ -1,4 +1,4 @@
--- What happened to a driver, line by line, and what the lines say of a task.
+-- What happened to a driver, line by line, and what the lines of a legal log say of a task.
 use Rattle.std.specs.Prelude.{ℕ, ◌++◌, Bool, true, false, List, [], ◌∷◌, Option, Some, map, reverse, nat_eq, if◌then◌else◌}
 use Rattle.std.specs.Option.{option_map}
 use Rattle.async_cell_wakers.specs.declared.named.Named.{Named}

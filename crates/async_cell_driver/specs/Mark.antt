@@ -1,4 +1,6 @@
--- What the mark of a task says.
+-- What the mark of a task says. `Ready`: it was never polled, or its last poll was refused.
+-- `Waiting`: its last poll returned `Pending`. `Woken`: the same, and its name was woken since.
+-- `Done`: a poll of it was ready.
 use Rattle.std.specs.Prelude.{Bool, true, false, Option, Some}
 use Rattle.async_cell_driver.specs.declared.{tasks.Mark.Mark, tasks.Mark.TheVariants.Ready, tasks.Mark.TheVariants.Waiting, tasks.Mark.TheVariants.Woken}
 

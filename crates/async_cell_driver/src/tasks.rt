@@ -22,7 +22,7 @@ pub(crate) enum Mark {
 }
 
 impl Mark {
-    /// Returns the mark of a task after its name is woken.
+    /// Returns the mark that a task with this mark has after it is woken.
     pub fn woken(self) -> Mark
         ensures { result ≡ woken self }
     {

@@ -86,7 +86,8 @@ impl<T: Drop, W: Wakes, N: Protocol<T, W>> CellCore<T, W, N> {
         (core, witness, OwnerPermit::of(permit))
     }
 
-    /// Returns the core. Ensures what is true of the core in every `CellCore`.
+    /// Returns the core. Its contract states that the core is sound, and that its value satisfies
+    /// the rule.
     pub fn into_core(self) -> Core<T, W>
         ensures sound { IsSound W.will_wake result }
         ensures rule { IfSome (content result.cell) N.holds }

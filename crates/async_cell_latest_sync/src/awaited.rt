@@ -295,7 +295,8 @@ impl<T: Clone, R: Wait + Drop, N: Protocol<T>> Stream for States<T, R, N> {
     }
 }
 
-/// The request of `Follower::next_as`. `With` makes a future of it.
+/// A request for the next value that a witness has not seen. `Follower::next_as` makes it, and
+/// returns the future of this request, a `With`.
 #[derive(Drop)]
 pub struct NextAs<'a, T: Drop, N: Protocol<T>> {
     cell: &'a LatestCell<T, N>,

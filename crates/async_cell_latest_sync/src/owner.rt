@@ -248,9 +248,9 @@ impl<T: Drop, R: Wait + Drop, N: Protocol<T>> Owner<T, R, N> {
     /// Drops the wakers that dropped futures left in the state, so the task of each such waker is
     /// polled once more.
     ///
-    /// Without this call these wakers stay until the next write. A waker that stays keeps alive
-    /// what its executor needs to wake the task. Call it if many waits end early. It takes the lock
-    /// once for each place in the wait list.
+    /// Without this call these wakers stay until the next write. A waker that stays keeps memory of
+    /// its executor, such as the task, from being freed. Call it if many waits end early. It takes
+    /// the lock once for each place in the wait list.
     pub fn purge(&self) {
         self.cell.core.purge(&self.rt);
     }

@@ -49,10 +49,10 @@ pub fn a_value_is_taken_once<T: Clone, W>()
         → IsDistinct (option_to_list (content b.cell) ++ put_in h) → IsDistinct (taken_out h) }
 {}
 
-/// Only the current state matters. After a joined history `g ++ h`, the cell, the wait list and the
-/// room are the same as after `h` alone, if `h` starts from the state after `g`. If the joined
-/// history is legal, then `g` is legal, and `h` is legal from the state after `g`. A legal history
-/// from a sound state ends in a sound state.
+/// Only the current state matters. The joined history `g ++ h` ends with the same cell, wait list
+/// and room as `h` does when it starts from the state after `g`. If the joined history is legal,
+/// then `g` is legal, and `h` is legal from the state after `g`. A legal history from a sound state
+/// ends in a sound state.
 pub fn a_history_can_begin_anew<T: Clone, W>()
     ensures begins { (will_wake : W → W → Bool) (sure_wakers : Bool)
         (b : State T W) (g : History T W)
@@ -100,8 +100,8 @@ pub fn one_more_waker_is_last_or_skipped<T: Clone, W>()
         then waiting will_wake b h else waiting will_wake b h ++ w ∷ []) }
 {}
 
-/// How a wait list begins. The first registered waker waits. After this waker comes the wait list
-/// of the other registrations that the first waker would not wake.
+/// How a wait list begins. The first registered waker waits. Leave out the later registrations that
+/// the first waker would wake. The rest of the list is the wait list of those that remain.
 #[tactic(auto, using(crate::proofs::OneMoreWaker::keep_first))]
 pub fn the_first_waker_skips_all_that_it_would_wake<W>()
     ensures none { (will_wake : W → W → Bool) → wait_list will_wake [] ≡ [] }

@@ -60,7 +60,7 @@ pub struct Blanks {
     /// The ledger of the calls.
     pub calls: Blank,
 
-    /// The ledger of the results that are picked.
+    /// The ledger that counts the picked results (see `Pick`).
     pub picked: Blank,
 }
 

@@ -14,8 +14,8 @@ use futures::task::Waker;
 
 /// What came out of a core during a step: an answer, and the wakers to wake. `K` is `()` for no
 /// waker, `Option<W>` for at most one, or `Option<Wakers<W>>` for all that a call handed out. A
-/// `Deferred` is not `Drop`. The function that ends the step consumes it, wakes the wakers, and
-/// returns the answer.
+/// `Deferred` cannot be dropped: the function that ends the step must consume it. This function
+/// wakes the wakers, and returns the answer.
 pub struct Deferred<X, K = ()> {
     answer: X,
     woken: K,
@@ -285,7 +285,7 @@ impl<X, E> Deferred<Result<X, E>> {
 }
 
 impl Deferred<Waker> {
-    /// Stores the waker in the place, or at the end of the list (see `Room::store`).
+    /// Stores the waker as `Room::store` does.
     #[inline(always)]
     pub fn store_in<C: Room>(
         self,

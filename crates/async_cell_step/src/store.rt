@@ -98,7 +98,7 @@ pub struct OneThread;
 /// A core of one thread.
 pub type Lender<C> = StoredCore<RefCell<C>>;
 
-/// A core that is lent. It is not `Drop` and must be consumed.
+/// A core that is lent. It cannot be dropped: a function that ends the step must consume it.
 pub struct Lent<'a, C> {
     core: RefMut<'a, C>,
 }
@@ -158,7 +158,7 @@ impl<C> Step for Lent<'_, C> {
 /// A core behind a lock.
 pub type Lock<C> = StoredCore<Mutex<C>>;
 
-/// A core whose lock is held. It is not `Drop` and must be consumed.
+/// A core whose lock is held. It cannot be dropped: a function that ends the step must consume it.
 pub struct Locked<'a, C> {
     core: MutexGuard<'a, C>,
 }

@@ -103,9 +103,9 @@ impl<P: Request<R>, R> With<P, R> {
 
 impl<P: Request<R>, R: Drop> With<P, R> {
     /// Drops the future and the waker that it left in the cell: the task that polled it last is
-    /// polled once more. A waker that stays in the cell keeps alive what its executor needs to wake
-    /// the task. So call this if a wait ends early, as after a timeout, while the cell lives on.
-    /// May wait for the lock.
+    /// polled once more. A waker that stays in the cell keeps memory of its executor, such as the
+    /// task, from being freed. So call this if a wait ends early, as after a timeout, while the
+    /// cell lives on. May wait for the lock.
     pub fn cancel(self) {
         let With { polled, rt, place } = self;
         if let Some(cell) = polled.cell() {

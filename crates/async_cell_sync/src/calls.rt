@@ -115,9 +115,10 @@ impl<T: Drop, N: Protocol<T, TaskWaker>> AsyncCell<T, N> {
         self.core.debug_text(self.alloc, rt)
     }
 
-    /// Drops the wakers that dropped futures left, which wakes their tasks. A waker keeps alive
-    /// what its executor needs. So call this if many waits end early while the cell lives on. This
-    /// call takes the lock once for each place in the wait list.
+    /// Drops the wakers that dropped futures left, which wakes their tasks. A waker that stays in
+    /// the cell keeps memory of its executor, such as the task, from being freed. So call this if
+    /// many waits end early while the cell lives on. This call takes the lock once for each place
+    /// in the wait list.
     pub fn purge<R: Wait>(&self, rt: &R) {
         self.core.store.purge(rt);
     }

@@ -86,8 +86,9 @@ impl<T: Drop, R: Wait + Copy, P: Rule<T>> Owner<T, R, Ruled<P>> {
 
 impl<T: Drop, R: Wait + Copy, N: Protocol<T, TaskWaker>> Owner<T, R, N> {
     /// Makes the cell of this blank, the first owner of the cell, and the first witness of the
-    /// cell's history. `N` names this blank. Fails with `Memory`. Call it in a function generic
-    /// over `N`, and call that function with `std::marker::Brand` for `N`. The caller's
+    /// cell's history. The blank is a cell that is not made yet (see `Blank`), and `N` is the name
+    /// of its history (see `Protocol`). Fails with `Memory`. Call it in a function generic over
+    /// `N`, and call that function with `std::marker::Brand` for `N`. The caller's
     /// `Invariants.antt` defines the name, the changes that may be made, and the rule.
     pub fn witnessed(
         alloc: Global,

@@ -61,8 +61,9 @@ impl<T, N: Protocol<T, TaskWaker>> Taker<T, N> {
     }
 }
 
-/// A `Take` that extends a witness, and gives it back with the value. The history lists the poll
-/// that gives both as a `try_take`. A `TakeAs` borrows an owner, so it never fails with `Closed`.
+/// A `Take` that extends a witness, and gives it back with the value. In the history, the poll that
+/// gives both is listed as a `try_take`. A `TakeAs` borrows an owner, so it never fails with
+/// `Closed`.
 #[derive(Drop)]
 pub struct TakeAs<'a, T: Drop, R: Wait + Drop, N: Protocol<T, TaskWaker>> {
     owner: &'a Owner<T, R, N>,
@@ -95,8 +96,9 @@ impl<T: Drop, R: Wait + Drop, N: Protocol<T, TaskWaker>> Polled<R> for TakeAs<'_
     }
 }
 
-/// A `Get` that extends a witness, and gives it back with the clone. The history lists the poll
-/// that gives both as a `try_get`. A `GetAs` borrows an owner, so it never fails with `Closed`.
+/// A `Get` that extends a witness, and gives it back with the clone. In the history, the poll that
+/// gives both is listed as a `try_get`. A `GetAs` borrows an owner, so it never fails with
+/// `Closed`.
 #[derive(Drop)]
 pub struct GetAs<'a, T: Drop, R: Wait + Drop, N: Protocol<T, TaskWaker>> {
     owner: &'a Owner<T, R, N>,

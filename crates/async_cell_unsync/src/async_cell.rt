@@ -231,9 +231,10 @@ impl<T: Drop, N: Free<T, TaskWaker>> AsyncCell<T, N> {
     }
 
     /// Drops the wakers that dropped futures left. The task of each of these wakers is then polled
-    /// once more. A waker that stays in the cell keeps alive what its executor needs to wake the
-    /// task. So call this if many waits end early while the cell lives on. Needs no memory. A waker
-    /// that was added by a poll of a future without a place is not dropped (see `AsyncCell`).
+    /// once more. A waker that stays in the cell keeps memory of its executor, such as the task,
+    /// from being freed. So call this if many waits end early while the cell lives on. Needs no
+    /// memory. A waker that was added by a poll of a future without a place is not dropped (see
+    /// `AsyncCell`).
     pub fn purge(&self) {
         self.core.store.purge(&OneThread);
     }
@@ -256,7 +257,7 @@ impl<T: Drop, N: Free<T, TaskWaker>> AsyncCell<T, N> {
         core.into_inner()
     }
 
-    /// Returns the core. Ensures what holds of every core.
+    /// Returns the core. Its contract states that the core is sound.
     #[doc(hidden)]
     pub fn into_core(self) -> Core<T, TaskWaker>
         ensures { IsSound ⟦<TaskWaker as Wakes>⟧.will_wake result }

@@ -49,8 +49,8 @@ pub data Prints (bytes : List ℕ) : ℕ → List ℕ → State ℤ Named → Li
       → rest ≢ [] → IsLine (first_line rest) (Call call) → CallPrints cell call line next
       → Prints bytes (n + 1) (after_line rest) next (text ++ line)
 
--- How a script ends where rest begins with line n: done if there is no line, or at a bad line n.
--- All that was to be written is written, unless the script failed.
+-- How a script ends where rest begins with line n. It is done if there is no line, or stops at a
+-- bad line n, and then all that was to be written is written. It may fail anywhere.
 abbrev pub StopsAt : ℕ → List ℕ → List ℕ → Ended → Type 0
 StopsAt n rest unwritten Done = (rest ≡ []) × (unwritten ≡ [])
 StopsAt n rest unwritten (BadLine number) =
@@ -58,8 +58,8 @@ StopsAt n rest unwritten (BadLine number) =
 StopsAt n rest unwritten Failed = ⊤
 
 -- If the bytes of the input are known, the lines before some line n are calls or empty, and the
--- script ends there. What was written to a writer that had `before` and then has `after`, if those
--- are known, is what the calls print, but for what is unwritten.
+-- script stops at n. If the writer's bytes `before` and `after` are known, what was written between
+-- them is what these calls print: all of it, or a prefix if the script failed.
 abbrev pub Owes : Option (List ℕ) → Option (List ℕ) → Option (List ℕ) → Ended → Type 0
 Owes bytes before after ended = IfSome bytes (λ input.
     (n : ℕ) × (rest : List ℕ) × (cell : State ℤ Named) × (text : List ℕ) × (unwritten : List ℕ)

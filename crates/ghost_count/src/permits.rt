@@ -20,7 +20,7 @@ impl Model for Count {
     ghost also_owns = { λ c. count_owns c.name c.out };
 }
 
-/// One of the permits that the count of its name has given out. It is not `Drop`, and cannot be
+/// One of the permits that the count of its name has given out. It can be neither dropped nor
 /// copied. It may be sent to another thread, and shared.
 pub struct Permit {
     marker: PhantomData<()>,

@@ -31,8 +31,8 @@ impl<T: Drop, W: Wakes, N: Protocol<T, W>> CellCore<T, W, N> {
         }
     }
 
-    /// Ends an owner that is not the last. If it is the last, changes nothing and returns its
-    /// permit.
+    /// Ends an owner that is not the last. If it is the last, changes nothing, and returns the
+    /// `permit` that it was called with.
     #[inline(always)]
     pub fn end_other(&mut self, permit: OwnerPermit<T, W, N>) -> Result<(), OwnerPermit<T, W, N>>
         ensures made { OnOk result (Made W.will_wake W.SURE_CLONE self.old
@@ -49,7 +49,7 @@ impl<T: Drop, W: Wakes, N: Protocol<T, W>> CellCore<T, W, N> {
     }
 
     /// Ends the last owner of a cell on which at most one waker waits. In other cases changes
-    /// nothing and returns the permit.
+    /// nothing, and returns the `permit` that it was called with.
     #[inline(always)]
     pub fn close_first(
         &mut self,
