@@ -22,9 +22,10 @@ use std::sync::{Mutex, Wait};
 /// history. It returns its entry, and the names of the wakers that its caller must wake. A refusal
 /// of the cell, such as `Closed`, is the reply of an entry.
 ///
-/// A call that fails leaves no entry. It fails with `Memory`, or with `OutOfTurn` if the share's
-/// count is not the number of its entries in the history. `OutOfTurn` happens in no test, but no
-/// contract excludes it. An edit runs under the lock. If it calls its own cell, it waits forever.
+/// Only a call that returns `Err` leaves no entry. It fails with `Memory`, or with `OutOfTurn` if
+/// the share's count is not the number of its entries in the history. `OutOfTurn` happens in no
+/// test, but no contract excludes it. An edit runs under the lock. If it calls its own cell, it
+/// waits forever.
 #[derive(Drop)]
 pub struct Recorded<T, M: Pick<T>> {
     journal: Mutex<Journal<T, M>>,

@@ -18,8 +18,8 @@ use futures::task::{Context, Poll, Source};
 
 /// Answers the query. If the query has no answer yet, registers the task to be woken. `place` is
 /// the future's place in the wait list, if the future has one. Fails with `Memory` if there is no
-/// memory for the task's waker, or to grow the list. If the core is not lent, asks to be polled
-/// again.
+/// memory for the task's waker, or to grow the list. If the store cannot lend the core now, asks to
+/// be polled again.
 #[inline(always)]
 pub fn poll<'a, C: Room, M: Stores<Core = C>, Q: Query<C>, R: Opens<'a, M>>(
     store: &'a StoredCore<M>,

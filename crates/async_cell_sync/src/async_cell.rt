@@ -34,7 +34,7 @@ pub type LockedCore<T, W, N = Unruled> = CellStore<Mutex<CellCore<T, W, N>>>;
 /// dropped after the lock is released, so a wake or a drop may call the cell.
 ///
 /// A future made by `with` holds one place in the wait list while it waits (see `With`). So the
-/// length of the list is at most the number of such futures that were alive at the same time. Each
+/// list is never longer than the largest number of such futures alive at one time. Each
 /// `poll_shared` that waits adds one waker, which stays until the next write or close. `N` is as
 /// for an `Owner`.
 pub struct AsyncCell<T, N: Protocol<T, TaskWaker> = Unruled> {

@@ -27,9 +27,9 @@ use std::fmt;
 /// the value back only if the cell is still empty.
 ///
 /// A future made by `with` holds one place in the wait list while it waits (see `With`). So the
-/// length of the list is at most the number of such futures that were alive at the same time. For
-/// any other future, each poll that waits adds a waker. This waker stays until the next write or
-/// close, even after the future is dropped.
+/// list is never longer than the largest number of such futures alive at one time. For any other
+/// future, each poll that waits adds a waker. This waker stays until the next write or close, even
+/// after the future is dropped.
 ///
 /// `N` says what is known of the values (see `Rule`).
 pub struct AsyncCell<T, N: Free<T, TaskWaker> = Unruled> {
