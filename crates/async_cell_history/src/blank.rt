@@ -10,8 +10,8 @@ use ghost_log::{Log, Makes};
 use std::alloc::Global;
 use std::marker::Model;
 
-/// A cell that is not made yet, with its content. Its history begins here. A type can name the
-/// history. Write a function that is generic in this type, and call the function with
+/// What a cell will be made of: its first content. The cell's history begins here. A type can name
+/// the history. Write a function that is generic in this type, and call the function with
 /// `std::marker::Brand` as the type argument (see `Protocol`).
 pub struct Blank<T: Drop, W: Wakes> {
     core: Core<T, W>,
@@ -95,7 +95,7 @@ impl<T, W: Wakes> Model for Opened<T, W> {
 }
 
 impl<T: Drop, W: Wakes> Opened<T, W> {
-    /// Begins a history with this core, whose owners are not counted.
+    /// Begins a history with this core. The history does not count owners.
     #[inline(always)]
     pub fn of(core: &Core<T, W>) -> Self
         ensures start { result.start ≡ core.now }

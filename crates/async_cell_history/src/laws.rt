@@ -62,9 +62,9 @@ pub fn what_is_set_once_all_get<T, W: Wakes, N: Protocol<T, W>>()
 
 /// What is got never goes back. `follows` is a reflexive and transitive relation. The only changes
 /// that may be made are `or_set`s and updates. An update of a full cell must put in a value that
-/// follows the old one. Then if a second `try_get` has seen a first one, the value that the second
-/// finds follows the value that the first found. Each returned the value that it found, or a clone
-/// of it.
+/// follows the old one. Then if the witness of a second `try_get` already has a first one, the
+/// value that the second finds follows the value that the first found. Each returned the value that
+/// it found, or a clone of it.
 pub fn what_is_got_never_goes_back<T, W: Wakes, N: Protocol<T, W>>()
     ensures { (follows : T → T → Bool) (seen first later now : History T W) (v w : T)
         → ((a : T) → follows a a ≡ true)

@@ -79,7 +79,7 @@ impl<T> Model for Blank<T> {
 }
 
 impl<T> Blank<T> {
-    /// Begins a list under a new name.
+    /// Begins the list of values of a state that is made next, and gives the list a new name.
     pub fn new() -> Self {
         Blank { log: Log::open() }
     }

@@ -70,8 +70,8 @@ impl<T: Drop, N: Protocol<T, TaskWaker>> Weak<T, N> {
         Ok(self.cell()?.is_closed(rt))
     }
 
-    /// Makes an owner. Returns `None` if the cell is closed. Fails with `Memory` (checked first) or
-    /// `OwnersFull`.
+    /// Makes an owner. Fails with `Memory` if the pointer cannot be counted: this is checked first.
+    /// Returns `None` if the cell is closed. Fails with `OwnersFull` at 4,294,967,295 owners.
     pub fn upgrade<R: Wait>(&self, rt: &R) -> Result<Option<Shared<T, N>>, Refusal>
         ensures of_this { IfOk result (λ found. IfSome found (OwnsNamed self.now)) }
         ensures lost { IsLost self.now → result ≡ Err Refusal.Memory }

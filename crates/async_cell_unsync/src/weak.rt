@@ -81,8 +81,8 @@ impl<T: Drop, N: Free<T, TaskWaker>> Weak<T, N> {
         Ok(self.cell()?.is_closed())
     }
 
-    /// Makes an owner. Returns `None` if the cell is closed. Fails with `Memory` (checked first) or
-    /// `OwnersFull`.
+    /// Makes an owner. Fails with `Memory` if the pointer cannot be counted: this is checked first.
+    /// Returns `None` if the cell is closed. Fails with `OwnersFull` at 4,294,967,295 owners.
     pub fn upgrade(&self) -> Result<Option<Shared<T, N>>, Refusal>
         ensures of_this { IfOk result (λ found. IfSome found (OwnsNamed self.now)) }
         ensures lost { IsLost self.now → result ≡ Err Refusal.Memory }
@@ -118,8 +118,8 @@ pub struct WeakOwner<T, N: Free<T, TaskWaker> = Unruled> {
 }
 
 impl<T: Drop, N: Free<T, TaskWaker>> WeakOwner<T, N> {
-    /// Makes an owner. Returns `None` if the cell is closed. Fails with `Memory` (checked first) or
-    /// `OwnersFull`.
+    /// Makes an owner. Fails with `Memory` if the pointer cannot be counted: this is checked first.
+    /// Returns `None` if the cell is closed. Fails with `OwnersFull` at 4,294,967,295 owners.
     pub fn upgrade(&self) -> Result<Option<Owner<T, N>>, Refusal>
         ensures of_this { IfOk result (λ found. IfSome found (λ owner.
             Names self.now.weak (cell_owned owner))) }

@@ -26,7 +26,7 @@ pub struct LatestCore<T, N: Protocol<T> = Unruled> {
     values: Values<T, N>,
 }
 
-/// Contracts see the state, and its life. The value of the state satisfies the rule.
+/// Contracts see the state, and its history (`Life`). The value of the state satisfies the rule.
 impl<T, N: Protocol<T>> Model for LatestCore<T, N> {
     ghost Value = { Desk T TaskWaker };
 
