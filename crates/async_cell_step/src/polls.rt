@@ -5,7 +5,7 @@
 ghost use Rattle.std.specs.Prelude.{◌≡◌, Err, IfErr, IfOk};
 ghost use Rattle.futures.specs.Poll.{IfReady, OnPending};
 ghost use Rattle.futures.specs.Task.{Hears, IsArmed, Keeps};
-ghost use Rattle.async_cell_model.specs.Refusal.{FailsWithMemoryOrClosed};
+ghost use Rattle.async_cell_model.specs.Refusal.{FailsWithMemory, FailsWithMemoryOrClosed};
 
 use crate::ended::{Deferred, end, open_holding};
 use crate::opened;
@@ -46,42 +46,62 @@ pub fn poll<'a, C: Room, M: Stores<Core = C>, Q: Query<C>, R: Opens<'a, M>>(
         let answer = query.answer(step.lend());
         return Poll::Ready(end(step, answer));
     }
-    match place {
-        Some(place) if !step.shown().is_new(place) => {
-            renew(store, step, source, query, place, cx, rt)
-        }
-        place => add_at(step, source, place, cx),
+    let Some(place) = place else {
+        return waits(add(step, source, cx));
+    };
+    if step.shown().is_new(place) {
+        return waits(add_at(step, source, place, cx));
     }
+    renew(store, step, source, query, place, cx, rt)
 }
 
-/// Registers the task, and adds its waker at the end of the list. If there is a `place`, it is the
-/// waker's position from then on. The waker is a new one, so nothing is dropped and nobody is woken
-/// during the step. Fails with `Memory`.
-fn add_at<C: Room, G: Step<Core = C>, A>(
+/// Registers the task, and adds its waker at the end of the list. The waker is a new one, so
+/// nothing is dropped and nobody is woken during the step. Fails with `Memory`.
+fn add<C: Room, G: Step<Core = C>>(
     mut step: G,
     source: &Source,
-    place: At<'_>,
     cx: &mut Context<'_>,
-) -> Poll<Result<A, Refusal>>
+) -> Result<(), Refusal>
     requires { C.vacant (G.shows step) }
     ensures armed { IsArmed cx.new }
     ensures heard { Hears cx.new source.now.id }
     ensures kept { Keeps cx.old cx.new }
-    ensures refused { IfReady result (λ answer. answer ≡ Err Refusal.Memory) }
+    ensures refused { FailsWithMemory result }
 {
     let mut new = None;
     let _ = cx.register::<()>(source, &mut new);
     let Some(waker) = new else {
-        return Poll::Ready(end(step, Deferred::of(Err(Refusal::Memory))));
+        return end(step, Deferred::of(Err(Refusal::Memory)));
     };
-    let waker = TaskWaker::of(waker);
-    let added = match place {
-        Some(place) => step.lend().store_new(place, waker),
-        None => step.lend().add(waker),
-    };
+    let added = step.lend().add(TaskWaker::of(waker));
     match end(step, added) {
-        Ok(()) => Poll::Pending,
-        Err(_unused) => Poll::Ready(Err(Refusal::Memory)),
+        Ok(()) => Ok(()),
+        Err(_unused) => Err(Refusal::Memory),
+    }
+}
+
+/// As `add`. `place` is the waker's position from then on.
+fn add_at<C: Room, G: Step<Core = C>>(
+    mut step: G,
+    source: &Source,
+    place: &mut Place,
+    cx: &mut Context<'_>,
+) -> Result<(), Refusal>
+    requires { C.vacant (G.shows step) }
+    ensures armed { IsArmed cx.new }
+    ensures heard { Hears cx.new source.now.id }
+    ensures kept { Keeps cx.old cx.new }
+    ensures refused { FailsWithMemory result }
+{
+    let mut made = None;
+    let _ = cx.register::<()>(source, &mut made);
+    let Some(waker) = made else {
+        return end(step, Deferred::of(Err(Refusal::Memory)));
+    };
+    let stored = step.lend().store_new(place, TaskWaker::of(waker));
+    match end(step, stored) {
+        Ok(()) => Ok(()),
+        Err(_unused) => Err(Refusal::Memory),
     }
 }
 
@@ -127,6 +147,18 @@ fn renew<'a, C: Room, M: Stores<Core = C>, Q: Query<C>, R: Opens<'a, M>>(
     match end(step, stored) {
         Ok(_before) => Poll::Pending,
         Err(_unused) => Poll::Ready(Err(Refusal::Memory)),
+    }
+}
+
+/// The answer of a poll that has to wait.
+#[inline(always)]
+fn waits<A>(added: Result<(), Refusal>) -> Poll<Result<A, Refusal>>
+    requires { FailsWithMemory added }
+    ensures refused { IfReady result (λ answer. answer ≡ Err Refusal.Memory) }
+{
+    match added {
+        Ok(()) => Poll::Pending,
+        Err(why) => Poll::Ready(Err(why)),
     }
 }
 
