@@ -1,10 +1,10 @@
-//! All that a program needs of the cells' crates, under one name. `sync` is the cell that threads
-//! share, and `unsync` the cell of one thread, as in the Rust crate `async_cell`. `latest` is a
-//! state that many threads follow. `within` is a wait with a limit. `Refusal` is the error of all
-//! calls.
+//! This crate re-exports all that a program needs from the cells' crates. `sync` is the cell that
+//! threads share, and `unsync` the cell of one thread, as in the Rust crate `async_cell`. `latest`
+//! is a state that many threads follow. `within` is a wait with a limit. `Refusal` is the error of
+//! all calls.
 //!
-//! To move a program from `unsync` to `sync`, change its imports, and pass `Owner::new` the right
-//! to wait.
+//! To move a program from `unsync` to `sync`, change its imports, and pass `Owner::new` an `impl
+//! Wait`, such as `rt`: the right to wait for the cell's lock.
 #![tactic(auto)]
 
 pub use async_cell_core::Refusal;

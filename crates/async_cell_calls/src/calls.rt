@@ -179,8 +179,9 @@ impl<M: Stores<Core = CellCore<T, W, N>>, T: Drop, W: Wakes, N: Protocol<T, W>> 
         self.make(PollGet(waker), &Anyone, &mut Nobody, rt)
     }
 
-    /// Makes room for `additional` more wakers: adding these needs no memory but for their clones.
-    /// A fill or a close gives up the room. Fails with `Memory`. Does nothing on a closed cell.
+    /// Makes room for `additional` more wakers. Adding these wakers then needs no memory, except
+    /// for cloning them. A fill or a close gives up the room. Fails with `Memory`. Does nothing on
+    /// a closed cell.
     pub fn reserve<'a, R: Opens<'a, M>>(&'a self, additional: usize, rt: &R) -> Result<(), Refusal>
         ensures refused { FailsWithMemory result }
     {
@@ -189,8 +190,8 @@ impl<M: Stores<Core = CellCore<T, W, N>>, T: Drop, W: Wakes, N: Protocol<T, W>> 
         end(step, reserved)
     }
 
-    /// Ends a guard: sets `cancel`, its value, if the cell is empty. `None` is for a guard that was
-    /// released.
+    /// Ends a guard. `cancel` is the guard's cancel value, or `None` if the guard was released. An
+    /// unreleased guard sets its cancel value if the cell is empty.
     #[doc(hidden)]
     pub fn end_guard<'a, R: Opens<'a, M>>(&'a self, cancel: Option<T>, rt: &R)
         requires may { IfSome cancel (λ value. N.may (Kept.OrSet value)) }
@@ -200,7 +201,7 @@ impl<M: Stores<Core = CellCore<T, W, N>>, T: Drop, W: Wakes, N: Protocol<T, W>> 
         }
     }
 
-    /// Lends the core for reading, until a call of `end` of `async_cell_step`. The core's state is
+    /// Lends the core for reading, until `async_cell_step::end` is called. The core's state is
     /// sound, whatever other steps did.
     #[inline(always)]
     pub fn look<'a, R: Opens<'a, M>>(&'a self, rt: &R) -> Option<R::Open>
@@ -224,7 +225,8 @@ impl<M: Stores<Core = CellCore<T, W, N>>, T: Drop, W: Wakes, N: Protocol<T, W>> 
         self.make(TryGet, &Anyone, &mut Nobody, rt)
     }
 
-    /// Calls the closure on the value, if there is one, during the step, and returns its answer.
+    /// If there is a value, calls the closure on the value during the step, and returns what the
+    /// closure returned.
     #[doc(hidden)]
     pub fn peek<'a, A, F, R: Opens<'a, M>>(&'a self, look: F, rt: &R) -> Option<A>
     where
@@ -279,7 +281,7 @@ impl<M: Stores<Core = CellCore<T, W, N>>, T: Drop, W: Wakes, N: Protocol<T, W>> 
         end(step, Deferred::of(waits))
     }
 
-    /// Prints the cell during the step. Fails with `Memory`.
+    /// Returns the cell as text. The text is made during a step. Fails with `Memory`.
     #[doc(hidden)]
     pub fn debug_text<'a, R: Opens<'a, M>>(
         &'a self,

@@ -22,7 +22,7 @@ impl<T, N: Protocol<T, TaskWaker>> Model for Cancel<T, N> {
 }
 
 impl<T, N: Protocol<T, TaskWaker>> Cancel<T, N> {
-    /// Keeps this value.
+    /// Makes a `Cancel` that holds this value.
     #[inline(always)]
     pub fn of(value: T) -> Self
         requires may { N.may (OrSet value) }

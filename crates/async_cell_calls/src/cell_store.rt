@@ -14,7 +14,7 @@ use async_cell_step::{Opens, Step, StoredCore, Stores, finish, opened};
 /// lock, a closure, clone or print that calls its own cell waits forever.
 #[derive(Drop)]
 pub struct CellStore<M> {
-    /// The store, on which futures poll.
+    /// The store of the core, which the polls of futures use.
     #[doc(hidden)]
     pub store: StoredCore<M>,
 }

@@ -1,4 +1,4 @@
-//! What polls ask the core of a cell.
+//! The queries that polls make to the core of a cell.
 ghost use Rattle.std.specs.Prelude.{◌≡◌, true, false, Some};
 ghost use Rattle.async_cell_model.specs.Machine.{is_closed, is_vacant};
 ghost use Rattle.async_cell_model.specs.declared.entry.Kept.TheVariants.{TryGet, TryTake};
@@ -70,7 +70,7 @@ pub struct By<'a, K, Q> {
 }
 
 impl<'a, K, Q> By<'a, K, Q> {
-    /// The query, by this caller.
+    /// Makes a `By` of this caller and this query.
     #[inline(always)]
     pub fn new(caller: &'a K, query: Q) -> Self
         ensures { result.query ≡ query }

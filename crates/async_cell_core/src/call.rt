@@ -9,7 +9,7 @@ use crate::{Poll, Refusal, Reply, Wakers};
 pub enum Call<T, W, E> {
     /// `Core::set`. The reply is `Done`.
     Set(T),
-    /// `Core::or_set`. The reply is the value if it was not used.
+    /// `Core::or_set`. The reply is this value if the cell did not store it.
     OrSet(T),
     /// `Core::replace`. The reply is the old value.
     Replace(T),

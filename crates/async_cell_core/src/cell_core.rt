@@ -205,8 +205,8 @@ impl<T: Drop, W: Wakes> Core<T, W> {
         self.value.is_some()
     }
 
-    /// Calls the closure on the value, if there is one, and returns what it returns. If there is
-    /// none, the closure is not called, and is returned in the error.
+    /// Calls the closure on the value, if there is one, and returns the closure's result. If there
+    /// is no value, the closure is not called, and is returned in the error.
     pub fn peek<A, F: FnOnce(&T) -> A>(&self, look: F) -> Result<A, F>
         requires { F.IsAlwaysCallable look }
         ensures called { IfOk result (λ answer. IsSomeAnd (content self.now.cell) (λ value.
@@ -235,7 +235,8 @@ impl<T: Drop, W: Wakes> Core<T, W> {
         self.owners == 0
     }
 
-    /// Does what the drop does. For the drop of a type that holds a core, this is one call less.
+    /// Does what the drop of the core does. A type that holds a core saves one function call if its
+    /// own drop calls `end`.
     #[doc(hidden)]
     #[inline(always)]
     pub fn end(self) {

@@ -24,8 +24,8 @@ pub fn two_runs_are_one<T: Clone, W, E>()
         (first ++ second) to }
 {}
 
-/// The same is true of exact runs, in which each reply is the model's own. Values then need no
-/// `Clone`.
+/// As `two_runs_are_one`, but for exact runs, in which each reply is the model's own. Values then
+/// need no `Clone`.
 pub fn two_exact_runs_are_one<T, W, E>()
     ensures { (will_wake : W → W → Bool) (sure_wakers : Bool)
         (edit : E → Option T → Option T) (edit_some : E → T → T)

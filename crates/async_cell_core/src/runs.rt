@@ -61,7 +61,8 @@ fn step_no_get<T: Drop, W: Wakes, E: Edit<T> + Drop>(
 /// Makes one call. Returns its reply or its refusal, and the wakers, to be woken by the caller.
 ///
 /// The reply equals the model's reply up to clones: a get of a full cell may return a clone of the
-/// value. It is exactly the model's if the call is no get or the type's clones are exact.
+/// value. The reply is exactly the model's if the call is not a get, or if the type's clones are
+/// exact.
 #[tactic(auto, using(async_cell_model::proofs::Machine::does_up_to))]
 pub fn step<T: Clone, W: Wakes, E: Edit<T> + Drop>(
     core: &mut Core<T, W>,

@@ -44,7 +44,7 @@ impl<T> Model for Driver<T> {
 }
 
 impl<T: Clone> Driver<T> {
-    /// Makes a driver of a cell with this content and one owner, without tasks.
+    /// Makes a driver without tasks. Its cell has the content `value` and one owner.
     pub fn new(alloc: Global, value: Option<T>) -> Self
         ensures { result ≡ record
             { core = record { cell = Cell.Open value 1; waiting = []; room = 0 }; tasks = [] } }
@@ -201,7 +201,8 @@ impl<T: Clone> Driver<T> {
         Ok(polls)
     }
 
-    /// Polls a task that is ready. If the poll is ready, stores its result.
+    /// Polls a task that is ready to be polled. If the poll returns `Ready`, stores the poll's
+    /// result.
     #[tactic(auto, using(crate::proofs::Settled::keep_steps))]
     fn poll_and_keep(&mut self, i: usize) -> Result<(), Refusal>
         requires { is_ready self.old [] i ≡ true }

@@ -9,7 +9,7 @@ pub enum Kind {
     Get,
 }
 
-/// Something that can happen to a driver. A list of events has such items. `E` is the type of the
+/// Something that can happen to a driver: one item of a list of events. `E` is the type of the
 /// edits.
 #[derive(Clone, Copy, Debug, Drop, PartialEq, Eq)]
 pub enum Event<T, E> {
@@ -23,13 +23,15 @@ pub enum Event<T, E> {
     OrSet(T),
     /// `Driver::replace`. The outcome has the old value.
     Replace(T),
-    /// `Driver::update`, by what the edit makes of the content. The outcome is the reply `Done`.
+    /// `Driver::update`, which stores what the edit makes of the content. The outcome is the reply
+    /// `Done`.
     Update(E),
     /// `Driver::try_take`. The outcome has the value.
     TryTake,
     /// `Driver::add_owner`. The outcome is the reply `Done`.
     AddOwner,
-    /// `Driver::end_owner`. The outcome has the value that the last owner leaves.
+    /// `Driver::end_owner`. If this was the last owner, the outcome has the value that was left in
+    /// the cell.
     EndOwner,
 }
 
@@ -40,7 +42,7 @@ pub enum Polled<T> {
     Ready(Option<T>),
     /// The task waits.
     Pending,
-    /// The task is done, not ready or not there, and was not polled.
+    /// No poll was made: the task is done, is not ready, or does not exist.
     NotReady,
 }
 

@@ -17,10 +17,10 @@ pub fn two_logs_are_one<T: Clone>()
         → Drives T.is_clone from (later ++ earlier) to }
 {}
 
-/// If a second list of events happens after a first one, this is as if the joined list had
-/// happened. The outcomes and the woken names are joined in the same way. The log of the joined
-/// list is the second log followed by the first. So two calls of `apply`, one after the other,
-/// promise the same as one call with the joined list.
+/// Two lists of events that happen one after the other act like the joined list. The outcomes and
+/// the woken names are joined in the same way. The log of the joined list is the second log
+/// followed by the first. So two calls of `apply`, one after the other, promise the same as one
+/// call with the joined list.
 #[tactic(auto, using(crate::proofs::Logs::joined_lists))]
 pub fn two_lists_are_one<T, E>()
     ensures joined { (events more : List (Event T (Option T → Option T)))
@@ -36,9 +36,9 @@ pub fn two_lists_are_one<T, E>()
         ++ log_of (map (with_edit edit) events) told handed }
 {}
 
-/// For each call on the core, the names in the call's line of a log are those of the wakers that
-/// the call wakes. The line of a fill or a close has the name of every task whose waker is
-/// registered then, in order. The lines of other calls have no names.
+/// In a log, the names in the line of a call on the core are the names of the wakers that this call
+/// wakes. The line of a fill or a close has the name of every task whose waker is registered then,
+/// in order. The lines of other calls have no names.
 pub fn a_log_names_those_handed_out<T: Clone>()
     ensures { (from to : DriverState T) (log : Log T)
         → Drives T.is_clone from log to
@@ -46,7 +46,8 @@ pub fn a_log_names_those_handed_out<T: Clone>()
 {}
 
 /// If a clone of a value equals its source, the outcomes in a log are exactly the replies of the
-/// cell's model. If the log has no poll of a `Get` task, this is true for every type.
+/// cell's model. If the log has no poll of a `Get` task, the outcomes are exactly these replies for
+/// every type, even if clones differ from their sources.
 pub fn a_log_is_exact_where_clones_are<T: Clone>()
     ensures { (from to : DriverState T) (log : Log T)
         → (list_any copies (history from log) ≡ true → IsExact T.is_clone)

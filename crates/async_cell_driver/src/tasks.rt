@@ -13,11 +13,11 @@ use std::marker::Model;
 pub(crate) enum Mark {
     /// It was never polled, or its last poll was refused.
     Ready,
-    /// Its last poll returned `Pending`, and its name waits in the cell.
+    /// Its last poll returned `Pending`, and its name is in the cell's wait list.
     Waiting,
-    /// Its last poll returned `Pending`, and its name was woken since.
+    /// Its last poll returned `Pending`, and the task was woken after that poll.
     Woken,
-    /// A poll of it was ready.
+    /// A poll of the task returned `Polled::Ready`.
     Done,
 }
 
@@ -119,7 +119,7 @@ impl<T: Drop> Tasks<T> {
         mark.is_ready().then_some(kind)
     }
 
-    /// Marks a task, if it was started.
+    /// Sets the mark of task `i`, if that task was started.
     #[tactic(auto, using(crate::proofs::TaskList::change_past, crate::proofs::TaskList::change_within))]
     pub fn set_mark(&mut self, i: usize, mark: Mark)
         ensures { self.new ≡ change (with_mark mark) i self.old }
@@ -130,7 +130,8 @@ impl<T: Drop> Tasks<T> {
         }
     }
 
-    /// Stores this result of a task, if it was started, and returns the one that was stored before.
+    /// Stores `content` as the result of task `i`, if that task was started. Returns the result
+    /// that was stored before.
     #[tactic(auto, using(crate::proofs::TaskList::change_past, crate::proofs::TaskList::result_within, crate::proofs::TaskList::change_within))]
     pub fn replace_result(&mut self, i: usize, content: Option<Option<T>>) -> Option<Option<T>>
         ensures gives { result ≡ result_at self.old i }
@@ -143,7 +144,7 @@ impl<T: Drop> Tasks<T> {
         std::mem::replace(&mut task.result, content)
     }
 
-    /// Wakes the tasks of these names: those that wait are then ready.
+    /// Wakes the tasks whose numbers are in `names`. Each of these tasks that waits is then ready.
     pub fn wake(&mut self, mut names: Wakers<Named>)
         ensures { self.new ≡ wake_each names self.old }
     {

@@ -11,8 +11,8 @@ use std::alloc::Global;
 use std::marker::Model;
 
 /// What a cell will be made of: its first content. The cell's history begins here. A type can name
-/// the history. Write a function that is generic in this type, and call the function with
-/// `std::marker::Brand` as the type argument (see `Protocol`).
+/// the history. To name the history, write a function that is generic in the naming type, and call
+/// the function with `std::marker::Brand` as the type argument (see `Protocol`).
 pub struct Blank<T: Drop, W: Wakes> {
     core: Core<T, W>,
     opened: Opened<T, W>,
@@ -46,7 +46,8 @@ impl<T: Drop, W: Wakes> Blank<T, W> {
         }
     }
 
-    /// Returns the core, the history that it begins, and the permit of its owner.
+    /// Returns the core, the history that begins with this core, and the permit of the core's
+    /// owner.
     pub(crate) fn into_parts(self) -> (Core<T, W>, Opened<T, W>, Permit)
         ensures core { result.0 ≡ self.start }
         ensures opened { result.1 ≡ self }
@@ -73,7 +74,7 @@ impl<T: Drop, W: Wakes> Drop for Blank<T, W> {
     }
 }
 
-/// A history that begins with a core. No type names it yet.
+/// A history that begins with a core. No `Protocol` type names this history yet.
 #[derive(Drop)]
 pub struct Opened<T, W: Wakes> {
     pub(crate) log: Log<Signed<T, W>>,
@@ -127,8 +128,8 @@ impl<T: Drop, W: Wakes> Opened<T, W> {
     }
 }
 
-/// The first state of a cell. It has no bytes. (It is no `Snapshot`: the prover does not see that a
-/// struct which has one beside another field can be sent.)
+/// The first state of a cell. It has no bytes. (`Start` is not a `Snapshot`, because the prover
+/// does not see that a struct with a `Snapshot` and another field can be sent to another thread.)
 #[derive(Drop)]
 pub(crate) struct Start<T, W: Wakes> {
     log: Log<Core<T, W>>,
@@ -146,7 +147,7 @@ impl<T, W: Wakes> Model for Start<T, W> {
 }
 
 impl<T, W: Wakes> Start<T, W> {
-    /// Keeps the state of this core.
+    /// Makes a `Start` that keeps the state that this core has now.
     #[inline(always)]
     pub(crate) fn of(core: &Core<T, W>) -> Self
         ensures { result ≡ core.now }

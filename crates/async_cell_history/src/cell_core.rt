@@ -50,7 +50,7 @@ impl<T: Drop, W: Wakes, N: Protocol<T, W>> CellCore<T, W, N> {
         CellCore::begin(core, opened)
     }
 
-    /// Wraps the core, with the history that it begins.
+    /// Wraps the core, together with `opened`, the history that begins with this core.
     #[inline(always)]
     pub(crate) fn begin(core: Core<T, W>, opened: Opened<T, W>) -> Self
         requires named { Fits N.named opened }
@@ -86,8 +86,8 @@ impl<T: Drop, W: Wakes, N: Protocol<T, W>> CellCore<T, W, N> {
         (core, witness, OwnerPermit::of(permit))
     }
 
-    /// Returns the core. Its contract states that the core is sound, and that its value satisfies
-    /// the rule.
+    /// Returns the core. The contract of this function states that the core is sound, and that the
+    /// core's value satisfies the rule.
     pub fn into_core(self) -> Core<T, W>
         ensures sound { IsSound W.will_wake result }
         ensures rule { IfSome (content result.cell) N.holds }
@@ -160,7 +160,7 @@ impl<T: Drop, W: Wakes, N: Protocol<T, W>> CellCore<T, W, N> {
         self.inner.is_vacant()
     }
 
-    /// Returns the number of owners: 0 of a closed cell.
+    /// Returns the number of owners, which is 0 for a closed cell.
     #[inline(always)]
     pub fn owners(&self) -> u32 {
         self.inner.owners()

@@ -1,4 +1,4 @@
-//! For each call of the core, the call of the model that it is, and its reply.
+//! Says, for each call of the core, which call of the model it is, and which reply it got.
 ghost use Rattle.std.specs.Prelude.{[], Some, None, Ok};
 ghost use Rattle.async_cell_model.specs.declared.entry.Kept.TheVariants as kept;
 ghost use Rattle.async_cell_model.specs.declared.reply.Reply.TheVariants as reply;
@@ -8,7 +8,8 @@ ghost use Rattle.async_cell_core.specs.IsStep.{done_answer, end_answer, replace_
 use super::Enters;
 use async_cell_core::{Refusal, Wakers};
 
-/// A future begins to wait: a poll that takes nothing.
+/// A future begins to wait. The call is a `PollGet`, which takes no value, and its reply is
+/// `Pending`.
 pub(crate) struct Waits;
 
 impl<T, W> Enters<W, (), T, W> for Waits {
@@ -59,7 +60,7 @@ impl<T, W> Enters<T, T, T, W> for Overwrites {
     ghost answer = { λ _ old. replace_answer (Ok (Some old, [])) };
 }
 
-/// A `replace` of a vacant cell that wakes one waker at most.
+/// A `replace` of a vacant cell. The call wakes at most one waker.
 pub(crate) struct FillsFirst;
 
 impl<T, W> Enters<T, Option<W>, T, W> for FillsFirst {

@@ -60,11 +60,12 @@ pub fn what_is_set_once_all_get<T, W: Wakes, N: Protocol<T, W>>()
         → HasEntry now Kept.TryGet (Reply.Value (Some w)) → v ≡ w }
 {}
 
-/// What is got never goes back. `follows` is a reflexive and transitive relation. The only changes
-/// that may be made are `or_set`s and updates. An update of a full cell must put in a value that
-/// follows the old one. Then if the witness of a second `try_get` already has a first one, the
-/// value that the second finds follows the value that the first found. Each returned the value that
-/// it found, or a clone of it.
+/// The values that `try_get`s find never go backwards. `follows` is a reflexive and transitive
+/// relation. The only changes that may be made are `or_set`s and updates. An update of a full cell
+/// must put in a value that follows the old one. Suppose that the witness passed to one `try_get`
+/// has already seen another `try_get`, and that both find a value. Then the value that the later
+/// `try_get` finds follows the value that the earlier `try_get` found. Each of the two returned the
+/// value that it found, or a clone of that value.
 pub fn what_is_got_never_goes_back<T, W: Wakes, N: Protocol<T, W>>()
     ensures { (follows : T → T → Bool) (seen first later now : History T W) (v w : T)
         → ((a : T) → follows a a ≡ true)
@@ -77,8 +78,8 @@ pub fn what_is_got_never_goes_back<T, W: Wakes, N: Protocol<T, W>>()
         → follows v w ≡ true }
 {}
 
-/// If a witness made a take, the witness's author signed it. Whatever is seen later still shows
-/// this signature.
+/// If a witness made a take, the witness's author signed it. Every longer history that begins with
+/// the seen calls still shows this signature.
 #[tactic(auto, using(crate::proofs::TwoTakers::took, crate::proofs::TwoTakers::still_took))]
 pub fn a_seen_take_is_of_its_author<T, W: Wakes, N: Protocol<T, W>>()
     ensures linearized { (seen now : Seen T W) (v : T)

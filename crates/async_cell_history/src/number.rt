@@ -1,4 +1,5 @@
-//! Numbers that exist only in proofs: who makes the calls of a history, and how many.
+//! Numbers that exist only in proofs: the numbers that calls of a history are signed with, and how
+//! many calls were made with a witness.
 ghost use Rattle.std.specs.Prelude.{◌≡◌, ◌+◌, ℕ};
 ghost use Rattle.async_cell_history.specs.History.{first_number};
 
@@ -12,13 +13,14 @@ pub trait Author {
     ghost number: { ℕ };
 }
 
-/// A call of a history, and the number of who made it.
+/// A call in a history, and the number that the call is signed with.
 pub(crate) struct Signed<T, W> {
     pub(crate) who: u64,
     pub(crate) entry: Entry<T, W>,
 }
 
-/// A number, of an author or of calls: the first of this list. It has no bytes.
+/// The number of an author, or a number of calls. This number is the first item of the `Seen`'s
+/// list. A `Number` has no bytes.
 pub(crate) type Number = Seen<u64>;
 
 /// The number of this author.

@@ -1,4 +1,4 @@
-//! Calls as values: one function makes any of them in one step, with or without a witness.
+//! Calls as values. One function makes any of these calls in one step, with or without a witness.
 ghost use Rattle.std.specs.Prelude.{◌≡◌, ⊤, false, None, IfOk, IfSome, OnErr, IfErr};
 ghost use Rattle.async_cell_model.specs.declared.entry.Kept.{Kept};
 ghost use Rattle.async_cell_model.specs.declared.reply.Reply.{Reply};

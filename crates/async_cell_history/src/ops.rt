@@ -1,5 +1,5 @@
-//! The calls of a cell. (`CellStore` also has code of its own for plain writes. Sharing code with
-//! other calls would cost 13 instructions.)
+//! The calls of a cell. (`CellStore` also has code of its own for a `set` or a `replace` without a
+//! witness. Sharing code with other calls would cost 13 instructions.)
 mod looks;
 mod writes;
 

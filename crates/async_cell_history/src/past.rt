@@ -13,8 +13,8 @@ use ghost_log::{Log, Makes};
 use std::marker::{Model, PhantomData};
 use std::snapshot::Snapshot;
 
-/// Says which call of the model a call of the core is, and which reply it got. Only contracts read
-/// it.
+/// Says which call of the model a call of the core corresponds to, and which reply that call got.
+/// Only contracts read this trait.
 pub(crate) trait Enters<C, A, T, W> {
     ghost use Rattle.async_cell_model.specs.declared.entry.Kept.{Kept};
     ghost use Rattle.async_cell_model.specs.Machine.{State};
@@ -56,7 +56,8 @@ impl<T, W: Wakes, N: Protocol<T, W>> Model for Past<T, W, N> {
         × (p.count.name ≡ permits_of N.named) };
 }
 
-/// A call that begins: the core before it, and what is passed to it. It has no bytes.
+/// A call that begins: the core before the call, and what is passed to the call. A `Before` has no
+/// bytes.
 #[derive(Drop)]
 pub(crate) struct Before<C, T, W: Wakes> {
     from: Snapshot<Core<T, W>>,
@@ -64,7 +65,7 @@ pub(crate) struct Before<C, T, W: Wakes> {
 }
 
 impl<C, T, W: Wakes> Before<C, T, W> {
-    /// A call of `core`, to which `passed` is passed.
+    /// Begins a call of `core`: `passed` is what is passed to that call.
     #[inline(always)]
     pub(crate) fn of(core: &Core<T, W>, passed: &C) -> Self
         ensures from { result.from.value ≡ core.now }
@@ -76,8 +77,8 @@ impl<C, T, W: Wakes> Before<C, T, W> {
         }
     }
 
-    /// Adds the entry that `M` makes of the call at the end of `past`. The call returned `returned`
-    /// and left the core `to`; `by` signs it.
+    /// Appends to `past` the entry that `M` makes of the call. `returned` is what the call
+    /// returned, `to` is the core after the call, and `by` says who signs the call.
     #[inline(always)]
     #[tactic(auto, using(crate::proofs::Leading::owners_stay))]
     pub(crate) fn enter<N: Protocol<T, W>, M: Enters<C, A, T, W>, A, B: Signs>(
@@ -115,10 +116,10 @@ impl<C, T, W: Wakes> Before<C, T, W> {
 }
 
 impl<T, W: Wakes> Before<W, T, W> {
-    /// As `enter`, for a call that stored a waker in a place. If it replaced a waker, it adds no
-    /// entry: its future waited already. This function is not `inline(always)`, so that the
-    /// compiler first finds that it is empty. Otherwise its branch would cost the caller an
-    /// instruction.
+    /// As `enter`, for a call that stored a waker in a place. If the call replaced a waker, this
+    /// function adds no entry, because the place's future was already waiting. This function is not
+    /// `inline(always)`, so that the compiler first finds that this function is empty. With
+    /// `inline(always)`, the `if let` in this function would cost the caller an instruction.
     pub(crate) fn enter_stored<N: Protocol<T, W>>(
         &self,
         past: &mut Past<T, W, N>,

@@ -1,4 +1,5 @@
-//! The permits of a cell's owners. As many are given out as its core counts owners.
+//! The permits of a cell's owners. The number of permits given out equals the number of owners that
+//! the cell's core counts.
 ghost use Rattle.std.specs.Prelude.{◌≡◌, ◌+◌, ◌-◌, ◌<◌, false, None, IsSome, IsTrue};
 ghost use Rattle.async_cell_model.specs.Machine.{is_closed};
 ghost use Rattle.async_cell_history.specs.History.{permits_of};
@@ -68,8 +69,8 @@ impl<T, W, N: Protocol<T, W>> OwnerPermit<T, W, N> {
         permit.lose();
     }
 
-    /// Drops a permit, for use when no core could be lent. The owner stays counted, so the cell is
-    /// never closed.
+    /// Drops a permit. This is for use when no core could be lent. The owner stays counted, so the
+    /// cell is never closed.
     #[inline(always)]
     pub fn lose<'a, M: Stores, R: Opens<'a, M>>(self, _: &R)
         requires unlent { IsTrue R.always → ⊥ }
@@ -97,8 +98,8 @@ impl<T, W: Wakes, N: Protocol<T, W>> Past<T, W, N> {
         self.count.take(permit);
     }
 
-    /// Does nothing. Its contract states that at least one owner is counted, since `permit` is that
-    /// of an owner.
+    /// Does nothing. Its contract states that at least one owner is counted, because `permit`
+    /// belongs to an owner.
     #[inline(always)]
     pub(crate) fn shows(&mut self, permit: &OwnerPermit<T, W, N>)
         ensures stays { self.new ≡ self.old }

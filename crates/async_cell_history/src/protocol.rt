@@ -21,26 +21,28 @@ pub trait Protocol<T, W> {
     ghost keeps: { (call : Kept T W) → may call → Puts holds call };
 }
 
-/// A cell whose values may be taken.
+/// The protocol of a cell whose values may be taken.
 pub trait Takeable<T, W>: Protocol<T, W> {
     /// Every take may be made.
     ghost takes: { (call : Kept T W) → IsTake call → Self.may call };
 }
 
-/// A cell to which every change may be made, if the change puts in only values that satisfy the
-/// cell's rule.
+/// The protocol of a cell to which every change may be made, if the change puts in only values that
+/// satisfy the cell's rule.
 pub trait Free<T, W>: Protocol<T, W> {
     /// Every such change may be made.
     ghost free: { (call : Kept T W) → Puts Self.holds call → Self.may call };
 }
 
-/// A cell whose history nobody sees: it has no name, and its owners are not counted.
+/// The protocol of a cell whose history nobody sees. Such a cell has no name, and its permits do
+/// not count its owners.
 pub trait Unwitnessed<T, W>: Free<T, W> {
     /// It has no name.
     ghost nameless: { Self.named ≡ None };
 }
 
-/// A cell without a name, to which every change may be made.
+/// As the protocol of a cell, `Unruled` says that the cell has no name and that every change may be
+/// made to the cell.
 pub struct Unruled;
 
 impl<T, W> Protocol<T, W> for Unruled {

@@ -1,4 +1,4 @@
-//! Who signs a call, and who sees it.
+//! Traits for whoever signs a call, and for whoever sees the call.
 ghost use Rattle.std.specs.Prelude.{◌≡◌, ℕ, List};
 ghost use Rattle.async_cell_model.specs.declared.entry.Kept.{Kept};
 ghost use Rattle.async_cell_model.specs.declared.reply.Reply.{Reply};
@@ -13,7 +13,7 @@ pub trait Signs {
     ghost number: { Self → ℕ };
 }
 
-/// Who signs a call, and then has seen it: a witness, or nobody.
+/// The signer of a call: a `Witness`, which has then seen the call, or `Nobody`.
 pub trait Sees<T: Drop, W: Wakes, N: Protocol<T, W>>: Signs {
     /// The second is the first after `catch_up`: it has seen all calls that led to this core.
     ghost ready: { Self → Self → Logged T W → Type 0 };
@@ -35,7 +35,7 @@ pub trait Sees<T: Drop, W: Wakes, N: Protocol<T, W>>: Signs {
             → sees first call reply self.new };
 }
 
-/// Nobody sees the call, or signs it.
+/// Used for a call that no witness sees and nobody signs.
 #[derive(Drop)]
 pub struct Nobody;
 

@@ -38,7 +38,7 @@ impl<T, W: Wakes, N: Protocol<T, W>> Model for Witness<T, W, N> {
 }
 
 impl<T, W: Wakes, N: Protocol<T, W>> Witness<T, W, N> {
-    /// Makes a witness that has seen the whole history. It signs as nobody.
+    /// Makes a witness that has seen the whole history. The witness signs its calls as `Nobody`.
     pub(crate) fn of(past: &Past<T, W, N>) -> Self
         requires named { IsSome N.named }
         requires counted { IsSome (permits_of N.named) }
@@ -55,7 +55,8 @@ impl<T, W: Wakes, N: Protocol<T, W>> Witness<T, W, N> {
         }
     }
 
-    /// Sees the whole history. What it saw before is a prefix of that.
+    /// Lets the witness see the whole history. What the witness saw before is a prefix of the whole
+    /// history.
     #[inline(always)]
     pub(crate) fn learn(&mut self, past: &Past<T, W, N>)
         ensures calls { self.new.calls ≡ past.now.calls }
@@ -81,8 +82,9 @@ impl<T, W: Wakes, N: Protocol<T, W>> Witness<T, W, N> {
         self.own = number_after(&self.own);
     }
 
-    /// Does nothing. Its contract states what is true of all that was seen: the calls are legal,
-    /// the changes may be made, each call has one author, and the owners of the cell are counted.
+    /// Does nothing. Its contract states what is true of the calls that the witness has seen: the
+    /// calls are legal, the protocol allows the changes among them, each call has one author, and
+    /// the cell's owners are counted.
     #[inline(always)]
     pub fn lawful(&self)
         ensures lawful { IsLawful W.will_wake W.SURE_CLONE N.may (start_of N.named) self.now.calls }
@@ -92,7 +94,7 @@ impl<T, W: Wakes, N: Protocol<T, W>> Witness<T, W, N> {
         let _ = &self.seen;
     }
 
-    /// Signs the calls from now on with this number.
+    /// From now on, the calls made with this witness are signed with the number of `A`.
     #[inline(always)]
     pub fn sign_as<A: Author>(&mut self)
         ensures calls { self.new.calls ≡ self.old.calls }

@@ -89,9 +89,9 @@ impl<T: Drop, W: Wakes> Latest<T, W> {
         Ok((old, self.waiting.hand_out()))
     }
 
-    /// As `write`, but only if the list has no memory for more than one waker. Returns the old
-    /// value and that waker, if one waits, to be woken by the caller. In other cases changes
-    /// nothing, and returns `value` in the error.
+    /// As `write`, but succeeds only if the wait list has no memory for more than one waker. Then
+    /// returns the old value and the waker that waits, if there is one. The caller has to wake this
+    /// waker. Otherwise changes nothing, and returns `value` in the error.
     #[doc(hidden)]
     #[inline(always)]
     pub fn write_first(&mut self, value: T) -> Result<(T, Option<W>), T>

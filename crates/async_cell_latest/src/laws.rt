@@ -9,8 +9,8 @@ ghost use Rattle.async_cell_latest.specs.History.{Entry, History, IsLegal, Runs,
 ghost use Rattle.async_cell_latest.specs.Follower.{IsFollower, IsRising, is_old, seen_after, has_write, has_end, pending_waker};
 
 /// The versions of a follower rise: each poll that shows a version shows a larger version than the
-/// follower has seen. Here a follower is any selection of reads and polls of the history, in order,
-/// in which the argument of each poll is the version that was shown last.
+/// follower has seen. Here a follower is any selection of the history's reads and polls, in their
+/// order. The argument of each poll must be the version that the follower was shown last.
 #[tactic(auto, using(crate::proofs::Versions::rising))]
 pub fn the_versions_of_a_follower_rise<T, W>()
     ensures { (will_wake : W → W → Bool) (sure_wakers : Bool)
@@ -61,9 +61,10 @@ pub fn a_version_names_one_value<T, W>()
         → e.reply ≡ Shown version x → f.reply ≡ Shown version y → x ≡ y }
 {}
 
-/// No waiting follower is forgotten. Until the next write or the close, the waker of each poll that
-/// returned `Pending` waits, or some waiting waker would wake the same task. That write or close
-/// wakes every waiting waker, and then no waker waits. So each waiting waker is woken once.
+/// No waiting follower is forgotten. After a poll returned `Pending`, and until the next write or
+/// the close, the waker of that poll waits, or some waiting waker would wake the same task. That
+/// write or close wakes every waiting waker, and then no waker waits. So each waiting waker is
+/// woken once.
 #[tactic(auto, using(crate::proofs::CoveredWakers::stays_covered, crate::proofs::Versions::legal_rest, crate::proofs::Versions::after_append))]
 pub fn no_waiting_follower_is_forgotten<T, W>()
     ensures covered { (will_wake : W → W → Bool) (sure_wakers : Bool)

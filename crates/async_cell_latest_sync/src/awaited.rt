@@ -16,7 +16,8 @@ use std::mem;
 use std::sync::Wait;
 
 impl<T: Drop, R: Wait + Drop, N: Protocol<T>> Follower<T, R, N> {
-    /// Asks the state, for a future of this follower that holds this place.
+    /// Polls the state with the query `asked`, for a future of this follower. `place` is the
+    /// future's place in the wait list.
     #[inline(always)]
     fn poll<Q: Query<LatestCore<T, N>>>(
         &self,
@@ -34,7 +35,8 @@ impl<T: Drop, R: Wait + Drop, N: Protocol<T>> Follower<T, R, N> {
         poll(&cell.core, &cell.source, asked, Some(place), cx, &self.rt)
     }
 
-    /// Waits for another version than `seen`. The next poll looks at it.
+    /// Waits until the state has a version other than `seen`. The next poll of the future looks at
+    /// that version.
     fn poll_later<A>(
         &self,
         seen: u64,
@@ -70,7 +72,7 @@ impl<T: Clone, R: Wait + Copy, N: Protocol<T>> Follower<T, R, N> {
 
 /// The future of `Follower::changed`.
 ///
-/// It waits as a `With` does, and may be dropped. **Its drop may wait for the lock.**
+/// It waits as a `With` does, and you may drop it at any time. **Its drop may wait for the lock.**
 #[derive_where(Debug)]
 pub struct Changed<'a, T: Drop, R: Wait + Drop, N: Protocol<T> = Unruled> {
     #[derive_where(skip)]
@@ -129,7 +131,8 @@ impl<T: Drop, R: Wait + Drop, N: Protocol<T>> Future for Changed<'_, T, R, N> {
 
 /// The future of `Follower::wait_for`.
 ///
-/// It waits as a `Changed` does, and may be dropped. **Its drop may wait for the lock.**
+/// It waits as a `Changed` does, and you may drop it at any time. **Its drop may wait for the
+/// lock.**
 #[derive_where(Debug)]
 pub struct WaitFor<'a, T: Drop, R: Wait + Drop, F: Drop, N: Protocol<T> = Unruled> {
     #[derive_where(skip)]
@@ -138,7 +141,8 @@ pub struct WaitFor<'a, T: Drop, R: Wait + Drop, F: Drop, N: Protocol<T> = Unrule
     pub(crate) place: Place,
     #[derive_where(skip)]
     pub(crate) predicate: F,
-    /// The version that the predicate was called on last; 0 if on none.
+    /// The version of the value that the predicate was last called on, not counting polls that
+    /// failed with `Memory`; 0 if there is none.
     #[derive_where(skip)]
     pub(crate) looked_at: u64,
 }
@@ -236,7 +240,8 @@ impl<T: Clone, R: Wait + Drop, F: FnMut(&T) -> bool + Drop, N: Protocol<T>> Futu
 /// If a poll fails with `Memory`, the item is that error, and nothing was marked as seen: poll the
 /// stream again.
 ///
-/// It waits as a `Changed` does, and may be dropped. **Its drop may wait for the lock.**
+/// It waits as a `Changed` does, and you may drop it at any time. **Its drop may wait for the
+/// lock.**
 #[derive_where(Debug)]
 pub struct States<T: Drop, R: Wait + Drop, N: Protocol<T> = Unruled> {
     #[derive_where(skip)]
@@ -246,7 +251,7 @@ pub struct States<T: Drop, R: Wait + Drop, N: Protocol<T> = Unruled> {
 }
 
 impl<T: Drop, R: Wait + Drop, N: Protocol<T>> States<T, R, N> {
-    /// As `Changed::cancel`, of this stream.
+    /// Cancels this stream, as `Changed::cancel` cancels a `Changed`.
     pub fn cancel(self) {
         let States { follower, place } = self;
         follower.cell.core.cancel(place, &follower.rt);

@@ -1,5 +1,6 @@
-//! The state behind a lock, which owners and followers point to: the calls that read it, and what
-//! polls ask of it. Closures, and clones of the value, run while the lock is held.
+//! The state behind a lock, which owners and followers point to. This module has the calls that
+//! read the state, and the queries that polls make of the state. Closures, and clones of the value,
+//! run while the lock is held.
 mod calls;
 
 ghost use Rattle.std.specs.Prelude.{◌≡◌, ◌≢◌, IsOk, IfOk, IfSome, IfNone};
@@ -24,7 +25,8 @@ pub struct LatestCell<T, N: Protocol<T> = Unruled> {
 }
 
 impl<T: Drop, N: Protocol<T>> LatestCell<T, N> {
-    /// Calls the closure on the value, while the lock is held. Returns the version too.
+    /// Calls the closure on the value, while the lock is held. Returns the version, and what the
+    /// closure returned.
     pub(crate) fn peek<A, F: FnOnce(&T) -> A, R: Wait>(&self, look: F, rt: &R) -> (u64, A)
         requires { F.IsAlwaysCallable look }
         ensures called { (seen : T) × N.holds seen × FnOnceReturnsAt F.FnOnce look seen result.1 }
@@ -36,7 +38,8 @@ impl<T: Drop, N: Protocol<T>> LatestCell<T, N> {
         (version, answer)
     }
 
-    /// Returns the version and a clone of the value, made under the lock. Fails with `Memory`.
+    /// Returns the version and a clone of the value, made under the lock. Fails with `Memory` if
+    /// the clone fails.
     pub(crate) fn get<R: Wait>(&self, rt: &R) -> Result<(u64, T), Refusal>
     where
         T: Clone,
@@ -49,9 +52,9 @@ impl<T: Drop, N: Protocol<T>> LatestCell<T, N> {
         end(step, copy)
     }
 
-    /// Calls the predicate on the value, and returns the version, and a clone of the value if the
-    /// predicate holds of it. Fails with `Memory` if the clone fails. If the state has the version
-    /// `seen`, it only returns `None`.
+    /// Calls the predicate on the value. Returns the version, and a clone of the value if the
+    /// predicate returned `true`. Fails with `Memory` if the clone fails. If the state's version is
+    /// `seen`, returns `None` without a call of the predicate.
     pub(crate) fn test<P: FnMut(&T) -> bool, R: Wait>(
         &self,
         seen: u64,
@@ -106,7 +109,7 @@ fn find<T: Clone, P: FnMut(&T) -> bool>(value: &T, predicate: &mut P) -> Result<
     Ok(Some(copy?))
 }
 
-/// Asks a state for its version, if the version differs from the one given here.
+/// Asks a state for its version, once that version differs from the number given here.
 #[derive(Clone, Copy, Drop)]
 pub struct Unseen(pub u64);
 

@@ -25,7 +25,7 @@ use std::sync::{Arc, Wait};
 pub struct Follower<T: Drop, R, N: Protocol<T> = Unruled> {
     #[derive_where(skip)]
     pub(crate) cell: Arc<LatestCell<T, N>>,
-    /// The version that it has seen; 0 if none.
+    /// The version that the follower has seen, or 0 if the follower has seen none.
     #[derive_where(skip)]
     pub(crate) seen: u64,
     #[derive_where(skip)]
@@ -41,10 +41,10 @@ impl<T: Drop, R: Wait + Drop, N: Protocol<T>> Follower<T, R, N> {
         Follower { cell, seen, rt }
     }
 
-    /// Returns a future that is ready once there is a state that this follower has not seen. It
-    /// then marks this state as seen. It fails with `Closed` once the last owner has ended and the
-    /// last state was seen. It fails with `Memory` if it has to wait and there is no memory for
-    /// that.
+    /// Returns a future that is ready once there is a state that this follower has not seen. The
+    /// future then marks this state as seen. The future fails with `Closed` once the last owner has
+    /// ended and the last state was seen. It fails with `Memory` if it has to wait and there is no
+    /// memory for that.
     ///
     /// ```rust
     /// let setting = Owner::new(rt.alloc(), 1, rt)?;
@@ -62,15 +62,16 @@ impl<T: Drop, R: Wait + Drop, N: Protocol<T>> Follower<T, R, N> {
         }
     }
 
-    /// Returns a future that gives a clone of the first state of which the predicate is true. It
-    /// looks at the current state, seen or not, and then at later ones, each once. A state that is
-    /// overwritten before the future is polled is skipped. The states that it looked at are marked
-    /// as seen. The predicate runs while the lock is held. So a predicate that calls this state
-    /// waits forever.
+    /// Returns a future that gives a clone of the first state for which the predicate returns
+    /// `true`. It looks at the current state, seen or not, and then at later ones, each once. A
+    /// state that is overwritten before the future is polled is skipped. The states that it looked
+    /// at are marked as seen. The predicate runs while the lock is held. So a predicate waits
+    /// forever if it makes a call that takes this lock, such as `set` of an owner.
     ///
     /// The future fails with `Closed` once the last owner has ended and the last state was looked
-    /// at. It fails with `Memory` if there is no memory for the clone or to wait. Then the state
-    /// that this poll looked at is not marked, and the next poll looks at that state again.
+    /// at. It fails with `Memory` if there is no memory for the clone or to wait. In that case the
+    /// state that the failed poll looked at is not marked as seen, and the next poll looks at that
+    /// state again.
     ///
     /// ```rust
     /// let setting = Owner::new(rt.alloc(), 1, rt)?;
@@ -111,7 +112,8 @@ impl<T: Drop, R: Wait + Drop, N: Protocol<T>> Follower<T, R, N> {
         }
     }
 
-    /// Returns a clone of the last value, and marks nothing. Fails with `Memory`.
+    /// Returns a clone of the last value, and does not mark the value as seen. Fails with `Memory`
+    /// if the clone fails.
     pub fn read(&self) -> Result<T, Refusal>
     where
         T: Clone,
@@ -167,7 +169,8 @@ impl<T: Drop, R: Wait + Drop, N: Protocol<T>> Follower<T, R, N> {
         self.cell.is_closed(&self.rt)
     }
 
-    /// Marks the current state as unseen: `changed` is ready at once, and `states` begins with it.
+    /// Marks the current state as unseen: `changed` is ready at once, and `states` begins with this
+    /// state.
     pub fn mark_changed(&mut self)
         ensures marks { self.new.seen ≡ 0 }
         ensures of_this { cell_followed self.new ≡ cell_followed self.old }

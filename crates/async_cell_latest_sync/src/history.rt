@@ -25,7 +25,8 @@ pub trait Protocol<T> {
     ghost keeps: { (before : List T) → (value : T) → may before value → holds value };
 }
 
-/// A state without a name, to which every value may be written.
+/// As the protocol of a state, `Unruled` says that the state has no name and that every value may
+/// be written to the state.
 pub struct Unruled;
 
 impl<T> Protocol<T> for Unruled {
@@ -61,9 +62,9 @@ impl<T> Protocol<T> for Brand {
     ghost keeps = { λ _ _ may. may };
 }
 
-/// The empty list of a state that is not made yet. A protocol can name this list. For that, write a
-/// function generic in the protocol, and call the function with `std::marker::Brand`. A `Blank` has
-/// no bytes.
+/// The empty list of values of a state that is not made yet. A protocol can name this list. To get
+/// a protocol that does so, write a function that is generic over the protocol, and call the
+/// function with `std::marker::Brand`. A `Blank` has no bytes.
 #[derive(Drop)]
 pub struct Blank<T> {
     log: Log<Option<T>>,
@@ -79,7 +80,7 @@ impl<T> Model for Blank<T> {
 }
 
 impl<T> Blank<T> {
-    /// Begins the list of values of a state that is made next, and gives the list a new name.
+    /// Begins the list of values of a state that is not made yet, and gives the list a new name.
     pub fn new() -> Self {
         Blank { log: Log::open() }
     }
@@ -103,7 +104,7 @@ impl<T, N: Protocol<T>> Model for Values<T, N> {
 }
 
 impl<T: Drop, N: Protocol<T>> Values<T, N> {
-    /// Begins the list of a new state.
+    /// Begins the list of values of a new state.
     #[tactic(auto, using(crate::proofs::Lives::first_lawful))]
     pub(crate) fn begin(blank: Blank<T>, state: &Latest<T, TaskWaker>) -> Self
         requires named { Fits N.named blank }
@@ -119,7 +120,7 @@ impl<T: Drop, N: Protocol<T>> Values<T, N> {
         }
     }
 
-    /// Adds the value of the state, which was written.
+    /// Adds the value that was just written to the state.
     #[inline(always)]
     #[tactic(auto, using(crate::proofs::Lives::life_written, crate::proofs::Lives::lawful_more))]
     pub(crate) fn add(&mut self, state: &Latest<T, TaskWaker>)
@@ -176,7 +177,7 @@ impl<T, N: Protocol<T>> Model for Witness<T, N> {
 }
 
 impl<T, N: Protocol<T>> Witness<T, N> {
-    /// Makes a witness that has seen the whole life, up to this version.
+    /// Makes a witness that has seen the whole life of the state, up to this version.
     pub(crate) fn of(values: &Values<T, N>, version: u64) -> Self
         requires named { IsSome N.named }
         requires counted { version ≡ length values.now.values }
@@ -189,7 +190,8 @@ impl<T, N: Protocol<T>> Witness<T, N> {
         }
     }
 
-    /// Sees the whole life, up to this version. What it saw before is a beginning of that.
+    /// Lets the witness see the whole life of the state, up to this version. What the witness saw
+    /// before is a beginning of this life.
     #[inline(always)]
     #[tactic(auto, using(crate::proofs::Lives::more_goes_on))]
     pub(crate) fn learn(&mut self, values: &Values<T, N>, version: u64)
@@ -218,8 +220,8 @@ impl<T, N: Protocol<T>> Witness<T, N> {
         let _ = &self.seen;
     }
 
-    /// Does nothing. Its contract states that what one of the two has seen is a prefix of what the
-    /// other has seen.
+    /// Does nothing. Its contract states that one of the two witnesses has seen a prefix of what
+    /// the other witness has seen.
     #[tactic(auto, using(crate::proofs::Lives::more_goes_on))]
     pub fn agrees(&self, other: &Self)
         ensures { GoesOn self.now other.now ⊎ GoesOn other.now self.now }

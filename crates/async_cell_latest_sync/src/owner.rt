@@ -13,8 +13,8 @@ use std::alloc::{AllocFailed, Global};
 use std::sync::{Arc, Wait};
 
 /// One counted owner of a state, with the right to wait for its lock. Owners write the state. Any
-/// number of followers read it. An owner ends by its drop. The end of the last owner closes the
-/// state: the last value stays, and followers see it before they get `Closed`.
+/// number of followers read it. An owner ends when it is dropped. The end of the last owner closes
+/// the state: the last value stays, and followers see it before they get `Closed`.
 ///
 /// Wakers are woken and old values are dropped after the lock is released, so whatever runs then
 /// may call the state. Closures, and clones of the value, run while the lock is held. A closure or
@@ -26,7 +26,8 @@ use std::sync::{Arc, Wait};
 /// **Dropping an owner may wait for the lock**, as its calls may.
 ///
 /// `N` says what is known of the values (see `Rule`). It also gives a name to the list of values
-/// that a witness sees. A state of `Owner::new` has neither rule nor name.
+/// that a witness sees. A state made by `Owner::new` has no rule, and its list of values has no
+/// name.
 #[derive_where(Debug)]
 pub struct Owner<T: Drop, R: Wait + Drop, N: Protocol<T> = Unruled> {
     #[derive_where(skip)]
@@ -36,8 +37,8 @@ pub struct Owner<T: Drop, R: Wait + Drop, N: Protocol<T> = Unruled> {
 }
 
 impl<T: Drop, R: Wait + Copy> Owner<T, R> {
-    /// Makes a state of this value, and its first owner. Fails with `Memory` if there is no memory,
-    /// and then drops the value.
+    /// Makes a state that holds `value`, and the state's first owner. Fails with `Memory` if there
+    /// is no memory, and then drops the value.
     ///
     /// ```rust
     /// let setting = Owner::new(rt.alloc(), 1, rt)?;
@@ -52,9 +53,9 @@ impl<T: Drop, R: Wait + Copy> Owner<T, R> {
 }
 
 impl<T: Drop, R: Wait + Copy, P: Rule<T>> Owner<T, R, Ruled<P>> {
-    /// Makes a state of this value, and its first owner. All values satisfy the rule `P`: each
-    /// write requires this, and each read ensures it. Fails with `Memory` if there is no memory,
-    /// and then drops the value.
+    /// Makes a state that holds `value`, and the state's first owner. All values satisfy the rule
+    /// `P`: each write requires this, and each read ensures it. Fails with `Memory` if there is no
+    /// memory, and then drops the value.
     pub fn ruled(alloc: Global, value: T, rt: R) -> Result<Self, Refusal>
         requires rule { P.holds value }
         ensures refused { FailsWithMemory result }
@@ -64,8 +65,9 @@ impl<T: Drop, R: Wait + Copy, P: Rule<T>> Owner<T, R, Ruled<P>> {
 }
 
 impl<T: Drop, R: Wait + Copy, N: Protocol<T>> Owner<T, R, N> {
-    /// Makes a state of this value, its first owner, and a witness that has seen the value. `N`
-    /// names the state. Fails with `Memory` if there is no memory, and then drops the value.
+    /// Makes a state that holds `value`, the state's first owner, and a witness that has seen the
+    /// value. `N` names the state. Fails with `Memory` if there is no memory, and then drops the
+    /// value.
     pub fn witnessed(
         alloc: Global,
         value: T,
@@ -245,12 +247,12 @@ impl<T: Drop, R: Wait + Drop, N: Protocol<T>> Owner<T, R, N> {
         end_and_wake(step, modified)
     }
 
-    /// Drops the wakers that dropped futures left in the state, so the task of each such waker is
+    /// Drops each waker that a dropped future left in the state. So the task of each such waker is
     /// polled once more.
     ///
-    /// Without this call these wakers stay until the next write. A waker that stays keeps memory of
-    /// its executor, such as the task, from being freed. Call it if many waits end early. It takes
-    /// the lock once for each place in the wait list.
+    /// Without this call these wakers stay until the next write. While such a waker stays, memory
+    /// of its executor, such as the task, cannot be freed. Call `purge` if many waiting futures are
+    /// dropped before they are ready. `purge` takes the lock once for each place in the wait list.
     pub fn purge(&self) {
         self.cell.core.purge(&self.rt);
     }

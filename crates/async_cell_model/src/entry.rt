@@ -21,13 +21,13 @@ pub enum Kept<T, W> {
     TryGet,
     /// Tests whether there is a value.
     IsSet,
-    /// Polls for the value and takes it. Registers this waker if there is none yet.
+    /// Polls for the value and takes it. If there is no value yet, registers this waker.
     PollTake(W),
-    /// Polls for the value and copies it. Registers this waker if there is none yet.
+    /// Polls for the value and copies it. If there is no value yet, registers this waker.
     PollGet(W),
     /// Adds an owner.
     AddOwner,
-    /// Ends an owner. The last one closes the cell.
+    /// Ends an owner. The end of the last owner closes the cell.
     EndOwner,
     /// Closes the cell for its only owner and returns the value.
     TakeInner,

@@ -85,8 +85,8 @@ pub fn two_histories_are_one<T: Clone, W>()
         → RunsUpTo will_wake sure_wakers T.is_clone from (g ++ h) (first ++ second) to }
 {}
 
-/// What one poll does to the wait list. Its waker is added last, or skipped: it is skipped exactly
-/// if some waiting waker would wake it.
+/// What one pending poll does to the wait list. The waker of the poll is added last, or skipped.
+/// The waker is skipped exactly if some waiting waker would wake the poll's task.
 #[tactic(auto, using(crate::proofs::Whole::one_more_entry))]
 pub fn one_more_waker_is_last_or_skipped<T: Clone, W>()
     ensures list { (will_wake : W → W → Bool) (l : List W) (w : W)
@@ -100,8 +100,8 @@ pub fn one_more_waker_is_last_or_skipped<T: Clone, W>()
         then waiting will_wake b h else waiting will_wake b h ++ w ∷ []) }
 {}
 
-/// How a wait list begins. The first registered waker waits. Leave out the later registrations that
-/// the first waker would wake. The rest of the list is the wait list of those that remain.
+/// How a wait list begins. The first registered waker waits. The rest of the wait list is the wait
+/// list of those later registrations that the first waker would not wake.
 #[tactic(auto, using(crate::proofs::OneMoreWaker::keep_first))]
 pub fn the_first_waker_skips_all_that_it_would_wake<W>()
     ensures none { (will_wake : W → W → Bool) → wait_list will_wake [] ≡ [] }
@@ -110,8 +110,7 @@ pub fn the_first_waker_skips_all_that_it_would_wake<W>()
         ≡ w ∷ wait_list will_wake (filter (λ v. not (will_wake w v)) rest) }
 {}
 
-/// If a waker would wake another exactly when the two are equal, as with `Named`, then no waker
-/// waits twice.
+/// If `will_wake` is equality, as for `Named`, then no waker waits twice.
 #[tactic(auto, using(crate::proofs::Whole::waits_once))]
 pub fn no_waker_waits_twice<T, W>()
     ensures { (will_wake : W → W → Bool) (b : State T W) (h : History T W)

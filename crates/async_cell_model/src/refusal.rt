@@ -5,8 +5,8 @@ use std::{fmt, io};
 /// The reason why a call was refused. A refused call changes nothing.
 #[derive(Clone, Copy, Debug, PartialEq, Eq)]
 pub enum Refusal {
-    /// There was no memory to grow a list, for a clone, or for the waker of a task. Or the count of
-    /// a pointer is full.
+    /// There was no memory to grow a list, for a clone, or for the waker of a task. Or the
+    /// reference count of an `Arc` or an `Rc` is full.
     Memory,
     /// The cell is closed. Writes, owner calls and strong futures fail with this.
     Closed,
@@ -14,7 +14,8 @@ pub enum Refusal {
     OwnersFull,
     /// The cell has other owners.
     StillShared,
-    /// The share of a recorded call does not fit the history.
+    /// A recorded call was made with a share whose count is not the number of that share's entries
+    /// in the history.
     OutOfTurn,
     /// A recorded cell was finished without all of its shares.
     ShareMissing,

@@ -7,8 +7,8 @@ use crate::{Named, PlainHistory, Refusal, Reply};
 use async_cell_model::laws::exact::a_value_is_taken_once;
 use std::marker::Model;
 
-/// A call as a history stores it. If the call is an update, it is stored with the argument and the
-/// result of its edit.
+/// A call, in the form in which a history stores the call. An update is stored with the argument
+/// and the result of its edit.
 pub type Kept<T> = async_cell_model::Kept<T, Named>;
 
 /// A call of a recorded cell and its reply, without the share that made it.

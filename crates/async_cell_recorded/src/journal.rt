@@ -14,8 +14,8 @@ use std::alloc::{AllocError, Global};
 use std::marker::Model;
 use std::sync::ledger::{self, Ledger};
 
-/// What the lock of a recorded cell guards: the cell, its history, and the books, which count the
-/// calls of the shares. `M` names the cell.
+/// What the lock of a recorded cell guards: the cell, the cell's history, and the `Books`. These
+/// books count the calls of the shares. `M` names the cell.
 #[derive(Drop)]
 pub struct Journal<T, M: Pick<T>> {
     core: Core<T, Named>,
@@ -62,8 +62,8 @@ impl<T: Copy, M: Pick<T>> Journal<T, M> {
     }
 
     /// Makes a call. Returns its entry, and the wakers that the caller must wake. The entry has the
-    /// share's number. Its serial is the share's count before the call. A refusal of the cell is a
-    /// reply, and has an entry.
+    /// share's number. The entry's serial is the share's count before the call. If the cell refuses
+    /// the call, the refusal is the reply in the entry.
     ///
     /// A call that fails leaves no entry. It fails with `OutOfTurn` if the share's count is not the
     /// number of its entries in the history: this is checked first. It fails with `Memory` if there

@@ -82,9 +82,9 @@ impl<T: Copy, M: Pick<T>> Recorded<T, M> {
 
     /// Takes the cell and all of its shares, in any order, and returns the history. If a share is
     /// missing, the cell and the shares are returned in the error as they were. The history is
-    /// legal. Its length is the sum of the shares' counts of calls. The number of its entries that
-    /// pass the marker's test is the sum of the shares' counts of picked results. Takes no lock and
-    /// no memory.
+    /// legal. Its length is the total number of calls that the shares count. The number of its
+    /// entries that pass the marker's test (`M.pick`) is the total number of picked results that
+    /// the shares count. Takes no lock and no memory.
     pub fn finish(
         self,
         shares: Vec<Share<M>>,
@@ -133,7 +133,7 @@ impl<T: Copy, M: Pick<T>> Recorded<T, M> {
 
     /// Sets the value if the cell holds none, and in this case returns the waiting wakers. If the
     /// cell holds a value, the reply has the value that was passed. A closed cell refuses the
-    /// value, and the reply has it, too.
+    /// value, and the reply has the refused value.
     pub fn or_set(&self, share: &mut Share<M>, value: T, rt: &impl Wait) -> CallResult<T>
         ensures call { IsCallResult M.pick (λ _. Kept.OrSet value) share.old result share.new }
         ensures replied { IfOk result (λ answer.

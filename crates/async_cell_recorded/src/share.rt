@@ -45,7 +45,7 @@ impl<M: Marker> Ledger for CallsLedger<M> {
     ghost parts = { M.shares };
 }
 
-/// The ledger of the results of a cell's calls that were picked.
+/// The ledger of the picked results of a cell's calls.
 pub(crate) struct PickedLedger<M>(PhantomData<M>);
 
 impl<M: Marker> Ledger for PickedLedger<M> {
@@ -86,7 +86,7 @@ pub(crate) struct ShareCount<M: Marker> {
 }
 
 impl<M: Marker> ShareCount<M> {
-    /// Stores the number. Contracts know that it is the marker's.
+    /// Stores the number of shares. Contracts know that this number equals `M.shares`.
     pub(crate) fn new(shares: u32) -> Self
         requires { shares ≡ M.shares }
         ensures { result.shares ≡ shares }

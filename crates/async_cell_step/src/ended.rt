@@ -43,7 +43,7 @@ pub struct All<W: Wakes, X = ()> {
 }
 
 impl<W, X> One<W, X> {
-    /// Returns a `One` that will wake `woken`, if it is a waker, and drop `dropped`.
+    /// Returns a `One` that will wake the waker in `woken`, if any, and drop `dropped`.
     #[inline(always)]
     pub fn waking(woken: Option<W>, dropped: X) -> Self
         ensures wakes { result.woken ≡ woken }
@@ -97,7 +97,7 @@ impl<W: Wakes, X: Drop> After<W> for All<W, X> {
     }
 }
 
-/// Ends the step: gives the core back, and returns what was held.
+/// Ends the step: gives the core back, and returns the answer in `held`.
 #[inline(always)]
 pub fn end<G: Step, X>(step: G, held: Deferred<X>) -> X
     ensures answers { result ≡ held.answer }
@@ -179,7 +179,7 @@ impl<X> Deferred<X> {
         Deferred { answer, woken: () }
     }
 
-    /// The result holds what both hold.
+    /// Combines two `Deferred`s. The result holds the pair of their answers.
     #[inline(always)]
     pub fn and<Y>(self, other: Deferred<Y>) -> Deferred<(X, Y)>
         ensures { result.answer ≡ (self.answer, other.answer) }
@@ -269,7 +269,7 @@ impl<X> Deferred<Result<Option<X>, Refusal>> {
 }
 
 impl<X, E> Deferred<Result<X, E>> {
-    /// The result also holds `other`, beside what was found.
+    /// The result holds the pair of what was found and `other`, or the error.
     #[inline(always)]
     pub fn beside<Y: Drop>(self, other: Y) -> Deferred<Result<(X, Y), E>>
         ensures found { IfOk result.answer (λ both.

@@ -1,5 +1,5 @@
 //! This crate has the stores that lend a core for one step at a time, the functions that end a
-//! step, and the polls and futures that are made of steps. The core is that of a cell, or of a
+//! step, and the polls and futures that are made of steps. The core belongs to a cell or to a
 //! latest state. Except for what the cells' crates re-export, this crate is internal and may change
 //! without notice.
 #![tactic(auto)]

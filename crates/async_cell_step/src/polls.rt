@@ -1,7 +1,7 @@
 //! Polls, generic over the store of the core. A poll gives an answer, or registers the task and
-//! adds its waker to the wait list: at the place of its future, if the future has one. Also what
-//! happens to a place when its future ends. Dropping a waker wakes its task, so none is dropped
-//! during a step.
+//! adds the task's waker to the wait list. If the polled future has a place in the wait list, the
+//! waker goes to that place. This module also has the functions that give up a future's place when
+//! the future ends. Dropping a waker wakes its task, so no waker is dropped during a step.
 ghost use Rattle.std.specs.Prelude.{◌≡◌, Err, IfErr, IfOk};
 ghost use Rattle.futures.specs.Poll.{IfReady, OnPending};
 ghost use Rattle.futures.specs.Task.{Hears, IsArmed, Keeps};

@@ -1,4 +1,4 @@
-//! What a poll needs of a core, and what it asks of it.
+//! What a poll needs from a core (`Room`), and what the poll asks of the core (`Query`).
 ghost use Rattle.std.specs.Prelude.{◌≡◌, ◌<◌, ◌≤◌, ◌-◌, ⊤, ℕ, false, List, [], ◌∷◌, ◌++◌, IsTrue, IsOk, IfOk, IfErr, OnOk, OnErr, MatchOption};
 ghost use Rattle.async_cell_model.specs.Refusal.{FailsWithMemoryOrClosed};
 ghost use Rattle.async_cell_wakers.specs.declared.task_waker.TaskWaker.{TaskWaker};
@@ -28,8 +28,8 @@ pub trait Room {
         ensures room_suffices { 0 < room self.old → IsOk result.answer }
         ensures unchanged { OnErr result.answer (self.new ≡ self.old) };
 
-    /// Returns whether the list must grow for a future with this place: it holds no place, and none
-    /// is free.
+    /// Returns whether the list must grow for the future that `place` belongs to. This is so if the
+    /// future holds no place in the list, and no place is free.
     fn is_new(&self, place: &Place) -> bool;
 
     /// As `add`. `place` is the waker's position from then on.
@@ -43,14 +43,15 @@ pub trait Room {
         ensures place_stays { OnErr result.answer (place.new ≡ place.old) }
         ensures unchanged { OnErr result.answer (self.new ≡ self.old) };
 
-    /// Takes the waker out of this place. If there is none, takes over a free place, and takes its
-    /// waker out: this one may be another task's. The result holds `None` if no place is free.
+    /// Takes the waker out of this place. If the future holds no place in the list, takes over a
+    /// free place, and takes out the waker that is there. That waker may be another task's. The
+    /// result holds `None` if no place is free.
     fn take_back(&mut self, place: &mut Place) -> Deferred<Option<Waker>>
         ensures unchanged { self.new ≡ self.old };
 
-    /// Stores a waker in this place. If there is none, takes over a free place, or adds one at the
-    /// end of the list. Returns the waker that was there, if any. If there is no memory to grow the
-    /// list, the waker comes back.
+    /// Stores a waker in this place. If the future holds no place in the list, takes over a free
+    /// place. If no place is free, adds one at the end of the list. Returns the waker that was
+    /// there, if any. If there is no memory to grow the list, the waker comes back.
     fn store(
         &mut self,
         place: &mut Place,

@@ -17,8 +17,8 @@ pub trait Rule<T> {
     ghost holds: { T → Type 0 };
 }
 
-/// Says that the values of a cell without a name satisfy the rule `P`. A change may be made if it
-/// puts only such values into the cell.
+/// As the protocol of a cell, `Ruled<P>` says that the cell has no name and that its values satisfy
+/// the rule `P`. A change may be made if each value that it puts into the cell satisfies `P`.
 pub struct Ruled<P>(PhantomData<P>);
 
 /// A caller that passes `Brand` as a type defines its own rule in place of this one. That rule may

@@ -1,4 +1,4 @@
-//! What lends a core for one step at a time: a lock, or a `RefCell`.
+//! A lock or a `RefCell` that lends a core for one step at a time.
 ghost use Rattle.std.specs.Prelude.{◌≡◌, Bool, true, false, IsSome, IsTrue};
 ghost use Rattle.std.specs.{RefCell.ref_mut_value, Sync.Mutex.mutex_guard_value};
 
@@ -91,7 +91,7 @@ pub trait Step {
     fn release(self);
 }
 
-/// The right to a step on a store of one thread.
+/// The right to make a step on a store that only one thread uses.
 #[derive(Clone, Copy, Drop)]
 pub struct OneThread;
 
@@ -164,7 +164,8 @@ pub struct Locked<'a, C> {
 }
 
 impl<C> StoredCore<Mutex<C>> {
-    /// Waits for the lock. To try first costs less while nobody holds it.
+    /// Waits for the lock. First tries to take the lock: this costs less while nobody holds the
+    /// lock.
     #[inline(always)]
     pub fn lock<R: Wait>(&self, rt: &R) -> Locked<'_, C> {
         let core = match self.store.try_lock() {

@@ -14,7 +14,8 @@ use futures::task::{Context, Poll};
 /// The place that a poll may wait in.
 pub type At<'a> = Option<&'a mut Place>;
 
-/// A cell in which futures hold places. `R` is the right that a step on it needs.
+/// A cell in which futures hold places. `R` is the type of the permission that a step on the cell
+/// needs, for example an `impl Wait`.
 pub trait Places<R> {
     /// Gives up the place of a future that is dropped.
     fn vacate(&self, place: Place, rt: &R);
@@ -46,7 +47,7 @@ pub trait Polled<R>: Request<R> {
     /// What the future may return.
     ghost may_give: { Self → Self.Output → Type 0 };
 
-    /// Polls, and waits in the place, if any.
+    /// Polls the request. A poll that has to wait uses the place in `at`, if there is one.
     fn poll_at(&self, at: At<'_>, cx: &mut Context<'_>, rt: &R) -> Poll<Self::Output>
         ensures lost { Self.is_lost self.now → OnPending result ⊥ }
         ensures gives { IfReady result (may_give self.now) }
@@ -69,14 +70,17 @@ pub trait Upgrade<R>: Request<R> {
         ensures refused { FailsToUpgrade result };
 }
 
-/// The future of a `Take`, a `Get`, a `TakeWeak` or a `GetWeak`, with the right that a step needs.
-/// The `with` of such a request makes this future, as do the calls of an `Owner` and a `WeakOwner`.
+/// The future of a `Take`, a `Get`, a `TakeWeak` or a `GetWeak`. The future also holds an `R`: the
+/// right that each step on the cell needs, such as the right to wait for the cell's lock. The
+/// `with` of each of these four types makes such a future. So do the calls of an `Owner` and a
+/// `WeakOwner`, such as `take`.
 ///
 /// While the future waits, it holds one place in the cell's wait list. Each poll renews the waker
 /// in this place, so the task that will be woken is the one that polled the future last. **Dropping
-/// it may wait for the lock**, and wakes nobody. The place is then free for the next such future,
-/// and the task that polled the dropped one may be woken once more. **So keep a future and poll it
-/// again.** Two tasks that each make a new one for every poll wake each other forever.
+/// the future may wait for the lock**, and wakes nobody. After the drop, the place is free for the
+/// next future of this kind, and the task that polled the dropped future may be woken once more.
+/// **So keep a future and poll it again.** Two tasks that each make a new future for every poll
+/// wake each other forever.
 #[derive_where(Debug)]
 pub struct With<P: Request<R>, R> {
     #[derive_where(skip)]
@@ -102,10 +106,10 @@ impl<P: Request<R>, R> With<P, R> {
 }
 
 impl<P: Request<R>, R: Drop> With<P, R> {
-    /// Drops the future and the waker that it left in the cell: the task that polled it last is
-    /// polled once more. A waker that stays in the cell keeps memory of its executor, such as the
-    /// task, from being freed. So call this if a wait ends early, as after a timeout, while the
-    /// cell lives on. May wait for the lock.
+    /// Drops the future, and the waker that the future left in the cell. So the task that polled
+    /// the future last is polled once more. While a waker stays in the cell, memory of its
+    /// executor, such as the task, cannot be freed. So call `cancel` if a wait ends early, for
+    /// example after a timeout, and the cell lives on. May wait for the lock.
     pub fn cancel(self) {
         let With { polled, rt, place } = self;
         if let Some(cell) = polled.cell() {
@@ -116,8 +120,8 @@ impl<P: Request<R>, R: Drop> With<P, R> {
 
 impl<P: Upgrade<R>, R: Copy> With<P, R> {
     /// Returns a future of the same request. The returned future is a new owner. Returns `Ok(None)`
-    /// if the cell is closed. This future stays as it is. Fails with `Memory` (checked first) or
-    /// `OwnersFull`.
+    /// if the cell is closed. The future that `upgrade` is called on stays as it is. Fails with
+    /// `Memory` (checked first) or `OwnersFull`.
     pub fn upgrade(&self) -> Result<Option<With<P::Owning, R>>, Refusal>
         ensures of_this { IfOk result (λ found. IfSome found (λ future.
             P.owned_by self.now.polled future.polled)) }
@@ -155,8 +159,7 @@ impl<P: Polled<R>, R: Drop> Future for With<P, R> {
     }
 }
 
-/// Returns the answer `polled` as a request that is no owner gives it, with `Ok(None)` in place of
-/// `Closed`.
+/// Converts the answer `polled` for a request that is not an owner: `Closed` becomes `Ok(None)`.
 #[inline(always)]
 pub fn weakly<T>(polled: Poll<Result<T, Refusal>>) -> Poll<Result<Option<T>, Refusal>>
     requires { IfReady polled FailsWithMemoryOrClosed }
@@ -173,7 +176,7 @@ pub fn weakly<T>(polled: Poll<Result<T, Refusal>>) -> Poll<Result<Option<T>, Ref
     }
 }
 
-/// A request that takes one value after another: a `TakeWeak`.
+/// A request that takes one value after another, like a `TakeWeak`.
 pub trait Takes<R>: Polled<R, Output = Result<Option<Self::Value>, Refusal>> {
     /// The type of the values.
     type Value: Drop;

@@ -20,18 +20,18 @@ use std::sync::{Mutex, Wait};
 /// A core behind a lock. Each call holds the lock while it makes its change. `rt` is the right to
 /// wait for the lock. `N` names the cell, for the contracts of a [`Witness`](crate::Witness).
 ///
-/// **What runs under the lock** is what `AsyncCell` says, and also `clone` and `will_wake` of
-/// wakers.
+/// **What runs under the lock:** all that the docs of `AsyncCell` list, and also `clone` and
+/// `will_wake` of wakers.
 pub type LockedCore<T, W, N = Unruled> = CellStore<Mutex<CellCore<T, W, N>>>;
 
 /// A cell that threads share. It holds an optional value, and futures wait on it for a value. Its
 /// drop takes no lock, and wakes all waiters.
 ///
 /// **What runs under the lock:** closures, the drop of what they own, and `clone` and `Debug` of
-/// the value. **Call no cell there.** Code that runs under the lock waits forever if it calls the
-/// same cell, or drops an `Owner`, a `Guard`, a waiting future or a stream of that cell. It also
-/// waits forever if it waits for a thread which calls the cell. Wakers are woken and values are
-/// dropped after the lock is released, so a wake or a drop may call the cell.
+/// the value. **Code that runs under the lock must call no cell.** Such code waits forever if it
+/// calls the same cell, or drops an `Owner`, a `Guard`, a waiting future or a stream of that cell.
+/// It also waits forever if it waits for a thread which calls the cell. Wakers are woken and values
+/// are dropped after the lock is released, so a wake or a drop may call the cell.
 ///
 /// A future made by `with` holds one place in the wait list while it waits (see `With`). So the
 /// list is never longer than the largest number of such futures alive at one time. Each
@@ -58,12 +58,13 @@ impl<T: Drop, N: Protocol<T, TaskWaker>> Drop for AsyncCell<T, N> {
 }
 
 impl<T: Drop> AsyncCell<T> {
-    /// Makes a cell without a value. Takes no memory. Stores the allocator for all later growth.
+    /// Makes a cell without a value. Allocates nothing. Stores the allocator for all later growth.
     pub fn new(alloc: Global) -> Self {
         AsyncCell::of(alloc, Core::new(alloc))
     }
 
-    /// Makes a cell that holds a value. Takes no memory. Stores the allocator for all later growth.
+    /// Makes a cell that holds a value. Allocates nothing. Stores the allocator for all later
+    /// growth.
     pub fn new_with(alloc: Global, value: T) -> Self {
         AsyncCell::of(alloc, Core::new_with(alloc, value))
     }
@@ -112,9 +113,9 @@ impl<T: Drop, N: Protocol<T, TaskWaker>> AsyncCell<T, N> {
         Shared::into_shared(self)
     }
 
-    /// Makes the first owner of this cell, with the right to wait. Fails with `Memory`, and then
-    /// returns the cell. To use `?`, call `Owner::new_with` instead, or write
-    /// `into_shared_or_drop()?.with(rt)`.
+    /// Makes the first owner of this cell, with the right to wait. If there is no memory, fails
+    /// with `Memory` and returns the cell in the error. To use `?`, call `Owner::new_with` instead,
+    /// or write `into_shared_or_drop()?.with(rt)`.
     pub fn into_owner<R: Wait + Drop>(self, rt: R) -> Result<Owner<T, R, N>, (Refusal, Self)>
         requires nameless { N.named ≡ None }
         ensures owns { IfOk result (λ owner. cell_owned owner ≡ self) }
@@ -167,8 +168,8 @@ impl<T: Drop, N: Protocol<T, TaskWaker>> AsyncCell<T, N> {
         Get(self)
     }
 
-    /// Returns a guard, which must be consumed. Its call `cancel` sets this value, unless the cell
-    /// then holds one.
+    /// Returns a guard, which must be consumed. The guard's method `cancel` sets the value that was
+    /// passed here as `cancel`, unless the cell holds a value by then.
     pub fn guard(&self, cancel: T) -> GuardedCell<T, &Self>
         requires may { N.may (Kept.OrSet cancel) }
         ensures of_this { result.pointer.now ≡ self.now }

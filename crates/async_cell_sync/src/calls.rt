@@ -1,5 +1,5 @@
-//! The calls of a cell, and those of an owner. An owner's calls are its cell's calls, with the
-//! right to wait that the owner keeps.
+//! The calls of a cell, and those of an owner. An owner's calls are its cell's calls. They take no
+//! `rt`, because the owner keeps one: the right to wait for the lock.
 ghost use Rattle.std.specs.Prelude.{◌≡◌, Option, Some, None, IsOk, IfErr, IfOk, IfSome};
 ghost use Rattle.std.specs.Fn.{FnOnceReturnsAt};
 ghost use Rattle.async_cell_model.specs.Refusal.{FailsWithMemory};
@@ -115,10 +115,10 @@ impl<T: Drop, N: Protocol<T, TaskWaker>> AsyncCell<T, N> {
         self.core.debug_text(self.alloc, rt)
     }
 
-    /// Drops the wakers that dropped futures left, which wakes their tasks. A waker that stays in
-    /// the cell keeps memory of its executor, such as the task, from being freed. So call this if
-    /// many waits end early while the cell lives on. This call takes the lock once for each place
-    /// in the wait list.
+    /// Drops each waker that a dropped future left in the cell. The drop of a waker wakes the
+    /// waker's task. While a waker stays in the cell, memory of its executor, such as the task,
+    /// cannot be freed. So call this if many waits end early while the cell lives on. This call
+    /// takes the lock once for each place in the wait list.
     pub fn purge<R: Wait>(&self, rt: &R) {
         self.core.store.purge(rt);
     }
@@ -232,7 +232,7 @@ impl<T: Drop, R: Wait + Drop, N: Protocol<T, TaskWaker>> Owner<T, R, N> {
         self.shared.cell.is_set(&self.rt)
     }
 
-    /// Returns the cell, to call it with another right to wait.
+    /// Returns the cell, so that you can call its methods with another right to wait.
     pub fn cell(&self) -> &AsyncCell<T, N>
         ensures held { result.now ≡ cell_owned self.now }
     {

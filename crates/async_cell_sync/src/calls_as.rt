@@ -37,7 +37,7 @@ impl<T: Drop, N: Protocol<T, TaskWaker>> AsyncCell<T, N> {
     }
 
     /// Sets the value, wakes all waiters and returns the old value. Fails on a closed cell, and
-    /// then returns the new one.
+    /// then returns the new value in the error.
     pub fn replace_as<R: Wait>(
         &self,
         seen: &mut Witness<T, TaskWaker, N>,

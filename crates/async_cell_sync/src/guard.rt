@@ -28,14 +28,15 @@ impl<T: Drop, C: CellRef<Value = T>> GuardedCell<T, C> {
         GuardedCell { pointer, cancel }
     }
 
-    /// Makes a `Guard` of this guard and the right to wait. The `Guard` ends when it is dropped.
+    /// Makes a `Guard` from this guard and `rt`, the right to wait for the lock. The `Guard` ends
+    /// when it is dropped.
     pub fn with<R: Wait + Drop>(self, rt: R) -> Guard<T, C, R>
         ensures guards { result.guarded ≡ self }
     {
         Guard { guarded: self, rt }
     }
 
-    /// Returns the cell that it guards.
+    /// Returns the cell that this guard guards.
     pub fn cell(&self) -> &AsyncCell<T, C::Rules>
         ensures { (s : ℕ) → C.waits_for self.now.pointer s → s ≡ source_of result.now }
     {
@@ -89,7 +90,7 @@ pub struct Guard<T: Drop, C: CellRef<Value = T>, R: Wait + Drop> {
 }
 
 impl<T: Drop, C: CellRef<Value = T>, R: Wait + Drop> Guard<T, C, R> {
-    /// Returns the cell that it guards.
+    /// Returns the cell that this guard guards.
     pub fn cell(&self) -> &AsyncCell<T, C::Rules>
         ensures { (s : ℕ) → C.waits_for self.now.guarded.pointer s → s ≡ source_of result.now }
     {

@@ -19,10 +19,10 @@ use futures::task::Source;
 use std::alloc::{AllocFailed, Global};
 use std::sync::{Arc, Wait};
 
-/// One counted owner of a cell, with the right to wait for the lock. It ends by its drop, in any
-/// thread, also at `?` or an early `return`. Its calls and futures take no `rt`. The end of the
-/// last owner closes the cell: the value is dropped, waiters are woken, and weak futures give
-/// `None`.
+/// One counted owner of a cell, with the right to wait for the lock. An `Owner` ends when it is
+/// dropped. The drop may happen in any thread, also at `?` or an early `return`. The calls and
+/// futures of an `Owner` take no `rt`. The end of the last owner closes the cell: the value is
+/// dropped, waiters are woken, and weak futures give `None`.
 ///
 /// **Dropping it may wait for the lock**, as its calls may. A `Shared`, in contrast, is not ended
 /// by a drop but by a call.
@@ -52,9 +52,9 @@ impl<T: Drop, R: Wait + Copy> Owner<T, R> {
         Ok(Shared::shared(alloc)?.with(rt))
     }
 
-    /// Makes a cell that holds a value, and its first owner. Fails with `Memory`, and then drops
-    /// the value. To keep the value in this case, call `AsyncCell::new_with`, and then
-    /// `AsyncCell::into_owner`, which returns the cell if it fails.
+    /// Makes a cell that holds a value, and its first owner. If there is no memory, fails with
+    /// `Memory` and drops the value. To keep the value in this case, call `AsyncCell::new_with`,
+    /// and then `AsyncCell::into_owner`, which returns the cell if it fails.
     pub fn new_with(alloc: Global, value: T, rt: R) -> Result<Self, Refusal>
         ensures refused { FailsWithMemory result }
     {
@@ -65,7 +65,7 @@ impl<T: Drop, R: Wait + Copy> Owner<T, R> {
 
 impl<T: Drop, R: Wait + Copy, P: Rule<T>> Owner<T, R, Ruled<P>> {
     /// Makes a cell without a value, and its first owner. The values of the cell satisfy the rule
-    /// `P`. Fails with `Memory`. For example, if the rule is `Even`, write
+    /// `P`. Fails with `Memory` if there is no memory. For example, if the rule is `Even`, write
     /// `Owner::<u64, _, Ruled<Even>>::ruled(rt.alloc(), rt)?`.
     pub fn ruled(alloc: Global, rt: R) -> Result<Self, Refusal>
         ensures refused { FailsWithMemory result }
@@ -128,7 +128,8 @@ impl<T: Drop, R: Wait + Copy, N: Protocol<T, TaskWaker>> Owner<T, R, N> {
         Ok(Shared { cell, permit }.with(self.rt))
     }
 
-    /// Returns a weak owner. If its pointer cannot be counted, its calls fail with `Memory`.
+    /// Returns a weak owner. If one more pointer to the cell cannot be counted, the weak owner's
+    /// calls fail with `Memory`.
     pub fn downgrade(&self) -> WeakOwner<T, R, N>
         ensures of_this { NamesAtMost result.weak (cell_owned self.now) }
     {
@@ -162,7 +163,8 @@ impl<T: Drop, R: Wait + Copy, N: Protocol<T, TaskWaker>> Owner<T, R, N> {
     }
 
     /// Returns a future that clones the value and leaves the value in the cell. If the future is
-    /// polled again, it is ready at once. The future borrows this owner, so the cell stays open.
+    /// polled again while the cell holds a value, it is ready at once. The future borrows this
+    /// owner, so the cell stays open.
     ///
     /// ```rust
     /// let setting = Owner::new_with(rt.alloc(), 7, rt)?;
@@ -257,7 +259,8 @@ impl<T: Drop, R: Wait + Copy, N: Protocol<T, TaskWaker>> Owner<T, R, N> {
         GuardedCell::new(self, cancel).with(rt)
     }
 
-    /// Returns a guard that is a new owner. Fails as `another` does, and then gives the value back.
+    /// Returns a guard that is a new owner. Fails as `another` does, and then returns `cancel` in
+    /// the error.
     pub fn guard_shared(&self, cancel: T) -> Result<Guard<T, Self, R>, (Refusal, T)>
         requires may { N.may (Kept.OrSet cancel) }
         ensures of_this { IfOk result (λ guard.

@@ -19,9 +19,9 @@ use std::alloc::Global;
 use std::mem::ManuallyDrop;
 use std::sync::{Arc, Wait};
 
-/// The side of a reply slot that replies, once, by `set`. If it is dropped without that, as at `?`
-/// or an early `return`, the slot is closed, and the `Reply` is ready with `Closed`. **Dropping it
-/// may wait for the lock**, as its calls may.
+/// The side of a reply slot that replies, once, by `set`. If the `Replier` is dropped without a
+/// `set`, for example at `?` or an early `return`, the slot is closed, and the `Reply` is ready
+/// with `Closed`. **Dropping it may wait for the lock**, as its calls may.
 #[derive_where(Debug)]
 pub struct Replier<T: Drop, R: Wait + Drop, N: Unwitnessed<T, TaskWaker> = Unruled> {
     #[derive_where(skip)]
@@ -171,8 +171,8 @@ impl<T: Drop, R: Wait + Drop, N: Unwitnessed<T, TaskWaker>> Reply<T, R, N> {
     }
 
     /// Closes the slot, and returns the value if it was set. So if you call this after a wait with
-    /// a time limit, a reply that came too late is not lost. A value that is set later comes back
-    /// to the `Replier`.
+    /// a time limit, a reply that came too late is not lost. If the value is set later,
+    /// `Replier::set` returns the value in its error.
     ///
     /// ```rust
     /// let (replier, reply) = reply_slot(rt.alloc(), rt)?;

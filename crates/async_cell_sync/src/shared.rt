@@ -35,9 +35,9 @@ impl<T: Drop> Shared<T> {
 }
 
 impl<T: Drop, N: Protocol<T, TaskWaker>> Shared<T, N> {
-    /// Makes the first owner of this cell. Fails with `Memory`, and then returns the cell. To use
-    /// `?`, call `AsyncCell::into_shared_or_drop` instead. To make a cell with a history, call
-    /// `Owner::witnessed`.
+    /// Makes the first owner of this cell. If there is no memory, fails with `Memory` and returns
+    /// the cell in the error. To use `?`, call `AsyncCell::into_shared_or_drop` instead. To make a
+    /// cell with a history, call `Owner::witnessed`.
     pub fn into_shared(cell: AsyncCell<T, N>) -> Result<Self, (Refusal, AsyncCell<T, N>)>
         requires nameless { N.named ≡ None }
         ensures owns { IfOk result (λ owner. cell_of owner ≡ cell) }
@@ -52,14 +52,15 @@ impl<T: Drop, N: Protocol<T, TaskWaker>> Shared<T, N> {
         }
     }
 
-    /// Returns the cell, to call it.
+    /// Returns the cell, so that you can call its methods.
     pub fn cell(&self) -> &AsyncCell<T, N>
         ensures held { result.now ≡ cell_of self.now }
     {
         self.cell.as_ref()
     }
 
-    /// Makes an `Owner` of this owner and the right to wait. The `Owner` ends when it is dropped.
+    /// Makes an `Owner` from this owner and `rt`, the right to wait for the lock. The `Owner` ends
+    /// when it is dropped.
     pub fn with<R: Wait + Drop>(self, rt: R) -> Owner<T, R, N>
         ensures keeps { result.shared ≡ self }
     {
@@ -92,7 +93,8 @@ impl<T: Drop, N: Protocol<T, TaskWaker>> Shared<T, N> {
         Ok(Get(self.another(rt)?))
     }
 
-    /// Returns a guard that is a new owner. Fails as `another` does, and then gives the value back.
+    /// Returns a guard that is a new owner. Fails as `another` does, and then returns `cancel` in
+    /// the error.
     pub fn guard_shared<R: Wait>(
         &self,
         cancel: T,
@@ -124,8 +126,8 @@ impl<T: Drop, N: Protocol<T, TaskWaker>> Shared<T, N> {
         self.guard_shared(cancel, rt).map_err(|(why, _)| why)
     }
 
-    /// Returns a weak pointer to the cell. If the pointer cannot be counted, the calls of the
-    /// pointer fail with `Memory`.
+    /// Returns a weak pointer to the cell. If the pointer cannot be counted, because the count of
+    /// the cell's `Arc` is full, calls on the pointer fail with `Memory`.
     pub fn downgrade(&self) -> Weak<T, N>
         ensures of_this { NamesAtMost result (cell_of self.now) }
     {

@@ -1,4 +1,5 @@
-//! Futures of a cell: `Take` and `Get` over any pointer, `TakeWeak` and `GetWeak` over a weak one.
+//! Futures of a cell: `Take` and `Get` with any pointer to the cell, `TakeWeak` and `GetWeak` with
+//! a weak pointer.
 ghost use Rattle.std.specs.Prelude.{◌≡◌, Err, IfOk, IfSome};
 ghost use Rattle.futures.specs.Poll.{IfReady, OnPending};
 ghost use Rattle.futures.specs.Task.{Covers, Keeps};
@@ -51,7 +52,8 @@ impl<C: TakeRef> Take<C> {
 }
 
 impl<C: CellRef + Drop> Take<C> {
-    /// Returns the future. It keeps `rt`, as `Future::poll` is passed no right to wait.
+    /// Returns the future. The future keeps `rt`, because `Future::poll` has no parameter for the
+    /// right to wait.
     ///
     /// ```rust
     /// let cell = AsyncCell::new_with(rt.alloc(), 7);

@@ -41,7 +41,7 @@ impl<T, N: Protocol<T, TaskWaker>> Model for Taker<T, N> {
 }
 
 impl<T, N: Protocol<T, TaskWaker>> Taker<T, N> {
-    /// Keeps that it may.
+    /// Makes a `Taker` of this witness. The `Taker` keeps the fact that the value may be taken.
     #[inline(always)]
     pub(crate) fn of(seen: Witness<T, TaskWaker, N>) -> Self
         requires may { N.may TryTake }
@@ -50,7 +50,8 @@ impl<T, N: Protocol<T, TaskWaker>> Taker<T, N> {
         Taker { seen }
     }
 
-    /// What a poll asks. Ensures that it may.
+    /// Returns what a poll asks of the cell: to take the value. Ensures that the protocol allows
+    /// this take.
     #[inline(always)]
     pub(crate) fn query(&self) -> TakingAs<T, N>
         ensures may { N.may TryTake }
@@ -155,8 +156,8 @@ impl<T: Drop, R: Wait + Copy, N: Protocol<T, TaskWaker>> Owner<T, R, N> {
 }
 
 /// Like `TakeAs`, but has a weak pointer in place of an owner. The future gives `None` once the
-/// last owner has ended. If you make a stream of the future by `values`, the contract says of the
-/// values in the stream only that they satisfy the rule.
+/// last owner has ended. `values` turns the future into a stream. About the values in this stream,
+/// the contract says only that they satisfy the rule.
 #[derive(Drop)]
 pub struct TakeWeakAs<T, N: Protocol<T, TaskWaker>> {
     weak: Weak<T, N>,

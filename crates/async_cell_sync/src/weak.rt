@@ -16,9 +16,9 @@ use async_cell_step::With;
 use std::alloc::AllocError;
 use std::sync::{Arc, Wait};
 
-/// A weak pointer to a cell. It does not count as an owner. `Shared::downgrade` makes one.
-/// `TakeWeak` and `GetWeak` make a future of it. `with` makes it a `WeakOwner`, whose calls take no
-/// `rt`.
+/// A weak pointer to a cell. It does not count as an owner. `Shared::downgrade` makes a `Weak`.
+/// `TakeWeak` and `GetWeak` make a future of a `Weak`. `with` turns a `Weak` into a `WeakOwner`,
+/// whose calls take no `rt`.
 #[derive(Drop)]
 #[derive_where(Debug)]
 pub struct Weak<T, N: Protocol<T, TaskWaker> = Unruled> {
@@ -45,7 +45,8 @@ impl<T: Drop, N: Protocol<T, TaskWaker>> Weak<T, N> {
         Ok(found.as_ref())
     }
 
-    /// Returns a pointer to the same cell, or to none if it cannot be counted.
+    /// Returns another pointer to the same cell. If the new pointer cannot be counted, it points to
+    /// no cell.
     pub(crate) fn again(&self) -> Self
         ensures of_this { NameAtMostTheSame self.now result }
     {
@@ -61,8 +62,8 @@ impl<T: Drop, N: Protocol<T, TaskWaker>> Weak<T, N> {
         WeakOwner { weak: self, rt }
     }
 
-    /// Returns whether the last owner has ended, so that no owner can be made. Fails with `Memory`
-    /// if the pointer could not be counted.
+    /// Returns whether the last owner has ended. If it has, no owner can be made. Fails with
+    /// `Memory` if this weak pointer could not be counted when it was made.
     pub fn is_closed<R: Wait>(&self, rt: &R) -> Result<bool, Refusal>
         ensures lost { IsLost self.now → result ≡ Err Refusal.Memory }
         ensures refused { FailsWithMemory result }
@@ -70,7 +71,8 @@ impl<T: Drop, N: Protocol<T, TaskWaker>> Weak<T, N> {
         Ok(self.cell()?.is_closed(rt))
     }
 
-    /// Makes an owner. Fails with `Memory` if the pointer cannot be counted: this is checked first.
+    /// Makes an owner. Fails with `Memory` if the count of the cell's `Arc` is full, or if this
+    /// weak pointer could not be counted when it was made. These two causes are checked first.
     /// Returns `None` if the cell is closed. Fails with `OwnersFull` at 4,294,967,295 owners.
     pub fn upgrade<R: Wait>(&self, rt: &R) -> Result<Option<Shared<T, N>>, Refusal>
         ensures of_this { IfOk result (λ found. IfSome found (OwnsNamed self.now)) }
@@ -136,14 +138,16 @@ impl<T: Drop, R: Wait + Copy, N: Protocol<T, TaskWaker>> WeakOwner<T, R, N> {
         self.weak.is_closed(&self.rt)
     }
 
-    /// As `Owner::take_weak`. If the pointer cannot be counted, the future fails with `Memory`.
+    /// As `Owner::take_weak`. The future fails with `Memory` if it got no pointer to the cell,
+    /// because the count of the cell's `Arc` was full.
     pub fn take(&self) -> With<TakeWeak<T, N>, R>
         ensures of_this { NameAtMostTheSame self.now.weak result.polled.0 }
     {
         TakeWeak(self.weak.again()).with(self.rt)
     }
 
-    /// As `Owner::get_weak`. If the pointer cannot be counted, the future fails with `Memory`.
+    /// As `Owner::get_weak`. The future fails with `Memory` if it got no pointer to the cell,
+    /// because the count of the cell's `Arc` was full.
     pub fn get(&self) -> With<GetWeak<T, N>, R>
     where
         T: Clone,

@@ -53,12 +53,13 @@ impl<T: Drop, N: Free<T, TaskWaker>> Drop for AsyncCell<T, N> {
 }
 
 impl<T: Drop> AsyncCell<T> {
-    /// Makes a cell without a value. Takes no memory. Stores the allocator for all later growth.
+    /// Makes a cell without a value. Allocates nothing. Stores the allocator for all later growth.
     pub fn new(alloc: Global) -> Self {
         AsyncCell::of(alloc, Core::new(alloc))
     }
 
-    /// Makes a cell that holds a value. Takes no memory. Stores the allocator for all later growth.
+    /// Makes a cell that holds a value. Allocates nothing. Stores the allocator for all later
+    /// growth.
     pub fn new_with(alloc: Global, value: T) -> Self {
         AsyncCell::of(alloc, Core::new_with(alloc, value))
     }
@@ -98,7 +99,8 @@ impl<T: Drop, N: Free<T, TaskWaker>> AsyncCell<T, N> {
         }
     }
 
-    /// Makes the first counted owner of this cell. Fails with `Memory`, and then returns the cell.
+    /// Makes the first counted owner of this cell. If there is no memory, fails with `Memory` and
+    /// returns the cell in the error.
     pub fn into_shared(self) -> Result<Shared<T, N>, (Refusal, AsyncCell<T, N>)>
         requires nameless { N.named ≡ None }
         ensures owns { IfOk result (λ owner. cell_of owner ≡ self) }
@@ -230,10 +232,10 @@ impl<T: Drop, N: Free<T, TaskWaker>> AsyncCell<T, N> {
         Ok(format!(in self.alloc; "{self:?}")?)
     }
 
-    /// Drops the wakers that dropped futures left. The task of each of these wakers is then polled
-    /// once more. A waker that stays in the cell keeps memory of its executor, such as the task,
-    /// from being freed. So call this if many waits end early while the cell lives on. Needs no
-    /// memory. A waker that was added by a poll of a future without a place is not dropped (see
+    /// Drops each waker that a dropped future left in the cell. The task of each of these wakers is
+    /// then polled once more. While a waker stays in the cell, memory of its executor, such as the
+    /// task, cannot be freed. So call this if many waits end early while the cell lives on. Needs
+    /// no memory. A waker that was added by a poll of a future without a place is not dropped (see
     /// `AsyncCell`).
     pub fn purge(&self) {
         self.core.store.purge(&OneThread);
@@ -257,7 +259,7 @@ impl<T: Drop, N: Free<T, TaskWaker>> AsyncCell<T, N> {
         core.into_inner()
     }
 
-    /// Returns the core. Its contract states that the core is sound.
+    /// Returns the core. The contract of this function states that the core is sound.
     #[doc(hidden)]
     pub fn into_core(self) -> Core<T, TaskWaker>
         ensures { IsSound ⟦<TaskWaker as Wakes>⟧.will_wake result }
@@ -307,7 +309,8 @@ impl<T: Drop, N: Free<T, TaskWaker>> AsyncCell<T, N> {
         });
     }
 
-    /// Clones a value that was taken out, and stores it again. Fails with `Memory`.
+    /// Clones a value that was taken out. Stores the value again, and returns the clone. Fails with
+    /// `Memory`.
     #[inline]
     pub(crate) fn copy_back(&self, value: T) -> Result<T, Refusal>
     where

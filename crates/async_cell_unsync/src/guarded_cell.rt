@@ -5,9 +5,9 @@ use crate::{AsyncCell, CellRef};
 use async_cell_calls::Cancel;
 use async_cell_step::OneThread;
 
-/// A guard of a cell. The drop of the guard sets the guard's cancel value if the cell holds no
-/// value, unless the guard was released. Then the guard's pointer to the cell is dropped. If the
-/// guard is an owner, this ends the owner.
+/// A guard of a cell. If the guard is dropped without being released, and the cell then holds no
+/// value, the drop sets the guard's cancel value. In any case the guard's pointer to the cell is
+/// dropped last. If the guard is an owner, this ends the owner.
 #[derive_where(Debug)]
 pub struct GuardedCell<T, C: CellRef<Value = T>> {
     #[derive_where(skip)]
@@ -33,7 +33,7 @@ impl<T: Drop, C: CellRef<Value = T>> GuardedCell<T, C> {
         }
     }
 
-    /// Returns the cell that it guards.
+    /// Returns the cell that this guard guards.
     pub fn cell(&self) -> &AsyncCell<T, C::Rules>
         ensures { (s : ℕ) → C.waits_for self.now.pointer s → s ≡ source_of result.now }
     {

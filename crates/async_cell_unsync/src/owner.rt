@@ -28,8 +28,9 @@ pub struct Owner<T: Drop, N: Free<T, TaskWaker> = Unruled> {
 }
 
 impl<T: Drop, N: Free<T, TaskWaker>> AsyncCell<T, N> {
-    /// Makes the first owner of this cell. Fails with `Memory`, and then gives the cell back. To
-    /// use `?`, call `Owner::new_with` instead, or write `into_shared_or_drop()?.with()`.
+    /// Makes the first owner of this cell. If there is no memory, fails with `Memory` and returns
+    /// the cell in the error. To use `?`, call `Owner::new_with` instead, or write
+    /// `into_shared_or_drop()?.with()`.
     pub fn into_owner(self) -> Result<Owner<T, N>, (Refusal, AsyncCell<T, N>)>
         requires nameless { N.named ≡ None }
         ensures owns { IfOk result (λ owner. cell_owned owner ≡ self) }
@@ -55,9 +56,9 @@ impl<T: Drop> Owner<T> {
         Ok(Shared::shared(alloc)?.with())
     }
 
-    /// Makes a cell that holds a value, and its first owner. Fails with `Memory`, and then drops
-    /// the value. To keep the value in this case, call `AsyncCell::new_with`, and then
-    /// `AsyncCell::into_owner`, which returns the cell if it fails.
+    /// Makes a cell that holds a value, and its first owner. If there is no memory, fails with
+    /// `Memory` and drops the value. To keep the value in this case, call `AsyncCell::new_with`,
+    /// and then `AsyncCell::into_owner`, which returns the cell if it fails.
     pub fn new_with(alloc: Global, value: T) -> Result<Self, Refusal>
         ensures refused { FailsWithMemory result }
     {
@@ -98,7 +99,8 @@ impl<T: Drop, N: Free<T, TaskWaker>> Owner<T, N> {
         Ok(self.shared.another()?.with())
     }
 
-    /// Returns a weak owner. If its pointer cannot be counted, its calls fail with `Memory`.
+    /// Returns a weak owner. If one more pointer to the cell cannot be counted, the weak owner's
+    /// calls fail with `Memory`.
     pub fn downgrade(&self) -> WeakOwner<T, N>
         ensures of_this { NamesAtMost result.weak (cell_owned self.now) }
     {
@@ -114,7 +116,7 @@ impl<T: Drop, N: Free<T, TaskWaker>> Owner<T, N> {
         self.shared.try_into_inner().map_err(|shared| shared.with())
     }
 
-    /// Returns the cell, to call it.
+    /// Returns the cell, so that you can call its methods.
     pub fn cell(&self) -> &AsyncCell<T, N>
         ensures held { result.now ≡ cell_owned self.now }
     {
@@ -130,7 +132,7 @@ impl<T: Drop, N: Free<T, TaskWaker>> Owner<T, N> {
     }
 
     /// As `take`, but the future clones the value and leaves the value in the cell. If the future
-    /// is polled again, it is ready at once.
+    /// is polled again while the cell holds a value, it is ready at once.
     pub fn get(&self) -> With<Get<&AsyncCell<T, N>>>
     where
         T: Clone,
@@ -186,7 +188,8 @@ impl<T: Drop, N: Free<T, TaskWaker>> Owner<T, N> {
         GuardedCell::new(self, cancel)
     }
 
-    /// Returns a guard that is a new owner. Fails as `another` does, and then gives the value back.
+    /// Returns a guard that is a new owner. Fails as `another` does, and then returns `cancel` in
+    /// the error.
     pub fn guard_shared(&self, cancel: T) -> Result<Guard<T, Self>, (Refusal, T)>
         requires rule { N.holds cancel }
         ensures of_this { IfOk result (λ guard. cell_owned guard.pointer ≡ cell_owned self.now) }

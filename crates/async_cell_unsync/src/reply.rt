@@ -18,8 +18,9 @@ use std::alloc::Global;
 use std::mem::ManuallyDrop;
 use std::rc::Rc;
 
-/// The side of a reply slot that replies, once, by `set`. If it is dropped without that, as at `?`
-/// or an early `return`, the slot is closed, and the `Reply` is ready with `Closed`.
+/// The side of a reply slot that replies, once, by `set`. If the `Replier` is dropped without a
+/// `set`, for example by `?` or an early `return`, the slot is closed, and the `Reply` is ready
+/// with `Closed`.
 #[derive_where(Debug)]
 pub struct Replier<T: Drop, N: Unwitnessed<T, TaskWaker> = Unruled> {
     #[derive_where(skip)]
@@ -141,8 +142,8 @@ impl<T: Drop, N: Unwitnessed<T, TaskWaker>> Reply<T, N> {
     }
 
     /// Closes the slot, and returns the value if it was set. So if you call this after a wait with
-    /// a time limit, a reply that came too late is not lost. A value that is set later comes back
-    /// to the `Replier`.
+    /// a time limit, a reply that came too late is not lost. If the value is set later,
+    /// `Replier::set` returns the value in its error.
     pub fn close(self) -> Option<T>
         ensures rule { IfSome result N.holds }
         ensures over { self.cell ≡ None → result ≡ None }

@@ -30,8 +30,8 @@ impl<T: Drop> Shared<T> {
 }
 
 impl<T: Drop, N: Free<T, TaskWaker>> Shared<T, N> {
-    /// Makes the first owner of this cell. Fails with `Memory`, and then returns the cell in the
-    /// error. To use `?`, call `AsyncCell::into_shared_or_drop` instead.
+    /// Makes the first owner of this cell. If there is no memory, fails with `Memory` and returns
+    /// the cell in the error. To use `?`, call `AsyncCell::into_shared_or_drop` instead.
     pub fn into_shared(cell: AsyncCell<T, N>) -> Result<Self, (Refusal, AsyncCell<T, N>)>
         requires nameless { N.named ≡ None }
         ensures owns { IfOk result (λ owner. cell_of owner ≡ cell) }
@@ -46,7 +46,7 @@ impl<T: Drop, N: Free<T, TaskWaker>> Shared<T, N> {
         }
     }
 
-    /// Returns the cell, to call it.
+    /// Returns the cell, to make calls on it.
     pub fn cell(&self) -> &AsyncCell<T, N>
         ensures held { result.now ≡ cell_of self.now }
     {
@@ -88,7 +88,8 @@ impl<T: Drop, N: Free<T, TaskWaker>> Shared<T, N> {
         Ok(Get(self.another()?))
     }
 
-    /// Returns a guard that is a new owner. Fails as `another` does, and then gives the value back.
+    /// Returns a guard that is a new owner. Fails as `another` does, and then returns `cancel` in
+    /// the error.
     pub fn guard_shared(&self, cancel: T) -> Result<GuardedCell<T, Self>, (Refusal, T)>
         requires rule { N.holds cancel }
         ensures of_this { IfOk result (λ guard. cell_of guard.pointer ≡ cell_of self.now) }
@@ -112,8 +113,8 @@ impl<T: Drop, N: Free<T, TaskWaker>> Shared<T, N> {
         self.guard_shared(cancel).map_err(|(why, _)| why)
     }
 
-    /// Returns a weak pointer to the cell. If the pointer cannot be counted, the calls of the
-    /// pointer fail with `Memory`.
+    /// Returns a weak pointer to the cell. If the pointer cannot be counted, because the count of
+    /// the cell's `Rc` is full, calls on the pointer fail with `Memory`.
     pub fn downgrade(&self) -> Weak<T, N>
         ensures of_this { NamesAtMost result (cell_of self.now) }
     {

@@ -21,16 +21,16 @@ use std::alloc::AllocError;
 use std::rc::Rc;
 
 /// The future of a `Take`, a `Get`, a `TakeWeak` or a `GetWeak`. This future holds a place in the
-/// cell's wait list. The `with` of each of these four types makes such a future, as do the calls of
-/// an `Owner` and a `WeakOwner`.
+/// cell's wait list. To make such a future, call `with` on one of these four types, or call a
+/// method such as `take` of an `Owner` or a `WeakOwner`.
 pub type With<P> = async_cell_step::With<P, OneThread>;
 
 /// The stream of the values of a cell. To make the stream, call `values` on the future of a
 /// `TakeWeak`. **Several streams of a cell do not take turns**: one may get every value.
 pub type Values<T, N = Unruled> = async_cell_step::Values<TakeWeak<T, N>, OneThread>;
 
-/// A weak pointer to a cell. It does not count as an owner. `Shared::downgrade` makes one.
-/// `TakeWeak` and `GetWeak` make a future of it. `with` makes it a `WeakOwner`.
+/// A weak pointer to a cell. It does not count as an owner. `Shared::downgrade` makes a `Weak`.
+/// `TakeWeak` and `GetWeak` make a future of a `Weak`. `with` turns a `Weak` into a `WeakOwner`.
 #[derive(Drop)]
 #[derive_where(Debug)]
 pub struct Weak<T, N: Free<T, TaskWaker> = Unruled> {
@@ -57,7 +57,8 @@ impl<T: Drop, N: Free<T, TaskWaker>> Weak<T, N> {
         Ok(found.as_ref())
     }
 
-    /// Returns a pointer to the same cell, or to none if it cannot be counted.
+    /// Returns another pointer to the same cell. If the new pointer cannot be counted, it points to
+    /// no cell.
     pub(crate) fn again(&self) -> Self
         ensures of_this { NameAtMostTheSame self.now result }
     {
@@ -73,7 +74,7 @@ impl<T: Drop, N: Free<T, TaskWaker>> Weak<T, N> {
     }
 
     /// Returns whether the last owner has ended, so that no owner can be made. Fails with `Memory`
-    /// if the pointer could not be counted.
+    /// if this weak pointer could not be counted when it was made.
     pub fn is_closed(&self) -> Result<bool, Refusal>
         ensures lost { IsLost self.now → result ≡ Err Refusal.Memory }
         ensures refused { FailsWithMemory result }
@@ -81,8 +82,9 @@ impl<T: Drop, N: Free<T, TaskWaker>> Weak<T, N> {
         Ok(self.cell()?.is_closed())
     }
 
-    /// Makes an owner. Fails with `Memory` if the pointer cannot be counted: this is checked first.
-    /// Returns `None` if the cell is closed. Fails with `OwnersFull` at 4,294,967,295 owners.
+    /// Makes an owner. Fails with `Memory` if the count of the cell's `Rc` is full, or if this weak
+    /// pointer could not be counted when it was made. These two causes are checked first. Returns
+    /// `None` if the cell is closed. Fails with `OwnersFull` at 4,294,967,295 owners.
     pub fn upgrade(&self) -> Result<Option<Shared<T, N>>, Refusal>
         ensures of_this { IfOk result (λ found. IfSome found (OwnsNamed self.now)) }
         ensures lost { IsLost self.now → result ≡ Err Refusal.Memory }
@@ -118,8 +120,9 @@ pub struct WeakOwner<T, N: Free<T, TaskWaker> = Unruled> {
 }
 
 impl<T: Drop, N: Free<T, TaskWaker>> WeakOwner<T, N> {
-    /// Makes an owner. Fails with `Memory` if the pointer cannot be counted: this is checked first.
-    /// Returns `None` if the cell is closed. Fails with `OwnersFull` at 4,294,967,295 owners.
+    /// Makes an owner. Fails with `Memory` if the count of the cell's `Rc` is full, or if this weak
+    /// pointer could not be counted when it was made. These two causes are checked first. Returns
+    /// `None` if the cell is closed. Fails with `OwnersFull` at 4,294,967,295 owners.
     pub fn upgrade(&self) -> Result<Option<Owner<T, N>>, Refusal>
         ensures of_this { IfOk result (λ found. IfSome found (λ owner.
             Names self.now.weak (cell_owned owner))) }
@@ -130,7 +133,7 @@ impl<T: Drop, N: Free<T, TaskWaker>> WeakOwner<T, N> {
     }
 
     /// Returns whether the last owner has ended, so that no owner can be made. Fails with `Memory`
-    /// if the pointer could not be counted.
+    /// if this weak pointer could not be counted when it was made.
     pub fn is_closed(&self) -> Result<bool, Refusal>
         ensures lost { IsLost self.now.weak → result ≡ Err Refusal.Memory }
         ensures refused { FailsWithMemory result }
@@ -139,7 +142,8 @@ impl<T: Drop, N: Free<T, TaskWaker>> WeakOwner<T, N> {
     }
 
     /// Returns a future that takes the value and is no owner. The future gives `None` once the last
-    /// owner has ended. If the pointer cannot be counted, the future fails with `Memory`.
+    /// owner has ended. The future fails with `Memory` if it got no pointer to the cell, because
+    /// the count of the cell's `Rc` was full.
     pub fn take(&self) -> With<TakeWeak<T, N>>
         ensures of_this { NameAtMostTheSame self.now.weak result.polled.0 }
     {
@@ -165,9 +169,9 @@ impl<T: Drop, N: Free<T, TaskWaker>> Clone for WeakOwner<T, N> {
     }
 }
 
-/// A future that takes the value of a cell and is no owner of it. It may be polled again once
-/// ready. **Each poll that waits adds a waker.** The future that `with` makes, in contrast, has
-/// only one waker in the cell (see `Take`).
+/// A future that takes the value of a cell. The future is not an owner of the cell. It may be
+/// polled again once ready. **Each poll that waits adds a waker.** The future that `with` makes, in
+/// contrast, has only one waker in the cell (see `Take`).
 #[derive(Drop)]
 #[derive_where(Clone; T: Drop)]
 #[derive_where(Debug)]
@@ -260,9 +264,9 @@ impl<T: Drop, N: Free<T, TaskWaker>> Future for TakeWeak<T, N> {
     }
 }
 
-/// A future that clones the value of a cell and is no owner of it. It may be polled again once
-/// ready. **Each poll that waits adds a waker.** The future that `with` makes, in contrast, has
-/// only one waker in the cell (see `Take`).
+/// A future that clones the value of a cell. The future is not an owner of the cell. It may be
+/// polled again once ready. **Each poll that waits adds a waker.** The future that `with` makes, in
+/// contrast, has only one waker in the cell (see `Take`).
 #[derive(Drop)]
 #[derive_where(Clone; T: Drop)]
 #[derive_where(Debug)]

@@ -32,7 +32,7 @@ impl Model for TaskWaker {
 }
 
 impl TaskWaker {
-    /// Wraps the waker of a future, to be stored in its place.
+    /// Wraps the waker of a future, so that a place of the wait list can store the waker.
     pub fn of(waker: Waker) -> TaskWaker {
         TaskWaker {
             waker: Some(waker),
@@ -40,7 +40,8 @@ impl TaskWaker {
         }
     }
 
-    /// Marks the place of this waker as free, before the free place of this number.
+    /// Marks the place of this waker as free. `next` is the number of the next free place, or 0 if
+    /// there is none.
     pub(crate) fn leave_before(&self, next: usize) {
         self.link.set(FREE.saturating_add(next));
     }

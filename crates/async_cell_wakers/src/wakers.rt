@@ -11,7 +11,7 @@ use std::{fmt, vec};
 #[derive(Drop)]
 pub struct Wakers<W> {
     pub(crate) first: Option<W>,
-    /// The wakers after the first: `None` if the list had no memory for any.
+    /// The wakers after the first. `None` if the list had not allocated memory for such wakers.
     pub(crate) rest: Option<vec::IntoIter<W>>,
 }
 

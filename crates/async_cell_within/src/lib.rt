@@ -17,14 +17,15 @@ use std::time::{Clock, Duration, Instant};
 /// has passed. The caller keeps the future: after a `None` or an error it may be waited for again.
 ///
 /// The future is polled at once, and again after it is woken. It is polled once more when the limit
-/// has passed, so an output that is there by then is returned. A wait is never shorter than its
-/// limit. A poll that takes long is not cut off.
+/// has passed, so an output that is there by then is returned. `None` is never returned before the
+/// limit has passed. A poll that takes long is not cut off.
 ///
-/// The thread naps and looks whether the future was woken. A nap takes a sixteenth of the time that
-/// the wait took so far, but at least 50 microseconds and at most 5 milliseconds. A wake is noticed
-/// at most one nap late. `block_on`, which has no limit, sleeps until it is woken.
+/// Between polls the thread naps. After each nap it checks whether the future was woken. A nap
+/// takes a sixteenth of the time that the wait took so far, but at least 50 microseconds and at
+/// most 5 milliseconds. A wake is noticed at most one nap late. `block_on`, which has no limit,
+/// sleeps until it is woken.
 ///
-/// Fails if there is no memory, no random name for the task that polls, or no clock.
+/// Fails if there is no memory, no random number to identify the task that polls, or no clock.
 ///
 /// ```rust
 /// let limit = Duration::from_millis(9);

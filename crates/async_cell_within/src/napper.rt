@@ -25,7 +25,8 @@ pub struct Napper {
 }
 
 impl Napper {
-    /// Fails if there is no memory, or no random name for the task.
+    /// Makes a `Napper`, which is one task. Fails if there is no memory, or no random number to
+    /// identify the task.
     pub fn new<R>(rt: &R) -> io::Result<Napper>
     where
         R: RandomSource + AllocGlobal,

@@ -7,7 +7,8 @@ ghost use Rattle.cellrun.specs.declared.command.Command.{Command};
 /// The greatest number of bytes in a line, not counting its line feed.
 pub const MAX_LINE: usize = 64;
 
-/// One call on the cell. The program's usage has the line of each, and what it prints.
+/// One call on the cell. The program's usage text lists the input line of each call, and what the
+/// call prints.
 #[derive(Clone, Copy, Debug, PartialEq, Eq)]
 pub enum Command {
     Set(i64),

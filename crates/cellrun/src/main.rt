@@ -1,4 +1,5 @@
-//! Steps one cell by the calls on standard input, one a line, and prints the result of each call.
+//! Reads calls from standard input, one per line. Makes the calls on one cell, and prints the
+//! result of each call.
 #![tactic(auto)]
 
 mod command;

@@ -16,7 +16,8 @@ const ROOM: usize = 8_192;
 pub enum Ended {
     /// At the end of its input.
     Done,
-    /// At the line of this number, counted from 1, which is neither empty nor a call.
+    /// At a line that is neither empty nor a call. The `u64` is the number of this line, counted
+    /// from 1.
     BadLine(u64),
     /// Because a read or a write failed, or there was no memory.
     Failed,
@@ -25,11 +26,12 @@ pub enum Ended {
 /// Makes the calls in the lines of `input` on a new cell, writes the result of each to `output`,
 /// and returns `output`. All output is written before more input is read.
 ///
-/// The contract is about readers whose bytes contracts know, such as a slice. It promises nothing
-/// for any other reader, such as standard input. If contracts also know the bytes of the writer, as
-/// they do for a `Vec`, the writer gets the text of the calls before the end or the bad line, as
-/// the model defines it. If the script failed, it gets a prefix of the text of some first lines.
-/// `debug` leaves the cell as it was. The contract does not say what it prints.
+/// The contract covers readers whose bytes are known to contracts, such as a slice. It promises
+/// nothing for any other reader, such as standard input. If the bytes of the writer are also known
+/// to contracts, as for a `Vec`, the writer gets the text of all calls before the end of the input
+/// or the bad line. The model defines this text. If the script failed, the writer gets a prefix of
+/// the text of the first `n` lines, for some `n`. `debug` leaves the cell as it was. The contract
+/// does not say what `debug` prints.
 #[tactic(auto, using(crate::proofs::Written::owes_nothing, crate::proofs::Written::owes_kept))]
 pub fn script<R: Read + Drop, W: Write + Drop>(alloc: Global, input: R, output: W) -> (Ended, W)
     ensures { Owes (R.remaining input) (W.contents output) (W.contents result.1) result.0 }

@@ -1,4 +1,4 @@
-//! The cell that a script steps, and what its calls print.
+//! The cell that a script calls, and what the calls print.
 ghost use Rattle.std.specs.Prelude.{◌≡◌, ◌++◌, [], true, false, OnOk, Option, Some, None, codes, decimal};
 ghost use Rattle.std.specs.{BTreeSet.contains, Ordering.nat_cmp};
 ghost use Rattle.async_cell_model.specs.{Machine.Does, Machine.skips, Machine.waker_of};
@@ -13,8 +13,8 @@ use std::alloc::{AllocError, Global};
 use std::collections::BTreeSet;
 use std::io::Write;
 
-/// The cell of a script, and the names that wait. A poll by a name that is not among these need not
-/// compare it with each.
+/// The cell of a script, and the names that wait. If the name of a poll is not among these names,
+/// the poll need not compare its name with the name of each waiting waker.
 #[derive(Drop)]
 pub struct Session {
     core: Core<i64, Named>,
@@ -66,7 +66,7 @@ impl Session {
         }
     }
 
-    /// Makes a poll by this name.
+    /// Makes the poll `command`, whose waker has the name `name`.
     #[tactic(auto, using(crate::proofs::Calls::known_after))]
     fn poll(&mut self, name: u64, command: Command) -> Answer<i64, Named>
         requires { waker_of (kept_call self.old.core.cell command) ≡ Some (record { 0 = name }) }

@@ -1,4 +1,4 @@
-//! The permits of a count.
+//! `Count`, which counts the permits that are given out, and `Permit`, one of these permits.
 ghost use Rattle.std.specs.Prelude.{◌≡◌, ℕ, ◌+◌, ◌-◌, ◌<◌, Option, None, IsSome};
 ghost use base.Fraction.{full_share};
 ghost use denote.Sharing.{one};
@@ -6,9 +6,10 @@ ghost use Rattle.ghost_count.specs.Owned.{count_owns, permit_owns};
 
 use std::marker::{Model, PhantomData};
 
-/// The number of permits of its name that are given out, with the right to give one and to take one
-/// back. A count without a name is only the number, and no permit shows anything of it. Keep a
-/// count where one thread at a time has it.
+/// The number of permits that are given out under the name of this count, together with the right
+/// to give a permit and to take a permit back. A count without a name is only a number: no permit
+/// proves anything about that number. Keep a count where only one thread at a time has access to
+/// it.
 #[derive(Drop)]
 pub struct Count {
     marker: PhantomData<()>,
@@ -20,8 +21,8 @@ impl Model for Count {
     ghost also_owns = { λ c. count_owns c.name c.out };
 }
 
-/// One of the permits that the count of its name has given out. It can be neither dropped nor
-/// copied. It may be sent to another thread, and shared.
+/// One of the permits that were given out by the count with the same name. It can be neither
+/// dropped nor copied. It may be sent to another thread, and shared.
 pub struct Permit {
     marker: PhantomData<()>,
     pub ghost name: { Option ℕ },
@@ -45,7 +46,7 @@ impl Count {
         }
     }
 
-    /// A count of `out` permits, without a name.
+    /// Makes a count that has no name. Its number of permits is `out`.
     pub fn blind(out: u32) -> Count
         ensures nameless { result.name ≡ None }
         ensures all { result.out ≡ out }
@@ -77,8 +78,8 @@ impl Count {
         let Permit { marker: _ } = permit;
     }
 
-    /// Does nothing. Its contract states that a permit of this name has been given out: `permit` is
-    /// one.
+    /// Does nothing. Its contract states that at least one permit of the count's name is given out,
+    /// since `permit` is such a permit.
     pub fn shows(&mut self, permit: &Permit)
         requires of_this { permit.now.name ≡ self.old.name }
         ensures stays { self.new ≡ self.old }
@@ -92,7 +93,7 @@ impl Permit {
         let Permit { marker: _ } = self;
     }
 
-    /// A permit without a name, which shows nothing.
+    /// Makes a permit without a name. Such a permit proves nothing about any count.
     pub fn blind() -> Permit
         ensures nameless { result.name ≡ None }
     {

@@ -8,8 +8,8 @@ ghost use Rattle.ghost_log.specs.Owned.{log_owns, seen_owns};
 
 use std::marker::{Model, PhantomData};
 
-/// Says which entry is made of an `X`, for example of what a call was passed and returned. Only
-/// contracts read it.
+/// Says which entry is made from an `X`. An `X` may be, for example, the arguments of a call and
+/// its result. Only contracts read it.
 pub trait Makes<X, E> {
     ghost entry: { X → E };
 }
@@ -28,8 +28,8 @@ impl<E> Model for Log<E> {
     ghost also_shares = { λ l _. one (log_owns E.row.coded.code l.name l.list) };
 }
 
-/// Knows how the list of this name begins. That stays true, as the list only grows. It can be
-/// copied by `again`, and sent to another thread.
+/// A token that knows how the list with its name begins. What the token knows stays true, as the
+/// list only grows. The token can be copied by `again`, and sent to another thread.
 pub struct Seen<E> {
     marker: PhantomData<E>,
     pub ghost name: { ℕ },
@@ -52,7 +52,7 @@ impl<E> Log<E> {
         }
     }
 
-    /// Adds an entry at the end: the one that `M` makes of `about`.
+    /// Adds an entry at the end of the list. `M` says which entry is made from `about`.
     pub fn push<X, M: Makes<X, E>>(&mut self, about: &X)
         ensures of_this { self.new.name ≡ self.old.name }
         ensures pushed { self.new.list ≡ self.old.list ++ M.entry about.now ∷ [] }
@@ -70,8 +70,8 @@ impl<E> Log<E> {
 }
 
 impl<E> Seen<E> {
-    /// Makes this the knowledge of the whole list, as it is now. What it knew before is a beginning
-    /// of that.
+    /// Makes this `Seen` know the whole list, as the list is now. What this `Seen` knew before is a
+    /// beginning of the list.
     pub fn learn(&mut self, log: &Log<E>)
         requires of_this { self.old.name ≡ log.now.name }
         ensures of_this { self.new.name ≡ self.old.name }
@@ -88,7 +88,8 @@ impl<E> Seen<E> {
         }
     }
 
-    /// Returns the longer of two beginnings of one list. The shorter one is a beginning of it.
+    /// Returns the longer of two prefixes of the same list. The shorter prefix is a prefix of the
+    /// longer one.
     pub fn longer(&self, other: &Seen<E>) -> Seen<E>
         requires of_this { other.now.name ≡ self.now.name }
         ensures of_this { result.name ≡ self.now.name }

@@ -1,5 +1,6 @@
 //! Calls for the crates that build on this one. They include the fast paths of a write and of an
-//! owner's end. There at most one waker waits: it is returned by itself, and no list is made.
+//! owner's end. On these fast paths at most one waker waits. The call returns this waker, if there
+//! is one, and makes no list.
 ghost use Rattle.std.specs.Prelude.{◌≡◌, ◌↔◌, ◌-◌, [], None, true, false, Ok, Some, IsOk, IfSome, IfNone, IfOk, IfErr, OnOk, OnErr};
 ghost use Rattle.async_cell_model.specs.Machine.{content, is_full, is_vacant, owners_of, IsSound};
 ghost use Rattle.async_cell_wakers.specs.WaitList.{first_then};
@@ -12,8 +13,8 @@ use futures::task::Poll;
 use std::mem;
 
 impl<T: Drop, W: Wakes> Core<T, W> {
-    /// Replaces the value of a cell that holds one, on which nobody waits. Returns the old value.
-    /// If there is none, returns `value` in the error and changes nothing.
+    /// Replaces the value of a full cell. Nobody waits on a full cell. Returns the old value. If
+    /// the cell is not full, returns `value` in the error and changes nothing.
     #[doc(hidden)]
     #[inline(always)]
     pub fn overwrite(&mut self, value: T) -> Result<T, T>
@@ -30,7 +31,7 @@ impl<T: Drop, W: Wakes> Core<T, W> {
         }
     }
 
-    /// As `replace`, but only for a vacant cell on which nobody waits, and whose list has no
+    /// As `replace`, but only for a vacant cell whose wait list has no waker and has allocated no
     /// memory. On other cells it changes nothing, and returns `value` in the error.
     #[doc(hidden)]
     #[inline(always)]
@@ -47,9 +48,9 @@ impl<T: Drop, W: Wakes> Core<T, W> {
         Ok(())
     }
 
-    /// As `replace`, but only for a vacant cell whose list has no memory for more than one waker.
-    /// Returns that waker, if one waits, to be woken by the caller. On other cells it changes
-    /// nothing, and returns `value` in the error.
+    /// As `replace`, but only for a vacant cell whose wait list has allocated no memory, and so has
+    /// at most one waker. Returns this waker, if there is one. The caller must wake it. On other
+    /// cells it changes nothing, and returns `value` in the error.
     #[doc(hidden)]
     #[inline(always)]
     pub fn fill_first(&mut self, value: T) -> Result<Option<W>, T>
@@ -72,9 +73,9 @@ impl<T: Drop, W: Wakes> Core<T, W> {
         Ok(first)
     }
 
-    /// As `end_owner`, but only for the last owner of a cell whose list has no memory for more than
-    /// one waker. Returns the value and that waker, if one waits, to be woken by the caller. In
-    /// other cases it changes nothing, and returns `None`.
+    /// As `end_owner`, but only if the owner is the last one, and the wait list has no memory for
+    /// more than one waker. Returns the value, and the only waiting waker if there is one, to be
+    /// woken by the caller. In other cases changes nothing, and returns `None`.
     #[doc(hidden)]
     #[inline(always)]
     pub fn close_first(&mut self) -> Option<(Option<T>, Option<W>)>
@@ -96,8 +97,8 @@ impl<T: Drop, W: Wakes> Core<T, W> {
         Some((self.value.take(), first))
     }
 
-    /// Ends an owner that is not the last. Nobody is woken, and nothing comes out. Returns `false`
-    /// if it is the last, and then changes nothing.
+    /// Ends an owner that is not the last. Wakes nobody, and leaves the value in the cell. If there
+    /// is no other owner, changes nothing and returns `false`.
     #[doc(hidden)]
     #[inline(always)]
     pub fn end_other(&mut self) -> bool
@@ -114,8 +115,7 @@ impl<T: Drop, W: Wakes> Core<T, W> {
         true
     }
 
-    /// Returns whether no task would be woken if all waiting wakers were (see
-    /// `Wakes::wakes_nobody`).
+    /// Returns whether waking all waiting wakers would wake no task (see `Wakes::wakes_nobody`).
     #[doc(hidden)]
     pub fn wakes_nobody(&self) -> bool {
         self.waiting.wakes_nobody()

@@ -11,8 +11,8 @@ use futures::task::Waker;
 
 impl<T: Drop, W: Wakes> Core<T, W> {
     /// Adds a waker at the end of the list, by value, for a poll that has to wait. The cell must be
-    /// vacant. No waker of this type may wake another one, so it is never skipped. If there is no
-    /// memory to grow the list, the waker is returned in the error.
+    /// vacant. `will_wake` must be `false` for any two wakers of this type, so the new waker is
+    /// never skipped. If there is no memory to grow the list, the waker is returned in the error.
     #[doc(hidden)]
     #[tactic(auto, using(async_cell_model::proofs::OneMoreWaker::keep_added, async_cell_model::proofs::OneMoreWaker::never_skipped))]
     pub fn add(&mut self, waker: W) -> Result<(), W>

@@ -42,7 +42,7 @@ impl<T: Drop, W: Wakes> Core<T, W> {
 
     /// Makes room for `additional` more wakers. Until a fill or a close gives up the room, adding
     /// these wakers needs memory only for the clones of the wakers. Fails with `Memory` if there is
-    /// no memory for so many. Does nothing if the cell is closed.
+    /// no memory for this room. Does nothing if the cell is closed.
     pub fn reserve(&mut self, additional: usize) -> Result<(), Refusal>
         ensures cell_stays { self.new.cell ≡ self.old.cell }
         ensures waiting_stay { self.new.waiting ≡ self.old.waiting }
@@ -91,9 +91,9 @@ impl<T: Drop, W: Wakes> Core<T, W> {
     }
 
     /// Registers a waker for a poll that has to wait: adds a clone of it at the end of the list.
-    /// The cell must be vacant, and no waiting waker may be one that would wake it. So the waiting
-    /// wakers are not compared, and the time does not grow with their number. Fails with `Memory`
-    /// if there is no memory for the clone or to grow the list.
+    /// The cell must be vacant. The list must hold no waker that would wake the same task as this
+    /// waker. So the waiting wakers are not compared, and the time does not grow with their number.
+    /// Fails with `Memory` if there is no memory for the clone or to grow the list.
     #[doc(hidden)]
     #[tactic(auto, using(async_cell_model::proofs::WaitingPoll::get_added, async_cell_model::proofs::WaitingPoll::get_refused, async_cell_model::proofs::WaitingPoll::take_added, async_cell_model::proofs::WaitingPoll::take_refused))]
     pub fn add_unique(&mut self, waker: &W) -> Result<(), Refusal>

@@ -10,7 +10,7 @@ use crate::{Driver, Edit, Event, Named, Refusal, Reply, Told};
 use async_cell_core::{Answer, Core, Wakers};
 
 impl<T: Clone> Driver<T> {
-    /// Makes the call of an event, and wakes the tasks whose names the core returns.
+    /// Makes the call that `event` stands for, and wakes the tasks whose names the core returns.
     #[tactic(auto, using(crate::proofs::TaskList::results_woken))]
     pub(super) fn call<E: Edit<T> + Drop>(&mut self, event: Event<T, E>) -> Reply<T>
         requires { is_call event ≡ true }
@@ -100,8 +100,9 @@ impl<T: Clone> Driver<T> {
         }
     }
 
-    /// Stores what the edit makes of the content. If that puts a value into an empty cell, every
-    /// waiting task is then ready. Fails with `Closed` on a closed cell, without calling the edit.
+    /// Calls the edit with the content, and stores what the edit returns. If that puts a value into
+    /// an empty cell, every waiting task is then ready. Fails with `Closed` on a closed cell,
+    /// without calling the edit.
     pub fn update<E: Edit<T> + Drop>(&mut self, edit: E) -> Result<(), Refusal>
         ensures done { OnOk result
             (Happens T.is_clone self.old (Event.Update (E.edit edit))

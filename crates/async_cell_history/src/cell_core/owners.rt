@@ -1,5 +1,5 @@
-//! The calls that add and end owners. One that adds an owner gives its permit. One that ends an
-//! owner takes its permit.
+//! The calls that add and end owners. A call that adds an owner gives the owner's permit. A call
+//! that ends an owner takes the owner's permit.
 ghost use Rattle.std.specs.Prelude.{◌≡◌, ◌⊎◌, [], None, IfErr, IfOk, IfSome, OnOk};
 ghost use Rattle.async_cell_model.specs.Refusal.{FailsWithClosed};
 ghost use Rattle.async_cell_wakers.specs.WaitList.{first_then};
@@ -31,8 +31,8 @@ impl<T: Drop, W: Wakes, N: Protocol<T, W>> CellCore<T, W, N> {
         }
     }
 
-    /// Ends an owner that is not the last. If it is the last, changes nothing, and returns the
-    /// `permit` that it was called with.
+    /// Ends an owner that is not the last. If the owner is the last one, changes nothing, and
+    /// returns `permit` in the error.
     #[inline(always)]
     pub fn end_other(&mut self, permit: OwnerPermit<T, W, N>) -> Result<(), OwnerPermit<T, W, N>>
         ensures made { OnOk result (Made W.will_wake W.SURE_CLONE self.old
@@ -49,7 +49,7 @@ impl<T: Drop, W: Wakes, N: Protocol<T, W>> CellCore<T, W, N> {
     }
 
     /// Ends the last owner of a cell on which at most one waker waits. In other cases changes
-    /// nothing, and returns the `permit` that it was called with.
+    /// nothing, and returns `permit` in the error.
     #[inline(always)]
     pub fn close_first(
         &mut self,

@@ -29,8 +29,8 @@ impl<T: Drop, W: Wakes, N: Protocol<T, W>> CellCore<T, W, N> {
         Deferred::of(written)
     }
 
-    /// Fills a vacant cell on which at most one waker waits. Fails on other cells, and then returns
-    /// the value in the error.
+    /// Fills a vacant cell whose wait list has allocated no memory, and so has at most one waker.
+    /// Fails on other cells, and then returns the value in the error.
     #[inline(always)]
     pub fn fill_first(&mut self, value: T) -> Result<Deferred<(), Option<W>>, Deferred<T>>
         requires may { N.may (Kept.Replace value) }

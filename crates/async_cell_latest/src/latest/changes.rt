@@ -57,9 +57,10 @@ impl<T: Drop, W: Wakes> Latest<T, W> {
         Ok((answer, self.waiting.hand_out()))
     }
 
-    /// As `modify`, if the closure returns `true`. If it returns `false`, this is no write: the
-    /// version and the wait list stay as they are, and the answer is `None`. A closure that returns
-    /// `false` should leave the value as it was: a change would stay, but wake nobody.
+    /// As `modify`, if the closure returns `true`. If the closure returns `false`, the call counts
+    /// as no write: the version and the wait list stay as they are, and the call returns
+    /// `Ok(None)`. A closure that returns `false` should leave the value as it was: if such a
+    /// closure changes the value, the change stays, but nobody is woken.
     pub fn modify_if<F: FnOnce(&mut T) -> bool + Drop>(
         &mut self,
         change: F,

@@ -1,4 +1,4 @@
-//! The places of waiting futures.
+//! The places that waiting futures have in the wait list.
 ghost use Rattle.std.specs.Prelude.{◌≡◌, ◌<◌, ◌≤◌, ◌-◌, [], ◌∷◌, ◌++◌, true, false, IsOk, IfOk, IfNone, OnOk, OnErr, MatchOption};
 ghost use Rattle.async_cell_wakers.specs.Place.{displaced};
 ghost use Rattle.async_cell_latest.specs.State.{Stays, is_closed};
@@ -10,8 +10,8 @@ use async_cell_wakers::{Place, TaskWaker, Wakes};
 use futures::task::Waker;
 
 impl<T: Drop> Latest<T, TaskWaker> {
-    /// Returns whether the list must grow for a future with this place: it holds no place, and none
-    /// is free.
+    /// Returns whether the list must grow for the future that `place` belongs to. This is so if the
+    /// future holds no place in the list, and no place is free.
     #[doc(hidden)]
     #[inline(always)]
     pub fn is_new(&self, place: &Place) -> bool {
@@ -40,8 +40,9 @@ impl<T: Drop> Latest<T, TaskWaker> {
         self.waiting.store_new(place, waker)
     }
 
-    /// Takes the waker out of this place. If there is none, takes over a free place, and takes its
-    /// waker out: this one may be another task's. Returns `None` if no place is free.
+    /// Takes the waker out of this place. If the future holds no place in the list, takes over a
+    /// free place, and takes out the waker that is there. That waker may be another task's. Returns
+    /// `None` if no place is free.
     #[doc(hidden)]
     #[inline(always)]
     pub fn take_back(&mut self, place: &mut Place) -> Option<Waker>
@@ -50,9 +51,10 @@ impl<T: Drop> Latest<T, TaskWaker> {
         self.waiting.take_back(place)
     }
 
-    /// Stores a waker in this place. If there is none, takes over a free place, or adds one at the
-    /// end of the list. The state must be open. Returns the waker that was there, if any: its drop
-    /// wakes its task. If there is no memory to grow the list, the waker is returned in the error.
+    /// Stores a waker in this place. If the future holds no place in the list, takes over a free
+    /// place. If no place is free, adds one at the end of the list. The state must be open. Returns
+    /// the waker that was there, if any. Dropping the returned waker wakes its task. If there is no
+    /// memory to grow the list, the new waker is returned in the error.
     #[doc(hidden)]
     #[inline(always)]
     #[tactic(auto, using(async_cell_model::proofs::OneMoreWaker::keep_added, async_cell_model::proofs::OneMoreWaker::never_skipped, crate::proofs::JoinedHistories::added))]
@@ -78,9 +80,9 @@ impl<T: Drop> Latest<T, TaskWaker> {
         self.waiting.store(place, waker)
     }
 
-    /// Gives up the place, which is free from then on. Its waker stays in it: dropping the waker
-    /// would wake the task. Returns the index of the place, or `None` if the place was already
-    /// given up.
+    /// Gives up the place, which is free from then on. The waker stays in the place, because
+    /// dropping the waker would wake the task. Returns the index of the place, or `None` if the
+    /// place was already given up.
     #[doc(hidden)]
     pub fn vacate(&mut self, place: Place) -> Option<usize>
         ensures unchanged { self.new ≡ self.old }

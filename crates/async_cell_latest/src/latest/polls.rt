@@ -21,8 +21,9 @@ impl<T: Drop, W: Wakes> Latest<T, W> {
     }
 
     /// Returns what a poll would tell a follower that has seen the version `seen`:
-    /// `Ready(Some(version))` if the state has another version, `Ready(None)` if it has this one
-    /// and is closed, and `Pending` if a poll would wait. Registers nothing.
+    /// `Ready(Some(version))` if the state's version differs from `seen`, `Ready(None)` if the
+    /// version equals `seen` and the state is closed, and `Pending` if a poll would wait. Registers
+    /// nothing.
     pub fn changed_since(&self, seen: u64) -> Poll<Option<u64>>
         ensures model { (w : W) → is_waited_for self.now seen ≡ false → IsStep W.Wakes self.now
             (PollChanged seen w) (changed_answer self.now.value (Ok result)) self.now }
@@ -41,7 +42,7 @@ impl<T: Drop, W: Wakes> Latest<T, W> {
         Poll::Pending
     }
 
-    /// Polls for another version than `seen`, and returns it. The value can then be read. If the
+    /// Polls for a version other than `seen`, and returns it. The value can then be read. If the
     /// state is open and has no other version, returns `Pending` and registers the waker: a clone
     /// of the waker is added at the end of the wait list, unless the waker is skipped (see
     /// `WaitList::skips`). Returns `Ready(None)` if the state has no other version and is closed.

@@ -1,4 +1,4 @@
-//! The writers of a state, and its end.
+//! The calls that add, end and count the writers of a state, and the call that consumes the state.
 ghost use Rattle.std.specs.Prelude.{◌≡◌, ◌↔◌, [], ◌+◌, ◌-◌, Err, true, false, IsOk, IfOk, OnOk, OnErr};
 ghost use Rattle.async_cell_latest.specs.State.{Stays, is_closed, writers_limit};
 ghost use Rattle.async_cell_latest.specs.Step.{AddWriter, EndWriter};
@@ -27,8 +27,9 @@ impl<T: Drop, W: Wakes> Latest<T, W> {
         Ok(())
     }
 
-    /// Ends one writer. The last one closes the state and returns all waiting wakers, to be woken
-    /// by the caller; the value and its version stay. Fails with `Closed` if the state is closed.
+    /// Ends one writer. The end of the last writer closes the state, and returns all waiting
+    /// wakers, to be woken by the caller. The value and its version stay. Fails with `Closed` if
+    /// the state is closed.
     pub fn end_writer(&mut self) -> Result<Wakers<W>, Refusal>
         ensures model { IsStep W.Wakes self.old EndWriter (end_answer result) self.new }
 

@@ -1,5 +1,6 @@
-//! The calls that a step may make of a state. Only this module sees the state: each function makes
-//! one call of it, and holds what comes out. So no other text can wake or drop that during a step.
+//! The calls that a step may make of a state. Only this module can access the state. Each function
+//! makes one call of the state, and holds what the call returns. So no other code can wake a
+//! returned waker or drop a returned value during a step.
 ghost use Rattle.std.specs.Prelude.{◌≡◌, List, [], ◌∷◌, ◌++◌, Bool, true, false, None, Some, Ok, IsOk, IfOk, IfErr, IsSome, OnOk, OnErr};
 ghost use Rattle.std.specs.Fn.{FnOnceReturnsAt, FnOnceReturnsAtMut};
 ghost use Rattle.async_cell_model.specs.Refusal.{FailsWithClosed, FailsWithMemory, IsOwnerRefusal};
@@ -36,7 +37,7 @@ impl<T, N: Protocol<T>> Model for LatestCore<T, N> {
 }
 
 impl<T: Drop, N: Protocol<T>> LatestCore<T, N> {
-    /// Makes a state of this value, and of one writer, whose list this begins.
+    /// Makes a state with this value and one writer, and begins the list of the state's values.
     pub(crate) fn begin(alloc: Global, value: T, blank: Blank<T>) -> Self
         requires named { Fits N.named blank }
         requires may { N.may [] value }
@@ -47,7 +48,8 @@ impl<T: Drop, N: Protocol<T>> LatestCore<T, N> {
         LatestCore { state, values }
     }
 
-    /// Makes a witness of the whole life.
+    /// Makes a witness that has seen the whole life of the state: the state's values so far, and
+    /// whether the state is closed.
     pub(crate) fn witness(&self) -> Witness<T, N>
         requires { IsSome N.named }
         ensures { result ≡ self.now.life }
@@ -55,7 +57,7 @@ impl<T: Drop, N: Protocol<T>> LatestCore<T, N> {
         Witness::of(&self.values, self.state.version())
     }
 
-    /// Lets a witness see the whole life, which is that of the state.
+    /// Lets a witness see the whole life. By `of_state`, this life is the life of the state.
     #[inline(always)]
     pub(crate) fn show_to(&self, witness: &mut Witness<T, N>)
         ensures whole { witness.new ≡ self.now.life }
@@ -145,7 +147,7 @@ impl<T: Drop, N: Protocol<T>> LatestCore<T, N> {
         }
     }
 
-    /// Not of a state with a name: a closure that returned `false` may have changed the value.
+    /// Only for a state without a name: a closure that returned `false` may have changed the value.
     pub(crate) fn modify_if<F: FnOnce(&mut T) -> bool + Drop>(
         &mut self,
         change: F,

@@ -1,5 +1,5 @@
 //! The laws of exact histories, in which each reply is the model's own: values need no `Clone`.
-//! Each law has the name of one in `laws`, and says the same of exact histories.
+//! Each law here has the same name as a law in `laws`, and says the same about exact histories.
 ghost use Rattle.std.specs.Prelude.{◌≡◌, ◌<◌, ◌++◌, ◌∷◌, [], List, Bool, Some, true, false, option_to_list, if◌then◌else◌};
 ghost use Rattle.async_cell_model.specs.declared.entry.Entry.{Entry};
 ghost use Rattle.async_cell_model.specs.declared.entry.Kept.{Kept};

@@ -11,8 +11,8 @@ use futures::task::Waker;
 use std::mem;
 
 impl WaitList<TaskWaker> {
-    /// Returns whether the list must grow for a future with this place. This is so if the future
-    /// holds no place in the list, and no place is free.
+    /// Returns whether the list must grow before it can store the waker of the future that has this
+    /// `Place`. The list must grow if this future holds no place in the list, and no place is free.
     #[inline(always)]
     pub fn is_new(&self, place: &Place) -> bool
         ensures { Holds self.now place.now → result ≡ false }
