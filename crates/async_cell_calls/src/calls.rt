@@ -180,8 +180,8 @@ impl<M: Stores<Core = CellCore<T, W, N>>, T: Drop, W: Wakes, N: Protocol<T, W>> 
     }
 
     /// Makes room for `additional` more wakers. Adding these wakers then needs no memory, except
-    /// for cloning them. A fill or a close gives up the room. Fails with `Memory`. Does nothing on
-    /// a closed cell.
+    /// for cloning them. A fill or a close gives up the room. Fails with `Memory` if there is no
+    /// memory for this room. Does nothing on a closed cell.
     pub fn reserve<'a, R: Opens<'a, M>>(&'a self, additional: usize, rt: &R) -> Result<(), Refusal>
         ensures refused { FailsWithMemory result }
     {
@@ -281,7 +281,8 @@ impl<M: Stores<Core = CellCore<T, W, N>>, T: Drop, W: Wakes, N: Protocol<T, W>> 
         end(step, Deferred::of(waits))
     }
 
-    /// Returns the cell as text. The text is made during a step. Fails with `Memory`.
+    /// Returns the cell as text. The text is made during a step. Fails with `Memory` if there is no
+    /// memory for the text.
     #[doc(hidden)]
     pub fn debug_text<'a, R: Opens<'a, M>>(
         &'a self,

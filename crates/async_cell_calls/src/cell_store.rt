@@ -14,7 +14,7 @@ use async_cell_step::{Opens, Step, StoredCore, Stores, finish, opened};
 /// lock, a closure, clone or print that calls its own cell waits forever.
 #[derive(Drop)]
 pub struct CellStore<M> {
-    /// The store of the core, which the polls of futures use.
+    /// The store that holds the core. The polls of futures use this store.
     #[doc(hidden)]
     pub store: StoredCore<M>,
 }
@@ -40,7 +40,7 @@ impl<M: Stores<Core = CellCore<T, W>>, T: Drop, W: Wakes> CellStore<M> {
 }
 
 impl<M: Stores<Core = CellCore<T, W, N>>, T: Drop, W: Wakes, N: Protocol<T, W>> CellStore<M> {
-    /// Stores the core of a cell without a name.
+    /// Stores the core of a cell that no witness sees.
     #[doc(hidden)]
     pub fn nameless(core: Core<T, W>) -> Self
         requires nameless { N.named ≡ None }

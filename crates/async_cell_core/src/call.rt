@@ -3,8 +3,8 @@ ghost use Rattle.async_cell_core.specs.Polled.{poll_reply};
 
 use crate::{Poll, Refusal, Reply, Wakers};
 
-/// A call on a cell, as an element of a list of calls. `W` is the type of the wakers, `E` that of
-/// the edits. The replies below are those of calls that are not refused.
+/// A call on a cell, as an element of a list of calls. `W` is the type of the wakers, and `E` is
+/// the type of the edits. The replies named below are for calls that are not refused.
 #[derive(Clone, Copy, Debug, Drop, PartialEq, Eq)]
 pub enum Call<T, W, E> {
     /// `Core::set`. The reply is `Done`.
@@ -35,8 +35,8 @@ pub enum Call<T, W, E> {
     TakeInner,
 }
 
-/// A change of a cell's content. A list of calls holds it in place of a closure. The result of an
-/// edit depends only on the edit and on the content or value that it is given, so contracts can
+/// A change of a cell's content. A list of calls holds an edit in place of a closure. The result of
+/// an edit depends only on the edit and on the content or value that it is given, so contracts can
 /// name the result.
 ///
 /// An `impl` for a concrete value type, such as `Edit<u64>`, repeats this trait's two `ensures`
@@ -88,7 +88,7 @@ impl<T, W> Answer<T, W> {
         Answer::replied(Reply::Refused(why, back))
     }
 
-    /// The result of a poll as an answer, with no wakers.
+    /// An answer whose reply is the result of this poll, with no wakers.
     pub(crate) fn polled(polled: Result<Poll<Option<T>>, Refusal>) -> Self
         ensures { result ≡ record { reply = poll_reply polled; woken = [] } }
     {

@@ -116,7 +116,7 @@ impl<T: Clone> Driver<T> {
 
     /// Makes room in the core's wait list for `additional` more wakers. Polls that add these need
     /// no memory, until a fill or a close gives up the room. Fails with `Memory` if there is no
-    /// memory for so many. Does nothing on a closed cell.
+    /// memory for this room. Does nothing on a closed cell.
     pub fn reserve(&mut self, additional: usize) -> Result<(), Refusal>
         ensures tasks_stay { self.new.tasks ≡ self.old.tasks }
         ensures cell_stays { self.new.core.cell ≡ self.old.core.cell }

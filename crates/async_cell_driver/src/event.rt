@@ -5,7 +5,7 @@ use crate::{Refusal, Reply};
 pub enum Kind {
     /// Takes the value.
     Take,
-    /// Clones the value and leaves it.
+    /// Clones the value and leaves it in the cell.
     Get,
 }
 

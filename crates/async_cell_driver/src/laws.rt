@@ -10,7 +10,7 @@ ghost use Rattle.async_cell_wakers.specs.Named.{same_name};
 
 /// If a second log starts in the state where a first one ends, the two joined are one log. So a
 /// promise that is made for one call is also true for any number of calls, one after the other. A
-/// log has its last line first, so the later log comes first.
+/// log has its last line first, so the joined log begins with the later of the two.
 pub fn two_logs_are_one<T: Clone>()
     ensures { (from at to : DriverState T) (earlier later : Log T)
         → Drives T.is_clone from earlier at → Drives T.is_clone at later to

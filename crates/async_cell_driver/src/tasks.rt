@@ -45,7 +45,7 @@ impl Mark {
 pub(crate) struct Task<T> {
     pub kind: Kind,
     pub mark: Mark,
-    /// What `settle` got for the task. It stays here until `result` returns it.
+    /// The result that `settle` got for the task, until the method `result` takes it out.
     pub result: Option<Option<T>>,
 }
 

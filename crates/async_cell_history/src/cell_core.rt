@@ -41,7 +41,7 @@ impl<T, W: Wakes, N: Protocol<T, W>> Model for CellCore<T, W, N> {
 }
 
 impl<T: Drop, W: Wakes, N: Protocol<T, W>> CellCore<T, W, N> {
-    /// Wraps the core of a cell without a name, whatever its state.
+    /// Wraps the core of a cell that no witness sees, whatever the core's state.
     pub fn of(core: Core<T, W>) -> Self
         requires nameless { N.named ≡ None }
         requires rule { IfSome (content core.cell) N.holds }
@@ -178,8 +178,8 @@ impl<T: Drop, W: Wakes, N: Protocol<T, W>> CellCore<T, W, N> {
         self.inner.wakes_nobody()
     }
 
-    /// Calls the closure on the value, and returns what it returns. If there is no value, returns
-    /// the closure in the error.
+    /// Calls the closure on the value, and returns the closure's result. If there is no value,
+    /// returns the closure in the error.
     #[inline(always)]
     #[tactic(auto, using(crate::proofs::Found::found_and))]
     pub fn peek<A, F: FnOnce(&T) -> A>(&self, look: F) -> Deferred<Result<A, F>>
@@ -193,7 +193,7 @@ impl<T: Drop, W: Wakes, N: Protocol<T, W>> CellCore<T, W, N> {
         Deferred::of(self.inner.peek(look))
     }
 
-    /// Returns the core's `Debug` text. Fails with `Memory`.
+    /// Returns the core's `Debug` text. Fails with `Memory` if there is no memory for the text.
     pub fn debug_text(&self, alloc: Global) -> Deferred<Result<String, Refusal>>
     where
         T: fmt::Debug,
@@ -205,7 +205,7 @@ impl<T: Drop, W: Wakes, N: Protocol<T, W>> CellCore<T, W, N> {
         }
     }
 
-    /// Makes room for more wakers. Fails with `Memory`.
+    /// Makes room for more wakers. Fails with `Memory` if there is no memory for this room.
     #[inline(always)]
     pub fn reserve(&mut self, additional: usize) -> Deferred<Result<(), Refusal>>
         ensures refused { FailsWithMemory result.answer }

@@ -78,8 +78,8 @@ pub fn what_is_got_never_goes_back<T, W: Wakes, N: Protocol<T, W>>()
         → follows v w ≡ true }
 {}
 
-/// If a witness made a take, the witness's author signed it. Every longer history that begins with
-/// the seen calls still shows this signature.
+/// If a take was made with a witness, the witness's author signed the take. Every longer history
+/// that begins with the seen calls still shows this signature.
 #[tactic(auto, using(crate::proofs::TwoTakers::took, crate::proofs::TwoTakers::still_took))]
 pub fn a_seen_take_is_of_its_author<T, W: Wakes, N: Protocol<T, W>>()
     ensures linearized { (seen now : Seen T W) (v : T)

@@ -59,7 +59,7 @@ impl<T, W, N: Protocol<T, W>> OwnerPermit<T, W, N> {
         permit.lose();
     }
 
-    /// Drops the permit of the last owner. The cell ends next, and nobody else can call it.
+    /// Drops the permit of the last owner. The cell is dropped next, and nobody else can call it.
     #[inline(always)]
     pub fn rest<M: Stores<Core = CellCore<T, W, N>>>(self, _: &mut StoredCore<M>)
     where

@@ -7,7 +7,7 @@ ghost use Rattle.async_cell_history.specs.History.{Logged, Made};
 use crate::{Author, CellCore, Protocol, Witness};
 use async_cell_core::Wakes;
 
-/// Who signs a call.
+/// The signer of a call: a `Witness`, or `Nobody`.
 pub trait Signs {
     /// The number that it signs with.
     ghost number: { Self → ℕ };
@@ -35,7 +35,7 @@ pub trait Sees<T: Drop, W: Wakes, N: Protocol<T, W>>: Signs {
             → sees first call reply self.new };
 }
 
-/// Used for a call that no witness sees and nobody signs.
+/// Used in place of a witness, for a call that no witness sees and nobody signs.
 #[derive(Drop)]
 pub struct Nobody;
 

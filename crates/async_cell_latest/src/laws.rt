@@ -19,9 +19,9 @@ pub fn the_versions_of_a_follower_rise<T, W>()
         → IsFollower seen mine → seen ≤ b.version → IsRising seen mine }
 {}
 
-/// A poll after the last write shows the version of the last state, and so the value of the last
-/// state, unless the poll's follower has seen this version. The last state is what the last write
-/// put in, even after the state is closed.
+/// A poll after the last write shows the version and the value of the last state, unless the poll's
+/// follower has seen this version. The last state is what the last write put in, even after the
+/// state is closed.
 #[tactic(auto, using(crate::proofs::Versions::last_state))]
 pub fn a_poll_shows_the_last_state<T, W>()
     ensures written { (will_wake : W → W → Bool) (sure_wakers : Bool)

@@ -141,8 +141,8 @@ pub struct WaitFor<'a, T: Drop, R: Wait + Drop, F: Drop, N: Protocol<T> = Unrule
     pub(crate) place: Place,
     #[derive_where(skip)]
     pub(crate) predicate: F,
-    /// The version of the value that the predicate was last called on, not counting polls that
-    /// failed with `Memory`; 0 if there is none.
+    /// The version of the value that the predicate was last called on, or 0 if it was not called
+    /// yet. Polls that failed with `Memory` do not count.
     #[derive_where(skip)]
     pub(crate) looked_at: u64,
 }

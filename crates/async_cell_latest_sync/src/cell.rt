@@ -94,7 +94,8 @@ impl<T: Drop, N: Protocol<T>> LatestCell<T, N> {
     }
 }
 
-/// Returns a clone of the value if the predicate holds of it. Fails with `Memory`.
+/// Returns a clone of the value if the predicate holds of it. Fails with `Memory` if the clone
+/// fails.
 #[inline]
 fn find<T: Clone, P: FnMut(&T) -> bool>(value: &T, predicate: &mut P) -> Result<Option<T>, Refusal>
     requires { P.IsAlwaysCallable predicate.old }

@@ -11,9 +11,9 @@ use async_cell_step::{Step, end};
 use std::alloc::AllocError;
 use std::sync::{Arc, Wait};
 
-/// One follower of a state, with the right to wait for its lock. It knows which state it has seen,
-/// and waits for a later one. It is no owner. `Owner::follow` makes a follower. A clone of a
-/// follower is another follower.
+/// One follower of a state, with the right to wait for its lock. The follower knows which version
+/// of the state it has seen, and waits for a later version. The follower is no owner.
+/// `Owner::follow` makes a follower. A clone of a follower is another follower.
 ///
 /// A follower need not see each state: when it looks, it sees only the last state that was written.
 /// A new follower has seen the current state, and is shown what is written later. The last state of

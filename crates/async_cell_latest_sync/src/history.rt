@@ -191,7 +191,7 @@ impl<T, N: Protocol<T>> Witness<T, N> {
     }
 
     /// Lets the witness see the whole life of the state, up to this version. What the witness saw
-    /// before is a beginning of this life.
+    /// before is a prefix of this life.
     #[inline(always)]
     #[tactic(auto, using(crate::proofs::Lives::more_goes_on))]
     pub(crate) fn learn(&mut self, values: &Values<T, N>, version: u64)

@@ -85,7 +85,8 @@ impl<T: Drop, R: Wait + Copy, N: Protocol<T>> Owner<T, R, N> {
         Ok((Owner::of(alloc, core, rt)?, seen))
     }
 
-    /// Makes the first owner of this state. Fails with `Memory`.
+    /// Makes the first owner of this state. Fails with `Memory` if there is no memory for the
+    /// state.
     fn of(alloc: Global, core: LatestCore<T, N>, rt: R) -> Result<Self, Refusal>
         ensures refused { FailsWithMemory result }
     {
@@ -144,7 +145,7 @@ impl<T: Drop, R: Wait + Drop, N: Protocol<T>> Owner<T, R, N> {
         Ok(self.cell.get(&self.rt)?.1)
     }
 
-    /// Calls the closure on the value, under the lock, and returns what it returns.
+    /// Calls the closure on the value, under the lock, and returns the closure's result.
     ///
     /// ```rust
     /// let name = Owner::new(rt.alloc(), "Ada".to_string(rt.alloc())?, rt)?;
@@ -190,8 +191,8 @@ impl<T: Drop, R: Wait + Drop, N: Protocol<T>> Owner<T, R, N> {
         end_and_wake(step, written)
     }
 
-    /// Calls the closure on the value, under the lock. Sets the value that it returns, and drops
-    /// the old one. Wakes all followers that wait.
+    /// Calls the closure on the value, under the lock. Stores the value that the closure returns,
+    /// and drops the old value. Wakes all followers that wait.
     pub fn update<F: FnOnce(&T) -> T>(&self, change: F)
         requires callable { F.IsAlwaysCallable change }
         requires may { (before : List T) (old new : T) → N.holds old

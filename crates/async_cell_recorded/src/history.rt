@@ -95,8 +95,8 @@ impl<T> History<T> {
 }
 
 impl<T: Copy> History<T> {
-    /// Returns the same history without the shares that made the calls. Fails with `Memory` if
-    /// there is no memory.
+    /// Returns a copy of this history that does not say which share made each call. Fails with
+    /// `Memory` if there is no memory.
     pub fn plain(&self) -> Result<PlainHistory<T>, Refusal>
         ensures same { IfOk result (λ plain. plain ≡ without_shares self.now) }
         ensures refused { FailsWithMemory result }

@@ -19,8 +19,9 @@ use std::sync::{Mutex, Wait};
 /// reference, and each makes its calls with a share of its own. `M` names the cell.
 ///
 /// A call waits for the cell's lock, then takes effect in one step, and adds one entry to the
-/// history. It returns its entry, and the names of the wakers that its caller must wake. A refusal
-/// of the cell, such as `Closed`, is the reply of an entry.
+/// history. It returns its entry, and the names of the wakers that its caller must wake. If the
+/// cell refuses a call, the call still adds an entry. The entry's reply is the refusal, such as
+/// `Closed`.
 ///
 /// Only a call that returns `Err` leaves no entry. It fails with `Memory`, or with `OutOfTurn` if
 /// the share's count is not the number of its entries in the history. `OutOfTurn` happens in no
@@ -82,9 +83,9 @@ impl<T: Copy, M: Pick<T>> Recorded<T, M> {
 
     /// Takes the cell and all of its shares, in any order, and returns the history. If a share is
     /// missing, the cell and the shares are returned in the error as they were. The history is
-    /// legal. Its length is the total number of calls that the shares count. The number of its
-    /// entries that pass the marker's test (`M.pick`) is the total number of picked results that
-    /// the shares count. Takes no lock and no memory.
+    /// legal. Its length is the total number of calls that the shares count. The number of the
+    /// history's entries that pass the marker's test (`M.pick`) is the sum of the shares' counts of
+    /// picked results. Takes no lock and no memory.
     pub fn finish(
         self,
         shares: Vec<Share<M>>,
@@ -121,7 +122,7 @@ impl<T: Copy, M: Pick<T>> Recorded<T, M> {
     }
 
     /// Sets the value, and returns the waiting wakers. A closed cell refuses the value, and the
-    /// reply has it.
+    /// reply has the refused value.
     pub fn set(&self, share: &mut Share<M>, value: T, rt: &impl Wait) -> CallResult<T>
         ensures call { IsCallResult M.pick (λ _. Kept.Set value) share.old result share.new }
         ensures replied { IfOk result (λ answer.
@@ -145,7 +146,7 @@ impl<T: Copy, M: Pick<T>> Recorded<T, M> {
     }
 
     /// Sets the value, replies with the old one, and returns the waiting wakers. A closed cell
-    /// refuses the value, and the reply has it.
+    /// refuses the value, and the reply has the refused value.
     pub fn replace(&self, share: &mut Share<M>, value: T, rt: &impl Wait) -> CallResult<T>
         ensures call { IsCallResult M.pick (λ _. Kept.Replace value) share.old result share.new }
         ensures replied { IfOk result (λ answer.
@@ -265,7 +266,8 @@ impl<T: Copy, M: Pick<T>> Recorded<T, M> {
     }
 
     /// If the cell has exactly one owner, closes the cell, replies with its value, and returns the
-    /// waiting wakers. Otherwise the cell refuses.
+    /// waiting wakers. Otherwise the reply is a refusal: `Closed` if the cell is closed, and
+    /// `StillShared` if the cell has other owners.
     pub fn take_inner(&self, share: &mut Share<M>, rt: &impl Wait) -> CallResult<T>
         ensures call { IsCallResult M.pick (λ _. Kept.TakeInner) share.old result share.new }
         ensures replied { IfOk result (λ answer.

@@ -30,7 +30,7 @@ pub trait After<W> {
     fn run(self);
 }
 
-/// At most one waker, and what to drop.
+/// What is left to be done after a step: at most one waker to wake, and values to drop.
 pub struct One<W, X = ()> {
     woken: Option<W>,
     dropped: X,
@@ -107,7 +107,8 @@ pub fn end<G: Step, X>(step: G, held: Deferred<X>) -> X
     answer
 }
 
-/// Ends the step: gives the core back, wakes the wakers that it handed out, and returns the answer.
+/// Ends the step: gives the core back, wakes the wakers in `held`, and returns the answer in
+/// `held`.
 #[inline(always)]
 pub fn end_and_wake<G: Step, X, W: Wakes>(step: G, held: Deferred<X, Option<Wakers<W>>>) -> X
     ensures answers { result ≡ held.answer }

@@ -56,7 +56,8 @@ pub fn poll<'a, C: Room, M: Stores<Core = C>, Q: Query<C>, R: Opens<'a, M>>(
 }
 
 /// Registers the task, and adds its waker at the end of the list. The waker is a new one, so
-/// nothing is dropped and nobody is woken during the step. Fails with `Memory`.
+/// nothing is dropped and nobody is woken during the step. Fails with `Memory` if there is no
+/// memory for the waker or to grow the list.
 fn add<C: Room, G: Step<Core = C>>(
     mut step: G,
     source: &Source,
@@ -164,7 +165,7 @@ fn waits<A>(added: Result<(), Refusal>) -> Poll<Result<A, Refusal>>
 
 #[doc(hidden)]
 impl<M: Stores<Core: Room>> StoredCore<M> {
-    /// Drops all wakers that dropped futures left.
+    /// Drops each waker that a dropped future left in the wait list.
     pub fn purge<'a, R: Opens<'a, M>>(&'a self, rt: &R) {
         for index in 0..self.places(rt) {
             if let Some(mut step) = rt.open(self) {

@@ -92,7 +92,7 @@ pub struct With<P: Request<R>, R> {
 }
 
 impl<P: Request<R>, R> With<P, R> {
-    /// The future of this request, without a place yet.
+    /// Makes the future of this request. The future has no place in the wait list yet.
     #[doc(hidden)]
     pub fn new(polled: P, rt: R) -> Self
         ensures polls { result.polled ≡ polled }

@@ -58,18 +58,20 @@ impl<T: Drop, N: Protocol<T, TaskWaker>> Drop for AsyncCell<T, N> {
 }
 
 impl<T: Drop> AsyncCell<T> {
-    /// Makes a cell without a value. Allocates nothing. Stores the allocator for all later growth.
+    /// Makes a cell without a value. Allocates nothing. Stores the allocator for all memory that
+    /// the cell allocates later.
     pub fn new(alloc: Global) -> Self {
         AsyncCell::of(alloc, Core::new(alloc))
     }
 
-    /// Makes a cell that holds a value. Allocates nothing. Stores the allocator for all later
-    /// growth.
+    /// Makes a cell that holds a value. Allocates nothing. Stores the allocator for all memory that
+    /// the cell allocates later.
     pub fn new_with(alloc: Global, value: T) -> Self {
         AsyncCell::of(alloc, Core::new_with(alloc, value))
     }
 
-    /// Makes a cell without a value, with one counted owner. Fails with `Memory`.
+    /// Makes a cell without a value, with one counted owner. Fails with `Memory` if there is no
+    /// memory for the cell.
     pub fn shared(alloc: Global) -> Result<Shared<T>, Refusal>
         ensures refused { FailsWithMemory result }
     {
@@ -92,7 +94,7 @@ impl<T: Drop, P: Rule<T>> AsyncCell<T, Ruled<P>> {
 }
 
 impl<T: Drop, N: Protocol<T, TaskWaker>> AsyncCell<T, N> {
-    /// Wraps a core in a cell without a name.
+    /// Wraps a core in a cell that no witness sees.
     pub(crate) fn of(alloc: Global, core: Core<T, TaskWaker>) -> Self
         requires nameless { N.named ≡ None }
         requires rule { IfSome (content core.cell) N.holds }
@@ -159,7 +161,7 @@ impl<T: Drop, N: Protocol<T, TaskWaker>> AsyncCell<T, N> {
         Take(self)
     }
 
-    /// Returns a future that clones the value and leaves it.
+    /// Returns a future that clones the value and leaves it in the cell.
     pub fn get(&self) -> Get<&Self>
     where
         T: Clone,

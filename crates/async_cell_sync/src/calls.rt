@@ -106,7 +106,7 @@ impl<T: Drop, N: Protocol<T, TaskWaker>> AsyncCell<T, N> {
 
     /// Returns one of four texts: `AsyncCell::Empty`, `AsyncCell::Pending` if a task waits,
     /// `AsyncCell::Closed`, or `AsyncCell::Full(..)` with the text of the value. The text of the
-    /// value is made under the lock. Fails with `Memory`.
+    /// value is made under the lock. Fails with `Memory` if there is no memory for the text.
     pub fn debug_text<R: Wait>(&self, rt: &R) -> Result<String, Refusal>
     where
         T: fmt::Debug,
@@ -232,7 +232,7 @@ impl<T: Drop, R: Wait + Drop, N: Protocol<T, TaskWaker>> Owner<T, R, N> {
         self.shared.cell.is_set(&self.rt)
     }
 
-    /// Returns the cell, so that you can call its methods with another right to wait.
+    /// Returns the cell, so that you can call its methods with an `rt` other than the owner's.
     pub fn cell(&self) -> &AsyncCell<T, N>
         ensures held { result.now ≡ cell_owned self.now }
     {

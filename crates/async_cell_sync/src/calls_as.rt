@@ -1,6 +1,6 @@
 //! The calls that extend a witness. After such a call, the witness knows the cell's history up to
-//! the call, and the call's reply. Any number of threads may make them, each with a witness of its
-//! own.
+//! the call, and the call's reply. Any number of threads may make such calls, each thread with a
+//! witness of its own.
 ghost use Rattle.std.specs.Prelude.{◌≡◌, Option, Some, None, IfErr, IfOk, IfSome, IsOk, IsSomeAnd, OnErr, OnOk};
 ghost use mathlib.Core.List.{IsPrefix};
 ghost use Rattle.async_cell_model.specs.Refusal.{FailsWithClosed, FailsWithMemory, IsOwnerRefusal};

@@ -79,8 +79,8 @@ impl<T: Drop, C: CellRef<Value = T>> GuardedCell<T, C> {
 /// each of these calls also end the owner. The end of the last owner drops the value, so whoever
 /// waits for the value has to be an owner (`take_shared`).
 ///
-/// **Dropping it may wait for the lock**, as its calls may. A `GuardedCell`, in contrast, is not
-/// ended by a drop but by a call.
+/// **Dropping a `Guard` may wait for the lock**, as its calls may. A `GuardedCell`, in contrast, is
+/// not ended by a drop but by a call.
 #[derive_where(Debug)]
 pub struct Guard<T: Drop, C: CellRef<Value = T>, R: Wait + Drop> {
     #[derive_where(skip)]

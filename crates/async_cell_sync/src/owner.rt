@@ -24,8 +24,8 @@ use std::sync::{Arc, Wait};
 /// futures of an `Owner` take no `rt`. The end of the last owner closes the cell: the value is
 /// dropped, waiters are woken, and weak futures give `None`.
 ///
-/// **Dropping it may wait for the lock**, as its calls may. A `Shared`, in contrast, is not ended
-/// by a drop but by a call.
+/// **Dropping an `Owner` may wait for the lock**, as its calls may. A `Shared`, in contrast, is not
+/// ended by a drop but by a call.
 ///
 /// `N` says what is known of the values (see `Rule`), and which history a witness sees. `Unruled`,
 /// the default, has neither a rule nor a history.
@@ -38,7 +38,8 @@ pub struct Owner<T: Drop, R: Wait + Drop, N: Protocol<T, TaskWaker> = Unruled> {
 }
 
 impl<T: Drop, R: Wait + Copy> Owner<T, R> {
-    /// Makes a cell without a value, and its first owner. Fails with `Memory`.
+    /// Makes a cell without a value, and its first owner. Fails with `Memory` if there is no memory
+    /// for the cell.
     ///
     /// ```rust
     /// let slot = Owner::new(rt.alloc(), rt)?;
@@ -87,9 +88,10 @@ impl<T: Drop, R: Wait + Copy, P: Rule<T>> Owner<T, R, Ruled<P>> {
 impl<T: Drop, R: Wait + Copy, N: Protocol<T, TaskWaker>> Owner<T, R, N> {
     /// Makes the cell of this blank, the first owner of the cell, and the first witness of the
     /// cell's history. The blank is a cell that is not made yet (see `Blank`), and `N` is the name
-    /// of its history (see `Protocol`). Fails with `Memory`. Call it in a function generic over
-    /// `N`, and call that function with `std::marker::Brand` for `N`. The caller's
-    /// `Invariants.antt` defines the name, the changes that may be made, and the rule.
+    /// of its history (see `Protocol`). Fails with `Memory` if there is no memory for the cell.
+    /// Call `witnessed` in a function generic over `N`, and call that function with
+    /// `std::marker::Brand` for `N`. The caller's `Invariants.antt` defines the name, the changes
+    /// that may be made, and the rule.
     pub fn witnessed(
         alloc: Global,
         blank: Blank<T, TaskWaker>,
@@ -275,7 +277,8 @@ impl<T: Drop, R: Wait + Copy, N: Protocol<T, TaskWaker>> Owner<T, R, N> {
         }
     }
 
-    /// As `guard_shared`, but drops the value if it fails, so that `?` can be used on the result.
+    /// As `guard_shared`, but drops `cancel` if the call fails, so that `?` can be used on the
+    /// result.
     ///
     /// ```rust
     /// let slot = Owner::new(rt.alloc(), rt)?;

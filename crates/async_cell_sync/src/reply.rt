@@ -21,7 +21,7 @@ use std::sync::{Arc, Wait};
 
 /// The side of a reply slot that replies, once, by `set`. If the `Replier` is dropped without a
 /// `set`, for example at `?` or an early `return`, the slot is closed, and the `Reply` is ready
-/// with `Closed`. **Dropping it may wait for the lock**, as its calls may.
+/// with `Closed`. **Dropping a `Replier` may wait for the lock**, as its calls may.
 #[derive_where(Debug)]
 pub struct Replier<T: Drop, R: Wait + Drop, N: Unwitnessed<T, TaskWaker> = Unruled> {
     #[derive_where(skip)]
@@ -31,8 +31,9 @@ pub struct Replier<T: Drop, R: Wait + Drop, N: Unwitnessed<T, TaskWaker> = Unrul
 }
 
 /// The side of a reply slot that waits: a future of the value. It fails with `Closed` if the
-/// `Replier` was dropped without a `set`, and at each poll after it was ready. It fails with
-/// `Memory` if there is no memory to wait, and may then be polled again.
+/// `Replier` was dropped without a `set`. After the future has given the value or `Closed`, each
+/// later poll fails with `Closed`. The future fails with `Memory` if there is no memory to wait,
+/// and may then be polled again.
 ///
 /// If the `Reply` is dropped before it was ready, the slot is closed. Then a value that was already
 /// set is dropped, and a later `set` returns its value in the error. **This drop may wait for the
@@ -54,7 +55,8 @@ pub struct Reply<T: Drop, R: Wait + Drop, N: Unwitnessed<T, TaskWaker> = Unruled
     place: Place,
 }
 
-/// Makes a reply slot: the side that replies, and the side that waits. Fails with `Memory`.
+/// Makes a reply slot: the side that replies, and the side that waits. Fails with `Memory` if there
+/// is no memory for the slot.
 ///
 /// ```rust
 /// let (replier, reply) = reply_slot(rt.alloc(), rt)?;

@@ -26,7 +26,8 @@ pub struct Shared<T, N: Protocol<T, TaskWaker> = Unruled> {
 }
 
 impl<T: Drop> Shared<T> {
-    /// Makes a cell without a value, and its first owner. Fails with `Memory`.
+    /// Makes a cell without a value, and its first owner. Fails with `Memory` if there is no memory
+    /// for the cell.
     pub fn shared(alloc: Global) -> Result<Self, Refusal>
         ensures refused { FailsWithMemory result }
     {
@@ -112,7 +113,8 @@ impl<T: Drop, N: Protocol<T, TaskWaker>> Shared<T, N> {
         }
     }
 
-    /// As `guard_shared`, but drops the value if it fails, so that `?` can be used on the result.
+    /// As `guard_shared`, but drops `cancel` if the call fails, so that `?` can be used on the
+    /// result.
     pub fn guard_shared_or_drop<R: Wait>(
         &self,
         cancel: T,
@@ -185,7 +187,9 @@ impl<T: Drop, N: Protocol<T, TaskWaker>> Shared<T, N> {
         }
     }
 
-    /// Makes a new owner. Fails with `Memory` (checked first), `Closed` or `OwnersFull`.
+    /// Makes a new owner. Fails with `Memory` if the count of the cell's `Arc` is full (checked
+    /// first), with `Closed` if the cell is closed, and with `OwnersFull` if the cell has
+    /// 4,294,967,295 owners.
     pub(crate) fn owning<R: Wait>(cell: &Arc<AsyncCell<T, N>>, rt: &R) -> Result<Self, Refusal>
         ensures of_this { IfOk result (λ owner. cell_of owner ≡ arc_value cell.now) }
         ensures refused { IfErr result IsOwnerRefusal }

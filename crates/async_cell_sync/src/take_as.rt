@@ -41,7 +41,8 @@ impl<T, N: Protocol<T, TaskWaker>> Model for Taker<T, N> {
 }
 
 impl<T, N: Protocol<T, TaskWaker>> Taker<T, N> {
-    /// Makes a `Taker` of this witness. The `Taker` keeps the fact that the value may be taken.
+    /// Makes a `Taker` of this witness. The invariant of the `Taker` says that the protocol allows
+    /// the value to be taken.
     #[inline(always)]
     pub(crate) fn of(seen: Witness<T, TaskWaker, N>) -> Self
         requires may { N.may TryTake }

@@ -53,18 +53,20 @@ impl<T: Drop, N: Free<T, TaskWaker>> Drop for AsyncCell<T, N> {
 }
 
 impl<T: Drop> AsyncCell<T> {
-    /// Makes a cell without a value. Allocates nothing. Stores the allocator for all later growth.
+    /// Makes a cell without a value. Allocates nothing. Stores the allocator for all memory that
+    /// the cell allocates later.
     pub fn new(alloc: Global) -> Self {
         AsyncCell::of(alloc, Core::new(alloc))
     }
 
-    /// Makes a cell that holds a value. Allocates nothing. Stores the allocator for all later
-    /// growth.
+    /// Makes a cell that holds a value. Allocates nothing. Stores the allocator for all memory that
+    /// the cell allocates later.
     pub fn new_with(alloc: Global, value: T) -> Self {
         AsyncCell::of(alloc, Core::new_with(alloc, value))
     }
 
-    /// Makes a cell without a value, with one counted owner. Fails with `Memory`.
+    /// Makes a cell without a value, with one counted owner. Fails with `Memory` if there is no
+    /// memory for the cell.
     pub fn shared(alloc: Global) -> Result<Shared<T>, Refusal>
         ensures refused { FailsWithMemory result }
     {
@@ -87,7 +89,7 @@ impl<T: Drop, P: Rule<T>> AsyncCell<T, Ruled<P>> {
 }
 
 impl<T: Drop, N: Free<T, TaskWaker>> AsyncCell<T, N> {
-    /// Wraps a core in a cell without a name.
+    /// Wraps a core in a cell that no witness sees.
     pub(crate) fn of(alloc: Global, core: Core<T, TaskWaker>) -> Self
         requires nameless { N.named ≡ None }
         requires rule { IfSome (content core.cell) N.holds }
@@ -223,7 +225,8 @@ impl<T: Drop, N: Free<T, TaskWaker>> AsyncCell<T, N> {
         self.core.is_closed(&OneThread)
     }
 
-    /// Returns the text that `{:?}` prints for this cell. Fails with `Memory`.
+    /// Returns the text that `{:?}` prints for this cell. Fails with `Memory` if there is no memory
+    /// for the text.
     pub fn debug_text(&self) -> Result<String, Refusal>
     where
         T: fmt::Debug,
@@ -310,7 +313,7 @@ impl<T: Drop, N: Free<T, TaskWaker>> AsyncCell<T, N> {
     }
 
     /// Clones a value that was taken out. Stores the value again, and returns the clone. Fails with
-    /// `Memory`.
+    /// `Memory` if the clone fails.
     #[inline]
     pub(crate) fn copy_back(&self, value: T) -> Result<T, Refusal>
     where

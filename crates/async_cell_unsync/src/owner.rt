@@ -41,8 +41,8 @@ impl<T: Drop, N: Free<T, TaskWaker>> AsyncCell<T, N> {
 }
 
 impl<T: Drop> Owner<T> {
-    /// Makes a cell without a value, and its first owner. Fails with `Memory`. For a cell that you
-    /// have already, call `AsyncCell::into_owner`.
+    /// Makes a cell without a value, and its first owner. Fails with `Memory` if there is no memory
+    /// for the cell. For a cell that you have already, call `AsyncCell::into_owner`.
     ///
     /// ```rust
     /// let slot = Owner::new(rt.alloc())?;
@@ -69,7 +69,7 @@ impl<T: Drop> Owner<T> {
 
 impl<T: Drop, P: Rule<T>> Owner<T, Ruled<P>> {
     /// Makes a cell without a value, and its first owner. The values of the cell satisfy the rule
-    /// `P`. Fails with `Memory`.
+    /// `P`. Fails with `Memory` if there is no memory for the cell.
     pub fn ruled(alloc: Global) -> Result<Self, Refusal>
         ensures refused { FailsWithMemory result }
     {
@@ -203,7 +203,8 @@ impl<T: Drop, N: Free<T, TaskWaker>> Owner<T, N> {
         }
     }
 
-    /// As `guard_shared`, but drops the value if it fails, so that `?` can be used on the result.
+    /// As `guard_shared`, but drops `cancel` if the call fails, so that `?` can be used on the
+    /// result.
     pub fn guard_shared_or_drop(&self, cancel: T) -> Result<Guard<T, Self>, Refusal>
         requires rule { N.holds cancel }
         ensures of_this { IfOk result (λ guard. cell_owned guard.pointer ≡ cell_owned self.now) }

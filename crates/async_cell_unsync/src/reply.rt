@@ -44,8 +44,8 @@ pub struct Reply<T: Drop, N: Unwitnessed<T, TaskWaker> = Unruled> {
     place: Place,
 }
 
-/// Makes a reply slot: the side that replies, and the side that waits. Fails with `Memory`. The
-/// calls of each side have examples in `async_cell_sync`.
+/// Makes a reply slot: the side that replies, and the side that waits. Fails with `Memory` if there
+/// is no memory for the slot. The calls of each side have examples in `async_cell_sync`.
 ///
 /// ```rust
 /// let (replier, reply) = reply_slot(rt.alloc())?;

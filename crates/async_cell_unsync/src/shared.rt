@@ -21,7 +21,8 @@ pub struct Shared<T, N: Free<T, TaskWaker> = Unruled> {
 }
 
 impl<T: Drop> Shared<T> {
-    /// Makes a cell without a value, and its first owner. Fails with `Memory`.
+    /// Makes a cell without a value, and its first owner. Fails with `Memory` if there is no memory
+    /// for the cell.
     pub fn shared(alloc: Global) -> Result<Self, Refusal>
         ensures refused { FailsWithMemory result }
     {
@@ -103,7 +104,8 @@ impl<T: Drop, N: Free<T, TaskWaker>> Shared<T, N> {
         }
     }
 
-    /// As `guard_shared`, but drops the value if it fails, so that `?` can be used on the result.
+    /// As `guard_shared`, but drops `cancel` if the call fails, so that `?` can be used on the
+    /// result.
     pub fn guard_shared_or_drop(&self, cancel: T) -> Result<GuardedCell<T, Self>, Refusal>
         requires rule { N.holds cancel }
         ensures of_this { IfOk result (λ guard. cell_of guard.pointer ≡ cell_of self.now) }
@@ -155,7 +157,9 @@ impl<T: Drop, N: Free<T, TaskWaker>> Shared<T, N> {
         }
     }
 
-    /// Makes a new owner. Fails with `Memory` (checked first), `Closed` or `OwnersFull`.
+    /// Makes a new owner. Fails with `Memory` if the count of the cell's `Rc` is full (checked
+    /// first), with `Closed` if the cell is closed, and with `OwnersFull` if the cell has
+    /// 4,294,967,295 owners.
     pub(crate) fn owning(cell: &Rc<AsyncCell<T, N>>) -> Result<Self, Refusal>
         ensures of_this { IfOk result (λ owner. cell_of owner ≡ rc_value cell.now) }
         ensures refused { IfErr result IsOwnerRefusal }

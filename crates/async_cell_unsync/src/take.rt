@@ -10,7 +10,8 @@ use async_cell_step::{At, OneThread, Polled, Request, poll};
 use futures::future::Future;
 use futures::task::{Context, Poll};
 
-/// A future that takes the value of a cell. It may be polled again once ready, for further values.
+/// A future that takes the value of a cell. The future may be polled again after it returned
+/// `Ready`, for further values.
 ///
 /// **Each poll that waits adds a waker**, which stays until the next write or close. The future
 /// that `with` or an `Owner` makes has only one waker in the cell, and each poll that waits renews

@@ -169,9 +169,9 @@ impl<T: Drop, N: Free<T, TaskWaker>> Clone for WeakOwner<T, N> {
     }
 }
 
-/// A future that takes the value of a cell. The future is not an owner of the cell. It may be
-/// polled again once ready. **Each poll that waits adds a waker.** The future that `with` makes, in
-/// contrast, has only one waker in the cell (see `Take`).
+/// A future that takes the value of a cell. The future is not an owner of the cell. The future may
+/// be polled again after it returned `Ready`. **Each poll that waits adds a waker.** The future
+/// that `with` makes, in contrast, has only one waker in the cell (see `Take`).
 #[derive(Drop)]
 #[derive_where(Clone; T: Drop)]
 #[derive_where(Debug)]
@@ -264,9 +264,9 @@ impl<T: Drop, N: Free<T, TaskWaker>> Future for TakeWeak<T, N> {
     }
 }
 
-/// A future that clones the value of a cell. The future is not an owner of the cell. It may be
-/// polled again once ready. **Each poll that waits adds a waker.** The future that `with` makes, in
-/// contrast, has only one waker in the cell (see `Take`).
+/// A future that clones the value of a cell. The future is not an owner of the cell. The future may
+/// be polled again after it returned `Ready`. **Each poll that waits adds a waker.** The future
+/// that `with` makes, in contrast, has only one waker in the cell (see `Take`).
 #[derive(Drop)]
 #[derive_where(Clone; T: Drop)]
 #[derive_where(Debug)]

@@ -27,7 +27,8 @@ impl Place {
         self.round = 0;
     }
 
-    /// Returns whether there may be a place to give up.
+    /// Returns whether the future may hold a place in the list. If not, there is no place to give
+    /// up.
     #[inline(always)]
     pub fn was_held(&self) -> bool {
         self.round != 0

@@ -5,7 +5,7 @@ ghost use Rattle.std.specs.Io.KnownBytes.{Keeps, Appends};
 use std::alloc::AllocError;
 use std::io::{self, ErrorKind, Write};
 
-/// A writer with a buffer before it.
+/// A buffered writer.
 #[derive(Drop)]
 pub struct Output<W> {
     writer: W,

@@ -15,7 +15,7 @@ pub trait Makes<X, E> {
 }
 
 /// The whole list, and the right to make it longer. Each list has one such token, so keep it where
-/// one thread at a time has it: under a lock, or behind a `&mut`.
+/// only one thread at a time can use it: under a lock, or behind a `&mut`.
 pub struct Log<E> {
     marker: PhantomData<E>,
     pub ghost name: { ℕ },
@@ -71,7 +71,7 @@ impl<E> Log<E> {
 
 impl<E> Seen<E> {
     /// Makes this `Seen` know the whole list, as the list is now. What this `Seen` knew before is a
-    /// beginning of the list.
+    /// prefix of the list.
     pub fn learn(&mut self, log: &Log<E>)
         requires of_this { self.old.name ≡ log.now.name }
         ensures of_this { self.new.name ≡ self.old.name }

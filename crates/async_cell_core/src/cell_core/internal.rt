@@ -1,6 +1,6 @@
 //! Calls for the crates that build on this one. They include the fast paths of a write and of an
-//! owner's end. On these fast paths at most one waker waits. The call returns this waker, if there
-//! is one, and makes no list.
+//! owner's end. On a fast path there is at most one waker to wake. The call returns this waker, if
+//! there is one, and makes no list.
 ghost use Rattle.std.specs.Prelude.{◌≡◌, ◌↔◌, ◌-◌, [], None, true, false, Ok, Some, IsOk, IfSome, IfNone, IfOk, IfErr, OnOk, OnErr};
 ghost use Rattle.async_cell_model.specs.Machine.{content, is_full, is_vacant, owners_of, IsSound};
 ghost use Rattle.async_cell_wakers.specs.WaitList.{first_then};

@@ -28,8 +28,8 @@ impl<T: Drop, W: Wakes> Core<T, W> {
         Ok(())
     }
 
-    /// Ends one owner. The last one closes the cell and returns its value and all waiting wakers,
-    /// to be woken by the caller. Fails with `Closed` if the cell is closed.
+    /// Ends one owner. Ending the last owner closes the cell, and returns the cell's value and all
+    /// waiting wakers, to be woken by the caller. Fails with `Closed` if the cell is closed.
     pub fn end_owner(&mut self) -> Result<(Option<T>, Wakers<W>), Refusal>
         ensures model { IsStep W.Wakes self.old Kept.EndOwner (end_answer result) self.new }
 

@@ -163,8 +163,8 @@ impl<T: Clone> Driver<T> {
         }
     }
 
-    /// Ends one owner. The last one closes the cell and drops the value, and every waiting task is
-    /// then ready. Fails with `Closed` on a closed cell.
+    /// Ends one owner. Ending the last owner closes the cell and drops the value. Every waiting
+    /// task is then ready. Fails with `Closed` on a closed cell.
     pub fn end_owner(&mut self) -> Result<(), Refusal>
         ensures done { OnOk result
             (Happens T.is_clone self.old Event.EndOwner

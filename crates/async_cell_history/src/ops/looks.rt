@@ -100,11 +100,14 @@ impl<T: Drop, W: Wakes, N: Protocol<T, W>> Op<T, W, N> for IsSet {
     }
 }
 
-/// Takes the value, or registers the waker. Fails with `Memory`.
+/// Takes the value, or registers the waker. Fails with `Memory` if the waker cannot be registered,
+/// because its clone fails or there is no memory to grow the wait list.
 #[derive(Drop)]
 pub struct PollTake<'a, W>(pub &'a W);
 
-/// Clones the value during the step, or registers the waker. Fails with `Memory`.
+/// Clones the value during the step, or registers the waker. Fails with `Memory` if the clone of
+/// the value fails. Also fails with `Memory` if the waker cannot be registered, because its clone
+/// fails or there is no memory to grow the wait list.
 #[derive(Drop)]
 pub struct PollGet<'a, W>(pub &'a W);
 

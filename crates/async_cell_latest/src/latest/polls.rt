@@ -80,7 +80,7 @@ impl<T: Drop, W: Wakes> Latest<T, W> {
 
     /// Makes room for `additional` more wakers. Until a write or the close gives up the room,
     /// adding these wakers needs memory only for the clones of the wakers. Fails with `Memory` if
-    /// there is no memory for so many. Does nothing if the state is closed.
+    /// there is no memory for this room. Does nothing if the state is closed.
     pub fn reserve(&mut self, additional: usize) -> Result<(), Refusal>
         ensures state_stays { Stays self.old self.new }
         ensures waiting_stay { self.new.waiting ≡ self.old.waiting }

@@ -1,6 +1,6 @@
-//! The calls that a step may make of a state. Only this module can access the state. Each function
-//! makes one call of the state, and holds what the call returns. So no other code can wake a
-//! returned waker or drop a returned value during a step.
+//! The calls that a step may make on a state. Only this module can access the state. Each function
+//! makes one call on the state, and holds what the call returns until the step ends. So no other
+//! code can wake a returned waker or drop a returned value during a step.
 ghost use Rattle.std.specs.Prelude.{◌≡◌, List, [], ◌∷◌, ◌++◌, Bool, true, false, None, Some, Ok, IsOk, IfOk, IfErr, IsSome, OnOk, OnErr};
 ghost use Rattle.std.specs.Fn.{FnOnceReturnsAt, FnOnceReturnsAtMut};
 ghost use Rattle.async_cell_model.specs.Refusal.{FailsWithClosed, FailsWithMemory, IsOwnerRefusal};
@@ -18,9 +18,9 @@ use futures::task::Waker;
 use std::alloc::Global;
 use std::marker::Model;
 
-/// A state, and the list of its values, to which each write adds one. `LatestCore` hides the
-/// state's own calls, because what they return could be woken or dropped during a step. The calls
-/// of `LatestCore` hold what the state returns until the step ends.
+/// A state, and the list of its values. Each write adds one value to the list. `LatestCore` hides
+/// the state's own calls, because what they return could be woken or dropped during a step. Until
+/// the step ends, the calls of `LatestCore` hold what the state returns.
 #[derive(Drop)]
 pub struct LatestCore<T, N: Protocol<T> = Unruled> {
     state: Latest<T, TaskWaker>,
@@ -57,7 +57,9 @@ impl<T: Drop, N: Protocol<T>> LatestCore<T, N> {
         Witness::of(&self.values, self.state.version())
     }
 
-    /// Lets a witness see the whole life. By `of_state`, this life is the life of the state.
+    /// Lets a witness see the whole life of the state: the state's values so far, and whether the
+    /// state is closed. The clause `of_state` says that the witness then sees the life of this
+    /// state.
     #[inline(always)]
     pub(crate) fn show_to(&self, witness: &mut Witness<T, N>)
         ensures whole { witness.new ≡ self.now.life }

@@ -1,6 +1,7 @@
-//! The places of futures in a wait list. A future takes its waker back from its place, and stores
-//! it again. A future that is dropped leaves its place free, with the waker in it. The free places
-//! form a list: each has, beside its waker, the number of the next free place, counted from 1.
+//! The places of futures in a wait list. A future that is polled again and still has to wait takes
+//! its waker out of its place, and then stores the waker again. A future that is dropped leaves its
+//! place free, with the waker in it. The free places form a list: each has, beside its waker, the
+//! number of the next free place, counted from 1.
 ghost use Rattle.std.specs.Prelude.{◌≡◌, ◌<◌, ◌≤◌, ◌-◌, ◌↔◌, [], ◌∷◌, ◌++◌, length, false, IsSome, IsOk, IfSome, IfOk, OnSome, OnOk, OnErr, IfNone, MatchOption};
 ghost use Rattle.async_cell_wakers.specs.Place.{Holds};
 
