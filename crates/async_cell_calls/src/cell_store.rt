@@ -51,7 +51,7 @@ impl<M: Stores<Core = CellCore<T, W, N>>, T: Drop, W: Wakes, N: Protocol<T, W>> 
         }
     }
 
-    /// Makes the cell of the blank. Also returns the first witness of the cell's history, and the
+    /// Makes a cell from the blank. Also returns the first witness of the cell's history, and the
     /// permit of the cell's first owner. `end_counted` ends this owner.
     pub fn of_blank(blank: Blank<T, W>) -> (Self, Witness<T, W, N>, OwnerPermit<T, W, N>)
         requires named { N.named ≡ Some blank }

@@ -11,7 +11,7 @@ use async_cell_model::Kept;
 use async_cell_step::{Deferred, Opens, Step, Stores, end, end_and_wake, end_and_wake_one, opened};
 
 impl<M: Stores<Core = CellCore<T, W, N>>, T: Drop, W: Wakes, N: Protocol<T, W>> CellStore<M> {
-    /// Ends the last owner of a cell that nobody else can call. The cell is to be dropped next.
+    /// Ends the last owner of a cell that nobody else can call. The caller drops the cell next.
     #[inline(always)]
     pub fn rest(&mut self, permit: OwnerPermit<T, W, N>) {
         permit.rest(&mut self.store);

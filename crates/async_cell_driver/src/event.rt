@@ -15,7 +15,7 @@ pub enum Kind {
 pub enum Event<T, E> {
     /// `Driver::start`, of a task of this kind. The outcome is `Started`, with the task's number.
     Start(Kind),
-    /// `Driver::poll`, of the task of this number. The outcome is `Polled`.
+    /// `Driver::poll`, of the task with this number. The outcome is `Polled`.
     Poll(usize),
     /// `Driver::set`. The outcome is the reply `Done`.
     Set(T),

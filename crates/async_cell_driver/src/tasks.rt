@@ -11,11 +11,11 @@ use std::marker::Model;
 /// The progress of a task.
 #[derive(Clone, Copy, Debug, PartialEq, Eq)]
 pub(crate) enum Mark {
-    /// It was never polled, or its last poll was refused.
+    /// The task was never polled, or its last poll was refused.
     Ready,
-    /// Its last poll returned `Pending`, and its name is in the cell's wait list.
+    /// The task's last poll returned `Pending`, and its name is in the cell's wait list.
     Waiting,
-    /// Its last poll returned `Pending`, and the task was woken after that poll.
+    /// The task's last poll returned `Pending`, and the task was woken after that poll.
     Woken,
     /// A poll of the task returned `Polled::Ready`.
     Done,

@@ -11,8 +11,8 @@ use std::alloc::Global;
 use std::marker::Model;
 
 /// What a cell will be made of: its first content. The cell's history begins here. A type can name
-/// the history. To name the history, write a function that is generic in the naming type, and call
-/// the function with `std::marker::Brand` as the type argument (see `Protocol`).
+/// the history. To get a type that names the history, write a function that is generic over this
+/// type, and call the function with `std::marker::Brand` as the type argument (see `Protocol`).
 pub struct Blank<T: Drop, W: Wakes> {
     core: Core<T, W>,
     opened: Opened<T, W>,
@@ -128,8 +128,9 @@ impl<T: Drop, W: Wakes> Opened<T, W> {
     }
 }
 
-/// The first state of a cell. It has no bytes. (`Start` is not a `Snapshot`, because the prover
-/// does not see that a struct with a `Snapshot` and another field can be sent to another thread.)
+/// The first state of a cell. A `Start` is zero-sized. (`Start` is not a `Snapshot`, because the
+/// prover does not see that a struct with a `Snapshot` and another field can be sent to another
+/// thread.)
 #[derive(Drop)]
 pub(crate) struct Start<T, W: Wakes> {
     log: Log<Core<T, W>>,

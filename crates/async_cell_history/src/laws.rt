@@ -89,8 +89,8 @@ pub fn a_seen_take_is_of_its_author<T, W: Wakes, N: Protocol<T, W>>()
         → IsPrefix seen.calls all.calls → IsPrefix seen.authors all.authors → Took n v all }
 {}
 
-/// If the protocol allows no change but takes, all takes that found a value were signed by the same
-/// author.
+/// If the only changes that the protocol allows are takes, then all takes that found a value were
+/// signed by the same author.
 pub fn of_takers_alone_one_gets<T, W: Wakes, N: Protocol<T, W>>()
     ensures { (all : Seen T W) (m n : ℕ) (v w : T) → OnlyMakes N.may IsTake
         → IsLawful W.will_wake W.SURE_CLONE N.may (start_of N.named) all.calls

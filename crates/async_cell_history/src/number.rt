@@ -20,7 +20,7 @@ pub(crate) struct Signed<T, W> {
 }
 
 /// The number of an author, or a number of calls. This number is the first item of the `Seen`'s
-/// list. A `Number` has no bytes.
+/// list. A `Number` is zero-sized.
 pub(crate) type Number = Seen<u64>;
 
 /// The number of this author.

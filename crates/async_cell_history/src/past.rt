@@ -27,7 +27,7 @@ pub(crate) trait Enters<C, A, T, W> {
     ghost answer: { State T W → A → Answer T W };
 }
 
-/// The whole history of a cell, and the right to extend it. It has no bytes.
+/// The whole history of a cell, and the right to extend it. A `Past` is zero-sized.
 #[derive(Drop)]
 pub struct Past<T, W: Wakes, N: Protocol<T, W>> {
     pub(crate) log: Log<Signed<T, W>>,

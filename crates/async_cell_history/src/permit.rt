@@ -12,7 +12,7 @@ use ghost_log::Log;
 use std::marker::{Model, PhantomData};
 
 /// The permit of one owner of a cell. A permit cannot be dropped: the call that ends its owner
-/// takes the permit. A permit has no bytes.
+/// takes the permit. A permit is zero-sized.
 pub struct OwnerPermit<T, W, N: Protocol<T, W>> {
     permit: Permit,
     of: PhantomData<Log<(T, W, N)>>, // As a log, it may be sent and shared with any `T`.

@@ -6,7 +6,7 @@ use async_cell_step::{Rule, Ruled};
 use std::marker::Brand;
 
 /// Names a cell, and says which changes of its content may be made, and what is known of its
-/// values. Only contracts read it.
+/// values. Only contracts read a protocol.
 pub trait Protocol<T, W> {
     /// How the cell began. If it is `None`, the cell has no name, and nobody sees its history.
     ghost named: { Option (Begun T W) };

@@ -9,7 +9,7 @@ use std::marker::{Model, PhantomData};
 
 /// What one thread has seen of the history of the cell that `N` names. A witness also has the
 /// number that the thread's own calls are signed with, and how many calls the thread has made. A
-/// witness has no bytes.
+/// witness is zero-sized.
 #[derive(Drop)]
 pub struct Witness<T, W: Wakes, N: Protocol<T, W>> {
     seen: Seen<Signed<T, W>>,

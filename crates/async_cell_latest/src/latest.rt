@@ -89,9 +89,10 @@ impl<T: Drop, W: Wakes> Latest<T, W> {
         Ok((old, self.waiting.hand_out()))
     }
 
-    /// As `write`, but succeeds only if the wait list has no memory for more than one waker. Then
-    /// returns the old value and the waker that waits, if there is one. The caller has to wake this
-    /// waker. Otherwise changes nothing, and returns `value` in the error.
+    /// As `write`, but fails also if the wait list has allocated memory. A wait list without
+    /// allocated memory has at most one waker. On success, returns the old value and the waiting
+    /// waker, if there is one. The caller has to wake this waker. On failure, changes nothing, and
+    /// returns `value` in the error.
     #[doc(hidden)]
     #[inline(always)]
     pub fn write_first(&mut self, value: T) -> Result<(T, Option<W>), T>

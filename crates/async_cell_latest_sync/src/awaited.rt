@@ -36,7 +36,7 @@ impl<T: Drop, R: Wait + Drop, N: Protocol<T>> Follower<T, R, N> {
     }
 
     /// Waits until the state has a version other than `seen`. The next poll of the future looks at
-    /// that version.
+    /// the new version.
     fn poll_later<A>(
         &self,
         seen: u64,
@@ -82,8 +82,8 @@ pub struct Changed<'a, T: Drop, R: Wait + Drop, N: Protocol<T> = Unruled> {
 }
 
 impl<T: Drop, R: Wait + Drop, N: Protocol<T>> Changed<'_, T, R, N> {
-    /// As `With::cancel`. It is meant for states that are seldom written, because each write
-    /// removes the waker, too.
+    /// As `With::cancel`. Each write also removes the waker, so `cancel` is meant for states that
+    /// are seldom written.
     pub fn cancel(self) {
         let Changed { follower, place } = self;
         follower.cell.core.cancel(place, &follower.rt);
@@ -131,8 +131,7 @@ impl<T: Drop, R: Wait + Drop, N: Protocol<T>> Future for Changed<'_, T, R, N> {
 
 /// The future of `Follower::wait_for`.
 ///
-/// It waits as a `Changed` does, and you may drop it at any time. **Its drop may wait for the
-/// lock.**
+/// Waits as a `Changed` does, and may be dropped at any time. **The drop may wait for the lock.**
 #[derive_where(Debug)]
 pub struct WaitFor<'a, T: Drop, R: Wait + Drop, F: Drop, N: Protocol<T> = Unruled> {
     #[derive_where(skip)]
@@ -240,8 +239,7 @@ impl<T: Clone, R: Wait + Drop, F: FnMut(&T) -> bool + Drop, N: Protocol<T>> Futu
 /// If a poll fails with `Memory`, the item is that error, and nothing was marked as seen: poll the
 /// stream again.
 ///
-/// It waits as a `Changed` does, and you may drop it at any time. **Its drop may wait for the
-/// lock.**
+/// Waits as a `Changed` does, and may be dropped at any time. **The drop may wait for the lock.**
 #[derive_where(Debug)]
 pub struct States<T: Drop, R: Wait + Drop, N: Protocol<T> = Unruled> {
     #[derive_where(skip)]

@@ -114,7 +114,7 @@ fn find<T: Clone, P: FnMut(&T) -> bool>(value: &T, predicate: &mut P) -> Result<
 #[derive(Clone, Copy, Drop)]
 pub struct Unseen(pub u64);
 
-/// As `Unseen`, and asks for a clone of the value, made during the step.
+/// As `Unseen`, but also asks for a clone of the value. The clone is made during the step.
 #[derive(Clone, Copy, Drop)]
 pub struct UnseenState(pub u64);
 

@@ -16,8 +16,8 @@ use std::sync::{Arc, Wait};
 /// `Owner::follow` makes a follower. A clone of a follower is another follower.
 ///
 /// A follower need not see each state: when it looks, it sees only the last state that was written.
-/// A new follower has seen the current state, and is shown what is written later. The last state of
-/// all stays when the last owner ends, so no follower misses it.
+/// A new follower has seen the current state, and is shown what is written later. When the last
+/// owner ends, the last state that was written stays, so no follower misses that state.
 ///
 /// The drop of a follower takes no lock. Dropping a future that it made may wait for the lock.
 #[derive(Drop)]

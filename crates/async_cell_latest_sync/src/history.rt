@@ -63,8 +63,8 @@ impl<T> Protocol<T> for Brand {
 }
 
 /// The empty list of values of a state that is not made yet. A protocol can name this list. To get
-/// a protocol that does so, write a function that is generic over the protocol, and call the
-/// function with `std::marker::Brand`. A `Blank` has no bytes.
+/// a protocol that names this list, write a function that is generic over the protocol, and call
+/// the function with `std::marker::Brand`. A `Blank` is zero-sized.
 #[derive(Drop)]
 pub struct Blank<T> {
     log: Log<Option<T>>,
@@ -86,7 +86,7 @@ impl<T> Blank<T> {
     }
 }
 
-/// All values that a state has had, and the right to add one. It has no bytes.
+/// All values that a state has had, and the right to add one. A `Values` is zero-sized.
 #[derive(Drop)]
 pub struct Values<T, N: Protocol<T>> {
     log: Log<Option<T>>,

@@ -248,8 +248,8 @@ impl<T: Drop, R: Wait + Drop, N: Protocol<T>> Owner<T, R, N> {
         end_and_wake(step, modified)
     }
 
-    /// Drops each waker that a dropped future left in the state. So the task of each such waker is
-    /// polled once more.
+    /// Drops each waker that a dropped future left in the state. Dropping a waker wakes its task,
+    /// so the task of each such waker is polled once more.
     ///
     /// Without this call these wakers stay until the next write. While such a waker stays, memory
     /// of its executor, such as the task, cannot be freed. Call `purge` if many waiting futures are

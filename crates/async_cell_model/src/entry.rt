@@ -5,7 +5,7 @@ use crate::reply::Reply;
 pub enum Kept<T, W> {
     /// Writes this value.
     Set(T),
-    /// Writes this value if there is none.
+    /// Writes this value if the cell holds none.
     OrSet(T),
     /// Writes this value and returns the old one.
     Replace(T),

@@ -20,8 +20,8 @@ pub struct Entry<T> {
     /// The number of the share that made the call.
     pub share: u32,
 
-    /// How many calls the share made before this one. So its calls have the serials 0, 1, 2, .. in
-    /// order.
+    /// How many calls the share made before this one. So the calls of a share have the serials 0,
+    /// 1, 2, .. in order.
     pub serial: u64,
 
     /// The call. If it has an edit, the argument and the result of the edit are stored with the

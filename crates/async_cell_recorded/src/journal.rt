@@ -66,8 +66,8 @@ impl<T: Copy, M: Pick<T>> Journal<T, M> {
     /// the call, the refusal is the reply in the entry.
     ///
     /// A call that fails leaves no entry. It fails with `OutOfTurn` if the share's count is not the
-    /// number of its entries in the history: this is checked first. It fails with `Memory` if there
-    /// is no memory.
+    /// number of the share's entries in the history. This count is checked first. It fails with
+    /// `Memory` if there is no memory.
     pub fn step<E: Edit<T> + Drop>(
         &mut self,
         share: &mut Share<M>,

@@ -156,8 +156,8 @@ impl<T: Copy, M: Pick<T>> Recorded<T, M> {
         self.call(share, NoEditCall::<T>::Replace(value), rt)
     }
 
-    /// Replaces the content by what the edit makes of it. If that puts a value into an empty cell,
-    /// returns the waiting wakers. A closed cell refuses, and the edit is not called.
+    /// Replaces the content with what the edit returns for it. If the call puts a value into an
+    /// empty cell, returns the waiting wakers. A closed cell refuses, and the edit is not called.
     pub fn update<E: Edit<T> + Drop>(
         &self,
         share: &mut Share<M>,
@@ -176,8 +176,8 @@ impl<T: Copy, M: Pick<T>> Recorded<T, M> {
         self.call(share, Call::Update(edit), rt)
     }
 
-    /// If there is a value, replaces it by what the edit makes of it. A closed cell refuses, and
-    /// the edit is not called.
+    /// If there is a value, replaces the value with what the edit returns for it. A closed cell
+    /// refuses, and the edit is not called.
     pub fn update_some<E: Edit<T> + Drop>(
         &self,
         share: &mut Share<M>,

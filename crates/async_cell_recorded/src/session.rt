@@ -44,7 +44,7 @@ pub trait Session {
 /// begins open, without a value and with an owner for each share. Once all runs have ended, the
 /// cell is finished, by `Recorded::finish`.
 ///
-/// Returns what the threads returned, in the order of the shares' numbers, and the history. Each
+/// Returns the outcomes of the threads, in the order of the shares' numbers, and the history. Each
 /// outcome is related to its share as `Session::describes` says. The length of the history is the
 /// sum of the shares' counts of calls. The number of the history's entries that pass the test
 /// `Session::pick` is the sum of the shares' counts of picked results.

@@ -7,7 +7,7 @@ use std::sync::ledger::{self, Blank, Ledger};
 
 /// A type that names one recorded cell. No value of such a type is needed: only contracts read it.
 pub trait Marker {
-    /// The ledger of the calls.
+    /// The ledger that counts the calls.
     ghost calls: { ℕ };
 
     /// The ledger of the results that were picked.
@@ -17,8 +17,8 @@ pub trait Marker {
     ghost shares: { ℕ };
 }
 
-/// Says which results of calls are picked. The cell's second ledger counts the picked results. Any
-/// condition on an entry may decide which results are picked.
+/// Says which results of calls are picked. The cell's ledger `picked` counts the picked results.
+/// Any condition on an entry may decide which results are picked.
 pub trait Pick<T>: Marker {
     /// A test on the entry and the list of names that a call returned.
     ghost pick: { Test T };
@@ -57,7 +57,7 @@ impl<M: Marker> Ledger for PickedLedger<M> {
 /// Two blank ledgers, each with a part for each share. A new recorded cell uses them up.
 #[derive(Drop)]
 pub struct Blanks {
-    /// The ledger of the calls.
+    /// The ledger that counts the calls.
     pub calls: Blank,
 
     /// The ledger that counts the picked results (see `Pick`).
@@ -128,7 +128,7 @@ impl<M: Marker> Share<M> {
         self.number
     }
 
-    /// Returns how many calls were made with the share, without those that failed.
+    /// Returns how many calls were made with the share. Calls that failed are not counted.
     pub fn count(&self) -> u64
         ensures { result ≡ self.now.count }
     {

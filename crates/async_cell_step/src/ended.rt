@@ -270,7 +270,8 @@ impl<X> Deferred<Result<Option<X>, Refusal>> {
 }
 
 impl<X, E> Deferred<Result<X, E>> {
-    /// The result holds the pair of what was found and `other`, or the error.
+    /// If the answer is `Ok(found)`, the result holds the pair of `found` and `other`. If the
+    /// answer is an error, the result holds the same error.
     #[inline(always)]
     pub fn beside<Y: Drop>(self, other: Y) -> Deferred<Result<(X, Y), E>>
         ensures found { IfOk result.answer (λ both.

@@ -78,9 +78,9 @@ pub trait Upgrade<R>: Request<R> {
 /// While the future waits, it holds one place in the cell's wait list. Each poll renews the waker
 /// in this place, so the task that will be woken is the one that polled the future last. **Dropping
 /// the future may wait for the lock**, and wakes nobody. After the drop, the place is free for the
-/// next future of this kind, and the task that polled the dropped future may be woken once more.
-/// **So keep a future and poll it again.** Two tasks that each make a new future for every poll
-/// wake each other forever.
+/// next `With` that waits for the same cell, and the task that polled the dropped future may be
+/// woken once more. **So keep a future and poll it again.** Two tasks that each make a new future
+/// for every poll wake each other forever.
 #[derive_where(Debug)]
 pub struct With<P: Request<R>, R> {
     #[derive_where(skip)]
@@ -106,10 +106,11 @@ impl<P: Request<R>, R> With<P, R> {
 }
 
 impl<P: Request<R>, R: Drop> With<P, R> {
-    /// Drops the future, and the waker that the future left in the cell. So the task that polled
-    /// the future last is polled once more. While a waker stays in the cell, memory of its
-    /// executor, such as the task, cannot be freed. So call `cancel` if a wait ends early, for
-    /// example after a timeout, and the cell lives on. May wait for the lock.
+    /// Drops the future, and the waker that the future left in the cell. Dropping that waker wakes
+    /// the task that polled the future last, so this task is polled once more. While a waker stays
+    /// in the cell, memory of its executor, such as the task, cannot be freed. So call `cancel` if
+    /// a wait ends early, for example after a timeout, and the cell lives on. May wait for the
+    /// lock.
     pub fn cancel(self) {
         let With { polled, rt, place } = self;
         if let Some(cell) = polled.cell() {
@@ -121,7 +122,9 @@ impl<P: Request<R>, R: Drop> With<P, R> {
 impl<P: Upgrade<R>, R: Copy> With<P, R> {
     /// Returns a future of the same request. The returned future is a new owner. Returns `Ok(None)`
     /// if the cell is closed. The future that `upgrade` is called on stays as it is. Fails with
-    /// `Memory` (checked first) or `OwnersFull`.
+    /// `Memory` if one more pointer to the cell cannot be counted, or if the future's own pointer
+    /// could not be counted when it was made. These two causes are checked first. Fails with
+    /// `OwnersFull` if the cell has 4,294,967,295 owners.
     pub fn upgrade(&self) -> Result<Option<With<P::Owning, R>>, Refusal>
         ensures of_this { IfOk result (λ found. IfSome found (λ future.
             P.owned_by self.now.polled future.polled)) }
@@ -212,7 +215,7 @@ pub struct Values<P: Takes<R>, R: Drop> {
 
 impl<P: Takes<R>, R: Drop> With<P, R> {
     /// Returns a stream of the values that this future would take, one after another. If a cell has
-    /// several such streams, one may get every value (see `Values`).
+    /// several such streams, one of them may get every value (see `Values`).
     pub fn values(self) -> Values<P, R>
         ensures takes { result.taker ≡ self }
     {

@@ -33,10 +33,10 @@ pub type LockedCore<T, W, N = Unruled> = CellStore<Mutex<CellCore<T, W, N>>>;
 /// It also waits forever if it waits for a thread which calls the cell. Wakers are woken and values
 /// are dropped after the lock is released, so a wake or a drop may call the cell.
 ///
-/// A future made by `with` holds one place in the wait list while it waits (see `With`). So the
-/// list is never longer than the largest number of such futures alive at one time. Each
-/// `poll_shared` that waits adds one waker, which stays until the next write or close. `N` is as
-/// for an `Owner`.
+/// A future made by `with` holds one place in the wait list while it waits (see `With`). So all
+/// these futures together need no more places than the largest number of them alive at one time.
+/// Each `poll_shared` that waits adds one waker, which stays until the next write or close. `N` is
+/// as for an `Owner`.
 pub struct AsyncCell<T, N: Protocol<T, TaskWaker> = Unruled> {
     pub(crate) core: LockedCore<T, TaskWaker, N>,
     /// The source that waiting tasks register with.

@@ -1,5 +1,5 @@
-//! The calls of a cell, and those of an owner. An owner's calls are its cell's calls. They take no
-//! `rt`, because the owner keeps one: the right to wait for the lock.
+//! The calls of a cell, and those of an owner. An owner's calls do what its cell's calls do, but
+//! take no `rt`. The owner keeps an `rt`: the right to wait for the lock.
 ghost use Rattle.std.specs.Prelude.{◌≡◌, Option, Some, None, IsOk, IfErr, IfOk, IfSome};
 ghost use Rattle.std.specs.Fn.{FnOnceReturnsAt};
 ghost use Rattle.async_cell_model.specs.Refusal.{FailsWithMemory};

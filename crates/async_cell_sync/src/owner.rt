@@ -298,8 +298,8 @@ impl<T: Drop, R: Wait + Copy, N: Protocol<T, TaskWaker>> Owner<T, R, N> {
 }
 
 impl<R: Wait + Copy> Owner<(), R> {
-    /// Returns a future that waits for `notify`. It takes the value, so each `notify` ends at most
-    /// one `wait`. If several tasks wait, use `get`.
+    /// Returns a future that waits for `notify`. The future takes the value, so each `notify` ends
+    /// at most one `wait`. If several tasks wait, use `get`.
     pub fn wait(&self) -> With<Take<&AsyncCell<()>>, R>
         ensures of_this { result.polled.0.now ≡ cell_owned self.now }
     {

@@ -36,8 +36,8 @@ pub struct Replier<T: Drop, R: Wait + Drop, N: Unwitnessed<T, TaskWaker> = Unrul
 /// and may then be polled again.
 ///
 /// If the `Reply` is dropped before it was ready, the slot is closed. Then a value that was already
-/// set is dropped, and a later `set` returns its value in the error. **This drop may wait for the
-/// lock**, and wakes the task that polled the reply last.
+/// set is dropped, and a later `set` returns its value in the error. **This drop of the `Reply` may
+/// wait for the lock**, and wakes the task that polled it last.
 ///
 /// ```rust
 /// let (replier, reply) = reply_slot::<u32, _>(rt.alloc(), rt)?;

@@ -52,8 +52,8 @@ impl<C: TakeRef> Take<C> {
 }
 
 impl<C: CellRef + Drop> Take<C> {
-    /// Returns the future. The future keeps `rt`, because `Future::poll` has no parameter for the
-    /// right to wait.
+    /// Returns the future of this `Take`. The future keeps `rt`, because `Future::poll` has no
+    /// parameter for the right to wait.
     ///
     /// ```rust
     /// let cell = AsyncCell::new_with(rt.alloc(), 7);
@@ -171,7 +171,7 @@ impl<T: Drop, N: Takeable<T, TaskWaker>> TakeWeak<T, N> {
 }
 
 impl<T: Drop, N: Protocol<T, TaskWaker>> TakeWeak<T, N> {
-    /// Returns the future. It keeps `rt`.
+    /// Returns the future of this request. The future keeps `rt`.
     pub fn with<R: Wait>(self, rt: R) -> With<Self, R>
         ensures polls { result.polled ≡ self }
     {
@@ -262,7 +262,7 @@ impl<T: Clone, N: Protocol<T, TaskWaker>> GetWeak<T, N> {
 }
 
 impl<T: Drop, N: Protocol<T, TaskWaker>> GetWeak<T, N> {
-    /// Returns the future. It keeps `rt`.
+    /// Returns the future of this request. The future keeps `rt`.
     pub fn with<R: Wait>(self, rt: R) -> With<Self, R>
         ensures polls { result.polled ≡ self }
     {
@@ -316,8 +316,9 @@ impl<T: Drop, R: Wait + Copy, N: Protocol<T, TaskWaker>> Upgrade<R> for GetWeak<
 }
 
 /// The stream of the values of a cell. To make the stream, call `values` on the future of a
-/// `TakeWeak`. **Several streams of a cell do not take turns**: one may get every value. **Dropping
-/// a stream may wait for the lock**, as dropping the future of a `TakeWeak` may (see `With`).
+/// `TakeWeak`. **Several streams of a cell do not take turns**: one of them may get every value.
+/// **Dropping a stream may wait for the lock**, as dropping the future of a `TakeWeak` may (see
+/// `With`).
 ///
 /// ```rust
 /// let states = Owner::new_with(rt.alloc(), 7, rt)?;

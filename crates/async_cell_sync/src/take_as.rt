@@ -22,7 +22,8 @@ use futures::task::{Context, Poll};
 use std::marker::Model;
 use std::sync::Wait;
 
-/// A witness of a cell whose value may be taken. Contracts see what it has seen.
+/// A witness of a cell whose value may be taken. Contracts see a `Taker` as what its witness has
+/// seen.
 #[derive(Drop)]
 pub(crate) struct Taker<T, N: Protocol<T, TaskWaker>> {
     seen: Witness<T, TaskWaker, N>,
@@ -64,8 +65,8 @@ impl<T, N: Protocol<T, TaskWaker>> Taker<T, N> {
 }
 
 /// A `Take` that extends a witness, and gives it back with the value. In the history, the poll that
-/// gives both is listed as a `try_take`. A `TakeAs` borrows an owner, so it never fails with
-/// `Closed`.
+/// gives the value and the witness is listed as a `try_take`. A `TakeAs` borrows an owner, so it
+/// never fails with `Closed`.
 #[derive(Drop)]
 pub struct TakeAs<'a, T: Drop, R: Wait + Drop, N: Protocol<T, TaskWaker>> {
     owner: &'a Owner<T, R, N>,
@@ -99,8 +100,8 @@ impl<T: Drop, R: Wait + Drop, N: Protocol<T, TaskWaker>> Polled<R> for TakeAs<'_
 }
 
 /// A `Get` that extends a witness, and gives it back with the clone. In the history, the poll that
-/// gives both is listed as a `try_get`. A `GetAs` borrows an owner, so it never fails with
-/// `Closed`.
+/// gives the clone and the witness is listed as a `try_get`. A `GetAs` borrows an owner, so it
+/// never fails with `Closed`.
 #[derive(Drop)]
 pub struct GetAs<'a, T: Drop, R: Wait + Drop, N: Protocol<T, TaskWaker>> {
     owner: &'a Owner<T, R, N>,

@@ -17,8 +17,8 @@ use std::alloc::AllocError;
 use std::sync::{Arc, Wait};
 
 /// A weak pointer to a cell. It does not count as an owner. `Shared::downgrade` makes a `Weak`.
-/// `TakeWeak` and `GetWeak` make a future of a `Weak`. `with` turns a `Weak` into a `WeakOwner`,
-/// whose calls take no `rt`.
+/// `TakeWeak(weak).with(rt)` and `GetWeak(weak).with(rt)` turn a `Weak` into a future. `Weak::with`
+/// turns a `Weak` into a `WeakOwner`, whose calls take no `rt`.
 #[derive(Drop)]
 #[derive_where(Debug)]
 pub struct Weak<T, N: Protocol<T, TaskWaker> = Unruled> {
@@ -54,8 +54,8 @@ impl<T: Drop, N: Protocol<T, TaskWaker>> Weak<T, N> {
         copy.unwrap_or(Weak { cell: None })
     }
 
-    /// Makes a `WeakOwner` of this pointer and the right to wait. The calls of the `WeakOwner` take
-    /// no `rt`.
+    /// Makes a `WeakOwner` from this pointer and `rt`, the right to wait for the lock. The calls of
+    /// the `WeakOwner` take no `rt`.
     pub fn with<R: Wait>(self, rt: R) -> WeakOwner<T, R, N>
         ensures points { result.weak ≡ self }
     {

@@ -26,10 +26,10 @@ use std::fmt;
 /// what an update made of it, is stored in place of whatever was set meanwhile. `peek` instead puts
 /// the value back only if the cell is still empty.
 ///
-/// A future made by `with` holds one place in the wait list while it waits (see `With`). So the
-/// list is never longer than the largest number of such futures alive at one time. For any other
-/// future, each poll that waits adds a waker. This waker stays until the next write or close, even
-/// after the future is dropped.
+/// A future made by `with` holds one place in the wait list while it waits (see `With`). So all
+/// these futures together need no more places than the largest number of them alive at one time.
+/// For any other future, each poll that waits adds a waker. This waker stays until the next write
+/// or close, even after the future is dropped.
 ///
 /// `N` says what is known of the values (see `Rule`).
 pub struct AsyncCell<T, N: Free<T, TaskWaker> = Unruled> {
@@ -337,8 +337,8 @@ impl AsyncCell<()> {
         self.set(());
     }
 
-    /// Returns a future that waits for `notify`. It takes the value, so each `notify` ends at most
-    /// one `wait`. If several tasks wait, use `get`.
+    /// Returns a future that waits for `notify`. The future takes the value, so each `notify` ends
+    /// at most one `wait`. If several tasks wait, use `get`.
     pub fn wait(&self) -> Take<&AsyncCell<()>>
         ensures of_this { result.0.now ≡ self.now }
     {

@@ -18,8 +18,8 @@ use std::ops::Deref;
 /// hold places (see `With`). The end of the last owner closes the cell: the value is dropped,
 /// waiters are woken, and weak futures give `None`.
 ///
-/// A `Shared` is an owner, too, but does not deref: its cell's calls are made on its `cell()`. Its
-/// futures hold no place until you call their `with`.
+/// A `Shared` is an owner, too, but does not deref: its cell's calls are made on its `cell()`. The
+/// futures of a `Shared` hold no place until you call their `with`.
 #[derive(Drop)]
 #[derive_where(Debug)]
 pub struct Owner<T: Drop, N: Free<T, TaskWaker> = Unruled> {
@@ -216,8 +216,8 @@ impl<T: Drop, N: Free<T, TaskWaker>> Owner<T, N> {
 }
 
 impl Owner<()> {
-    /// Returns a future that waits for `notify`. It takes the value, so each `notify` ends at most
-    /// one `wait`. If several tasks wait for one `notify`, let all use `get`.
+    /// Returns a future that waits for `notify`. The future takes the value, so each `notify` ends
+    /// at most one `wait`. If several tasks wait for one `notify`, let all use `get`.
     pub fn wait(&self) -> With<Take<&AsyncCell<()>>>
         ensures of_this { result.polled.0.now ≡ cell_owned self.now }
     {

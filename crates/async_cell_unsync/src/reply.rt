@@ -33,8 +33,8 @@ pub struct Replier<T: Drop, N: Unwitnessed<T, TaskWaker> = Unruled> {
 /// polled again.
 ///
 /// If the `Reply` is dropped before it was ready, the slot is closed. Then a value that was already
-/// set is dropped, and a later `set` returns its value in the error. This drop wakes the task that
-/// polled the reply last.
+/// set is dropped, and a later `set` returns its value in the error. This drop of the `Reply` wakes
+/// the task that polled it last.
 #[derive_where(Debug)]
 pub struct Reply<T: Drop, N: Unwitnessed<T, TaskWaker> = Unruled> {
     /// `None` once it was ready.

@@ -26,11 +26,12 @@ use std::rc::Rc;
 pub type With<P> = async_cell_step::With<P, OneThread>;
 
 /// The stream of the values of a cell. To make the stream, call `values` on the future of a
-/// `TakeWeak`. **Several streams of a cell do not take turns**: one may get every value.
+/// `TakeWeak`. **Several streams of a cell do not take turns**: one of them may get every value.
 pub type Values<T, N = Unruled> = async_cell_step::Values<TakeWeak<T, N>, OneThread>;
 
 /// A weak pointer to a cell. It does not count as an owner. `Shared::downgrade` makes a `Weak`.
-/// `TakeWeak` and `GetWeak` make a future of a `Weak`. `with` turns a `Weak` into a `WeakOwner`.
+/// `TakeWeak(weak).with()` and `GetWeak(weak).with()` turn a `Weak` into a future. `Weak::with`
+/// turns a `Weak` into a `WeakOwner`.
 #[derive(Drop)]
 #[derive_where(Debug)]
 pub struct Weak<T, N: Free<T, TaskWaker> = Unruled> {

@@ -1,5 +1,5 @@
-//! The trait of wakers, the wait list of a cell with the places of waiting futures, and the list of
-//! the wakers to wake.
+//! The trait of wakers, the wait list of a cell, the places of waiting futures in that list, and
+//! the list of the wakers to wake.
 //!
 //! Items marked `doc(hidden)` are for the crates that build on this one. `async_cell_core`
 //! re-exports all other items.

@@ -57,7 +57,7 @@ impl TaskWaker {
         self.link.get() == HELD
     }
 
-    /// Takes the waker out, and leaves `None` in the place.
+    /// Takes the waker out of its place, which then holds `None`.
     pub(crate) fn take(&mut self) -> Option<Waker>
         ensures unchanged { self.new ≡ self.old }
     {

@@ -84,8 +84,8 @@ impl<W: Drop> WaitList<W> {
     }
 
     /// Makes room for `additional` more wakers. Until `hand_out` empties the list, adding these
-    /// wakers needs memory only for the clones of the wakers. If there is no memory for the room,
-    /// fails, and the list is unchanged.
+    /// wakers needs memory only for the clones of the wakers. Fails if there is no memory for the
+    /// room. The list is then unchanged.
     pub fn reserve(&mut self, additional: usize) -> Result<(), AllocError>
         ensures wakers_stay { self.new.wakers ≡ self.old.wakers }
         ensures places_stay { self.new.round ≡ self.old.round }

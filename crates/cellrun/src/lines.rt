@@ -18,7 +18,8 @@ pub enum Next {
     Call(Command),
     /// An empty line.
     Blank,
-    /// A line that is neither empty nor a call. If it is too long, its rest is not read.
+    /// A line that is neither empty nor a call. If the line is too long, the rest of the line may
+    /// be left unread.
     Bad,
     /// The end of the input.
     End,

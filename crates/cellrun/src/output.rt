@@ -18,7 +18,7 @@ pub struct Output<W> {
 impl<W: Write + Drop> Output<W> {
     ghost use Rattle.cellrun.specs.Output.{output_contents};
 
-    /// Makes an output that buffers in `room`, after clearing it.
+    /// Clears `room`, and makes an output that buffers in `room`.
     pub fn new(mut room: Vec<u8>, writer: W) -> Self
         ensures writer { result.writer ≡ writer }
         ensures bytes { Keeps (W.contents writer) (output_contents W.contents result) }

@@ -1,5 +1,5 @@
-//! A count that exists only in proofs, and the permits that it has given out. They have no bytes,
-//! and their functions do nothing at run time.
+//! A count that exists only in proofs, and the permits that it has given out. The count and the
+//! permits are zero-sized, and their functions do nothing at run time.
 #![tactic(auto)]
 
 mod permits;

@@ -1,5 +1,5 @@
 //! A list that exists only in proofs. Only the holder of a certain token can add to it. The tokens
-//! have no bytes, and their functions do nothing at run time.
+//! are zero-sized, and their functions do nothing at run time.
 #![tactic(auto)]
 
 mod tokens;

@@ -9,7 +9,7 @@ ghost use Rattle.ghost_log.specs.Owned.{log_owns, seen_owns};
 use std::marker::{Model, PhantomData};
 
 /// Says which entry is made from an `X`. An `X` may be, for example, the arguments of a call and
-/// its result. Only contracts read it.
+/// its result. Only contracts read `entry`.
 pub trait Makes<X, E> {
     ghost entry: { X → E };
 }

@@ -73,9 +73,9 @@ impl<T: Drop, W: Wakes> Core<T, W> {
         Ok(first)
     }
 
-    /// As `end_owner`, but only if the owner is the last one, and the wait list has no memory for
-    /// more than one waker. Returns the value, and the only waiting waker if there is one, to be
-    /// woken by the caller. In other cases changes nothing, and returns `None`.
+    /// As `end_owner`, but only for the last owner of a cell whose wait list has allocated no
+    /// memory, and so has at most one waker. Returns the value, and this waker if there is one. The
+    /// caller must wake the waker. In other cases changes nothing, and returns `None`.
     #[doc(hidden)]
     #[inline(always)]
     pub fn close_first(&mut self) -> Option<(Option<T>, Option<W>)>

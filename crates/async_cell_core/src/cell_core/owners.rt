@@ -1,4 +1,4 @@
-//! The owners of a cell, and its end.
+//! Calls that count, add or end a cell's owners, and calls that close or consume the cell.
 ghost use Rattle.std.specs.Prelude.{◌≡◌, ◌↔◌, ◌⊎◌, [], ◌+◌, ◌-◌, None, Err, true, false, IsOk, IfOk, IfErr, OnOk, OnErr};
 ghost use Rattle.async_cell_model.specs.Machine.{content, owners_of, owners_limit, is_closed};
 ghost use Rattle.async_cell_core.specs.IsStep.{IsStep, done_answer, end_answer};

@@ -68,7 +68,7 @@ impl<T: Drop, W: Wakes, N: Protocol<T, W>> CellCore<T, W, N> {
         Ok(Deferred::waking(value, first))
     }
 
-    /// Ends an owner. Fails with `Closed`.
+    /// Ends an owner. Fails with `Closed` if the cell is closed.
     #[inline(always)]
     pub fn end_owner(
         &mut self,

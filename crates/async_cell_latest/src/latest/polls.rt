@@ -13,7 +13,7 @@ use futures::task::Poll;
 
 impl<T: Drop, W: Wakes> Latest<T, W> {
     /// Returns whether the state's version differs from `seen`, the version that a follower has
-    /// seen. The answer for a closed state is found in the same way.
+    /// seen. It makes no difference whether the state is closed.
     pub fn is_unseen(&self, seen: u64) -> bool
         ensures { (result ≡ true) ↔ (seen ≢ self.now.version) }
     {

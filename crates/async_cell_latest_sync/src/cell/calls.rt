@@ -149,7 +149,8 @@ impl<T: Drop, N: Protocol<T>> LatestCore<T, N> {
         }
     }
 
-    /// Only for a state without a name: a closure that returned `false` may have changed the value.
+    /// May be called only on a state without a name, because a closure that returned `false` may
+    /// have changed the value.
     pub(crate) fn modify_if<F: FnOnce(&mut T) -> bool + Drop>(
         &mut self,
         change: F,
