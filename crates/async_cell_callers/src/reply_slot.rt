@@ -26,7 +26,7 @@ impl ReplySlot {
     }
 
     /// Takes the reply, or registers the asker to wait for it. Fails with `Memory` if there is no
-    /// memory to wait; the first asker to wait is never refused.
+    /// memory to register the asker; the first asker to wait is never refused.
     pub fn ask(&mut self, asker: u64) -> Result<Poll<Option<u64>>, Refusal>
         ensures gives { is_vacant self.old.core.cell ≡ false
             → result ≡ Ok (Poll.Ready (content self.old.core.cell)) }

@@ -1,4 +1,5 @@
-//! A cell's core in a store: how it is made and ended, and one function that makes any call.
+//! A cell's core in a store: functions that create a `CellStore` or consume it, and one function,
+//! `make`, that executes any call.
 ghost use Rattle.std.specs.Prelude.{◌≡◌, [], false, None, Some, IfSome, IsTrue};
 ghost use Rattle.async_cell_model.specs.Machine.{State, content, is_closed, IsSound};
 ghost use Rattle.async_cell_history.specs.History.{Logged};

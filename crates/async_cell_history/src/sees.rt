@@ -13,7 +13,8 @@ pub trait Signs {
     ghost number: { Self → ℕ };
 }
 
-/// The signer of a call: a `Witness`, which has then seen the call, or `Nobody`.
+/// The signer of a call: a `Witness`, or `Nobody`. After the call, the signing `Witness` has seen
+/// the call.
 pub trait Sees<T: Drop, W: Wakes, N: Protocol<T, W>>: Signs {
     /// The second is the first after `catch_up`: it has seen all calls that led to this core.
     ghost ready: { Self → Self → Logged T W → Type 0 };

@@ -59,8 +59,8 @@ impl<T: Drop, R: Wait + Drop, N: Protocol<T>> Follower<T, R, N> {
 impl<T: Clone, R: Wait + Copy, N: Protocol<T>> Follower<T, R, N> {
     /// Returns a future that waits for a value that the witness has not seen. It gives a clone of
     /// the value, and the witness, which has then seen it. Once the state is closed and all values
-    /// were seen, it gives `None` for the value. Fails with `Memory` if there is no memory to wait
-    /// or for the clone. Marks nothing as seen by this follower.
+    /// were seen, it gives `None` for the value. Fails with `Memory` if there is no memory for the
+    /// clone, or to register the waker. Marks nothing as seen by this follower.
     pub fn next_as(&self, seen: Witness<T, N>) -> With<NextAs<'_, T, N>, R>
         ensures of_this { result.polled.cell.now ≡ cell_followed self.now }
         ensures seen { result.polled.seen ≡ seen }

@@ -69,9 +69,9 @@ impl<T: Drop, R: Wait + Drop, N: Protocol<T>> Follower<T, R, N> {
     /// forever if it makes a call that takes this lock, such as `set` of an owner.
     ///
     /// The future fails with `Closed` once the last owner has ended and the last state was looked
-    /// at. It fails with `Memory` if there is no memory for the clone or to wait. In that case the
-    /// state that the failed poll looked at is not marked as seen, and the next poll looks at that
-    /// state again.
+    /// at. It fails with `Memory` if there is no memory for the clone, or to register the waker. In
+    /// that case the state that the failed poll looked at is not marked as seen, and the next poll
+    /// looks at that state again.
     ///
     /// ```rust
     /// let setting = Owner::new(rt.alloc(), 1, rt)?;

@@ -15,8 +15,8 @@ use async_cell_model::Kept;
 use std::alloc::Global;
 use std::sync::{Mutex, Wait};
 
-/// A cell whose calls are recorded, in the order in which they take effect. Threads share it by
-/// reference, and each makes its calls with a share of its own. `M` names the cell.
+/// A cell whose calls are recorded, in the order in which they take effect. Threads use the cell by
+/// reference, and each thread makes its calls with its own `Share`. `M` names the cell.
 ///
 /// A call waits for the cell's lock, then takes effect in one step, and adds one entry to the
 /// history. It returns its entry, and the names of the wakers that its caller must wake. If the
@@ -215,7 +215,7 @@ impl<T: Copy, M: Pick<T>> Recorded<T, M> {
         self.call(share, NoEditCall::<T>::TryGet, rt)
     }
 
-    /// Replies whether there is a value.
+    /// The entry's reply says whether there is a value.
     pub fn is_set(&self, share: &mut Share<M>, rt: &impl Wait) -> CallResult<T>
         ensures call { IsCallResult M.pick (λ _. Kept.IsSet) share.old result share.new }
         ensures replied { IfOk result (λ answer. (b : Bool) × (answer.0.reply ≡ Reply.Is b)) }

@@ -50,8 +50,9 @@ pub trait Session {
 /// `Session::pick` is the sum of the shares' counts of picked results.
 ///
 /// Fails with `Memory` if there is no memory for the cell, its shares or the outcomes. All of that
-/// is allocated before the first run begins. If calls of a run fail, its outcome may say so. If no
-/// thread can be made, the runs come one after another. So a run must not wait for another run.
+/// is allocated before the first run begins. If calls of a run fail, the run's outcome may report
+/// the failures. If no thread can be started, the runs are executed one after another. So a run
+/// must not wait for another run.
 pub fn with_recorded<
     T: Copy + Send,
     O: Send + Drop,

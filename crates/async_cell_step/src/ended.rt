@@ -21,7 +21,7 @@ pub struct Deferred<X, K = ()> {
     woken: K,
 }
 
-/// What a call leaves to be done after its step: there are wakers to wake, and values to drop.
+/// What a call leaves to be done after its step: wakers to wake, and values to drop.
 pub trait After<W> {
     /// The wakers.
     ghost wakes: { Self → List W };

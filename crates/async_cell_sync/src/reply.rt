@@ -32,8 +32,8 @@ pub struct Replier<T: Drop, R: Wait + Drop, N: Unwitnessed<T, TaskWaker> = Unrul
 
 /// The side of a reply slot that waits: a future of the value. It fails with `Closed` if the
 /// `Replier` was dropped without a `set`. After the future has given the value or `Closed`, each
-/// later poll fails with `Closed`. The future fails with `Memory` if there is no memory to wait,
-/// and may then be polled again.
+/// later poll fails with `Closed`. The future fails with `Memory` if there is no memory to register
+/// the waker, and may then be polled again.
 ///
 /// If the `Reply` is dropped before it was ready, the slot is closed. Then a value that was already
 /// set is dropped, and a later `set` returns its value in the error. **This drop of the `Reply` may

@@ -34,8 +34,8 @@ pub struct Take<C>(#[derive_where(skip)] pub C);
 
 impl<C: TakeRef> Take<C> {
     /// Polls by a shared reference. Takes the value, and the cell is then empty. If there is no
-    /// value, waits. Fails with `Memory` if there is no memory to wait, and with `Closed` on a
-    /// closed cell.
+    /// value, waits. Fails with `Memory` if there is no memory to register the waker, and with
+    /// `Closed` on a closed cell.
     pub fn poll_shared<R: Wait>(
         &self,
         cx: &mut Context<'_>,
@@ -96,7 +96,7 @@ pub struct Get<C>(#[derive_where(skip)] pub C);
 
 impl<C: CellRef<Value: Clone>> Get<C> {
     /// Polls by a shared reference. Clones the value, or waits. Fails with `Memory` if there is no
-    /// memory for the clone or to wait, and with `Closed` on a closed cell.
+    /// memory for the clone, or to register the waker, and with `Closed` on a closed cell.
     pub fn poll_shared<R: Wait>(
         &self,
         cx: &mut Context<'_>,
@@ -154,7 +154,7 @@ pub struct TakeWeak<T, N: Protocol<T, TaskWaker> = Unruled>(pub Weak<T, N>);
 
 impl<T: Drop, N: Takeable<T, TaskWaker>> TakeWeak<T, N> {
     /// Polls by a shared reference. Takes the value, or waits. Returns `None` on a closed cell.
-    /// Fails with `Memory` if there is no memory to wait.
+    /// Fails with `Memory` if there is no memory to register the waker.
     pub fn poll_shared<R: Wait>(
         &self,
         cx: &mut Context<'_>,
@@ -244,7 +244,7 @@ pub struct GetWeak<T, N: Protocol<T, TaskWaker> = Unruled>(pub Weak<T, N>);
 
 impl<T: Clone, N: Protocol<T, TaskWaker>> GetWeak<T, N> {
     /// Polls by a shared reference. Clones the value, or waits. Returns `None` on a closed cell.
-    /// Fails with `Memory` if there is no memory for the clone or to wait.
+    /// Fails with `Memory` if there is no memory for the clone, or to register the waker.
     pub fn poll_shared<R: Wait>(
         &self,
         cx: &mut Context<'_>,

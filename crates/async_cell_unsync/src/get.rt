@@ -20,7 +20,7 @@ pub struct Get<C>(#[derive_where(skip)] pub C);
 
 impl<C: CellRef> Get<C> {
     /// Polls by a shared reference. Clones the value, or waits. Fails with `Memory` if there is no
-    /// memory for the clone or to wait, and with `Closed` on a closed cell.
+    /// memory for the clone, or to register the waker, and with `Closed` on a closed cell.
     #[inline]
     pub fn poll_shared(&self, cx: &mut Context<'_>) -> Poll<Result<C::Value, Refusal>>
     where

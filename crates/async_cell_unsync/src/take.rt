@@ -22,8 +22,8 @@ pub struct Take<C>(#[derive_where(skip)] pub C);
 
 impl<C: CellRef> Take<C> {
     /// Polls by a shared reference. Takes the value, and the cell is then empty. If there is no
-    /// value, waits. Fails with `Memory` if there is no memory to wait, and with `Closed` on a
-    /// closed cell.
+    /// value, waits. Fails with `Memory` if there is no memory to register the waker, and with
+    /// `Closed` on a closed cell.
     #[inline]
     pub fn poll_shared(&self, cx: &mut Context<'_>) -> Poll<Result<C::Value, Refusal>>
         ensures rule { IfReady result (λ given. IfOk given C.Rules.holds) }

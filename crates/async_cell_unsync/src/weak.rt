@@ -180,7 +180,7 @@ pub struct TakeWeak<T, N: Free<T, TaskWaker> = Unruled>(pub Weak<T, N>);
 
 impl<T: Drop, N: Free<T, TaskWaker>> TakeWeak<T, N> {
     /// Polls by a shared reference. Takes the value, or waits. Returns `None` on a closed cell.
-    /// Fails with `Memory` if there is no memory to wait.
+    /// Fails with `Memory` if there is no memory to register the waker.
     pub fn poll_shared(&self, cx: &mut Context<'_>) -> Poll<Result<Option<T>, Refusal>>
         ensures rule { IfReady result (λ given. IfOk given (λ found. IfSome found N.holds)) }
         ensures lost { IsLost self.now.0 → result ≡ Poll.Ready (Err Refusal.Memory) }
@@ -275,7 +275,7 @@ pub struct GetWeak<T, N: Free<T, TaskWaker> = Unruled>(pub Weak<T, N>);
 
 impl<T: Drop, N: Free<T, TaskWaker>> GetWeak<T, N> {
     /// Polls by a shared reference. Clones the value, or waits. Returns `None` on a closed cell.
-    /// Fails with `Memory` if there is no memory for the clone or to wait.
+    /// Fails with `Memory` if there is no memory for the clone, or to register the waker.
     pub fn poll_shared(&self, cx: &mut Context<'_>) -> Poll<Result<Option<T>, Refusal>>
     where
         T: Clone,
