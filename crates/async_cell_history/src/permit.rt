@@ -69,8 +69,8 @@ impl<T, W, N: Protocol<T, W>> OwnerPermit<T, W, N> {
         permit.lose();
     }
 
-    /// Drops a permit. This is for use when no core could be lent. The owner stays counted, so the
-    /// cell is never closed.
+    /// Drops a permit. This is for use when no core could be lent. The permit's owner stays
+    /// counted, so the cell is never closed.
     #[inline(always)]
     pub fn lose<'a, M: Stores, R: Opens<'a, M>>(self, _: &R)
         requires unlent { IsTrue R.always → ⊥ }

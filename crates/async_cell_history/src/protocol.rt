@@ -34,8 +34,8 @@ pub trait Free<T, W>: Protocol<T, W> {
     ghost free: { (call : Kept T W) → Puts Self.holds call → Self.may call };
 }
 
-/// The protocol of a cell whose history nobody sees. Such a cell has no name, and its permits do
-/// not count its owners.
+/// The protocol of a cell whose history nobody sees. Such a protocol names neither a history nor a
+/// count of owners.
 pub trait Unwitnessed<T, W>: Free<T, W> {
     /// It has no name.
     ghost nameless: { Self.named ≡ None };

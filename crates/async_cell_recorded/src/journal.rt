@@ -15,7 +15,7 @@ use std::marker::Model;
 use std::sync::ledger::{self, Ledger};
 
 /// What the lock of a recorded cell guards: the cell, the cell's history, and the `Books`. These
-/// books count the calls of the shares. `M` names the cell.
+/// books count the calls of the shares. In proofs, the type `M` tells this cell from others.
 #[derive(Drop)]
 pub struct Journal<T, M: Pick<T>> {
     core: Core<T, Named>,

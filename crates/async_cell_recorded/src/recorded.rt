@@ -16,7 +16,8 @@ use std::alloc::Global;
 use std::sync::{Mutex, Wait};
 
 /// A cell whose calls are recorded, in the order in which they take effect. Threads use the cell by
-/// reference, and each thread makes its calls with its own `Share`. `M` names the cell.
+/// reference, and each thread makes its calls with its own `Share`. In proofs, the type `M` tells
+/// this cell from others.
 ///
 /// A call waits for the cell's lock, then takes effect in one step, and adds one entry to the
 /// history. It returns its entry, and the names of the wakers that its caller must wake. If the

@@ -99,7 +99,8 @@ impl<M: Marker> ShareCount<M> {
 }
 
 /// The right to make calls on a recorded cell, and the count of calls made with it. Each call
-/// borrows a share. All shares together are needed to finish the cell. `M` names the cell.
+/// borrows a share. All shares together are needed to finish the cell. In proofs, the type `M`
+/// tells this cell from others.
 #[derive(Drop)]
 pub struct Share<M: Marker> {
     pub(crate) number: u32,

@@ -130,8 +130,8 @@ impl<T: Drop, R: Wait + Copy, N: Protocol<T, TaskWaker>> Owner<T, R, N> {
         Ok(Shared { cell, permit }.with(self.rt))
     }
 
-    /// Returns a weak owner. If one more pointer to the cell cannot be counted, the weak owner's
-    /// calls fail with `Memory`.
+    /// Returns a weak owner. If the count of the cell's `Arc` is full, the calls of the returned
+    /// weak owner fail with `Memory`.
     pub fn downgrade(&self) -> WeakOwner<T, R, N>
         ensures of_this { NamesAtMost result.weak (cell_owned self.now) }
     {

@@ -99,8 +99,8 @@ impl<T: Drop, N: Free<T, TaskWaker>> Owner<T, N> {
         Ok(self.shared.another()?.with())
     }
 
-    /// Returns a weak owner. If one more pointer to the cell cannot be counted, the weak owner's
-    /// calls fail with `Memory`.
+    /// Returns a weak owner. If the count of the cell's `Rc` is full, the calls of the returned
+    /// weak owner fail with `Memory`.
     pub fn downgrade(&self) -> WeakOwner<T, N>
         ensures of_this { NamesAtMost result.weak (cell_owned self.now) }
     {

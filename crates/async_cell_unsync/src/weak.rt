@@ -74,8 +74,8 @@ impl<T: Drop, N: Free<T, TaskWaker>> Weak<T, N> {
         WeakOwner { weak: self }
     }
 
-    /// Returns whether the last owner has ended, so that no owner can be made. Fails with `Memory`
-    /// if this weak pointer could not be counted when it was made.
+    /// Returns whether the last owner has ended. If it has, no owner can be made. Fails with
+    /// `Memory` if this weak pointer could not be counted when it was made.
     pub fn is_closed(&self) -> Result<bool, Refusal>
         ensures lost { IsLost self.now → result ≡ Err Refusal.Memory }
         ensures refused { FailsWithMemory result }
@@ -133,8 +133,8 @@ impl<T: Drop, N: Free<T, TaskWaker>> WeakOwner<T, N> {
         Ok(self.weak.upgrade()?.map(|owner| owner.with()))
     }
 
-    /// Returns whether the last owner has ended, so that no owner can be made. Fails with `Memory`
-    /// if this weak pointer could not be counted when it was made.
+    /// Returns whether the last owner has ended. If it has, no owner can be made. Fails with
+    /// `Memory` if this weak pointer could not be counted when it was made.
     pub fn is_closed(&self) -> Result<bool, Refusal>
         ensures lost { IsLost self.now.weak → result ≡ Err Refusal.Memory }
         ensures refused { FailsWithMemory result }
