@@ -11,8 +11,8 @@ use async_cell_step::{Opens, Step, StoredCore, Stores, finish, opened};
 /// The core of a cell in a `Mutex` or a `RefCell`, lent for one step at a time. A call makes its
 /// change in one step. `rt` is the right to the step. If the core is in a `Mutex`, that is the
 /// right to wait for the lock. After the step the call wakes wakers, and drops old values, unused
-/// values and the value of a closed cell. Closures, clones and prints run during the step. With a
-/// lock, a closure, clone or print that calls its own cell waits forever.
+/// values and the value of a closed cell. Closures, clones and prints run during the step. If the
+/// core is in a `Mutex`, a closure, clone or print that calls its own cell waits forever.
 #[derive(Drop)]
 pub struct CellStore<M> {
     /// The store that holds the core. The polls of futures use this store.

@@ -251,9 +251,10 @@ impl<T: Drop, R: Wait + Drop, N: Protocol<T>> Owner<T, R, N> {
     /// Drops each waker that a dropped future left in the state. Dropping a waker wakes its task,
     /// so the task of each such waker is polled once more.
     ///
-    /// Without this call these wakers stay until the next write. While such a waker stays, memory
-    /// of its executor, such as the task, cannot be freed. Call `purge` if many waiting futures are
-    /// dropped before they are ready. `purge` takes the lock once for each place in the wait list.
+    /// Without this call, the wakers of dropped futures stay until the next write. While such a
+    /// waker stays, memory of its executor, such as the task, cannot be freed. Call `purge` if many
+    /// waiting futures are dropped before they are ready. `purge` takes the lock once for each
+    /// place in the wait list.
     pub fn purge(&self) {
         self.cell.core.purge(&self.rt);
     }

@@ -22,9 +22,9 @@ use std::fmt;
 /// waiters.
 ///
 /// **While a closure, a clone or a value's `Debug` runs, the value is taken out**: calls see an
-/// empty cell. Owners that are made or ended during this time are counted. Afterwards the value, or
-/// what an update made of it, is stored in place of whatever was set meanwhile. `peek` instead puts
-/// the value back only if the cell is still empty.
+/// empty cell. An owner that is made or ended during this time changes the number of owners as
+/// usual. Afterwards the value, or what an update made of it, is stored in place of whatever was
+/// set meanwhile. `peek` instead puts the value back only if the cell is still empty.
 ///
 /// A future made by `with` holds one place in the wait list while it waits (see `With`). So all
 /// these futures together need no more places than the largest number of them alive at one time.
