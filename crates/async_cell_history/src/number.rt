@@ -19,8 +19,8 @@ pub(crate) struct Signed<T, W> {
     pub(crate) entry: Entry<T, W>,
 }
 
-/// The number of an author, or a number of calls. This number is the first item of the `Seen`'s
-/// list. A `Number` is zero-sized.
+/// The number that an author signs calls with, or a count of calls. It is the first item of the
+/// `Seen`'s list. A `Number` is zero-sized.
 pub(crate) type Number = Seen<u64>;
 
 /// The number of this author.

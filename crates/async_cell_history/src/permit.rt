@@ -31,7 +31,7 @@ impl<T, W, N: Protocol<T, W>> Model for OwnerPermit<T, W, N> {
 }
 
 impl<T, W, N: Protocol<T, W>> OwnerPermit<T, W, N> {
-    /// The first permit of the cell that `N` names.
+    /// Makes an owner's permit from a permit of the owner count that `N` names.
     #[inline(always)]
     pub(crate) fn of(permit: Permit) -> Self
         requires of_this { permit.name ≡ permits_of N.named }

@@ -20,8 +20,8 @@ pub fn the_versions_of_a_follower_rise<T, W>()
 {}
 
 /// A poll after the last write shows the version and the value of the last state, unless the poll's
-/// follower has seen this version. The last state is what the last write put in, even after the
-/// state is closed.
+/// follower has seen this version. The last value is the one that the last write wrote, even after
+/// the state is closed.
 #[tactic(auto, using(crate::proofs::Versions::last_state))]
 pub fn a_poll_shows_the_last_state<T, W>()
     ensures written { (will_wake : W → W → Bool) (sure_wakers : Bool)

@@ -121,7 +121,8 @@ pub fn end_and_wake<G: Step, X, W: Wakes>(step: G, held: Deferred<X, Option<Wake
     answer
 }
 
-/// Ends the step: gives the core back, wakes and drops what the call left, and returns the answer.
+/// Ends the step: gives the core back, wakes the wakers in `held`, drops the values in `held`, and
+/// returns the answer in `held`.
 #[inline(always)]
 pub fn finish<G: Step, X, W, K: After<W>>(step: G, held: Deferred<X, K>) -> X
     ensures answers { result ≡ held.answer }
@@ -213,8 +214,8 @@ pub trait Writes<T> {
         ensures comes_back { IfErr result.answer (λ back. back ≡ value) };
 }
 
-/// Writes a value that this step holds, and ends the step. This function is not inlined, so that it
-/// adds no cost to calls without such a write.
+/// Writes the value in the `Deferred` to the core of this step, and ends the step. This function is
+/// not inlined, so that it adds no cost to calls without such a write.
 #[inline(never)]
 pub fn write_held<C: Writes<T>, G: Step<Core = C>, T>(
     mut step: G,

@@ -9,7 +9,7 @@ use std::sync::Wait;
 
 /// A guard of a cell. It must be consumed: by `cancel`, which sets its cancel value if the cell
 /// holds no value, or by `release`, `set` or `or_set`. If the guard is an owner, each of these also
-/// ends the owner. `with` turns the guard into a `Guard`, which ends when it is dropped.
+/// ends the owner. `with` turns the guard into a `Guard`, whose drop does what `cancel` does.
 #[derive_where(Debug)]
 pub struct GuardedCell<T, C: CellRef<Value = T>> {
     #[derive_where(skip)]

@@ -28,10 +28,11 @@ pub enum Ended {
 ///
 /// The contract covers readers whose bytes are known to contracts, such as a slice. It promises
 /// nothing for any other reader, such as standard input. If the bytes of the writer are also known
-/// to contracts, as for a `Vec`, the writer gets the text that all calls print, up to the end of
-/// the input or up to the bad line. The model defines this text. If the script failed, the writer
-/// gets a prefix of the text of the first `n` lines, for some `n`. `debug` leaves the cell as it
-/// was. The contract does not say what `debug` prints.
+/// to contracts, as for a `Vec`, the writer gets what the calls print, one after the other. The
+/// script ends at the end of the input, or at the first line that is neither empty nor a call. The
+/// model defines the printed text. If the script failed, the writer gets a prefix of the text of
+/// the first `n` lines, for some `n`. `debug` leaves the cell as it was. The contract does not say
+/// what `debug` prints.
 #[tactic(auto, using(crate::proofs::Written::owes_nothing, crate::proofs::Written::owes_kept))]
 pub fn script<R: Read + Drop, W: Write + Drop>(alloc: Global, input: R, output: W) -> (Ended, W)
     ensures { Owes (R.remaining input) (W.contents output) (W.contents result.1) result.0 }

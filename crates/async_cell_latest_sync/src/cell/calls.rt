@@ -19,8 +19,9 @@ use std::alloc::Global;
 use std::marker::Model;
 
 /// A state, and the list of its values. Each write adds one value to the list. `LatestCore` hides
-/// the state's own calls, because what they return could be woken or dropped during a step. The
-/// calls of `LatestCore` return it in a `Deferred`, which holds it until the step ends.
+/// the state's own calls, because the values and wakers that these return could be dropped or woken
+/// during a step. The calls of `LatestCore` return the values and wakers in a `Deferred`, which
+/// holds them until the step ends.
 #[derive(Drop)]
 pub struct LatestCore<T, N: Protocol<T> = Unruled> {
     state: Latest<T, TaskWaker>,
