@@ -8,8 +8,8 @@ pub enum Refusal {
     /// There was no memory to grow a list, for a clone, or for the waker of a task. Or the
     /// reference count of an `Arc` or an `Rc` is full.
     Memory,
-    /// The cell is closed. Writes, calls that add or end an owner, `take_inner`, and futures that
-    /// are not weak fail with `Closed`.
+    /// The cell is closed. Writes, calls that add or end an owner (except `upgrade`, which gives
+    /// `None`), `take_inner`, and futures that are not weak fail with `Closed`.
     Closed,
     /// The cell has 4,294,967,295 owners already, as many as it can count.
     OwnersFull,

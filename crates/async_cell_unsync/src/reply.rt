@@ -28,9 +28,9 @@ pub struct Replier<T: Drop, N: Unwitnessed<T, TaskWaker> = Unruled> {
 }
 
 /// The side of a reply slot that waits: a future of the value. A `Reply` fails with `Closed` if the
-/// `Replier` was dropped without a `set`. Once the `Reply` was ready, each later poll also fails
-/// with `Closed`. A `Reply` fails with `Memory` if there is no memory to register the waker, and
-/// may then be polled again.
+/// `Replier` was dropped without a `set`. After the `Reply` has given the value or `Closed`, each
+/// later poll fails with `Closed`. A `Reply` fails with `Memory` if there is no memory to register
+/// the waker, and may then be polled again.
 ///
 /// If the `Reply` is dropped before it was ready, the slot is closed. Then a value that was already
 /// set is dropped, and a later `set` returns its value in the error. This drop of the `Reply` wakes

@@ -48,8 +48,8 @@ impl<T: Drop, W: Wakes, N: Protocol<T, W>> CellCore<T, W, N> {
         Ok(())
     }
 
-    /// Ends the last owner of a cell on which at most one waker waits. In other cases changes
-    /// nothing, and returns `permit` in the error.
+    /// Ends the last owner of a cell whose wait list has allocated no memory, and so has at most
+    /// one waker. In other cases changes nothing, and returns `permit` in the error.
     #[inline(always)]
     pub fn close_first(
         &mut self,
