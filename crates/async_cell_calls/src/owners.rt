@@ -1,5 +1,5 @@
-//! The calls that add and end owners. A call that ends an owner takes the owner's permit, and a
-//! call that adds one returns a permit.
+//! The calls that add and end owners. `add_counted` returns the permit of the new owner, and a call
+//! that ends an owner with a permit takes that permit.
 ghost use Rattle.std.specs.Prelude.{◌≡◌, ◌⊎◌, None, IfErr, IfOk, IfSome, IsTrue};
 ghost use Rattle.async_cell_model.specs.Refusal.{FailsWithClosed};
 ghost use Rattle.async_cell_history.specs.History.{done_reply};

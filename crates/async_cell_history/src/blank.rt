@@ -33,7 +33,7 @@ impl<T: Drop, W: Wakes> Model for Blank<T, W> {
 }
 
 impl<T: Drop, W: Wakes> Blank<T, W> {
-    /// Makes a cell with this content and one owner.
+    /// Makes the blank of a cell that begins with this content and one owner.
     pub fn new(alloc: Global, content: Option<T>) -> Self
         ensures { result.start ≡ record { cell = Open content 1; waiting = []; room = 0 } }
     {

@@ -118,9 +118,9 @@ impl<T: Drop, R: Wait + Copy, N: Protocol<T>> Owner<T, R, N> {
         Ok(Follower::new(Arc::try_clone(&self.cell)?, self.rt))
     }
 
-    /// Adds an owner. Use this in place of a clone. Fails with `Memory` if one more pointer to the
-    /// state cannot be counted, and with `OwnersFull` if the state has 4,294,967,295 owners
-    /// already. The contract also allows `Closed`, which cannot happen while this owner lives.
+    /// Adds an owner. Use this in place of a clone. Fails with `Memory` if the count of the state's
+    /// `Arc` is full, and with `OwnersFull` if the state has 4,294,967,295 owners already. The
+    /// contract also allows `Closed`, which cannot happen while this owner lives.
     pub fn another(&self) -> Result<Self, Refusal>
         ensures of_this { IfOk result (λ owner. cell_owned owner ≡ cell_owned self.now) }
         ensures refused { IfErr result IsOwnerRefusal }

@@ -5,7 +5,8 @@ use crate::refusal::Refusal;
 pub enum Reply<T> {
     /// The call is done and returns nothing.
     Done,
-    /// The value that the call took, copied, replaced or did not use: `None` if there was none.
+    /// The value that the call took, copied or replaced, or the argument that `or_set` did not
+    /// store. `None` if there was none.
     Value(Option<T>),
     /// Whether there is a value.
     Is(bool),

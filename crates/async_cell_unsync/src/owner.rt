@@ -89,9 +89,9 @@ impl<T: Drop, P: Rule<T>> Owner<T, Ruled<P>> {
 }
 
 impl<T: Drop, N: Free<T, TaskWaker>> Owner<T, N> {
-    /// Adds an owner. Use this in place of `clone`. Fails with `Memory` if one more pointer to the
-    /// cell cannot be counted, or with `OwnersFull`. `Closed` is in the contract, but cannot happen
-    /// while this owner lives.
+    /// Adds an owner. Use this in place of `clone`. Fails with `Memory` if the count of the cell's
+    /// `Rc` is full, and with `OwnersFull` if the cell has 4,294,967,295 owners already. `Closed`
+    /// is in the contract, but cannot happen while this owner lives.
     pub fn another(&self) -> Result<Self, Refusal>
         ensures of_this { IfOk result (λ owner. cell_owned owner ≡ cell_owned self.now) }
         ensures refused { IfErr result IsOwnerRefusal }

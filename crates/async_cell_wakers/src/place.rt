@@ -27,8 +27,9 @@ impl Place {
         self.round = 0;
     }
 
-    /// Returns whether the future may hold a place in the list. If not, there is no place to give
-    /// up.
+    /// Returns whether the future took a place and did not give it up. If not, there is no place to
+    /// give up. If so, the list may still have freed the place since, when it handed out its
+    /// wakers.
     #[inline(always)]
     pub fn was_held(&self) -> bool {
         self.round != 0

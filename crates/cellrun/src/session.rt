@@ -13,8 +13,8 @@ use std::alloc::{AllocError, Global};
 use std::collections::BTreeSet;
 use std::io::Write;
 
-/// The cell of a script, and the names that wait. If the name of a poll is not among these names,
-/// the poll need not compare its name with the name of each waiting waker.
+/// The cell of a script, and the names of its waiting wakers. If the name of a poll is not among
+/// these names, the poll need not compare its name with the name of each waiting waker.
 #[derive(Drop)]
 pub struct Session {
     core: Core<i64, Named>,
