@@ -20,11 +20,13 @@ and a sum of what that rests on: `rt version`, this script, and the texts of the
 below it.
 
 It works on a copy, with what `rt` has kept in out/: `rt all check` proves the crates there, and
-`rt check` tries them with bugs. A bug changes the body of one function and no contract, so bugs of
-many functions share a check: the first of each function the first, the second of each the second. A
-bug is refused if the prover complains of its function, at a line of it or in a file of its proof.
-One of which a check says nothing, or that changes more than a body, is tried alone, where any
-complaint is about it. Prints a line for each check and each bug, and last 'N passed, M failed'.
+`rt check` tries them with bugs. A crate of which nothing is kept, and on which no other of these
+stands, is proved by `rt ci`, which has that from the gate, and then checked from nothing with its
+bugs. A bug changes the body of one function and no contract, so bugs of many functions share a
+check: the first of each function the first, the second of each the second. A bug is refused if the
+prover complains of its function, at a line of it or in a file of its proof. One of which a check
+says nothing, or that changes more than a body, is tried alone, where any complaint is about it.
+Prints a line for each check and each bug, and last 'N passed, M failed'.
 """
 import functools
 import glob
@@ -197,7 +199,9 @@ def lay(room, source, crates, copied):
 def run_rt(folder, *words):
     """Runs rt in a folder, and returns its status, what it said, and the seconds that processors
     took for it."""
-    with subprocess.Popen(["rt", *words], cwd=folder, errors="replace", **READ) as ran:
+    # (with CI, `rt ci` takes no names)
+    env = {name: it for name, it in os.environ.items() if name != "CI"}
+    with subprocess.Popen(["rt", *words], cwd=folder, env=env, errors="replace", **READ) as ran:
         said = ran.stdout.read()
         _, status, usage = os.wait4(ran.pid, 0)
         ran.returncode = os.waitstatus_to_exitcode(status)
@@ -311,15 +315,26 @@ def due():
     return [it for it in with_bugs() if it not in kept or it in again]
 
 
+def lone_of(names):
+    """Returns those of these crates of which nothing is kept, and on which none of the others
+    stands."""
+    below = {it for name in names for it in with_below([name]) - {name}}
+    return {it for it in names - below if not os.path.isdir(f"crates/{it}/out/incremental")}
+
+
 def try_all(bugs):
     """Proves the crates of these bugs, and tries the bugs, as many checks at a time as there are
     processors. Returns how many are refused, by crate."""
-    crates, jobs = with_below({it.crate for it in bugs}), len(os.sched_getaffinity(0))
-    counts = Counter()
+    names, jobs = {it.crate for it in bugs}, len(os.sched_getaffinity(0))
+    lone, counts = lone_of(names), Counter()
     with tempfile.TemporaryDirectory(prefix="bugs-") as room, ThreadPoolExecutor(jobs) as pool:
-        lay(f"{room}/proved", ".", crates, crates)
-        words = ["--jobs", str(jobs)] if len({it.crate for it in bugs}) > 1 else []
-        status, said, _ = run_rt(f"{room}/proved", "all", "check", *words)
+        shared = with_below(names) - lone
+        lay(f"{room}/proved", ".", shared, shared)
+        words = ["--jobs", str(jobs)] if len(shared) > 1 else []
+        status, said, _ = run_rt(f"{room}/proved", "all", "check", *words) if shared else (0, "", 0)
+        if lone and not status:
+            status, said, _ = run_rt(".", "ci", *sorted(lone))
+            lay(f"{room}/proved", ".", lone, lone)
         if status:
             print(f"{said[-3000:]}\nthe crates are not proved without a bug", flush=True)
             return counts
