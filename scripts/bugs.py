@@ -217,6 +217,10 @@ def checked(proved, bugs):
         for it in bugs:
             it.apply(f"{room}/crates/{crate}")
         status, said, seconds = run_rt(f"{room}/crates/{crate}", "check", "--jobs", "1")
+        # (what a check from nothing has proved helps the next check of this crate)
+        made, kept = (f"{it}/crates/{crate}/out/incremental" for it in (room, proved))
+        if os.path.isdir(made) and not os.path.isdir(kept):
+            shutil.copytree(made, kept)
     of = f"`{bugs[0].name}`" if len(bugs) == 1 else f"{len(bugs)} bugs"
     print(f"{crate}: a check of {of} took {seconds:.0f} s of processors\n", end="", flush=True)
     unread = [*UNREAD.finditer(said)]
