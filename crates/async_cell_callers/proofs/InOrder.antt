@@ -36,7 +36,9 @@ climbs front (z ∷ between) later x y each =
     le_trans (each (front ++ x ∷ []) (between ++ y ∷ later) z (sym split) x (front, refl))
     (climbs (front ++ x ∷ []) between later z y (λ before after value is. each before after value (sym split ∙ is)))
 
-pub rises : (may : List ℕ → ℕ → Type 0) (is_clone : ℕ → ℕ → Type 0) (values : List ℕ) (x y : ℕ) → Agree may NeverFalls → IsLawful may values → ((a b : ℕ) → is_clone a b → b ≡ a) → AreInOrder is_clone x y values → x ≤ y
+pub rises : (may : List ℕ → ℕ → Type 0) (is_clone : ℕ → ℕ → Type 0) (values : List ℕ) (x y : ℕ) → Agree may NeverFalls → IsLawful may values → ((a b : ℕ) → is_clone a b → b ≡ a)
+    → AreInOrder is_clone x y values → x ≤ y
 rises may is_clone values x y rule lawful exact shown =
     subst (λ n. n ≤ y) (sym (exact shown.first x shown.shown_first)) (subst (λ n. shown.first ≤ n) (sym (exact shown.second y shown.shown_second))
-    (climbs shown.before shown.between shown.later shown.first shown.second (λ before after value is. (rule before value).0 (lawful.each before after value (shown.split ∙ append_assoc shown.before (shown.first ∷ shown.between) (shown.second ∷ shown.later) ∙ is)))))
+    (climbs shown.before shown.between shown.later shown.first shown.second
+    (λ before after value is. (rule before value).0 (lawful.each before after value (shown.split ∙ append_assoc shown.before (shown.first ∷ shown.between) (shown.second ∷ shown.later) ∙ is)))))

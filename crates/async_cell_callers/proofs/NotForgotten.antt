@@ -14,7 +14,8 @@ so_or true else = inl refl
 so_or false else = inr (else refl)
 
 pub not_forgotten : {T W : Type 0} (rules : WakerRules W) (named : Option (Begun T W)) (w : W) (v : T) (seen polled now : History T W) → IsLinearized rules named seen (PollTake w) Pending polled
-    → (told : IsLinearized rules named polled (Set v) Done now) → (StillWaits (start_of named).cell w told.before → IsCovered rules.will_wake told.woken w) → IsNotForgotten rules named w (Set v) Done now
+    → (told : IsLinearized rules named polled (Set v) Done now) → (StillWaits (start_of named).cell w told.before → IsCovered rules.will_wake told.woken w)
+    → IsNotForgotten rules named w (Set v) Done now
 not_forgotten {T} {W} rules named w v seen polled now poll told wakes =
     let start = (start_of named).cell in
     let e : Entry T W = record { call = PollTake w; reply = Pending } in

@@ -1,5 +1,9 @@
 -- Where a call on the cell leads, and where a poll does.
-use Rattle.async_cell_driver.proofs.Words.{Polled, mark_after, waiting_when, is_ready_mark, DriverState, NamesMatch, change, kind_at, mark_at, name_of, result_at, result_of, wake_each, with_mark, Drives, is_call, call_of, entry_of, handed_out, history, line_of, names_by, poll_of, reply_of, told_of, Line, is_ready, with_edit, Event, Kind, Told, Mark, Task, model_of, Runs-sound, up_to_clones, DoesUpTo, model_up_to, woken_by, Does, IsSound, State, ends_waiting, waker_of, Cell, Entry, Kept, Refusal, Memory, Reply, same_name, Named, List, None, Option, Some, [], ap, append-nil, arith, false, map, refl, subst, sym, true, ℕ, ◌∙◌, ◌∷◌, ◌≡◌, ◌≢◌, or-false, or-true, nat_tests, eq-eqb, eqb-true, IsSomeAnd, option_map, IfErr, IfOk, MatchOption, OnOk, Result, if◌then◌else◌, nat_eq, option_to_list}
+use Rattle.async_cell_driver.proofs.Words.{Polled, mark_after, waiting_when, is_ready_mark, DriverState, NamesMatch, change, kind_at, mark_at, name_of, result_at, result_of, wake_each, with_mark}
+use Rattle.async_cell_driver.proofs.Words.{Drives, is_call, call_of, entry_of, handed_out, history, line_of, names_by, poll_of, reply_of, told_of, Line, is_ready, with_edit, Event, Kind, Told, Mark}
+use Rattle.async_cell_driver.proofs.Words.{Task, model_of, Runs-sound, up_to_clones, DoesUpTo, model_up_to, woken_by, Does, IsSound, State, ends_waiting, waker_of, Cell, Entry, Kept, Refusal, Memory}
+use Rattle.async_cell_driver.proofs.Words.{Reply, same_name, Named, List, None, Option, Some, [], ap, append-nil, arith, false, map, refl, subst, sym, true, ℕ, ◌∙◌, ◌∷◌, ◌≡◌, ◌≢◌, or-false, or-true}
+use Rattle.async_cell_driver.proofs.Words.{nat_tests, eq-eqb, eqb-true, IsSomeAnd, option_map, IfErr, IfOk, MatchOption, OnOk, Result, if◌then◌else◌, nat_eq, option_to_list}
 use Rattle.async_cell_driver.specs.declared.event.Event.TheVariants as event
 use Rattle.async_cell_driver.specs.declared.event.Told.TheVariants as told
 use Rattle.async_cell_driver.proofs.TaskList.{awake, kinds-wake_each, map-change, mark-wake_each, named-append, named-wait_list, says_same, slice_get-change_other, slice_get-change_same}

@@ -1,5 +1,9 @@
 -- Where one line leads, and logs joined line by line.
-use Rattle.async_cell_driver.proofs.Words.{nat_tests, nat_eq, slice_get_past, if◌then◌else◌, DriverState, NamesMatch, result_at, AllSpared, Drives, FitsTold, IsLegal, IsSpared, handed_out, history, line_of, Line, Log, is_ready, kinds, lines, log_of, started, with_edit, Event, Poll, Start, Kind, NotReady, Refused, Started, Told, Task, cell_after-append, Runs-join-by, Runs-nil, up_to_clones, History, cell_after, RunsUpTo, IsSound, UpToClones, Cell, Refusal, Memory, same_name, Named, Bool, List, None, Option, Some, [], ap, append-nil, append_assoc, arith, false, length, length-append, map, refl, subst, suc, sym, true, zero, ℕ, ◌++◌, ◌+◌, ◌∙◌, ◌∷◌, ◌≡◌, length-map, map-append, reverse-append, IfErr, IfOk, Result, slice_get, is_ready_mark, mark_at, mark_in, mark_told, woken_if, is_named}
+use Rattle.async_cell_driver.proofs.Words.{nat_tests, nat_eq, slice_get_past, if◌then◌else◌, DriverState, NamesMatch, result_at, AllSpared, Drives, FitsTold, IsLegal, IsSpared, handed_out, history}
+use Rattle.async_cell_driver.proofs.Words.{line_of, Line, Log, is_ready, kinds, lines, log_of, started, with_edit, Event, Poll, Start, Kind, NotReady, Refused, Started, Told, Task, cell_after-append}
+use Rattle.async_cell_driver.proofs.Words.{Runs-join-by, Runs-nil, up_to_clones, History, cell_after, RunsUpTo, IsSound, UpToClones, Cell, Refusal, Memory, same_name, Named, Bool, List, None, Option}
+use Rattle.async_cell_driver.proofs.Words.{Some, [], ap, append-nil, append_assoc, arith, false, length, length-append, map, refl, subst, suc, sym, true, zero, ℕ, ◌++◌, ◌+◌, ◌∙◌, ◌∷◌, ◌≡◌, length-map}
+use Rattle.async_cell_driver.proofs.Words.{map-append, reverse-append, IfErr, IfOk, Result, slice_get, is_ready_mark, mark_at, mark_in, mark_told, woken_if, is_named}
 use Rattle.async_cell_driver.specs.declared.{tasks.Mark.TheVariants.Ready, event.Told.TheVariants.Polled}
 use Rattle.async_cell_driver.proofs.TaskList.{awake}
 

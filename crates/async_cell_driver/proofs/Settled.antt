@@ -1,5 +1,8 @@
 -- Polls of all that are ready, one by one.
-use Rattle.async_cell_driver.proofs.Words.{slice_get_cases, is_ready_mark, DriverState, NamesMatch, change, mark_at, result_at, result_of, with_result, Drives, ResultsStay, line_of, Line, Log, is_ready, kinds, Keeps, Settles, SettlesOne, events_of, has_refused, numbers, Poll, Ready, Told, Task, Refusal, List, None, Option, Some, [], add-one, ap, append-nil, append_assoc, arith, false, length, length-append, map, refl, suc, sym, true, zero, ℕ, ◌++◌, ◌+◌, ◌-◌, ◌<◌, ◌||◌, ◌∙◌, ◌∷◌, ◌≡◌, ◌≢◌, nat_tests, filter-append, length-map, map-append, reverse-append, option_map, Err, Ok, filter, reverse}
+use Rattle.async_cell_driver.proofs.Words.{slice_get_cases, is_ready_mark, DriverState, NamesMatch, change, mark_at, result_at, result_of, with_result, Drives, ResultsStay, line_of, Line}
+use Rattle.async_cell_driver.proofs.Words.{Log, is_ready, kinds, Keeps, Settles, SettlesOne, events_of, has_refused, numbers, Poll, Ready, Told, Task, Refusal, List, None, Option, Some}
+use Rattle.async_cell_driver.proofs.Words.{[], add-one, ap, append-nil, append_assoc, arith, false, length, length-append, map, refl, suc, sym, true, zero, ℕ, ◌++◌, ◌+◌, ◌-◌, ◌<◌, ◌||◌}
+use Rattle.async_cell_driver.proofs.Words.{◌∙◌, ◌∷◌, ◌≡◌, ◌≢◌, nat_tests, filter-append, length-map, map-append, reverse-append, option_map, Err, Ok, filter, reverse}
 use Rattle.async_cell_driver.specs.declared.event.Told.TheVariants as told
 use Rattle.async_cell_driver.proofs.{Logs.drives_join, CoreCalls.poll_steps}
 use Rattle.async_cell_driver.proofs.TaskList.{says_same, map-change, slice_get-change_same, slice_get-change_other}

@@ -1,5 +1,8 @@
 -- What the marks of tasks say, what a change does to a list of tasks, and whose names wait.
-use Rattle.async_cell_driver.proofs.Words.{slice_get_read, AllNamed, DriverState, NamesMatch, change, is_named, mark_at, name_of, result_at, result_of, wake, wake_each, NoneForgotten, Task, wait_list-distinct, IsSound, wait_list, with_one_more, same_name, Named, List, Option, Some, [], ap, arith, get_or, length, map, refl, set, subst, suc, sym, zero, ℕ, ◌++◌, ◌<◌, ◌||◌, ◌∙◌, ◌∷◌, ◌≡◌, ◌≢◌, ◌≤◌, nat_tests, eq-eqb, eqb-true, list_any-append, get_or-map, length-map, IsDistinct-from_apart, length-le_from_distinct_below, slice_get_past, IsDistinct, list_any, option_map, AllPairs, fold, nat_eq, slice_get, woken_if}
+use Rattle.async_cell_driver.proofs.Words.{slice_get_read, AllNamed, DriverState, NamesMatch, change, is_named, mark_at, name_of, result_at, result_of, wake, wake_each, NoneForgotten, Task}
+use Rattle.async_cell_driver.proofs.Words.{wait_list-distinct, IsSound, wait_list, with_one_more, same_name, Named, List, Option, Some, [], ap, arith, get_or, length, map, refl, set, subst}
+use Rattle.async_cell_driver.proofs.Words.{suc, sym, zero, ℕ, ◌++◌, ◌<◌, ◌||◌, ◌∙◌, ◌∷◌, ◌≡◌, ◌≢◌, ◌≤◌, nat_tests, eq-eqb, eqb-true, list_any-append, get_or-map, length-map, IsDistinct-from_apart}
+use Rattle.async_cell_driver.proofs.Words.{length-le_from_distinct_below, slice_get_past, IsDistinct, list_any, option_map, AllPairs, fold, nat_eq, slice_get, woken_if}
 
 module _ {T : Type 0} where
   -- where each waiting name stands in the waiting list, no task is forgotten

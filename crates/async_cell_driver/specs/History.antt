@@ -7,7 +7,8 @@ use Rattle.async_cell_model.specs.declared.entry.Kept.TheVariants as kept
 use Rattle.async_cell_model.specs.declared.reply.Reply.TheVariants as reply
 use Rattle.async_cell_model.specs.{Machine.State, Machine.reply as model_reply, History.History, History.cell_after, Legal.woken_by}
 use Rattle.async_cell_driver.specs.declared.event.Event.TheVariants.{Start, Poll, Set, OrSet, Replace, Update, TryTake, AddOwner, EndOwner}
-use Rattle.async_cell_driver.specs.declared.{event.Kind.Kind, event.Kind.TheVariants.Get, event.Event.Event, event.Told.Told, event.Polled.Polled, event.Polled.TheVariants.Ready, event.Polled.TheVariants.Pending, event.Polled.TheVariants.NotReady}
+use Rattle.async_cell_driver.specs.declared.{event.Kind.Kind, event.Kind.TheVariants.Get, event.Event.Event, event.Told.Told, event.Polled.Polled, event.Polled.TheVariants.Ready}
+use Rattle.async_cell_driver.specs.declared.{event.Polled.TheVariants.Pending, event.Polled.TheVariants.NotReady}
 use Rattle.async_cell_driver.specs.declared.event.Told.TheVariants as told
 use Rattle.async_cell_driver.specs.{DriverState.DriverState, DriverState.name_of, Log.Line, Log.Log, Log.kinds}
 

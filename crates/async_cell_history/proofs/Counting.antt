@@ -1,5 +1,7 @@
 -- As many values come out, are dropped or are left as were there and went in.
-use Rattle.async_cell_history.proofs.Words.{◌≡◌, ◌+◌, ℕ, Bool, List, [], ◌∷◌, ◌++◌, Option, Some, None, refl, ap, subst, ◌∙◌, arith, cond, option_to_list, count_by, cons_option, All, All-head, All-tail, Cell, Entry, Kept, Reply, State, Exactly, content, next, History, cell_after, IsLegalAfterBy, MayFollowBy, cell_after-append, IsAllowed, IsNoSet, come_out, comes_out, dropped, dropped_by, goes_in, gone_in}
+use Rattle.async_cell_history.proofs.Words.{◌≡◌, ◌+◌, ℕ, Bool, List, [], ◌∷◌, ◌++◌, Option, Some, None, refl, ap, subst, ◌∙◌, arith, cond, option_to_list, count_by, cons_option}
+use Rattle.async_cell_history.proofs.Words.{All, All-head, All-tail, Cell, Entry, Kept, Reply, State, Exactly, content, next, History, cell_after, IsLegalAfterBy, MayFollowBy}
+use Rattle.async_cell_history.proofs.Words.{cell_after-append, IsAllowed, IsNoSet, come_out, comes_out, dropped, dropped_by, goes_in, gone_in}
 use Rattle.std.proofs.lemmas.List.Sums.{sum_by-append}
 
 module _ {T : Type 0} (test : T → Bool) where
@@ -25,7 +27,14 @@ module _ {T W : Type 0} (test : T → Bool) where
     balance b g (e ∷ h) c is legal =
         let here = subst (λ (k : Cell T). Balances k e.call e.reply (next k e)) is (step _ e legal.0) in
         let rest = balance b (g ++ e ∷ []) h (next c e) (cell_after-append b.cell g (e ∷ []) ∙ ap (λ k. next k e) is) legal.1 in
-        omega (arith, here, rest, count_more test (comes_out e.call e.reply) (come_out h), count_more test (goes_in e.call) (gone_in h), sum_by-append (λ x. cond (test x) 1 0) (dropped_by c e.call) (dropped (next c e) h))
+        omega (
+          arith,
+          here,
+          rest,
+          count_more test (comes_out e.call e.reply) (come_out h),
+          count_more test (goes_in e.call) (gone_in h),
+          sum_by-append (λ x. cond (test x) 1 0) (dropped_by c e.call) (dropped (next c e) h),
+        )
 
 module _ {T W : Type 0} where
   drops_none : (c : Cell T) (call : Kept T W) → IsAllowed IsNoSet call → dropped_by c call ≡ []
@@ -34,4 +43,5 @@ module _ {T W : Type 0} where
   -- without a `set` none is dropped
   pub none_dropped : (c : Cell T) (h : History T W) → All (λ e. IsAllowed IsNoSet e.call) h → dropped c h ≡ []
   none_dropped c [] all = refl
-  none_dropped c (e ∷ h) all = rw (drops_none c e.call (All-head (λ (x : Entry T W). IsAllowed IsNoSet x.call) e h all)) (none_dropped (next c e) h (All-tail (λ (x : Entry T W). IsAllowed IsNoSet x.call) e h all))
+  none_dropped c (e ∷ h) all = rw (drops_none c e.call (All-head (λ (x : Entry T W). IsAllowed IsNoSet x.call) e h all))
+      (none_dropped (next c e) h (All-tail (λ (x : Entry T W). IsAllowed IsNoSet x.call) e h all))

@@ -1,6 +1,9 @@
 -- What is got later follows what was got before, if each change of a full cell puts in a value
 -- that follows the one before it.
-use Rattle.async_cell_history.proofs.Words.{rules, ◌≡◌, ◌⊎◌, ◌++◌, Bool, List, [], ◌∷◌, Contains, Option, Some, None, refl, sym, subst, ◌∙◌, inl, inr, append_assoc, arith, ⊤, All, All-head, All-tail, All-weaker, All-contains, All-contains_itself, Contains-append_left, Contains-append_right, Contains-append_cases, Contains-push, IsPrefix, Cell, Closed, Open, Entry, Kept, TryGet, Reply, Value, State, Exactly, UpToClones, FitsUpdate, content, next, History, cell_after, after, IsExact, IsLegalAfterBy, MayFollowBy, cell_after-append, WakerRules, Begun, GoesOn, HasEntry, IsAllowed, IsLawful, IsOrSet, IsLinearized, IsLinearizedUpTo, OnlyMakes, start_of}
+use Rattle.async_cell_history.proofs.Words.{rules, ◌≡◌, ◌⊎◌, ◌++◌, Bool, List, [], ◌∷◌, Contains, Option, Some, None, refl, sym, subst, ◌∙◌, inl, inr, append_assoc, arith, ⊤, All, All-head, All-tail}
+use Rattle.async_cell_history.proofs.Words.{All-weaker, All-contains, All-contains_itself, Contains-append_left, Contains-append_right, Contains-append_cases, Contains-push, IsPrefix, Cell, Closed}
+use Rattle.async_cell_history.proofs.Words.{Open, Entry, Kept, TryGet, Reply, Value, State, Exactly, UpToClones, FitsUpdate, content, next, History, cell_after, after, IsExact, IsLegalAfterBy}
+use Rattle.async_cell_history.proofs.Words.{MayFollowBy, cell_after-append, WakerRules, Begun, GoesOn, HasEntry, IsAllowed, IsLawful, IsOrSet, IsLinearized, IsLinearizedUpTo, OnlyMakes, start_of}
 use Rattle.async_cell_history.proofs.Leading.{all_such}
 use Rattle.async_cell_history.proofs.Linearizing.{second}
 
@@ -22,7 +25,8 @@ stays {T} {W} seen now call answer on has =
 own_if : {T : Type 0} (W : Type 0) (is_clone : T → T → Type 0) → IsExact is_clone → (own : Reply T) (v : T) → UpToClones {W = W} is_clone TryGet own (Value (Some v)) → own ≡ Value (Some v)
 own_if W is_clone exact own v cloned = grind (arith, exact)
 
-pub exact_get : {T W : Type 0} (is_clone : T → T → Type 0) → IsExact is_clone → (rules : WakerRules W) (named : Option (Begun T W)) (seen now : History T W) (v : T) → IsLinearizedUpTo is_clone rules named seen TryGet (Value (Some v)) now → IsLinearized rules named seen TryGet (Value (Some v)) now
+pub exact_get : {T W : Type 0} (is_clone : T → T → Type 0) → IsExact is_clone → (rules : WakerRules W) (named : Option (Begun T W)) (seen now : History T W) (v : T)
+    → IsLinearizedUpTo is_clone rules named seen TryGet (Value (Some v)) now → IsLinearized rules named seen TryGet (Value (Some v)) now
 exact_get {W} is_clone exact rules named seen now v told = subst (λ r. IsLinearized rules named seen TryGet r now) (own_if W is_clone exact told.0 v told.2) told.1
 
 module _ {T : Type 0} (Follows : T → T → Type 0) where
@@ -55,12 +59,14 @@ module _ {T W : Type 0} where
 
     module _ (will_wake : W → W → Bool) (sure : Bool) (b : State T W) where
       -- what is got in these calls follows what the cell held before them
-      got_later : (x w : T) (g h : History T W) → Later Follows x (cell_after b.cell g) → IsLegalAfterBy Exactly will_wake sure b g h → All (λ e. IsAllowed (GoesOn Follows) e.call) h → Contains h (got w) → Follows x w
+      got_later : (x w : T) (g h : History T W) → Later Follows x (cell_after b.cell g) → IsLegalAfterBy Exactly will_wake sure b g h → All (λ e. IsAllowed (GoesOn Follows) e.call) h
+          → Contains h (got w) → Follows x w
       got_later x w g [] later legal all is = absurd (omega (arith, is.1))
       got_later x w g (e ∷ rest) later legal all is = elim (cases e rest (got w) is) [
         | inl here ↦ grind (arith, later, full_if will_wake sure b g e w legal.0 here)
         | inr there ↦ got_later x w (g ++ e ∷ []) rest
-            (subst (Later Follows x) (sym (cell_after-append b.cell g (e ∷ []))) (step_later x (cell_after b.cell g) e later (All-head (λ y. IsAllowed (GoesOn Follows) y.call) e rest all) legal.0.updated))
+            (subst (Later Follows x) (sym (cell_after-append b.cell g (e ∷ [])))
+            (step_later x (cell_after b.cell g) e later (All-head (λ y. IsAllowed (GoesOn Follows) y.call) e rest all) legal.0.updated))
             legal.1 (All-tail (λ y. IsAllowed (GoesOn Follows) y.call) e rest all) there
       ]
 
@@ -73,7 +79,8 @@ module _ {T W : Type 0} where
     alike v w g [] legal all first other = absurd (omega (arith, first.1))
     alike v w g (e ∷ rest) legal all first other =
         let later : (x y : T) → e ≡ got x → Contains (e ∷ rest) (got y) → x ≡ y =
-        λ x y here is. got_later (λ p q. p ≡ q) (λ p q r s t. s ∙ t) will_wake sure b x y g (e ∷ rest) (later_here (λ p q. p ≡ q) x (cell_after b.cell g) refl (full_if will_wake sure b g e x legal.0 here)) legal all is in
+        λ x y here is. got_later (λ p q. p ≡ q) (λ p q r s t. s ∙ t) will_wake sure b x y g (e ∷ rest)
+        (later_here (λ p q. p ≡ q) x (cell_after b.cell g) refl (full_if will_wake sure b g e x legal.0 here)) legal all is in
         elim (cases e rest (got v) first) [
           | inl here ↦ later v w here other
           | inr there ↦ elim (cases e rest (got w) other) [
@@ -84,7 +91,8 @@ module _ {T W : Type 0} where
 
 module _ {T W : Type 0} (will_wake : W → W → Bool) (sure : Bool) (may : Kept T W → Type 0) (named : Option (Begun T W)) where
   -- all who get a value that is set once get the same one
-  pub all_get : (now : History T W) (v w : T) → OnlyMakes may IsOrSet → IsLawful will_wake sure may (start_of named) now → HasEntry now TryGet (Value (Some v)) → HasEntry now TryGet (Value (Some w)) → v ≡ w
+  pub all_get : (now : History T W) (v w : T) → OnlyMakes may IsOrSet → IsLawful will_wake sure may (start_of named) now → HasEntry now TryGet (Value (Some v)) → HasEntry now TryGet (Value (Some w))
+      → v ≡ w
   all_get now v w only lawful first other =
       alike will_wake sure (start_of named) v w [] now lawful.legal
       (all_such may (GoesOn (λ (x y : T). x ≡ y)) (λ call is change. goes_on (λ (x y : T). x ≡ y) call (only call is change)) now lawful.allowed) first.there other.there
@@ -97,7 +105,8 @@ module _ {T W : Type 0} (rules : WakerRules W) (may : Kept T W → Type 0) (name
       record { there = subst (λ (h : History T W). Contains h e) (sym told.ends) (Contains-push told.before e) }
 
   -- what is got never goes back
-  pub never_back : (Follows : T → T → Type 0) (itself : (a : T) → Follows a a) (on : (a b c : T) → Follows a b → Follows b c → Follows a c) (seen first later now : History T W) (v w : T) → OnlyMakes may (GoesOn Follows) → IsLawful rules.will_wake rules.SURE_CLONE may (start_of named) now
+  pub never_back : (Follows : T → T → Type 0) (itself : (a : T) → Follows a a) (on : (a b c : T) → Follows a b → Follows b c → Follows a c) (seen first later now : History T W) (v w : T)
+      → OnlyMakes may (GoesOn Follows) → IsLawful rules.will_wake rules.SURE_CLONE may (start_of named) now
       → IsLinearized rules named seen TryGet (Value (Some v)) first → IsPrefix first later → IsLinearized rules named later TryGet (Value (Some w)) now → Follows v w
   never_back Follows itself on seen first later now v w only lawful before leads told =
       let start : State T W = start_of named in
@@ -106,7 +115,8 @@ module _ {T W : Type 0} (rules : WakerRules W) (may : Kept T W → Type 0) (name
       let whole : now ≡ begins ++ rest =
       told.ends ∙ (rw (sym told.goes_on.1, sym leads.1, before.ends) (search (append_assoc))) in
       let legal = second rules.will_wake rules.SURE_CLONE start [] begins rest (subst (λ (h : History T W). IsLegalAfterBy Exactly rules.will_wake rules.SURE_CLONE start [] h) whole lawful.legal) in
-      let all : All (λ e. IsAllowed may e.call) rest = All-second (λ (e : Entry T W). IsAllowed may e.call) begins rest (subst (λ (h : History T W). All (λ e. IsAllowed may e.call) h) whole lawful.allowed) in
+      let all : All (λ e. IsAllowed may e.call) rest = All-second (λ (e : Entry T W). IsAllowed may e.call) begins rest
+      (subst (λ (h : History T W). All (λ e. IsAllowed may e.call) h) whole lawful.allowed) in
       let here : content (cell_after start.cell begins) ≡ Some v = grind (arith, before.does.replied) in
       got_later Follows on rules.will_wake rules.SURE_CLONE start v w begins rest (later_here Follows v (cell_after start.cell begins) (itself v) here) legal
       (all_such may (GoesOn Follows) only rest all)

@@ -1,5 +1,7 @@
 -- What one more call makes of a past that leads to a core: its owners, its values, its history.
-use Rattle.async_cell_history.proofs.Words.{◌≡◌, Bool, false, IfSome, rules, arith, ◌<◌, List, [], ◌∷◌, ◌++◌, sym, subst, Cell, Entry, Kept, content, next, State, Does, is_closed, owners_of, IsAllowed, Puts, is_of_owners, Past, Leads, IsLawful, OnlyMakes, History, IsLegal, Runs, wakes_after, model_of, All, All-append, All-cons, All-nil, All-weaker}
+use Rattle.async_cell_history.proofs.Words.{◌≡◌, Bool, false, IfSome, rules, arith, ◌<◌, List, [], ◌∷◌, ◌++◌, sym, subst, Cell, Entry, Kept, content, next, State, Does, is_closed, owners_of}
+use Rattle.async_cell_history.proofs.Words.{IsAllowed, Puts, is_of_owners, Past, Leads, IsLawful, OnlyMakes, History, IsLegal, Runs, wakes_after, model_of, All, All-append, All-cons, All-nil}
+use Rattle.async_cell_history.proofs.Words.{All-weaker}
 use Rattle.async_cell_model.proofs.LegalHistories.{Runs-join}
 
 module _ {T W : Type 0} (P : T → Type 0) where
@@ -14,7 +16,8 @@ pub open_if_owned : {T : Type 0} (c : Cell T) → 0 < owners_of c → is_closed 
 open_if_owned c h = grind arith
 
 module _ {T W : Type 0} where
-  pub owners_stay : (will_wake : W → W → Bool) (sure : Bool) (from to : State T W) (e : Entry T W) (woken : List W) → Does will_wake sure from e woken to → is_of_owners e.call ≡ false → owners_of to.cell ≡ owners_of from.cell
+  pub owners_stay : (will_wake : W → W → Bool) (sure : Bool) (from to : State T W) (e : Entry T W) (woken : List W) → Does will_wake sure from e woken to → is_of_owners e.call ≡ false
+      → owners_of to.cell ≡ owners_of from.cell
   owners_stay will_wake sure from to e woken does h = grind (arith, does.cell_is)
 
 module _ {T W : Type 0} (will_wake : W → W → Bool) (sure : Bool) where
@@ -23,14 +26,16 @@ module _ {T W : Type 0} (will_wake : W → W → Bool) (sure : Bool) where
   RunsTo past at = Runs will_wake sure past.begun.start past.calls (wakes_after will_wake past.begun.start [] past.calls) at
 
   -- the calls that are one more run to the state after it
-  pub runs_more : (past now : Past T W) (from to : State T W) (e : Entry T W) (woken : List W) → RunsTo past from → Does will_wake sure from e woken to → now.begun ≡ past.begun → now.calls ≡ past.calls ++ e ∷ [] → RunsTo now to
+  pub runs_more : (past now : Past T W) (from to : State T W) (e : Entry T W) (woken : List W) → RunsTo past from → Does will_wake sure from e woken to → now.begun ≡ past.begun
+      → now.calls ≡ past.calls ++ e ∷ [] → RunsTo now to
   runs_more past now from to e woken led does begun calls =
       let both = Runs-join will_wake sure past.begun.start from to past.calls (e ∷ []) _ (woken ∷ []) led (model_of will_wake sure from to e.call e.reply woken does) in
       let longer = subst (λ (ws : List (List W)). Runs will_wake sure past.begun.start (past.calls ++ e ∷ []) ws to) both.wakes_are both in
       rw (begun, calls) longer
 
   -- and they lead there, if the call puts in what satisfies the rule
-  pub leads_more : (holds : T → Type 0) (past now : Past T W) (from to : State T W) (e : Entry T W) (woken : List W) → Leads will_wake sure holds past from → Does will_wake sure from e woken to → Puts holds e.call → now.begun ≡ past.begun → now.calls ≡ past.calls ++ e ∷ [] → Leads will_wake sure holds now to
+  pub leads_more : (holds : T → Type 0) (past now : Past T W) (from to : State T W) (e : Entry T W) (woken : List W) → Leads will_wake sure holds past from → Does will_wake sure from e woken to
+      → Puts holds e.call → now.begun ≡ past.begun → now.calls ≡ past.calls ++ e ∷ [] → Leads will_wake sure holds now to
   leads_more holds past now from to e woken led does puts begun calls = (
     runs_more past now from to e woken led.0 does begun calls,
     subst (λ c. IfSome (content c) holds) (sym does.cell_is) (step_holds holds from.cell e led.1 puts),
@@ -38,7 +43,8 @@ module _ {T W : Type 0} (will_wake : W → W → Bool) (sure : Bool) where
 
 module _ {T W : Type 0} (may : Kept T W → Type 0) where
   -- lawful calls, and one more that is legal and allowed
-  pub lawful_more : (will_wake : W → W → Bool) (sure : Bool) (start : State T W) (h : History T W) (e : Entry T W) → IsLawful will_wake sure may start h → IsLegal will_wake sure start (h ++ e ∷ []) → IsAllowed may e.call → IsLawful will_wake sure may start (h ++ e ∷ [])
+  pub lawful_more : (will_wake : W → W → Bool) (sure : Bool) (start : State T W) (h : History T W) (e : Entry T W) → IsLawful will_wake sure may start h → IsLegal will_wake sure start (h ++ e ∷ [])
+      → IsAllowed may e.call → IsLawful will_wake sure may start (h ++ e ∷ [])
   lawful_more will_wake sure start h e lawful legal allowed = record {
     legal = legal;
     allowed = All-append (λ x. IsAllowed may x.call) h (e ∷ []) lawful.allowed (All-cons (λ x. IsAllowed may x.call) e [] allowed (All-nil (λ x. IsAllowed may x.call)));

@@ -1,5 +1,7 @@
 -- What a thread knows after a call that it was told of.
-use Rattle.async_cell_history.proofs.Words.{◌≡◌, ◌+◌, ℕ, Bool, List, [], ◌∷◌, ◌++◌, map, ap, sym, ◌∙◌, Option, refl, subst, append-nil, append_assoc, arith, IsPrefix, map-append, Kept, Reply, Logged, Made, Seen, IsSigned, Begun, IsLinearized, IsReady, start_of, Entry, State, IsSound, Does, Exactly, History, after, IsLegal, IsLegalAfterBy, MayFollowBy, Runs, woken_by, NoClone, legal_of_exact, after-append, machine_of, after-nil, IsSound-after, WakerRules}
+use Rattle.async_cell_history.proofs.Words.{◌≡◌, ◌+◌, ℕ, Bool, List, [], ◌∷◌, ◌++◌, map, ap, sym, ◌∙◌, Option, refl, subst, append-nil, append_assoc, arith, IsPrefix, map-append, Kept}
+use Rattle.async_cell_history.proofs.Words.{Reply, Logged, Made, Seen, IsSigned, Begun, IsLinearized, IsReady, start_of, Entry, State, IsSound, Does, Exactly, History, after, IsLegal}
+use Rattle.async_cell_history.proofs.Words.{IsLegalAfterBy, MayFollowBy, Runs, woken_by, NoClone, legal_of_exact, after-append, machine_of, after-nil, IsSound-after, WakerRules}
 use Rattle.async_cell_history.proofs.Leading.{RunsTo, runs_more}
 
 module _ {A B : Type 0} (f : A → B) where
@@ -56,7 +58,8 @@ linearized_of {T} {W} rules named old new seen now call reply woken by led made 
     }
 
 -- who was ready before a call, and has seen the past after it
-pub seen_of : {T W : Type 0} (rules : WakerRules W) (named : Option (Begun T W)) (holds : T → Type 0) (first ready now : Seen T W) (old new : Logged T W) (call : Kept T W) (reply : Reply T) (woken : List W)
+pub seen_of : {T W : Type 0} (rules : WakerRules W) (named : Option (Begun T W)) (holds : T → Type 0) (first ready now : Seen T W) (old new : Logged T W) (call : Kept T W) (reply : Reply T)
+    (woken : List W)
     → IsReady rules.will_wake rules.SURE_CLONE holds named first ready old → Made rules.will_wake rules.SURE_CLONE old call reply woken ready.author new
     → now.calls ≡ new.past.calls → now.authors ≡ new.past.authors → now.author ≡ ready.author → now.own ≡ ready.own + 1 → IsLinearized rules named first.calls call reply now.calls × IsSigned first now
 seen_of rules named holds first ready now old new call reply woken is made calls authors author own = (

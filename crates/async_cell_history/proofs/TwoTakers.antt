@@ -1,6 +1,8 @@
 -- Two takes that two authors signed are two places of the history, so they give two of the values
 -- put in.
-use Rattle.async_cell_history.proofs.Words.{◌≡◌, ◌⊎◌, inl, inr, ◌≤◌, ℕ, suc, Bool, false, List, [], ◌∷◌, ◌++◌, length, Option, Some, None, refl, ap, sym, subst, ◌∙◌, arith, append-nil, option_to_list, AllPairs, All, IsPrefix, length-append, same_from_push, All-head, All-tail, filter_map-append, Entry, Kept, TryTake, Value, State, content, History, NoClone, legal_of_exact, WakerRules, Begun, Seen, IsAllowed, IsLawful, IsLegal, IsTake, OnlyMakes, IsLinearized, IsSigned, Took}
+use Rattle.async_cell_history.proofs.Words.{◌≡◌, ◌⊎◌, inl, inr, ◌≤◌, ℕ, suc, Bool, false, List, [], ◌∷◌, ◌++◌, length, Option, Some, None, refl, ap, sym, subst, ◌∙◌, arith, append-nil, option_to_list}
+use Rattle.async_cell_history.proofs.Words.{AllPairs, All, IsPrefix, length-append, same_from_push, All-head, All-tail, filter_map-append, Entry, Kept, TryTake, Value, State, content, History}
+use Rattle.async_cell_history.proofs.Words.{NoClone, legal_of_exact, WakerRules, Begun, Seen, IsAllowed, IsLawful, IsLegal, IsTake, OnlyMakes, IsLinearized, IsSigned, Took}
 use Rattle.async_cell_model.specs.Taken.{IsSubsequence, has_update, is_update, put_by, put_in, taken_by, taken_out}
 use Rattle.async_cell_model.proofs.Once.{IsSubsequence-same, IsSubsequence-nil, IsSubsequence-trans, IsSubsequence-append, pairs_of_subsequence, given_in_order}
 use Rattle.async_cell_history.proofs.Leading.{all_such}
@@ -32,7 +34,8 @@ module _ {T W : Type 0} where
 
   -- what was taken of a part was taken of all
   of_part : (g h : History T W) → IsPrefix g h → IsSubsequence (taken_out g) (taken_out h)
-  of_part g h (rest, is) = subst (λ (l : History T W). IsSubsequence (taken_out g) (taken_out l)) is (rw (filter_map-append (λ (e : Entry T W). taken_by e.call e.reply) g rest) (longer_has (taken_out g) (taken_out rest)))
+  of_part g h (rest, is) = subst (λ (l : History T W). IsSubsequence (taken_out g) (taken_out l)) is
+      (rw (filter_map-append (λ (e : Entry T W). taken_by e.call e.reply) g rest) (longer_has (taken_out g) (taken_out rest)))
 
   -- one more was taken
   one_more : (vs : List T) (h : History T W) (w : T) → IsSubsequence vs (taken_out h) → IsSubsequence (vs ++ w ∷ []) (taken_out (h ++ take w ∷ []))
@@ -64,7 +67,8 @@ module _ {T W : Type 0} where
       (rw here.0 (rest.0), rw here.1 (rest.1))
 
   -- where nothing is put in, no take was made before another one
-  none_before : (will_wake : W → W → Bool) (sure : Bool) (start : State T W) (all : Seen T W) (m n : ℕ) (v w : T) → IsLegal will_wake sure start all.calls → (put_in all.calls ≡ []) × (has_update all.calls ≡ false)
+  none_before : (will_wake : W → W → Bool) (sure : Bool) (start : State T W) (all : Seen T W) (m n : ℕ) (v w : T) → IsLegal will_wake sure start all.calls
+      → (put_in all.calls ≡ []) × (has_update all.calls ≡ false)
       → (one : Took m v all) (other : Took n w all) → suc (length one.before) ≤ length other.before → ⊥
   none_before will_wake sure start all m n v w legal none one other less =
       let first = earlier one.before other.before all.calls (take v) (take w) one.calls other.calls less in
@@ -73,7 +77,8 @@ module _ {T W : Type 0} where
       one_alone (content start.cell) v w (subst (λ (l : List T). IsSubsequence (v ∷ w ∷ []) (option_to_list (content start.cell) ++ l)) none.0 both)
 
   -- where all only take, one at most takes a value
-  pub one_takes : (will_wake : W → W → Bool) (sure : Bool) (may : Kept T W → Type 0) (start : State T W) (all : Seen T W) (m n : ℕ) (v w : T) → OnlyMakes may IsTake → IsLawful will_wake sure may start all.calls → Took m v all → Took n w all → m ≡ n
+  pub one_takes : (will_wake : W → W → Bool) (sure : Bool) (may : Kept T W → Type 0) (start : State T W) (all : Seen T W) (m n : ℕ) (v w : T) → OnlyMakes may IsTake
+      → IsLawful will_wake sure may start all.calls → Took m v all → Took n w all → m ≡ n
   one_takes will_wake sure may start all m n v w only lawful one other =
       let none = none_put all.calls (all_such may IsTake only all.calls lawful.allowed) in
       elim (order (length one.before) (length other.before)) [
@@ -85,7 +90,8 @@ module _ {T W : Type 0} where
       ]
 
 -- who was told of a take took
-pub took : {T W : Type 0} (rules : WakerRules W) (named : Option (Begun T W)) (seen now : Seen T W) (v : T) → IsLinearized rules named seen.calls TryTake (Value (Some v)) now.calls → IsSigned seen now → length now.authors ≡ length now.calls → Took seen.author v now
+pub took : {T W : Type 0} (rules : WakerRules W) (named : Option (Begun T W)) (seen now : Seen T W) (v : T) → IsLinearized rules named seen.calls TryTake (Value (Some v)) now.calls → IsSigned seen now
+    → length now.authors ≡ length now.calls → Took seen.author v now
 took {T} {W} rules named seen now v told signed many = record {
   before = told.before;
   authors_before = signed.before;

@@ -7,7 +7,8 @@ ghost use Rattle.async_cell_model.specs.declared.entry.Kept.{Kept as Called};
 ghost use Rattle.async_cell_model.specs.Machine.{content, ends_waiting};
 ghost use Rattle.async_cell_model.specs.Legal.{IsExact};
 ghost use Rattle.async_cell_model.specs.History.{History, IsCovered, cell_after};
-ghost use Rattle.async_cell_history.specs.History.{GoesOn, HasEntry, IsLawful, IsNoSet, IsOrSet, IsSigned, IsTake, IsLinearized, IsLinearizedUpTo, OnlyMakes, Seen, StillWaits, Took, come_out, dropped, gone_in, start_of};
+ghost use Rattle.async_cell_history.specs.History.{GoesOn, HasEntry, IsLawful, IsNoSet, IsOrSet, IsSigned, IsTake, IsLinearized, IsLinearizedUpTo};
+ghost use Rattle.async_cell_history.specs.History.{OnlyMakes, Seen, StillWaits, Took, come_out, dropped, gone_in, start_of};
 
 use crate::Protocol;
 use async_cell_core::Wakes;

@@ -1,5 +1,6 @@
 -- Each waker that waits is covered until all waiting ends.
-use Rattle.async_cell_latest.proofs.Words.{pending_waker, has_end, History, then_state, after, Entry, MayFollow, IsLegal, State, ends_waiting, IsCovered, skips, ◌≡◌, Bool, false, List, [], ◌∷◌, ◌++◌, Some, arith, or_parts, nat_tests, Contains-append_left, Contains-push, list_any-append, if◌then◌else◌}
+use Rattle.async_cell_latest.proofs.Words.{pending_waker, has_end, History, then_state, after, Entry, MayFollow, IsLegal, State, ends_waiting, IsCovered, skips, ◌≡◌, Bool, false}
+use Rattle.async_cell_latest.proofs.Words.{List, [], ◌∷◌, ◌++◌, Some, arith, or_parts, nat_tests, Contains-append_left, Contains-push, list_any-append, if◌then◌else◌}
 use Rattle.async_cell_latest.proofs.Versions.{legal_rest, after_append}
 
 module _ {W : Type 0} (will_wake : W → W → Bool) where

@@ -1,6 +1,7 @@
 -- Two histories, the second from the state where the first ends, are one. A legal history from a
 -- sound state ends in a sound state, also that of one poll that waits.
-use Rattle.async_cell_latest.proofs.Words.{Runs, History, then_state, after, Entry, MayFollow, IsLegal, all_woken, wait_answer, Kept, next, State, IsSound, Stays, is_closed, PollChanged, may_lack_memory, never_skipped, keep_added, ◌≡◌, ◌≤◌, ◌<◌, ◌-◌, Bool, false, [], ◌∷◌, ◌++◌, Result, OnOk, OnErr, IsOk, refl, arith, le_refl, nat_tests}
+use Rattle.async_cell_latest.proofs.Words.{Runs, History, then_state, after, Entry, MayFollow, IsLegal, all_woken, wait_answer, Kept, next, State, IsSound, Stays, is_closed, PollChanged}
+use Rattle.async_cell_latest.proofs.Words.{may_lack_memory, never_skipped, keep_added, ◌≡◌, ◌≤◌, ◌<◌, ◌-◌, Bool, false, [], ◌∷◌, ◌++◌, Result, OnOk, OnErr, IsOk, refl, arith, le_refl, nat_tests}
 pub use Rattle.async_cell_latest.proofs.Versions.{after_append}
 
 -- the second state is the first, with no less room

@@ -1,5 +1,6 @@
 -- How a history moves the version on, when the value changes, and what polls and reads show of both.
-use Rattle.async_cell_latest.proofs.Words.{seen_then, IsBy, IsFollower, seen_after, is_old, has_write, IsNewer, IsRising, History, is_memory, then_state, after, Entry, MayFollow, IsLegal, State, Stays, is_closed, Shown, IsSubsequence, none, skip, both, ◌≡◌, ◌≤◌, ℕ, Bool, true, false, [], ◌∷◌, ◌++◌, refl, arith, le_refl, nat_tests}
+use Rattle.async_cell_latest.proofs.Words.{seen_then, IsBy, IsFollower, seen_after, is_old, has_write, IsNewer, IsRising, History, is_memory, then_state, after, Entry, MayFollow, IsLegal, State}
+use Rattle.async_cell_latest.proofs.Words.{Stays, is_closed, Shown, IsSubsequence, none, skip, both, ◌≡◌, ◌≤◌, ℕ, Bool, true, false, [], ◌∷◌, ◌++◌, refl, arith, le_refl, nat_tests}
 
 module _ {T W : Type 0} (will_wake : W → W → Bool) where
   -- no call moves the version back

@@ -1,6 +1,7 @@
 -- What one more write, or the close, makes of a life, what follows from a beginning of it, and what
 -- is shown after what was seen.
-use Rattle.async_cell_latest_sync.proofs.Words.{State, Life, GoesOn, IsLawful, IsOf, IsShownNext, values_of, closed_of, life_of, ◌≡◌, ◌≢◌, ◌≤◌, ℕ, true, false, List, [], ◌∷◌, ◌++◌, length, Option, Some, None, IsSome, refl, ap, sym, subst, arith, length-append, shorter_begins}
+use Rattle.async_cell_latest_sync.proofs.Words.{State, Life, GoesOn, IsLawful, IsOf, IsShownNext, values_of, closed_of, life_of, ◌≡◌, ◌≢◌, ◌≤◌, ℕ, true, false, List}
+use Rattle.async_cell_latest_sync.proofs.Words.{[], ◌∷◌, ◌++◌, length, Option, Some, None, IsSome, refl, ap, sym, subst, arith, length-append, shorter_begins}
 
 module _ {T : Type 0} where
   -- one more write adds its value

@@ -1,10 +1,12 @@
 -- What a joined history makes of the cell and of the wait list.
-use Rattle.async_cell_model.proofs.Words.{◌≡◌, ◌≤◌, Bool, false, ◌||◌, List, [], ◌∷◌, ◌++◌, length, refl, sym, arith, append_assoc, append-nil, filter_map, filter_map-append, if◌then◌else◌, Cell, ends_waiting, next, wait_list, State, pending_waker, History, cell_after, has_fill_or_close, since, registrations, waiting, room, after}
+use Rattle.async_cell_model.proofs.Words.{◌≡◌, ◌≤◌, Bool, false, ◌||◌, List, [], ◌∷◌, ◌++◌, length, refl, sym, arith, append_assoc, append-nil, filter_map, filter_map-append, if◌then◌else◌}
+use Rattle.async_cell_model.proofs.Words.{Cell, ends_waiting, next, wait_list, State, pending_waker, History, cell_after, has_fill_or_close, since, registrations, waiting, room, after}
 use Rattle.std.proofs.Math.Bool.{or_assoc}
 use Rattle.async_cell_model.proofs.OneMoreWaker.{wait_list-append, wait_list-wait_list, wait_list-longer}
 
 -- the cut of a list that is longer by one in front
-cut_over : {A : Type 0} (p q r s : Bool) (e : A) (g h joined first second : List A) → s ≡ (q || r) → joined ≡ (if r then second else (first ++ h)) → (if p || s then joined else (e ∷ (g ++ h))) ≡ (if r then second else ((if p || q then first else e ∷ g) ++ h))
+cut_over : {A : Type 0} (p q r s : Bool) (e : A) (g h joined first second : List A) → s ≡ (q || r) → joined ≡ (if r then second else (first ++ h))
+    → (if p || s then joined else (e ∷ (g ++ h))) ≡ (if r then second else ((if p || q then first else e ∷ g) ++ h))
 cut_over p q r s e g h joined first second ends is = grind arith
 
 module _ {T W : Type 0} where
@@ -24,7 +26,8 @@ module _ {T W : Type 0} where
 
   pub since-append : (c : Cell T) (g h : History T W) → since c (g ++ h) ≡ (if has_fill_or_close (cell_after c g) h then since (cell_after c g) h else (since c g ++ h))
   since-append c [] h = grind (arith, since-none)
-  since-append c (e ∷ g) h = cut_over (ends_waiting c (next c e)) (has_fill_or_close (next c e) g) (has_fill_or_close (cell_after (next c e) g) h) (has_fill_or_close (next c e) (g ++ h)) e g h _ _ _ (has_fill_or_close-append (next c e) g h) (since-append (next c e) g h)
+  since-append c (e ∷ g) h = cut_over (ends_waiting c (next c e)) (has_fill_or_close (next c e) g) (has_fill_or_close (cell_after (next c e) g) h) (has_fill_or_close (next c e) (g ++ h)) e g h _ _ _
+      (has_fill_or_close-append (next c e) g h) (since-append (next c e) g h)
 
   pub registrations-append : (b : State T W) (g h : History T W)
       → registrations b (g ++ h) ≡ (if has_fill_or_close (cell_after b.cell g) h then filter_map pending_waker (since (cell_after b.cell g) h) else (registrations b g ++ filter_map pending_waker h))

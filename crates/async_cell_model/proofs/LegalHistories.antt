@@ -1,5 +1,6 @@
 -- Legal histories, joined and started anew.
-use Rattle.async_cell_model.proofs.Words.{◌≡◌, ◌≤◌, Bool, List, [], ◌∷◌, ◌++◌, refl, arith, append_assoc, append-nil, nat_tests, Entry, Kept, Reply, wait_list, State, IsSound, Exactly, History, cell_after, waiting, room, after, MayFollowBy, IsLegalAfterBy, RunsBy, wakes_after, Runs}
+use Rattle.async_cell_model.proofs.Words.{◌≡◌, ◌≤◌, Bool, List, [], ◌∷◌, ◌++◌, refl, arith, append_assoc, append-nil, nat_tests, Entry, Kept, Reply, wait_list, State}
+use Rattle.async_cell_model.proofs.Words.{IsSound, Exactly, History, cell_after, waiting, room, after, MayFollowBy, IsLegalAfterBy, RunsBy, wakes_after, Runs}
 use Rattle.async_cell_model.proofs.JoinedHistory.{after_none, after-append, cell_after-append, waiting-append, room-append}
 
 module _ {T W : Type 0} (MayReply : Kept T W → Reply T → Reply T → Type 0) (will_wake : W → W → Bool) (sure : Bool) where
@@ -33,7 +34,8 @@ module _ {T W : Type 0} (MayReply : Kept T W → Reply T → Reply T → Type 0)
     room_on h = grind (arith, after-append)
 
   -- two histories, the second from the state where the first ends, are one
-  pub Runs-join-by : (b mid to : State T W) (g h : History T W) (ws us : List (List W)) → RunsBy MayReply will_wake sure b g ws mid → RunsBy MayReply will_wake sure mid h us to → RunsBy MayReply will_wake sure b (g ++ h) (ws ++ us) to
+  pub Runs-join-by : (b mid to : State T W) (g h : History T W) (ws us : List (List W)) → RunsBy MayReply will_wake sure b g ws mid → RunsBy MayReply will_wake sure mid h us to
+      → RunsBy MayReply will_wake sure b (g ++ h) (ws ++ us) to
   Runs-join-by b mid to g h ws us first second =
       let kept = first.sound.none_skipped in
       let legal = second_legal b mid g kept first.cell_is first.waiting_is first.room_is_left [] h second.legal in

@@ -1,5 +1,6 @@
 -- The machine does what the histories of one entry say.
-use Rattle.async_cell_model.proofs.Words.{arith, ◌≡◌, ◌⊎◌, inl, inr, Bool, true, List, [], ◌∷◌, refl, append-nil, if◌then◌else◌, fold, option_to_list, Cell, Entry, Kept, Reply, ends_waiting, IsCloned, next, reply, is_memory, wait_list, with_one_more, State, pending_waker, Does, DoesUpTo, waiting, Steps, StepsUpTo}
+use Rattle.async_cell_model.proofs.Words.{arith, ◌≡◌, ◌⊎◌, inl, inr, Bool, true, List, [], ◌∷◌, refl, append-nil, if◌then◌else◌, fold, option_to_list, Cell, Entry, Kept, Reply, ends_waiting}
+use Rattle.async_cell_model.proofs.Words.{IsCloned, next, reply, is_memory, wait_list, with_one_more, State, pending_waker, Does, DoesUpTo, waiting, Steps, StepsUpTo}
 use Rattle.async_cell_model.proofs.OneMoreWaker.{wait_list-one}
 use Rattle.async_cell_model.proofs.JoinedHistory.{after_none}
 
@@ -28,7 +29,8 @@ module _ {T W : Type 0} (is_clone : T → T → Type 0) where
   waker_same call own answer cloned = grind arith
 
   -- what the machine does, it does up to clones
-  pub does_up_to : (will_wake : W → W → Bool) (sure : Bool) (from to : State T W) (call : Kept T W) (answer : Reply T) (woken : List W) → Does will_wake sure from (record { call = call; reply = answer }) woken to
+  pub does_up_to : (will_wake : W → W → Bool) (sure : Bool) (from to : State T W) (call : Kept T W) (answer : Reply T) (woken : List W)
+      → Does will_wake sure from (record { call = call; reply = answer }) woken to
       → DoesUpTo will_wake sure is_clone from (record { call = call; reply = answer }) woken to
   does_up_to will_wake sure from to call answer woken does = (answer, does, inl refl)
 

@@ -1,5 +1,7 @@
 -- A value is taken once: the replies give, in order, some of what was there and was put_in.
-use Rattle.async_cell_model.proofs.Words.{◌≡◌, ◌⊎◌, inl, inr, suc, Bool, false, List, [], ◌∷◌, ◌++◌, Option, Some, None, refl, subst, arith, append_assoc, append-nil, option_to_list, All, AllPairs, cons_option, AllPairs-cons, Cell, Entry, Kept, Reply, content, next, reply, State, UpToClones, History, cell_after, after, IsLegalAfterBy, MayFollowBy, IsDistinct, IsSubsequence, none, skip, both, is_update, has_update, put_by, put_in, taken_by, taken_out}
+use Rattle.async_cell_model.proofs.Words.{◌≡◌, ◌⊎◌, inl, inr, suc, Bool, false, List, [], ◌∷◌, ◌++◌, Option, Some, None, refl, subst, arith, append_assoc, append-nil, option_to_list}
+use Rattle.async_cell_model.proofs.Words.{All, AllPairs, cons_option, AllPairs-cons, Cell, Entry, Kept, Reply, content, next, reply, State, UpToClones, History, cell_after, after, IsLegalAfterBy}
+use Rattle.async_cell_model.proofs.Words.{MayFollowBy, IsDistinct, IsSubsequence, none, skip, both, is_update, has_update, put_by, put_in, taken_by, taken_out}
 use Rattle.std.proofs.Common.{◌≢◌}
 use Rattle.std.proofs.lemmas.List.Elements.{All-cons, All-tail}
 use Rattle.async_cell_model.proofs.JoinedHistory.{cell_after-append}

@@ -1,5 +1,7 @@
 -- What a single entry does: a refused one changes nothing.
-use Rattle.async_cell_model.proofs.Words.{arith, ◌≡◌, inl, inr, Bool, true, false, List, [], ◌∷◌, ◌++◌, None, refl, ap, sym, subst, ◌∙◌, append-nil, ◌+◌, Cell, Entry, Kept, Reply, Refused, ends_waiting, IsCounted, is_vacant, next, reply, wait_list, State, IsSound, pending_waker, IsCloned, UpToClones, is_refused, RunsBy, MayFollowBy, wakes_after, History, waiting}
+use Rattle.async_cell_model.proofs.Words.{arith, ◌≡◌, inl, inr, Bool, true, false, List, [], ◌∷◌, ◌++◌, None, refl, ap, sym, subst, ◌∙◌, append-nil, ◌+◌}
+use Rattle.async_cell_model.proofs.Words.{Cell, Entry, Kept, Reply, Refused, ends_waiting, IsCounted, is_vacant, next, reply, wait_list, State, IsSound}
+use Rattle.async_cell_model.proofs.Words.{pending_waker, IsCloned, UpToClones, is_refused, RunsBy, MayFollowBy, wakes_after, History, waiting}
 use Rattle.async_cell_model.specs.declared.refusal.Refusal.TheVariants as why
 use Rattle.async_cell_model.proofs.Whole.{after-nil, IsSound-after}
 
@@ -23,22 +25,30 @@ module _ {T W : Type 0} where
 module _ {T W : Type 0} (is_clone : T → T → Type 0) (will_wake : W → W → Bool) (sure : Bool) where
   next-refused : (at : State T W) (e : Entry T W) → MayFollowBy (UpToClones is_clone) will_wake sure at e → is_refused e.reply ≡ true → next at.cell e ≡ at.cell
   next-refused at e may is = elim may.replied [
-    | inl same ↦ elim same [ inl it ↦ subst (λ (r : Reply T). is_refused r ≡ true → next at.cell (record { call = e.call; reply = r }) ≡ at.cell) (sym it) (refused_same at.cell e.call) is | inr cloned ↦ let not = cloned_answers is_clone e.call (reply at.cell e.call) e.reply cloned in cc ]
+    | inl same ↦ elim same [
+      | inl it ↦ subst (λ (r : Reply T). is_refused r ≡ true → next at.cell (record { call = e.call; reply = r }) ≡ at.cell) (sym it) (refused_same at.cell e.call) is
+      | inr cloned
+          ↦ let not = cloned_answers is_clone e.call (reply at.cell e.call) e.reply cloned in cc
+    ]
     | inr refused ↦ subst (λ (r : Reply T). next at.cell (record { call = e.call; reply = r }) ≡ at.cell) (sym refused.0) (memory_same at.cell e.call)
   ]
 
   -- a refused entry leaves the cell as it was
-  pub refused_cell : (from to : State T W) (e : Entry T W) (woken : List (List W)) → RunsBy (UpToClones is_clone) will_wake sure from (e ∷ []) woken to → is_refused e.reply ≡ true → next from.cell e ≡ from.cell
+  pub refused_cell : (from to : State T W) (e : Entry T W) (woken : List (List W)) → RunsBy (UpToClones is_clone) will_wake sure from (e ∷ []) woken to → is_refused e.reply ≡ true
+      → next from.cell e ≡ from.cell
   refused_cell from to e woken leads is =
-      let here : MayFollowBy (UpToClones is_clone) will_wake sure from e = subst (λ (at : State T W). MayFollowBy (UpToClones is_clone) will_wake sure at e) (after-nil is_clone will_wake sure from leads.sound.none_skipped) leads.legal.0 in
+      let here : MayFollowBy (UpToClones is_clone) will_wake sure from e =
+      subst (λ (at : State T W). MayFollowBy (UpToClones is_clone) will_wake sure at e) (after-nil is_clone will_wake sure from leads.sound.none_skipped) leads.legal.0 in
       next-refused from e here is
 
   -- and so neither fills nor closes
-  quiet_if_refused : (from to : State T W) (e : Entry T W) (woken : List (List W)) → RunsBy (UpToClones is_clone) will_wake sure from (e ∷ []) woken to → is_refused e.reply ≡ true → ends_waiting from.cell (next from.cell e) ≡ false
+  quiet_if_refused : (from to : State T W) (e : Entry T W) (woken : List (List W)) → RunsBy (UpToClones is_clone) will_wake sure from (e ∷ []) woken to → is_refused e.reply ≡ true
+      → ends_waiting from.cell (next from.cell e) ≡ false
   quiet_if_refused from to e woken leads is = subst (λ (c : Cell T). ends_waiting from.cell c ≡ false) (sym (refused_cell from to e woken leads is)) (stays from.cell)
 
   -- and leaves the wait list as it was
-  pub refused_waiting : (from to : State T W) (e : Entry T W) (woken : List (List W)) → RunsBy (UpToClones is_clone) will_wake sure from (e ∷ []) woken to → is_refused e.reply ≡ true → to.waiting ≡ from.waiting
+  pub refused_waiting : (from to : State T W) (e : Entry T W) (woken : List (List W)) → RunsBy (UpToClones is_clone) will_wake sure from (e ∷ []) woken to → is_refused e.reply ≡ true
+      → to.waiting ≡ from.waiting
   refused_waiting from to e woken leads is =
       let quiet = quiet_if_refused from to e woken leads is in
       let silent : pending_waker e ≡ None = refused_silent e.call e.reply is in
@@ -46,7 +56,8 @@ module _ {T W : Type 0} (is_clone : T → T → Type 0) (will_wake : W → W →
       leads.waiting_is ∙ list
 
   -- an entry that neither fills nor closes wakes no waker
-  pub handed_none : (from to : State T W) (e : Entry T W) (woken : List (List W)) → RunsBy (UpToClones is_clone) will_wake sure from (e ∷ []) woken to → ends_waiting from.cell (next from.cell e) ≡ false → woken ≡ [] ∷ []
+  pub handed_none : (from to : State T W) (e : Entry T W) (woken : List (List W)) → RunsBy (UpToClones is_clone) will_wake sure from (e ∷ []) woken to
+      → ends_waiting from.cell (next from.cell e) ≡ false → woken ≡ [] ∷ []
   handed_none from to e woken leads quiet =
       let none : wakes_after will_wake from [] (e ∷ []) ≡ [] ∷ [] = rw quiet refl in
       leads.wakes_are ∙ none

@@ -1,5 +1,7 @@
 -- What one more waker makes of a wait list, and the wait lists of longer lists.
-use Rattle.async_cell_model.proofs.Words.{◌≡◌, ◌≤◌, ◌<◌, inl, inr, ℕ, Bool, true, false, not, ◌&&◌, ◌||◌, List, [], ◌∷◌, ◌++◌, length, get_or, refl, ap, ◌∙◌, arith, le_refl, le_trans, length-append, nat_lt, if◌then◌else◌, filter, fold, AllPairs, nat_tests, fold-append, list_any-append, list_any_at, Contains-append_left, Contains-push, all_pairs_push, is_empty, wait_list, skips, with_one_more, IsCovered}
+use Rattle.async_cell_model.proofs.Words.{◌≡◌, ◌≤◌, ◌<◌, inl, inr, ℕ, Bool, true, false, not, ◌&&◌, ◌||◌, List, [], ◌∷◌, ◌++◌, length, get_or, refl, ap, ◌∙◌, arith, le_refl}
+use Rattle.async_cell_model.proofs.Words.{le_trans, length-append, nat_lt, if◌then◌else◌, filter, fold, AllPairs, nat_tests, fold-append, list_any-append, list_any_at}
+use Rattle.async_cell_model.proofs.Words.{Contains-append_left, Contains-push, all_pairs_push, is_empty, wait_list, skips, with_one_more, IsCovered}
 use Rattle.std.specs.Prelude.{◌≢◌}
 
 -- a list that may have found no memory holds a waker and has no room

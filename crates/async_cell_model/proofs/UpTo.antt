@@ -1,5 +1,6 @@
 -- Histories that are legal up to clones, and exact ones.
-use Rattle.async_cell_model.proofs.Words.{arith, ◌≡◌, Bool, true, List, [], ◌∷◌, ◌++◌, refl, list_any, Kept, Reply, State, IsCloned, UpToClones, is_copy, History, after, MayFollowBy, Exactly, Entry, IsExact, copies, IsLegalAfterBy, IsLegalAfter, Runs, RunsUpTo}
+use Rattle.async_cell_model.proofs.Words.{arith, ◌≡◌, Bool, true, List, [], ◌∷◌, ◌++◌, refl, list_any, Kept, Reply, State, IsCloned, UpToClones, is_copy}
+use Rattle.async_cell_model.proofs.Words.{History, after, MayFollowBy, Exactly, Entry, IsExact, copies, IsLegalAfterBy, IsLegalAfter, Runs, RunsUpTo}
 use Rattle.std.proofs.Math.Bool.{or-true}
 
 module _ {T W : Type 0} (is_clone : T → T → Type 0) where

@@ -1,5 +1,7 @@
 -- Laws of every legal history, up to clones.
-use Rattle.async_cell_model.proofs.Words.{◌≡◌, ◌<◌, Bool, true, false, not, None, [], ◌∷◌, ◌++◌, length, Some, refl, sym, subst, arith, append_assoc, append-nil, length-append, nat_tests, if◌then◌else◌, ◌-◌, ◌↔◌, filter_map, Entry, is_vacant, ends_waiting, next, wait_list, State, IsSound, pending_waker, UpToClones, IsDistinct, IsCovered, History, cell_after, has_fill_or_close, registrations, room, skips, waiting, after, IsLegalAfterBy, MayFollowBy}
+use Rattle.async_cell_model.proofs.Words.{◌≡◌, ◌<◌, Bool, true, false, not, None, [], ◌∷◌, ◌++◌, length, Some, refl, sym, subst, arith, append_assoc, append-nil, length-append, nat_tests}
+use Rattle.async_cell_model.proofs.Words.{if◌then◌else◌, ◌-◌, ◌↔◌, filter_map, Entry, is_vacant, ends_waiting, next, wait_list, State, IsSound, pending_waker, UpToClones, IsDistinct}
+use Rattle.async_cell_model.proofs.Words.{IsCovered, History, cell_after, has_fill_or_close, registrations, room, skips, waiting, after, IsLegalAfterBy, MayFollowBy}
 use Rattle.async_cell_model.proofs.OneMoreWaker.{wait_list-covers, wait_list-distinct, wait_list-one, wait_list-wait_list}
 use Rattle.async_cell_model.proofs.JoinedHistory.{after_none, after-append, waiting-append, room-append, registrations-append, cell_after-append}
 
@@ -28,7 +30,8 @@ module _ {T W : Type 0} (is_clone : T → T → Type 0) (will_wake : W → W →
   IsSound-step at e sound may = grind (arith, nat_tests, wait_list-wait_list, no_waker)
 
   -- what is legal after a history is legal in the state where it ends
-  pub IsLegalAfter-anew : (b : State T W) (g h rest : History T W) → wait_list will_wake b.waiting ≡ b.waiting → IsLegalAfterBy (UpToClones is_clone) will_wake sure b (g ++ h) rest → IsLegalAfterBy (UpToClones is_clone) will_wake sure (after will_wake b g) h rest
+  pub IsLegalAfter-anew : (b : State T W) (g h rest : History T W) → wait_list will_wake b.waiting ≡ b.waiting → IsLegalAfterBy (UpToClones is_clone) will_wake sure b (g ++ h) rest
+      → IsLegalAfterBy (UpToClones is_clone) will_wake sure (after will_wake b g) h rest
   IsLegalAfter-anew b g h [] kept legal = tt
   IsLegalAfter-anew b g h (e ∷ rest) kept legal = (
     subst (λ (at : State T W). MayFollowBy (UpToClones is_clone) will_wake sure at e) (after-append will_wake b g h kept) legal.0,
@@ -36,15 +39,18 @@ module _ {T W : Type 0} (is_clone : T → T → Type 0) (will_wake : W → W →
   )
 
   -- the second part of a legal history is legal, and so is the first
-  pub IsLegalAfter-second : (b : State T W) (h xs ys : History T W) → IsLegalAfterBy (UpToClones is_clone) will_wake sure b h (xs ++ ys) → IsLegalAfterBy (UpToClones is_clone) will_wake sure b (h ++ xs) ys
+  pub IsLegalAfter-second : (b : State T W) (h xs ys : History T W) → IsLegalAfterBy (UpToClones is_clone) will_wake sure b h (xs ++ ys)
+      → IsLegalAfterBy (UpToClones is_clone) will_wake sure b (h ++ xs) ys
   IsLegalAfter-second b h [] ys legal = subst (λ (l : History T W). IsLegalAfterBy (UpToClones is_clone) will_wake sure b l ys) (sym (append-nil h)) legal
-  IsLegalAfter-second b h (e ∷ xs) ys legal = subst (λ (l : History T W). IsLegalAfterBy (UpToClones is_clone) will_wake sure b l ys) (append_assoc h (e ∷ []) xs) (IsLegalAfter-second b (h ++ e ∷ []) xs ys legal.1)
+  IsLegalAfter-second b h (e ∷ xs) ys legal = subst (λ (l : History T W). IsLegalAfterBy (UpToClones is_clone) will_wake sure b l ys) (append_assoc h (e ∷ []) xs)
+      (IsLegalAfter-second b (h ++ e ∷ []) xs ys legal.1)
 
   pub IsLegalAfter-first : (b : State T W) (h xs ys : History T W) → IsLegalAfterBy (UpToClones is_clone) will_wake sure b h (xs ++ ys) → IsLegalAfterBy (UpToClones is_clone) will_wake sure b h xs
   IsLegalAfter-first b h [] ys legal = tt
   IsLegalAfter-first b h (e ∷ xs) ys legal = (legal.0, IsLegalAfter-first b (h ++ e ∷ []) xs ys legal.1)
 
-  pub IsLegal-anew : (b : State T W) (g h : History T W) → IsSound will_wake b → IsLegalAfterBy (UpToClones is_clone) will_wake sure b [] (g ++ h) → IsLegalAfterBy (UpToClones is_clone) will_wake sure (after will_wake b g) [] h
+  pub IsLegal-anew : (b : State T W) (g h : History T W) → IsSound will_wake b → IsLegalAfterBy (UpToClones is_clone) will_wake sure b [] (g ++ h)
+      → IsLegalAfterBy (UpToClones is_clone) will_wake sure (after will_wake b g) [] h
   IsLegal-anew b g h sound legal =
       let second = IsLegalAfter-second b [] g h legal in
       IsLegalAfter-anew b g [] h sound.none_skipped (subst (λ (l : History T W). IsLegalAfterBy (UpToClones is_clone) will_wake sure b l h) (sym (append-nil g)) second)
@@ -75,7 +81,8 @@ module _ {T W : Type 0} (is_clone : T → T → Type 0) (will_wake : W → W →
       grind (arith, no_waker, registrations-append, cell_after-append, wait_list-covers will_wake w (registrations b g) (filter_map pending_waker rest))
 
   -- a legal history ends in a sound state, so wakers wait only where the cell is vacant
-  pub waits_only_vacant : (b : State T W) (h : History T W) → IsSound will_wake b → IsLegalAfterBy (UpToClones is_clone) will_wake sure b [] h → is_vacant (cell_after b.cell h) ≡ false → waiting will_wake b h ≡ []
+  pub waits_only_vacant : (b : State T W) (h : History T W) → IsSound will_wake b → IsLegalAfterBy (UpToClones is_clone) will_wake sure b [] h → is_vacant (cell_after b.cell h) ≡ false
+      → waiting will_wake b h ≡ []
   waits_only_vacant b h sound legal = (IsSound-after b h sound legal).waits_vacant
 
 -- where a waker would wake another exactly if the two are equal, none waits twice

@@ -1,7 +1,9 @@
 -- What a call makes of its entry, and one more entry of a journal.
-use Rattle.async_cell_recorded.proofs.Words.{Option, Call, content, kept_call, kept_after, Kept, Reply, ◌≡◌, ◌≤◌, ◌<◌, ◌^◌, ◌+◌, ℕ, suc, Bool, true, false, List, [], ◌∷◌, ◌++◌, if◌then◌else◌, length, map, refl, arith, length-append, append_assoc, append-nil}
+use Rattle.async_cell_recorded.proofs.Words.{Option, Call, content, kept_call, kept_after, Kept, Reply, ◌≡◌, ◌≤◌, ◌<◌, ◌^◌, ◌+◌, ℕ, suc, Bool, true, false}
+use Rattle.async_cell_recorded.proofs.Words.{List, [], ◌∷◌, ◌++◌, if◌then◌else◌, length, map, refl, arith, length-append, append_assoc, append-nil}
 use Rattle.async_cell_recorded.proofs.Words.{nat_tests, nat_eq, sum_by_push, Decides-eqb, filter-append, map-append, All-push, slice_index, slice_set, replicate, length-set, length-replicate}
-use Rattle.async_cell_recorded.proofs.Words.{get_or-replicate, get_or-set_same, get_or-set_other, Named, is_memory, reply, State, IsSound, Does, woken_by, wakes_after, Runs, Runs-join, model_of, start}
+use Rattle.async_cell_recorded.proofs.Words.{get_or-replicate, get_or-set_same, get_or-set_other, Named, is_memory, reply, State}
+use Rattle.async_cell_recorded.proofs.Words.{IsSound, Does, woken_by, wakes_after, Runs, Runs-join, model_of, start}
 use Rattle.async_cell_recorded.proofs.Words.{Entry, Recording, IsRecorded, plain_entry, made_by, serials_of, numbers_below, state, same_name, Totals, Test, IsJournal, from_bool, picked_after}
 
 module _ {T W : Type 0} (will_wake : W → W → Bool) (sure : Bool) (at to : State T W) where

@@ -1,5 +1,9 @@
 -- The ghost side of each function, and which tokens cross threads. Assumes `Logic`.
-use Rattle.ghost_count.proofs.Words.{◌≡◌, ℕ, suc, ◌+◌, ◌-◌, ◌<◌, Bool, true, false, List, [], ◌∷◌, ◌++◌, refl, sym, arith, IsPrefix, Option, Some, None, IsSome, Ura, full_share, not-OpDef-full_share, SProp, ent, sep, ex, guard, emp, via, Lft, Share, Fml, ftrue, fbor, numbers, growing, latest, at_least, Keyless, Halves, Logic, sem, lfts, bor_fracture, one, nothing, Lends, basic, own_sum, latest_new, latest_grows, latest_shows, latest_bounds, latest_cut, latest_glue, at_least_dup, ‵, ◌⊛◌, some, given, later, ◌$◌, ◌∵◌, !, qed, move, drop, split, fsplit, fjoin, fpick, fpack, pick, learn, check, done, use0, use1, use2, rewrite, updating, await, now, raw, show, given_permits, names, counted, outs, right, held, back, table, counts, count_owns, was_given, is_held, permit_owns}
+use Rattle.ghost_count.proofs.Words.{◌≡◌, ℕ, suc, ◌+◌, ◌-◌, ◌<◌, Bool, true, false, List, [], ◌∷◌, ◌++◌, refl, sym, arith, IsPrefix, Option, Some, None, IsSome, Ura, full_share, not-OpDef-full_share}
+use Rattle.ghost_count.proofs.Words.{SProp, ent, sep, ex, guard, emp, via, Lft, Share, Fml, ftrue, fbor, numbers, growing, latest, at_least, Keyless, Halves, Logic, sem, lfts, bor_fracture}
+use Rattle.ghost_count.proofs.Words.{one, nothing, Lends, basic, own_sum, latest_new, latest_grows, latest_shows, latest_bounds, latest_cut, latest_glue, at_least_dup, ‵, ◌⊛◌, some, given}
+use Rattle.ghost_count.proofs.Words.{later, ◌$◌, ◌∵◌, !, qed, move, drop, split, fsplit, fjoin, fpick, fpack, pick, learn, check, done, use0, use1, use2, rewrite, updating, await, now, raw}
+use Rattle.ghost_count.proofs.Words.{show, given_permits, names, counted, outs, right, held, back, table, counts, count_owns, was_given, is_held, permit_owns}
 use mathlib.Core.Option.{some as opt_some}
 use base.Share
 
@@ -111,7 +115,8 @@ module _ {M : Type 1} {𝓤 : Ura M} (𝓛 : Logic 𝓤) where
 
   -- the parts of a count
   pub packs : (γ n : ℕ) (rows : List (ℕ × Bool)) → outs rows ≡ n → ⟦ latest given_permits full_share γ (names rows) ⟧ ∗ ⟦ back rows ⟧ ⊢ ⟦ counts γ n ⟧
-  packs γ n rows e = qed 𝓛 (‵ (latest given_permits full_share γ (names rows)) ∷ ‵ (back rows) ∷ []) ∵ nothing ! $ fpack ! (outs rows ≡ n) (λ _. ftrue) e $ move ! (2 ∷ 0 ∷ []) $ fjoin ! $ move ! (1 ∷ 0 ∷ []) $ fjoin ! $ fpack ! (List (ℕ × Bool)) (table γ n) rows $ done !
+  packs γ n rows e = qed 𝓛 (‵ (latest given_permits full_share γ (names rows)) ∷ ‵ (back rows) ∷ []) ∵ nothing ! $ fpack ! (outs rows ≡ n) (λ _. ftrue) e $ move ! (2 ∷ 0 ∷ []) $ fjoin ! $
+      move ! (1 ∷ 0 ∷ []) $ fjoin ! $ fpack ! (List (ℕ × Bool)) (table γ n) rows $ done !
 
   pub opens_empty : emp 𝓤 ⊢ H.⇛ (ex 𝓤 (λ (γ : ℕ). ⟦ counts γ 0 ⟧))
   opens_empty = qed 𝓛 [] ∵ updating ! $ use0 𝓛 (later (some (λ (γ : ℕ). ‵ (latest given_permits full_share γ [])))) (via 𝓤 _ (latest_new given_permits 𝓛 []) (basic 𝓛 _)) $ await ! tt $ pick ! (λ γ.
@@ -124,7 +129,8 @@ module _ {M : Type 1} {𝓤 : Ura M} (𝓛 : Logic 𝓤) where
       let l : List ℕ = names rows ++ δ ∷ [] in let rows' : List (ℕ × Bool) = rows ++ (δ, false) ∷ [] in
       move ! (2 ∷ []) $ use1 𝓛 (later (‵ (latest given_permits full_share γ l))) (via 𝓤 _ (latest_grows given_permits 𝓛 γ (names rows) l (δ ∷ [], refl)) (basic 𝓛 _)) $ await ! tt $
       use1 𝓛 (‵ (latest given_permits full_share γ l) ⊛ ‵ (at_least given_permits γ l)) (latest_shows given_permits 𝓛 full_share γ l l (given_permits.same l)) $ split ! $
-      rewrite ! 0 (λ (x : List ℕ). ‵ (latest given_permits full_share γ x)) (sym (names_more rows δ)) refl $ move ! (1 ∷ []) $ fpack ! (List ℕ) (was_given γ δ) (names rows) $ move ! (0 ∷ 2 ∷ []) $ fjoin ! $
+      rewrite ! 0 (λ (x : List ℕ). ‵ (latest given_permits full_share γ x)) (sym (names_more rows δ)) refl $ move ! (1 ∷ []) $ fpack ! (List ℕ) (was_given γ δ) (names rows) $ move ! (0 ∷ 2 ∷ []) $
+      fjoin ! $
       move ! (2 ∷ []) $ use1 𝓛 (‵ (back rows')) (more_back rows δ) $ move ! (2 ∷ 0 ∷ []) $ use2 𝓛 (‵ (counts γ (n + 1))) (packs γ (n + 1) rows' (omega (arith, outs_more rows δ, is))) $
       now ! $ show ! (λ (δ : ℕ). ⟦ counts γ (n + 1) ⟧ ∗ ⟦ is_held γ δ full_share ⟧) δ $ done !)))
 
@@ -135,7 +141,8 @@ module _ {M : Type 1} {𝓤 : Ura M} (𝓛 : Logic 𝓤) where
   takes None n δ = qed 𝓛 (‵ ftrue ∷ ‵ ftrue ∷ []) ∵ drop ! $ check ! (λ no. absurd (cc no)) $ done !
   takes (Some γ) n δ = qed 𝓛 (‵ (counts γ n) ∷ ‵ (is_held γ δ full_share) ∷ []) ∵ fpick ! (λ rows. fsplit ! $ move ! (1 ∷ []) $ fsplit ! $ move ! (1 ∷ []) $ fpick ! (λ is. drop ! $
       move ! (2 ∷ []) $ fsplit ! $ fpick ! (λ before. move ! (3 ∷ 0 ∷ []) $
-      use2 𝓛 (given (IsPrefix (before ++ δ ∷ []) (names rows)) (‵ (latest given_permits full_share γ (names rows)) ⊛ ‵ (was_given γ δ before))) (latest_bounds given_permits 𝓛 full_share γ (names rows) (before ++ δ ∷ [])) $
+      use2 𝓛 (given (IsPrefix (before ++ δ ∷ []) (names rows)) (‵ (latest given_permits full_share γ (names rows)) ⊛ ‵ (was_given γ δ before)))
+      (latest_bounds given_permits 𝓛 full_share γ (names rows) (before ++ δ ∷ [])) $
       learn ! (λ p. split ! $ move ! (1 ∷ []) $ drop ! $ move ! (2 ∷ 1 ∷ []) $ let rows' : List (ℕ × Bool) = flip before rows in
       use2 𝓛 (given (outs rows ≡ suc (outs rows')) (‵ (back rows'))) (flips before rows δ p) $ learn ! (λ fewer. move ! (1 ∷ []) $
       rewrite ! 0 (λ (x : List ℕ). ‵ (latest given_permits full_share γ x)) (sym (names_flip before rows)) refl $ use2 𝓛 (‵ (counts γ (n - 1))) (packs γ (n - 1) rows' (omega (arith, fewer, is))) $
@@ -148,7 +155,8 @@ module _ {M : Type 1} {𝓤 : Ura M} (𝓛 : Logic 𝓤) where
   shows None n δ q = qed 𝓛 (‵ ftrue ∷ ‵ ftrue ∷ []) ∵ check ! (λ no. absurd (cc no)) $ done !
   shows (Some γ) n δ q = qed 𝓛 (‵ (is_held γ δ q) ∷ ‵ (counts γ n) ∷ []) ∵ move ! (1 ∷ []) $ fpick ! (λ rows. fsplit ! $ move ! (1 ∷ []) $ fsplit ! $ move ! (1 ∷ []) $ fpick ! (λ is. drop ! $
       move ! (2 ∷ []) $ fsplit ! $ fpick ! (λ before. move ! (3 ∷ 0 ∷ []) $
-      use2 𝓛 (given (IsPrefix (before ++ δ ∷ []) (names rows)) (‵ (latest given_permits full_share γ (names rows)) ⊛ ‵ (was_given γ δ before))) (latest_bounds given_permits 𝓛 full_share γ (names rows) (before ++ δ ∷ [])) $
+      use2 𝓛 (given (IsPrefix (before ++ δ ∷ []) (names rows)) (‵ (latest given_permits full_share γ (names rows)) ⊛ ‵ (was_given γ δ before)))
+      (latest_bounds given_permits 𝓛 full_share γ (names rows) (before ++ δ ∷ [])) $
       learn ! (λ p. split ! $ move ! (3 ∷ 2 ∷ []) $
       use2 𝓛 (given (0 < outs rows) (‵ (back rows) ⊛ ‵ (right δ q))) (beside before rows δ q p) $ learn ! (λ some_out. split ! $
       move ! (2 ∷ 0 ∷ []) $ use2 𝓛 (‵ (counts γ n)) (packs γ n rows is) $

@@ -23,5 +23,6 @@ pub use seplogic.Ra.Ura.{Ura}
 pub use types.{Logic.Logic, Logic.lfts, Logic.sem, Owned.basic, Owned.own_sum, Part.agg, Tokens.bor_fracture, Tokens.obor_close, Tokens.shr_bor-open}
 pub use types.ByLocal.{alloc_all, free_all, get, look_at, pass_all, sets}
 pub use types.Growing.{at_least_dup, latest_bounds, latest_cut, latest_glue, latest_grows, latest_new, latest_shows}
-pub use types.Kit.{ !, await, by, check, done, drop, feq_i, fjoin, fjoin3, fpack, fpick, frame, fsplit, fsplit3, given, join, keep, later, learn, move, now, pick, qed, raw, rewrite, show, some, split, updating, use0, use1, use2, ‵, ◌$◌, ◌∵◌, ◌⊛◌}
+pub use types.Kit.{ !, await, by, check, done, drop, feq_i, fjoin, fjoin3, fpack, fpick, frame, fsplit, fsplit3, given, join, keep, later}
+pub use types.Kit.{learn, move, now, pick, qed, raw, rewrite, show, some, split, updating, use0, use1, use2, ‵, ◌$◌, ◌∵◌, ◌⊛◌}
 pub use types.Run.{and_then, enter, no_more, of_opd, returns, unit_lit}

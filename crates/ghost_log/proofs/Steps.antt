@@ -1,5 +1,8 @@
 -- The ghost side of each function, and which tokens cross threads. Assumes `Logic`.
-use Rattle.ghost_log.proofs.Words.{Ura, length-map, Gv, Coded, Least, latest, at_least, prefix_anti, prefix_refl, Keyless, Halves, one, basic, latest_new, latest_grows, latest_shows, latest_bounds, latest_cut, latest_glue, at_least_dup, at_least_join, prefix_out, prefix_in, if◌then◌else◌, nat_lt, nat_tests, lists, log_owns, seen_owns, ◌≡◌, ℕ, ◌≤◌, Bool, true, false, List, [], ◌∷◌, ◌++◌, map, length, refl, inl, inr, arith, Lft, Share, Fml, fbor, full_share, SProp, ent, sep, ex, guard, emp, via, Lends, IsPrefix, ◌⊎◌, ‵, ◌⊛◌, some, given, ◌$◌, ◌∵◌, !, qed, by, keep, split, pick, learn, check, done, use2, rewrite, updating, now, raw, Logic, sem, lfts, bor_fracture}
+use Rattle.ghost_log.proofs.Words.{Ura, length-map, Gv, Coded, Least, latest, at_least, prefix_anti, prefix_refl, Keyless, Halves, one, basic, latest_new, latest_grows, latest_shows, latest_bounds}
+use Rattle.ghost_log.proofs.Words.{latest_cut, latest_glue, at_least_dup, at_least_join, prefix_out, prefix_in, if◌then◌else◌, nat_lt, nat_tests, lists, log_owns, seen_owns, ◌≡◌, ℕ, ◌≤◌, Bool, true}
+use Rattle.ghost_log.proofs.Words.{false, List, [], ◌∷◌, ◌++◌, map, length, refl, inl, inr, arith, Lft, Share, Fml, fbor, full_share, SProp, ent, sep, ex, guard, emp, via, Lends, IsPrefix, ◌⊎◌, ‵}
+use Rattle.ghost_log.proofs.Words.{◌⊛◌, some, given, ◌$◌, ◌∵◌, !, qed, by, keep, split, pick, learn, check, done, use2, rewrite, updating, now, raw, Logic, sem, lfts, bor_fracture}
 use base.Share
 
 -- of two beginnings of one list the shorter begins the longer
@@ -57,7 +60,8 @@ module _ {M : Type 1} {𝓤 : Ura M} (𝓛 : Logic 𝓤) {E : Type 0} (cv : Code
   shows γ xs q = latest_shows lists 𝓛 q γ (map cv.code xs) (map cv.code xs) (lists.same (map cv.code xs))
 
   bounds : (γ : ℕ) (xs ys : List E) (q : Share) → ⟦ log γ xs q ⟧ ∗ ⟦ seen γ ys ⟧ ⊢ guard 𝓤 (IsPrefix ys xs) (⟦ log γ xs q ⟧ ∗ ⟦ seen γ ys ⟧)
-  bounds γ xs ys q = qed 𝓛 (‵ (log γ xs q) ∷ ‵ (seen γ ys) ∷ []) ∵ use2 𝓛 (given (IsPrefix (map cv.code ys) (map cv.code xs)) (‵ (log γ xs q) ⊛ ‵ (seen γ ys))) (latest_bounds lists 𝓛 q γ (map cv.code xs) (map cv.code ys)) $
+  bounds γ xs ys q = qed 𝓛 (‵ (log γ xs q) ∷ ‵ (seen γ ys) ∷ []) ∵ use2 𝓛 (given (IsPrefix (map cv.code ys) (map cv.code xs)) (‵ (log γ xs q) ⊛ ‵ (seen γ ys)))
+      (latest_bounds lists 𝓛 q γ (map cv.code xs) (map cv.code ys)) $
       learn ! (λ p. check ! (prefix_out cv ys xs p) $ done !)
 
   pub learns : (γ : ℕ) (xs ys : List E) (q : Share) → ⟦ log γ xs q ⟧ ∗ ⟦ seen γ ys ⟧ ⊢ guard 𝓤 (IsPrefix ys xs) (⟦ log γ xs q ⟧ ∗ ⟦ seen γ xs ⟧)
@@ -66,7 +70,11 @@ module _ {M : Type 1} {𝓤 : Ura M} (𝓛 : Logic 𝓤) {E : Type 0} (cv : Code
 
   -- what a `&` to a log holds: whoever shows that it is still lent has some share of the right
   pub halves : (γ : ℕ) (xs : List E) → Halves 𝓤 H At (log γ xs)
-  halves γ xs = record { cut = λ q. latest_cut lists 𝓛 q (Share.left q) (Share.right q) γ (map cv.code xs) (Share.halves q); join = λ q. latest_glue lists 𝓛 q (Share.left q) (Share.right q) γ (map cv.code xs) (Share.halves q) }
+  halves γ xs = record {
+    cut = λ q. latest_cut lists 𝓛 q (Share.left q) (Share.right q) γ (map cv.code xs) (Share.halves q);
+    join = λ q.
+        latest_glue lists 𝓛 q (Share.left q) (Share.right q) γ (map cv.code xs) (Share.halves q);
+  }
 
   pub log_lends : (γ : ℕ) (xs : List E) (l : Lft) → Lends 𝓛 (log γ xs full_share) (one (log γ xs)) l
   log_lends γ xs l κ ts inc sp = qed 𝓛 (‵ (fbor κ (log γ xs full_share)) ∷ raw (lfts 𝓛 ts) ∷ []) ∵ updating ! $ bor_fracture ! tt (log γ xs) full_share $ now ! $ done !

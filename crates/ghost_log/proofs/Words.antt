@@ -26,5 +26,6 @@ pub use seplogic.Ra.Ura.{Ura}
 pub use types.{Logic.Logic, Logic.lfts, Logic.sem, Owned.basic, Part.agg, Tokens.bor_fracture, Tokens.obor_close, Tokens.shr_bor-open}
 pub use types.ByLocal.{alloc_all, free_all, get, look_at, pass_all, sets}
 pub use types.Growing.{at_least_dup, at_least_join, latest_bounds, latest_cut, latest_glue, latest_grows, latest_new, latest_shows}
-pub use types.Kit.{ !, await, by, check, done, drop, feq_i, fjoin, fjoin3, fsplit, fsplit3, given, keep, later, learn, move, now, pick, qed, raw, rewrite, some, split, updating, use0, use1, use2, ‵, ◌$◌, ◌∵◌, ◌⊛◌}
+pub use types.Kit.{ !, await, by, check, done, drop, feq_i, fjoin, fjoin3, fsplit, fsplit3, given, keep, later, learn}
+pub use types.Kit.{move, now, pick, qed, raw, rewrite, some, split, updating, use0, use1, use2, ‵, ◌$◌, ◌∵◌, ◌⊛◌}
 pub use types.Run.{and_then, enter, no_more, of_opd, returns, unit_lit}

@@ -74,7 +74,8 @@ module _ (Y : RattleType) (g : Ghosts Y.Denot) (d : Dict) {M : Type 1} {𝓤 : U
         let r = z.0.3.0 in let s = z.0.3.1.0 in let a : A.Denot = r.now in let b : B.Denot = s.now in
         let a' : A.Denot = record { marker = a.marker; total = a.total + z.1 } in
         let b' : B.Denot = record { marker = b.marker; parts = b.parts; amount = b.amount + z.1 } in
-        qed 𝓛 (((‵ (flft z.0.0.0 z.0.1.0) ⊛ ‵ (flft z.0.0.1.0 z.0.1.1.0) ⊛ ‵ (flft z.0.0.1.1.0 z.0.1.1.1.0) ⊛ ‵ ftrue) ⊛ ‵ (owns (types_at (ended Y g d).signature.params z.0.0) z.0.3 passed)) ∷ raw asked ∷ []) ∵
+        qed 𝓛 (((‵ (flft z.0.0.0 z.0.1.0) ⊛ ‵ (flft z.0.0.1.0 z.0.1.1.0) ⊛ ‵ (flft z.0.0.1.1.0 z.0.1.1.1.0) ⊛ ‵ ftrue) ⊛ ‵ (owns (types_at (ended Y g d).signature.params z.0.0) z.0.3 passed)) ∷ raw
+        asked ∷ []) ∵
         move ! (1 ∷ []) $ hears ! (λ _. hears_last ! (λ backed. split ! $ split ! $ move ! (1 ∷ []) $ split ! $ move ! (3 ∷ []) $ fsplit ! $ fsplit3 ! $ drop ! $
         move ! (2 ∷ []) $ fsplit ! $ fsplit3 ! $ drop ! $
         keep ! (3 ∷ 4 ∷ 7 ∷ 0 ∷ 1 ∷ 5 ∷ 6 ∷ []) $ enter ! 𝓣.C 𝓣.Λ function (u ∷ v ∷ []) _ $ alloc_all ! (λ l. pass_all ! refl ((tt, tt), ((tt, tt), tt)) $

@@ -1,5 +1,7 @@
 -- A count without a name owns nothing.
-use Rattle.ghost_count.proofs.Words.{ℕ, [], ◌∷◌, refl, w32, Val, vint, SProp, ftrue, ‵, raw, ◌⊛◌, ◌$◌, ◌∵◌, !, qed, by, keep, split, fjoin, use0, no_more, and_then, returns, enter, alloc_all, pass_all, free_all, look_at, get, sets, agg, tables, tells, tells_last, yes, owns, types_at, plain, unit, u32, uint_vals, uint_Tells, nothing, Stays, stay_dropped, walk_of, Goes-dropped, proved, token, Token, token_made, ends, None}
+use Rattle.ghost_count.proofs.Words.{ℕ, [], ◌∷◌, refl, w32, Val, vint, SProp, ftrue, ‵, raw, ◌⊛◌, ◌$◌, ◌∵◌, !, qed, by, keep, split, fjoin, use0, no_more, and_then, returns}
+use Rattle.ghost_count.proofs.Words.{enter, alloc_all, pass_all, free_all, look_at, get, sets, agg, tables, tells, tells_last, yes, owns, types_at, plain, unit, u32, uint_vals}
+use Rattle.ghost_count.proofs.Words.{uint_Tells, nothing, Stays, stay_dropped, walk_of, Goes-dropped, proved, token, Token, token_made, ends, None}
 use Rattle.ghost_count.specs.contracts.permits.Count.blind.{ended, clauses, Key.name as #self}
 use Rattle.ghost_count.proofs.permits.Count.blind.Statement.{statement}
 use Rattle.ghost_count.proofs.permits.Count.blind.Code as code
@@ -13,5 +15,7 @@ blind_spec 𝓤 𝓛 𝓜 𝓡 wired =
     let n : ℕ = a.0 in let y : (walk_of 𝓛 ended hs c).Ghost = ((κs, qs, bounds, a, (vint w32 n ∷ [], tt)), gh) in let Post : Val → SProp 𝓤 = (walk_of 𝓛 ended hs c).post y in
     qed 𝓛 ((‵ ftrue ⊛ ‵ (owns (types_at ended.signature.params κs) a y.0.4)) ∷ raw ((c κs a).requires gh) ∷ []) ∵ keep ! (0 ∷ []) $ split ! $
     keep ! (0 ∷ []) $ enter ! 𝓣.C 𝓣.Λ fn (vint w32 n ∷ []) Post $ alloc_all ! (λ l. pass_all ! refl ((tt, record { fits = are.0.1 }), tt) $
-    nothing ! $ use0 𝓛 (‵ ((Token unit).own_val (record {}, tt) (token ∷ []))) (token_made unit 𝓛) $ fjoin ! $ sets ! (agg ! (no_more !)) refl (tt, tt) $ sets ! (agg ! (and_then ! (get ! refl) (no_more !))) refl (tt, (tt, tt)) $ nothing ! $ nothing ! $ fjoin ! $
-    returns ! (look_at ! 0 refl) $ free_all ! refl $ keep ! (2 ∷ 0 ∷ 1 ∷ []) $ by ! (ends 𝓛 ended hs c y token (record { marker = record {}; name = None; out = n }) (tt, tt) (tt, tt) (qed 𝓛 [] ∵ tells ! refl $ tells_last ! refl))))
+    nothing ! $ use0 𝓛 (‵ ((Token unit).own_val (record {}, tt) (token ∷ []))) (token_made unit 𝓛) $ fjoin ! $ sets ! (agg ! (no_more !)) refl (tt, tt) $
+    sets ! (agg ! (and_then ! (get ! refl) (no_more !))) refl (tt, (tt, tt)) $ nothing ! $ nothing ! $ fjoin ! $
+    returns ! (look_at ! 0 refl) $ free_all ! refl $ keep ! (2 ∷ 0 ∷ 1 ∷ []) $
+    by ! (ends 𝓛 ended hs c y token (record { marker = record {}; name = None; out = n }) (tt, tt) (tt, tt) (qed 𝓛 [] ∵ tells ! refl $ tells_last ! refl))))

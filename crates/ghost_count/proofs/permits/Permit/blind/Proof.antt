@@ -1,5 +1,6 @@
 -- A permit without a name owns nothing.
-use Rattle.ghost_count.proofs.Words.{[], ◌∷◌, refl, Val, SProp, emp, ftrue, ‵, raw, ◌⊛◌, ◌$◌, ◌∵◌, !, qed, by, keep, split, fjoin, use0, no_more, and_then, returns, enter, alloc_all, pass_all, free_all, look_at, get, sets, agg, fact_i, tables, owns, types_at, unit, nothing, Stays, walk_of, proved, token, Token, token_made, ends, None}
+use Rattle.ghost_count.proofs.Words.{[], ◌∷◌, refl, Val, SProp, emp, ftrue, ‵, raw, ◌⊛◌, ◌$◌, ◌∵◌, !, qed, by, keep, split, fjoin, use0, no_more, and_then, returns, enter, alloc_all, pass_all}
+use Rattle.ghost_count.proofs.Words.{free_all, look_at, get, sets, agg, fact_i, tables, owns, types_at, unit, nothing, Stays, walk_of, proved, token, Token, token_made, ends, None}
 use Rattle.ghost_count.specs.contracts.permits.Permit.blind.{ended, clauses, Key.name as #self}
 use Rattle.ghost_count.proofs.permits.Permit.blind.Statement.{statement}
 use Rattle.ghost_count.proofs.permits.Permit.blind.Code as code
@@ -13,5 +14,6 @@ blind_spec 𝓤 𝓛 𝓜 𝓡 wired =
     let y : (walk_of 𝓛 ended hs c).Ghost = ((κs, qs, bounds, a, tt), gh) in let Post : Val → SProp 𝓤 = (walk_of 𝓛 ended hs c).post y in
     qed 𝓛 ((‵ ftrue ⊛ ‵ (owns (types_at ended.signature.params κs) a y.0.4)) ∷ raw ((c κs a).requires gh) ∷ []) ∵ keep ! (0 ∷ []) $ split ! $
     keep ! (0 ∷ []) $ enter ! 𝓣.C 𝓣.Λ fn [] Post $ alloc_all ! (λ l. pass_all ! refl tt $
-    nothing ! $ use0 𝓛 (‵ ((Token unit).own_val (record {}, tt) (token ∷ []))) (token_made unit 𝓛) $ fjoin ! $ sets ! (agg ! (no_more !)) refl (tt, tt) $ sets ! (agg ! (and_then ! (get ! refl) (no_more !))) refl (tt, (tt, tt)) $ nothing ! $
+    nothing ! $ use0 𝓛 (‵ ((Token unit).own_val (record {}, tt) (token ∷ []))) (token_made unit 𝓛) $ fjoin ! $ sets ! (agg ! (no_more !)) refl (tt, tt) $
+    sets ! (agg ! (and_then ! (get ! refl) (no_more !))) refl (tt, (tt, tt)) $ nothing ! $
     returns ! (look_at ! 0 refl) $ free_all ! refl $ keep ! (2 ∷ 0 ∷ 1 ∷ []) $ by ! (ends 𝓛 ended hs c y token (record { marker = record {}; name = None; key = 0 }) tt tt (fact_i 𝓤 _ (emp 𝓤) refl))))

@@ -1,5 +1,7 @@
 -- `open` makes a name of its own.
-use Rattle.ghost_log.proofs.Words.{proved, log_owns, token, Token, token_made, ends, ℕ, [], ◌∷◌, refl, Fml, ftrue, fsep, flft, full_share, SProp, emp, fact_i, tables, param, bounded, RattleType, owns, types_at, nothing, Stays, walk_of, inst_fn, a_type, dnil, Val, alloc_all, pass_all, free_all, look_at, get, sets, ‵, raw, ◌⊛◌, some, later, ◌$◌, ◌∵◌, !, qed, by, keep, split, fjoin, pick, use0, await, agg, no_more, and_then, returns, enter}
+use Rattle.ghost_log.proofs.Words.{proved, log_owns, token, Token, token_made, ends, ℕ, [], ◌∷◌, refl, Fml, ftrue, fsep, flft, full_share, SProp, emp, fact_i, tables, param}
+use Rattle.ghost_log.proofs.Words.{bounded, RattleType, owns, types_at, nothing, Stays, walk_of, inst_fn, a_type, dnil, Val, alloc_all, pass_all, free_all, look_at, get, sets}
+use Rattle.ghost_log.proofs.Words.{‵, raw, ◌⊛◌, some, later, ◌$◌, ◌∵◌, !, qed, by, keep, split, fjoin, pick, use0, await, agg, no_more, and_then, returns, enter}
 use Rattle.ghost_log.specs.contracts.tokens.Log as Log
 use Rattle.ghost_log.specs.contracts.tokens.Seen as Seen
 use Rattle.ghost_log.proofs.Steps as steps
@@ -18,5 +20,7 @@ open_spec 𝓤 𝓛 𝓜 𝓡 wired E _ =
     let y : (walk_of 𝓛 En hs c).Ghost = ((κs, qs, bounds, a, tt), gh) in let Post : Val → SProp 𝓤 = (walk_of 𝓛 En hs c).post y in let toks : Fml = fsep (flft κs.0 qs.0) ftrue in
     qed 𝓛 ((‵ toks ⊛ ‵ (owns (types_at En.signature.params κs) a y.0.4)) ∷ raw ((c κs a).requires gh) ∷ []) ∵ keep ! (0 ∷ []) $ split ! $
     keep ! (0 ∷ []) $ enter ! 𝓣.C 𝓣.Λ fn ([]) Post $ alloc_all ! (λ l. pass_all ! refl tt $
-    use0 𝓛 (later (some (λ (γ : ℕ). ‵ (log_owns cv.code γ [] full_share)))) (steps.opens_empty 𝓛 cv) $ await ! tt $ pick ! (λ γ. use0 𝓛 (‵ ((Token E').own_val (record {}, tt) (token ∷ []))) (token_made E' 𝓛) $ fjoin ! $ sets ! (agg ! (no_more !)) refl (tt, tt) $ sets ! (agg ! (and_then ! (get ! refl) (no_more !))) refl (tt, (tt, tt)) $ nothing ! $
+    use0 𝓛 (later (some (λ (γ : ℕ). ‵ (log_owns cv.code γ [] full_share)))) (steps.opens_empty 𝓛 cv) $ await ! tt $
+    pick ! (λ γ. use0 𝓛 (‵ ((Token E').own_val (record {}, tt) (token ∷ []))) (token_made E' 𝓛) $ fjoin ! $ sets ! (agg ! (no_more !)) refl (tt, tt) $
+    sets ! (agg ! (and_then ! (get ! refl) (no_more !))) refl (tt, (tt, tt)) $ nothing ! $
     returns ! (look_at ! 0 refl) $ free_all ! refl $ keep ! (2 ∷ 0 ∷ 1 ∷ []) $ by ! (ends 𝓛 En hs c y token (record { marker = record {}; name = γ; list = [] }) tt tt (fact_i 𝓤 _ (emp 𝓤) refl)))))
