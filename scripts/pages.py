@@ -5,9 +5,10 @@ Finds rows of a table without a header, links to nothing, and, written as code o
 block, paths where nothing lies, crates that are not there, and options that a script does not know;
 paths of a machine, numbers of issues, and figures typed by hand in a section on instructions. On
 the pages NAMED each name written as code has to stand in the sources, and each label of
-CONTRIBUTING's table in a clause. Then it compares what stands around the libraries with MOST, and
-the functions of each crate with FUNCTIONS. Prints a line for each fault, and last how many pages it
-read, how many faults it found, and both sums; the status is 0 if there is no fault.
+CONTRIBUTING's table in a clause. Then it compares what stands around the libraries with MOST, the
+functions of each crate with FUNCTIONS, and the lines of proofs with WIDEST. Prints a line for each
+fault, and last how many pages it read, how many faults it found, and both sums; the status is 0 if
+there is no fault.
 """
 import functools
 import glob
@@ -46,6 +47,8 @@ SOURCES = re.compile(r"crates/(?:async_cell(?!\w*_callers/)\w*|cellrun|ghost_log
 FUNCTION = re.compile(r"^ *(?:pub(?:\([a-z]+\))? )?(?:const )?(?:unsafe )?fn [a-z]", re.M)
 FUNCTIONS = {"async_cell_sync": 182, "async_cell_unsync": 132}
 FEW = 110
+# How many columns a line of a proof may have.
+WIDEST = 200
 # What a page says of a project of its reader's.
 THEIRS = ("crates/my_program", "crates/railyarrow")
 
@@ -170,6 +173,14 @@ def crowded():
             yield f"crates/{crate}: {has} functions, and at most {FUNCTIONS.get(crate, FEW)} may be"
 
 
+def too_wide():
+    """Yields each line of a proof or of its definitions that is too wide to be checked by eye."""
+    for path in git_files("*.antt"):
+        for at, line in enumerate(read(path).split("\n"), 1):
+            if len(line) > WIDEST:
+                yield f"{path}:{at}: {len(line)} columns, and at most {WIDEST} may be"
+
+
 def faults_of(page):
     lines = prose_of(read(page))
     looks = [rows_without_header(lines), dead_links(page, lines), names_of_nothing(lines)]
@@ -183,7 +194,7 @@ def main(pages):
     faults = [f"{page}:{at + 1}: {why}" for page in pages for at, why in faults_of(page)]
     around, of_sources = sums()
     said = f"{around} lines around the libraries, {of_sources} of their sources"
-    faults += [*crowded(), *[f"too many: {said}"] * (around > of_sources * MOST)]
+    faults += [*crowded(), *too_wide(), *[f"too many: {said}"] * (around > of_sources * MOST)]
     print(*faults, f"pages: {len(pages)} read, {len(faults)} faults; {said}", sep="\n")
     return 1 if faults or not pages else 0
 
