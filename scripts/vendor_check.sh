@@ -55,18 +55,19 @@ ends() {
         { vendor "${@:3}" && is_whole; } || return
     done
 }
-# Ends it before one of these commands, once so many were made: NUMBER CALL..
+# Ends it before one of these commands names what is in the project, once so many did: NUMBER CALL..
 cut() (
+    counts() { [[ $* != *"$room/mine/"* ]] || ((moves-- > 0)) || kill -9 $$; } && export -f counts
     for it in mv cp rm mkdir; do
-        eval "$it() { ((moves-- > 0)) || kill -9 \$\$; command $it \"\$@\"; }" && export -f "${it?}"
+        eval "$it() { counts \"\$@\"; command $it \"\$@\"; }" && export -f "${it?}"
     done
-    moves=$1 && vendor "${@:2}"
+    export room moves=$1 && vendor "${@:2}"
 )
-# Ends it and its children at a random moment, 60 times: NUMBER CALL..
+# Ends it and its children at a random moment, 20 times: NUMBER CALL..
 killed() {
-    [ "$1" -ge 60 ] ||
+    [ "$1" -ge 20 ] ||
         ! timeout -s KILL "$((RANDOM * long / 32768))e-6" bash "$clone/scripts/vendor.sh" "${@:2}"
-    [ "$1" -ge 60 ]
+    [ "$1" -ge 20 ]
 }
 
 # Plays a case for one of its values: START BEFORE CALL WANTED
