@@ -19,14 +19,13 @@ The record, scripts/bugs.lock, has a line for each crate all of whose bugs were 
 and a sum of what that rests on: `rt version`, this script, and the texts of the crate and of those
 below it.
 
-It works on a copy, with what `rt` has kept in out/: `rt all check` proves the crates there, and
-`rt check` tries them with bugs. A crate of which nothing is kept, and on which no other of these
-stands, is proved by `rt ci`, which has that from the gate, and then checked from nothing with its
-bugs. A bug changes the body of one function and no contract, so bugs of many functions share a
-check: the first of each function the first, the second of each the second. A bug is refused if the
-prover complains of its function, at a line of it or in a file of its proof. One of which a check
-says nothing, or that changes more than a body, is tried alone, where any complaint is about it.
-Prints a line for each check and each bug, and last 'N passed, M failed'.
+It works on a copy, whose crates `rt ci` proves, or has from the gate. A crate is then checked with
+bugs, from nothing, over the libraries that were built there. A bug changes the body of one function
+and no contract, so bugs of many functions share a check: the first of each function the first, the
+second of each the second. A bug is refused if the prover complains of its function, at a line of it
+or in a file of its proof. One of which a check says nothing, or that changes more than a body, is
+tried alone, where any complaint is about it. Prints a line for each check and each bug, and last
+'N passed, M failed'.
 """
 import functools
 import glob
@@ -41,10 +40,13 @@ from collections import Counter
 from concurrent.futures import ThreadPoolExecutor
 
 from lay_out import READ, TOP, read, write
+from try_kit import KIT
 
 RECORD = "scripts/bugs.lock"
 ABOUT = "Crates all of whose deliberate bugs were refused: `python3 scripts/bugs.py --record`."
-PARTS = ("src", "specs", "proofs", "out/incremental", "out/rlib")
+PARTS = ("src", "specs", "proofs")
+# What a check keeps for another of the same crate, from its folder on.
+KEPT = "out/incremental"
 BUG = re.compile(
     r"^(?P<file>[^\s:]+): (?P<name>.+)\n(?P<pairs>(?:- .+\n\+.*\n)+)(?:= (?P<clause>\w+)\n)?", re.M
 )
@@ -174,51 +176,74 @@ def groups_of(bugs):
     return sorted(groups, key=len, reverse=True)
 
 
+def rows():
+    """Returns what each crate of the repository uses, as crates.txt says."""
+    every = re.findall(r"^(\w+)[^:#\n]*:(.*)", read("crates.txt"), re.M)
+    return {name: used.split() for name, used in every}
+
+
 def with_below(names):
-    """Returns crates and those of the repository that they stand on, as crates.txt says."""
-    rows = dict(re.findall(r"^(\w+)[^:#\n]*:(.*)", read("crates.txt"), re.M))
-    found, left = set(), {*names}
+    """Returns crates and those of the repository that they stand on."""
+    uses, found, left = rows(), set(), {*names}
     while left:
         found |= left
-        left = {it for name in left for it in rows[name].split() if it in rows} - found
+        left = {it for name in left for it in uses[name] if it in uses} - found
     return found
 
 
-def lay(room, source, crates, copied):
-    """Lays crates out in a folder, with what was kept of them: copied, or linked to the source."""
-    for crate in crates:
-        for at in (f"crates/{crate}/{part}" for part in PARTS):
-            if os.path.isdir(f"{source}/{at}"):
-                copy = shutil.copy2 if crate in copied else os.link
-                shutil.copytree(f"{source}/{at}", f"{room}/{at}", copy_function=copy)
-    rows = [it for it in read("crates.txt").split("\n") if re.split("[ :]", it)[0] in crates]
-    write(f"{room}/crates.txt", "\n".join(rows) + "\n")
+def lines_of(crates):
+    """Returns the lines of crates.txt for these crates."""
+    return [it for it in read("crates.txt").split("\n") if re.split("[ :]", it)[0] in crates]
+
+
+def lay(room, crates):
+    """Lays crates out in a folder, without what was built of them and without must-fail edits."""
+    for it in crates:
+        ignored = shutil.ignore_patterns("out", "must-fail")
+        shutil.copytree(f"crates/{it}", f"{room}/crates/{it}", ignore=ignored)
+    write(f"{room}/crates.txt", "\n".join(lines_of(crates)) + "\n")
     shutil.copy("HANDLES", room)
 
 
-def run_rt(folder, *words):
-    """Runs rt in a folder, and returns its status, what it said, and the seconds that processors
-    took for it."""
-    # (with CI, `rt ci` takes no names)
-    env = {name: it for name, it in os.environ.items() if name != "CI"}
-    with subprocess.Popen(["rt", *words], cwd=folder, env=env, errors="replace", **READ) as ran:
+def run(folder, *command):
+    """Runs a command in a folder, and returns its status, what it said, and the seconds that
+    processors took for it."""
+    with subprocess.Popen(command, cwd=folder, errors="replace", **READ) as ran:
         said = ran.stdout.read()
         _, status, usage = os.wait4(ran.pid, 0)
         ran.returncode = os.waitstatus_to_exitcode(status)
     return ran.returncode, said, usage.ru_utime + usage.ru_stime
 
 
+def command(proved, crate):
+    """Returns the command that checks a crate over the libraries that were built in a folder."""
+    root = "main" if os.path.isfile(f"crates/{crate}/src/main.rt") else "lib"
+    words = [f"{KIT}/bin/rattle", "check", "--crate-name", crate, f"src/{root}.rt"]
+    words += ["--antt-project", f"{KIT}/rattle/logic/antt-project.json"]
+    words += ["--logic-built", f"{KIT}/logic_built", "--incremental", KEPT, "--jobs", "1"]
+    uses = rows()
+    folders = {it: f"{proved}/crates/{it}/out/rlib" for it in with_below([crate]) - {crate}}
+    for it in (f"{KIT}/rlibs", *sorted(folders.values())):
+        words += ["-L", f"dependency={it}"]
+    for it in ("std", *uses[crate]):
+        words += ["--extern", f"{it}={folders.get(it, f'{KIT}/rlibs')}/{it}.rlib"]
+    return words
+
+
 def checked(proved, bugs):
-    """Checks a crate with these bugs, over the copy that is proved. Returns whether it is proved
-    too, what is told of functions (nothing if it came to no verdict), and what cannot be read."""
+    """Checks a crate with these bugs. Returns whether it is proved too, what is told of functions
+    (nothing if it came to no verdict), and what cannot be read."""
     crate = bugs[0].crate
     with tempfile.TemporaryDirectory(dir=os.path.dirname(proved)) as room:
-        lay(room, proved, with_below([crate]), [crate])
+        made, kept = f"{room}/{KEPT}", f"{proved}/crates/{crate}/{KEPT}"
+        for it in (it for it in PARTS if os.path.isdir(f"crates/{crate}/{it}")):
+            shutil.copytree(f"crates/{crate}/{it}", f"{room}/{it}")
+        if os.path.isdir(kept):
+            shutil.copytree(kept, made)
         for it in bugs:
-            it.apply(f"{room}/crates/{crate}")
-        status, said, seconds = run_rt(f"{room}/crates/{crate}", "check", "--jobs", "1")
-        # (what a check from nothing has proved helps the next check of this crate)
-        made, kept = (f"{it}/crates/{crate}/out/incremental" for it in (room, proved))
+            it.apply(room)
+        status, said, seconds = run(room, *command(proved, crate))
+        # (what a check from nothing has proved helps one of a bug alone)
         if os.path.isdir(made) and not os.path.isdir(kept):
             shutil.copytree(made, kept)
     of = f"`{bugs[0].name}`" if len(bugs) == 1 else f"{len(bugs)} bugs"
@@ -258,18 +283,17 @@ def refused(proved, bugs):
 
 @functools.cache
 def version():
-    return run_rt(".", "version")[1]
+    return run(".", "rt", "version")[1]
 
 
 def sum_of(crate):
     """Returns the sum of what it rests on that the bugs of a crate are refused."""
     below = sorted(with_below([crate]))
-    rows = [it for it in read("crates.txt").split("\n") if re.split("[ :]", it)[0] in below]
     files = ["scripts/bugs.py", "scripts/lay_out.py", f"crates/{crate}/bugs.txt"]
-    for at in (f"crates/{it}/{part}" for it in below for part in PARTS[:3]):
+    for at in (f"crates/{it}/{part}" for it in below for part in PARTS):
         files += sorted(glob.glob(f"{at}/**/*.*t", recursive=True))
     texts = [f"{it}\n{read(it)}" for it in files]
-    return hashlib.sha256("\0".join([version(), *rows, *texts]).encode()).hexdigest()[:32]
+    return hashlib.sha256("\0".join([version(), *lines_of(below), *texts]).encode()).hexdigest()[:32]
 
 
 def with_bugs():
@@ -319,31 +343,21 @@ def due():
     return [it for it in with_bugs() if it not in kept or it in again]
 
 
-def lone_of(names):
-    """Returns those of these crates of which nothing is kept, and on which none of the others
-    stands."""
-    below = {it for name in names for it in with_below([name]) - {name}}
-    return {it for it in names - below if not os.path.isdir(f"crates/{it}/out/incremental")}
-
-
 def try_all(bugs):
     """Proves the crates of these bugs, and tries the bugs, as many checks at a time as there are
     processors. Returns how many are refused, by crate."""
-    names, jobs = {it.crate for it in bugs}, len(os.sched_getaffinity(0))
-    lone, counts = lone_of(names), Counter()
+    names, counts = {it.crate for it in bugs}, Counter()
+    jobs = len(os.sched_getaffinity(0))
     with tempfile.TemporaryDirectory(prefix="bugs-") as room, ThreadPoolExecutor(jobs) as pool:
-        shared = with_below(names) - lone
-        lay(f"{room}/proved", ".", shared, shared)
-        words = ["--jobs", str(jobs)] if len(shared) > 1 else []
-        status, said, _ = run_rt(f"{room}/proved", "all", "check", *words) if shared else (0, "", 0)
-        if lone and not status:
-            status, said, _ = run_rt(".", "ci", *sorted(lone))
-            lay(f"{room}/proved", ".", lone, lone)
+        proved = f"{room}/proved"
+        lay(proved, with_below(names))
+        status, said, seconds = run(proved, "rt", "ci")
+        print(f"the crates without a bug took {seconds:.0f} s of processors", flush=True)
         if status:
             print(f"{said[-3000:]}\nthe crates are not proved without a bug", flush=True)
             return counts
         groups = groups_of(bugs)
-        ran = pool.map(lambda it: refused(f"{room}/proved", it), groups)
+        ran = pool.map(lambda it: refused(proved, it), groups)
         for group, count in zip(groups, ran):
             counts[group[0].crate] += count
     return counts
