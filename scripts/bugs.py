@@ -59,8 +59,8 @@ FN = re.compile(r"( *)(?:pub(?:\([a-z]+\))? )?(?:const )?(?:unsafe )?fn (\w+)")
 SAID = re.compile(r"^(?:note: |fn |\./|proofs/).*\n(?:[ \t].*\n)*", re.M)
 TOLD = re.compile(
     r"note: (?:\./)?(?P<file>src/\S+?):(?P<line>\d+):\d+: it is not proved .*"
-    r"|(?:\./)?proofs/(?:\S+/)?(?P<of>\w+)/\w+\.antt:\d+:\d+: error: `(?P<goal>[^`]*)`: .*"
-    r"|fn \S+: no proof: expected a measure in (?:\./)?proofs/(?:\S+/)?(?P<loop>\w+)/\w+\.antt.*"
+    r"|(?:\./)?proofs/(?P<of>\S+)/\w+\.antt:\d+:\d+: error: `(?P<goal>[^`]*)`: .*"
+    r"|fn \S+: no proof: expected a measure in (?:\./)?proofs/(?P<loop>\S+)/\w+\.antt.*"
 )
 TAKEN = re.compile(r"has no field|is not in scope|has no `|was not admitted")
 UNREAD = re.compile(r"^(?:\./)?(?P<file>src/\S+?):(?P<line>\d+):\d+: error.*", re.M)
@@ -121,6 +121,12 @@ class Bug:
         """Returns whether this names a line of a function of it."""
         spans = [it for it in self.functions if it and told["file"] == self.file]
         return any(first <= int(told["line"]) <= last for _, first, last in spans)
+
+    def is_proved_in(self, folder):
+        """Returns whether a folder below proofs/ can be of a function of it."""
+        module, (above, name) = self.file[len("src/") : -len(".rt")], os.path.split(folder)
+        is_below = module in ("lib", "main") or f"{above}/".startswith(f"{module}/")
+        return is_below and any(it and it[0] == name for it in self.functions)
 
     def needs_clause(self):
         """Returns whether a function of its name is proved by words that may not fit another body."""
@@ -272,10 +278,11 @@ def refused(proved, bugs):
     if bad := [it for it in bugs if any(map(it.is_at, unread))]:
         rest = [it for it in bugs if it not in bad]
         return sum(refused_alone(proved, it) for it in bad) + (refused(proved, rest) if rest else 0)
-    count, names = 0, [it[0] for bug in bugs for it in bug.functions if it]
+    count = 0
+    # (two functions of a name, and of one file, may have one proof's folder each)
+    of = [[bug for bug in bugs if bug.is_proved_in(it["of"] or it["loop"] or "")] for it in told]
     for bug in bugs:
-        own = {it[0] for it in bug.functions if it and names.count(it[0]) == 1}
-        lines = [it for it in told if bug.is_at(it) or {it["of"], it["loop"]} & own]
+        lines = [it for it, found in zip(told, of) if bug.is_at(it) or found == [bug]]
         lines = [it for it in lines if bug.counts(it)]
         count += bug.judge(None, lines) if lines else refused_alone(proved, bug)
     return count
