@@ -5,7 +5,7 @@
 #     bash scripts/vendor_check.sh [--all [WORD]]   as root all, or those whose line holds the word
 set -euo pipefail
 top=$(cd "$(dirname "$0")/.." && pwd)
-work=$(mktemp -d)
+work=$(realpath "$(mktemp -d)")
 room=$work/room
 trap 'umount "$room"/* 2>/dev/null || true; rm -rf "$work"' EXIT
 mkdir -m 1777 "$work/tmp"
@@ -44,7 +44,7 @@ is_whole() {
     diff -r --no-dereference -x out -x mine crates "$to/crates"
 }
 
-# Wants a call to be finished by the next one, of this clone, wherever it ended: HOW CLONE CALL..
+# Wants a call that ended anywhere to be finished by the next one, of this clone: HOW CLONE CALL..
 ends() {
     local at first=$clone
     cp -r . "$room/start"
@@ -54,8 +54,9 @@ ends() {
         clone=$work/$2
         { vendor "${@:3}" && is_whole; } || return
     done
+    [ "$at" != 0 ]
 }
-# Ends it before one of these commands names what is in the project, once so many did: NUMBER CALL..
+# Ends it before one of these commands in the project, once so many were made: NUMBER CALL..
 cut() (
     counts() { [[ $* != *"$room/mine/"* ]] || ((moves-- > 0)) || kill -9 $$; } && export -f counts
     for it in mv cp rm mkdir; do
