@@ -1,5 +1,5 @@
 #!/usr/bin/env bash
-# Plays cases of vendor.sh, which are lines of vendor_cases.txt: those of the gate, with every tenth
+# Plays cases of vendor.sh, which are lines of vendor_cases.txt: those of the gate, with every fifth
 # cut, and runs the program that one call makes, without a proof.
 #
 #     bash scripts/vendor_check.sh [--all [WORD]]   as root all, or those whose line holds the word
@@ -11,8 +11,8 @@ trap 'umount "$room"/* 2>/dev/null || true; rm -rf "$work"' EXIT
 mkdir -m 1777 "$work/tmp"
 chmod 755 "$work"
 export TMPDIR=$work/tmp GIT_AUTHOR_DATE='@1 +0000' GIT_COMMITTER_DATE='@1 +0000' moves
-two='async_cell_sync async_cell_within' need='async_cell_within: futures'
-lib=async_cell_core/src/lib.rt passed=0 failed=0 every=10
+two='async_cell_sync async_cell_within' few='async_cell_core async_cell_within'
+need='async_cell_within: futures' lib=async_cell_core/src/lib.rt passed=0 failed=0 every=5
 [ "${1:-}" != --all ] || every=1
 
 vendor() { bash "$clone/scripts/vendor.sh" "$@"; }
