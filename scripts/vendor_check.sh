@@ -78,7 +78,7 @@ play() {
     rm -rf "$room" && mkdir -p "$room/mine" && cd "$room/mine" && clone=$work/1 || return
     [[ ! "$* $it" =~ \$clone|commit|released ]] ||
         { cp -r "$work/1" "$room/clone" && clone=$room/clone; }
-    [ "$1" = new ] || cp -r "$work/copied/." .
+    [ "$1" = new ] || cp -r "$work/$1/." .
     [ "$2" = - ] || eval "$2" &>"$room/before" || { cat "$room/before" && return 1; }
     was=$(state)
     told=$(eval "$3" 2>&1) || status=$?
@@ -99,8 +99,11 @@ cp "$top/scripts/vendor.sh" "$work/0/scripts/"
 echo '# None yet.' >"$work/0/RELEASES"
 clone=$work/0 && git -C "$clone" add -A && commit
 for it in 1 2; do cp -r "$clone" "$work/$it" && clone=$work/$it && commit; done
-clone=$work/0 long=${EPOCHREALTIME/./}
-mkdir "$work/copied" && (cd "$work/copied" && vendor $two crates)
+clone=$work/0
+mkdir "$work"/{old,few}
+(cd "$work/old" && vendor $two crates)
+long=${EPOCHREALTIME/./}
+(cd "$work/few" && vendor $few crates)
 long=$((${EPOCHREALTIME/./} - long))
 
 while read -r line; do
