@@ -73,10 +73,13 @@ step 'the docstrings (scripts/api.py)' '^api: [1-9][0-9]* public items, 0 faults
 step 'what changed for users (scripts/clauses.py)' \
     '^clauses: [1-9][0-9]* facts, [0-9]+ changed, 0 faults$' python3 scripts/clauses.py
 step 'all tests, without a proof (scripts/tests.sh)' "$counts" bash scripts/tests.sh
-# (as many proofs at a time as there are processors, and memory: up to 4 GB each; left to itself,
-# rt ci gives a proof a second processor where one is free, which takes a fifth more of them)
-lanes=$(awk -v all="$(nproc)" '/^MemAvailable:/ { n = int($2 / 4e6) }
-    END { print n < 1 ? 1 : n < all ? n : all }' /proc/meminfo)
+# (each proof gets one processor: rt ci would give it a second where one is free, which takes a fifth
+# more of them; as many run at a time as there are processors, and memory at 4 GB each)
+limits=(/sys/fs/cgroup/{memory.max,memory/memory.limit_in_bytes})
+lanes=$(cat /proc/meminfo "${limits[@]}" 2>/dev/null | awk -v all="$(nproc)" '
+    /^MemAvailable:/ { n = int($2 / 4e6) }
+    /^[0-9]+$/ && $1 < n * 4e9 { n = int($1 / 4e9) }
+    END { print n < 1 ? 1 : n < all ? n : all }')
 step 'proofs, programs, and the bugs of must-fail/ (rt ci)' "$counts" env RT_JOBS="$lanes" rt ci
 # (it passes an edit of which the prover said no more than that a proof names what it took away, or
 # that a step limit was met; that `search` gave up is what it says of most clauses that are false)
