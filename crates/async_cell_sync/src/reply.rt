@@ -76,7 +76,7 @@ pub fn reply_slot<T: Drop, R: Wait + Copy>(
 }
 
 /// As `reply_slot`, but the value satisfies the rule `P`: `set` requires this, and a poll of the
-/// reply ensures it. The program `example_even` has such a slot.
+/// reply ensures it. The file `even.rt` of the program `example_theorems` has such a slot.
 pub fn reply_slot_of<P: Rule<T>, T: Drop, R: Wait + Copy>(
     alloc: Global,
     rt: R,

@@ -61,7 +61,8 @@ pub fn reply_slot<T: Drop>(alloc: Global) -> Result<(Replier<T>, Reply<T>), Refu
 }
 
 /// As `reply_slot`, but the value satisfies the rule `P`: `set` requires this, and a poll of the
-/// reply ensures it. The program `example_even` has such a slot, made with `async_cell_sync`.
+/// reply ensures it. The file `even.rt` of the program `example_theorems` has such a slot, made with
+/// `async_cell_sync`.
 pub fn reply_slot_of<P: Rule<T>, T: Drop>(
     alloc: Global,
 ) -> Result<(Replier<T, Ruled<P>>, Reply<T, Ruled<P>>), Refusal>

@@ -1,12 +1,14 @@
 //! A value that brings a fact along, through a cell: who takes it proves by it.
-#![tactic(auto)]
 
 ghost use Rattle.std.specs.Prelude.{◌≡◌, ◌*◌};
 
 use anyhow::Result;
 use async_cell_sync::reply_slot;
 use futures::executor::block_on;
-use std::thread;
+use std::alloc::AllocGlobal;
+use std::random::RandomSource;
+use std::sync::Wait;
+use std::thread::{self, Threads};
 
 /// A reply, and the fact that it is twice what was asked.
 #[derive(Drop)]
@@ -28,10 +30,14 @@ fn half(doubled: Doubled) -> u64
     doubled.reply / 2
 }
 
-fn main(rt: HostRuntime) -> Result<()> {
+/// Asks a thread for twice a number, and returns half of the reply.
+pub fn ask<R>(rt: R, asked: u32) -> Result<u64>
+where
+    R: Threads + Wait + RandomSource + AllocGlobal + Copy + Send + Sync + Drop + 'static,
+{
     let (replier, reply) = reply_slot(rt.alloc(), rt)?;
-    let worker = thread::spawn(&rt, move || replier.set(double(21)))?;
-    println!(rt; "half of the reply is {}", half(block_on(&rt, reply)??))?;
+    let worker = thread::spawn(&rt, move || replier.set(double(asked)))?;
+    let doubled = block_on(&rt, reply)??; // `Closed`, if the replier was dropped
     let _ = worker.join(&rt);
-    Ok(())
+    Ok(half(doubled))
 }
