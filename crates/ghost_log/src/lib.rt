@@ -5,15 +5,3 @@
 mod tokens;
 
 pub use tokens::{Log, Makes, Seen};
-
-#[cfg(test)]
-mod tests {
-    use crate::{Log, Seen};
-    use std::mem::size_of;
-
-    #[test]
-    fn the_tokens_have_no_bytes(rt: HostRuntime) {
-        assert!(rt; size_of::<Log<u64>>() == 0);
-        assert!(rt; size_of::<Seen<u64>>() == 0);
-    }
-}
