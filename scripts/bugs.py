@@ -1,12 +1,13 @@
 #!/usr/bin/env python3
-"""Has the prover refuse the deliberate bugs of crates/NAME/bugs.txt.
+"""Has the prover refuse the deliberate bugs: those of crates/NAME/bugs.txt, and the edits of
+crates/NAME/must-fail/, which `rt ci` tries too where it finds them.
 
     bugs.py [CRATE..]   tries those of these crates; none: of those that are not in the record, and
                         of one that is, another after each commit
     bugs.py --all       tries all
     bugs.py --record [CRATE..|--all]   does the same, and writes the record
-    bugs.py --list      looks alone whether each can be applied, and each edit of must-fail/, which
-                        `rt ci` tries; a crate has no fewer than in the record
+    bugs.py --list      looks alone whether each can be applied; a crate has no fewer than in the
+                        record
 
 A bug is a line 'FILE: what it does', with the file below src/, and after it pairs of lines '- OLD'
 and '+ NEW': a text that stands in the file once, and what comes in its place. A line '= CLAUSE' may
@@ -22,10 +23,11 @@ below it.
 It works on a copy, whose crates `rt ci` proves, or has from the gate. A crate is then checked with
 bugs, from nothing, over the libraries that were built there. A bug changes the body of one function
 and no contract, so bugs of many functions share a check: the first of each function the first, the
-second of each the second. A bug is refused if the prover complains of its function, at a line of it
-or in a file of its proof. One of which a check says nothing, or that changes more than a body, is
-tried alone, where any complaint is about it. Prints a line for each check and each bug, and last
-'N passed, M failed'.
+second of each the second. Other functions are passed over there, but those that they call and that
+have proof files. A bug is refused if the prover complains of its function, at a line of it or in a
+file of its proof. One of which a check says nothing is tried in a check of its own. If that says
+nothing, or if the bug changes more than a body, it is tried alone: the whole crate is checked, where
+any complaint is about it. Prints a line for each check and each bug, and last 'N passed, M failed'.
 """
 import functools
 import glob
@@ -39,6 +41,7 @@ import tempfile
 from collections import Counter
 from concurrent.futures import ThreadPoolExecutor
 
+from bug import FN, above_of, bugs_of, edits_of, groups_of, with_bugs, with_files
 from lay_out import READ, TOP, read, write
 from try_kit import KIT
 
@@ -48,15 +51,10 @@ PARTS = ("src", "specs", "proofs")
 # Runs a command that can write to no file. So a check saves nothing, and offers no proof files for
 # what is not proved: to make them takes a tenth of its time.
 UNSAVED = ["sh", "-c", 'trap "" XFSZ; ulimit -f 0; exec "$@"', "sh"]
-BUG = re.compile(
-    r"^(?P<file>[^\s:]+): (?P<name>.+)\n(?P<pairs>(?:- .+\n\+.*\n)+)(?:= (?P<clause>\w+)\n)?", re.M
-)
-EDIT = re.compile(r"^file: src/(?P<file>\S+)\n(?P<pairs>(?:old: .+\nnew:.*\n)+)(?P<clause>)", re.M)
-PAIR = re.compile(r"^(?:- |old: )(.+)\n(?:\+|new:) ?(.*)\n", re.M)
-FN = re.compile(r"( *)(?:pub(?:\([a-z]+\))? )?(?:const )?(?:unsafe )?fn (\w+)")
 # A complaint of the prover: a line, and what is below it. What it says of a function: at a line of
-# it, or in a file of its proof. That such a file names what a bug took away says nothing of a
-# contract.
+# it, or in a file of its proof. That such a file names what a bug took away, or that a limit of
+# steps was met, says nothing of a contract (that `search` gave up is what it says of most clauses
+# that are false).
 SAID = re.compile(r"^(?:note: |fn |\./|proofs/).*\n(?:[ \t].*\n)*", re.M)
 TOLD = re.compile(
     r"note: (?:\./)?(?P<file>src/\S+?):(?P<line>\d+):\d+: it is not proved .*"
@@ -64,126 +62,8 @@ TOLD = re.compile(
     r"|fn \S+: no proof: expected a measure in (?:\./)?proofs/(?P<loop>\S+)/\w+\.antt.*"
 )
 TAKEN = re.compile(r"has no field|is not in scope|has no `|was not admitted")
+LIMIT = re.compile(r"(step|resource) limit")
 UNREAD = re.compile(r"^(?:\./)?(?P<file>src/\S+?):(?P<line>\d+):\d+: error.*", re.M)
-
-
-def function_at(lines, at):
-    """Returns the name of the function whose body has this line, and its first and last line, with
-    its docstring and attributes."""
-    first = next((it for it in range(at, -1, -1) if FN.match(lines[it])), None)
-    if first is None:
-        return None
-    indent, name = FN.match(lines[first]).groups()
-    heads = (f"{indent}{{", f"{indent})", lines[first])
-    above = (it for it in range(first, at) if lines[it].startswith(heads))
-    opened = next((it for it in above if lines[it].endswith("{")), at)
-    below = range(opened, len(lines))
-    last = next((it for it in below if lines[it].startswith(f"{indent}}}")), at)
-    if not opened < at < last:
-        return None
-    # (what is told of a whole function is told at its first attribute)
-    while first and lines[first - 1].startswith((f"{indent}#[", f"{indent}///")):
-        first -= 1
-    return name, first + 1, last + 1
-
-
-class Bug:
-    """A bug: its changes, in which functions' bodies they are (None: in no body), and the clause
-    that is to refuse it, if that matters."""
-
-    def __init__(self, crate, name, file, pairs, clause):
-        self.crate, self.name, self.file, self.clause = crate, name, f"src/{file}", clause
-        self.changes, self.functions, self.fault = [], set(), None
-        path = f"crates/{crate}/src/{file}"
-        text = read(path) if os.path.isfile(path) and os.path.normpath(path) == path else ""
-        for old, new in pairs:
-            at, times = text.partition(old)[0].count("\n"), text.count(old)
-            self.changes.append((at, old, new))
-            self.functions.add(function_at(text.split("\n"), at))
-            if old == new:
-                self.fault = f"'{old}' is not changed"
-            elif times != 1:
-                self.fault = f"'{old}' stands in {self.file} {times} times, and not once"
-
-    def apply(self, folder):
-        """Writes it into the crate in this folder. A change is of one line, so that none moves."""
-        lines = read(f"{folder}/{self.file}").split("\n")
-        for at, old, new in self.changes:
-            lines[at] = lines[at].replace(old, new)
-        write(f"{folder}/{self.file}", "\n".join(lines))
-
-    def is_beside(self, other):
-        """Returns whether both change bodies of functions of one crate, and of no same one."""
-        if self.crate != other.crate or None in self.functions | other.functions:
-            return False
-        return self.file != other.file or not self.functions & other.functions
-
-    def is_at(self, told):
-        """Returns whether this names a line of a function of it."""
-        spans = [it for it in self.functions if it and told["file"] == self.file]
-        return any(first <= int(told["line"]) <= last for _, first, last in spans)
-
-    def is_of(self, name):
-        """Returns whether a function of this name is one of it."""
-        return any(it and it[0] == name for it in self.functions)
-
-    def is_in(self, module):
-        """Returns whether it is in the file of this module, or of one above that."""
-        file = self.file[len("src/") : -len(".rt")]
-        return file in ("lib", "main") or f"{module}/".startswith(f"{file}/")
-
-    def needs_clause(self):
-        """Returns whether a function of its name is proved by words that may not fit another body."""
-        folders = f"crates/{self.crate}/proofs/**/"
-        names = [it[0] for it in self.functions if it]
-        return any(glob.glob(f"{folders}{it}/Answers.antt", recursive=True) for it in names)
-
-    def counts(self, told):
-        """Returns whether this complaint is of the clause that is to refuse it."""
-        last = "" if self.clause == "returns" else rf"-clause-{self.clause}"
-        goal = rf"returns(?:-(?!clause-)[\w-]*?)?{last}(?:-\d+)?"
-        others = {"loop": r"loop-[\w-]+", "invariant": r"invariant_of-[\w-]+"}
-        goal = others.get(self.clause, goal)
-        return not self.clause or bool(re.search(f"`{goal}`", told[0]))
-
-    def judge(self, why, told=()):
-        """Prints why it is not refused, or what the prover has told of it. Returns whether it is
-        refused."""
-        clause = f" by `{self.clause}`" if self.clause else ""
-        said = f"FAILED: {why}" if why else f"refused{clause}: {told[0][0]}"
-        # (the text and its line feed at once: other threads print too)
-        print(f"{self.crate}: {self.name}: {said[:160]}\n", end="", flush=True)
-        return not why
-
-
-def bugs_of(crate, has_edits):
-    """Returns the bugs of a crate, perhaps those of must-fail/ too, and how many are none."""
-    found, faults = [], 0
-    edits = sorted(glob.glob(f"crates/{crate}/must-fail/*.edit")) if has_edits else []
-    for path in [*glob.glob(f"crates/{crate}/bugs.txt"), *edits]:
-        text, form = read(path), EDIT if path in edits else BUG
-        for it in form.finditer(text):
-            name = os.path.basename(path) if path in edits else it["name"]
-            found.append(Bug(crate, name, it["file"], PAIR.findall(it["pairs"]), it["clause"]))
-        rest = [it for it in form.sub("", text).split("\n") if it.strip()]
-        print("".join(f"{path}: FAILED: this line is of no bug: {it}\n" for it in rest[:1]), end="")
-        faults += bool(rest)
-    names = [it.name for it in found]
-    for it in found:
-        it.fault = it.fault or (names.count(it.name) > 1 and "another has its name")
-        if it.clause is None and it.needs_clause():
-            it.fault = it.fault or "it names no clause, and an Answers.antt proves its function"
-        faults += not it.judge(f"it cannot be applied: {it.fault}") if it.fault else 0
-    return [it for it in found if not it.fault], faults
-
-
-def groups_of(bugs):
-    """Returns the bugs of each check, most first."""
-    groups = []
-    for bug in bugs:
-        group = next((it for it in groups if all(map(bug.is_beside, it))), None)
-        group.append(bug) if group else groups.append([bug])
-    return sorted(groups, key=len, reverse=True)
 
 
 def proved_in(folder, bugs):
@@ -249,7 +129,55 @@ def command(proved, crate):
     return words
 
 
-def checked(proved, bugs):
+def sources_of(folder):
+    return glob.glob(f"{folder}/src/**/*.rt", recursive=True)
+
+
+def pass_over_others(folder, bugs):
+    """Has the prover pass over the functions in this folder, but those of a name that has one of
+    these bugs, or proof files, or that a function with proof files calls: these are not read before
+    that is proved. An attribute is put into a line, so that none moves."""
+    has_files = with_files(folder)
+    kept = has_files | {it[0] for bug in bugs for it in bug.functions if it}
+    texts = {it: read(it).split("\n") for it in sources_of(folder)}
+    for lines in texts.values():
+        name = None
+        for line in lines:
+            name = FN.match(line)[2] if FN.match(line) else name
+            kept |= {*re.findall(r"\b(\w+)\(", line)} if name in has_files else set()
+    for path, lines in texts.items():
+        for at, found in enumerate(map(FN.match, lines)):
+            if found and found[2] not in kept:
+                tactics = [it for it in above_of(lines, at) if "#[tactic(" in lines[it]]
+                for it in tactics:
+                    lines[it] = f"{found[1]}#[tactic(none)]"
+                if not tactics:
+                    lines[at] = f"{found[1]}#[tactic(none)] {lines[at].lstrip()}"
+        write(path, "\n".join(lines))
+
+
+def only(proved, bugs):
+    """Returns the words by which a check is of the functions with these bugs, and of those that
+    they call: all of such a name, where none is in the bug's file. Returns none where some cannot
+    be found, as of a program, of which no library was built."""
+    crate, asked = bugs[0].crate, []
+    built = f"{proved}/crates/{crate}/out/rlib/{crate}.rlib/toolchain/checked.json"
+    text = read(built) if os.path.isfile(built) else ""
+    paths = re.findall(rf'"part/Rattle-{crate}-proofs\.([^"]+)\.Code"', text)
+    traits = re.findall(r"\btrait (\w+)", "".join(map(read, sources_of(f"crates/{crate}"))))
+    # (not closures, nor functions that a trait declares)
+    paths = [it.split(".") for it in paths]
+    paths = [it for it in paths if "fn" not in it and not {*it[-2:-1]} & {*traits}]
+    for bug in bugs:
+        named = [it for it in paths if bug.is_of(it[-1])]
+        found = [it for it in named if bug.is_in("/".join(it[:-1]))] or named
+        if not found:
+            return []
+        asked += ["::".join(it) for it in found]
+    return [word for it in dict.fromkeys(asked) for word in ("--only", it)]
+
+
+def checked(proved, bugs, is_alone):
     """Checks a crate with these bugs. Returns whether it is proved too, what is told of functions
     (nothing if it came to no verdict), and what cannot be read."""
     crate = bugs[0].crate
@@ -258,19 +186,28 @@ def checked(proved, bugs):
             shutil.copytree(f"crates/{crate}/{it}", f"{room}/{it}")
         for it in bugs:
             it.apply(room)
-        status, said, seconds = run(room, *command(proved, crate))
-    of = f"`{bugs[0].name}`" if len(bugs) == 1 else f"{len(bugs)} bugs"
+        if not is_alone:
+            pass_over_others(room, bugs)
+        words = [] if is_alone else only(proved, bugs)
+        status, said, seconds = run(room, *command(proved, crate), *words)
+        if words and status == 2:
+            # (it knows no function of such a name: then it checks all)
+            print(f"{crate}: {said.strip()[-300:]}\n", end="", flush=True)
+            status, said, seconds = run(room, *command(proved, crate))
+    of = f"`{bugs[0].name}` alone" if is_alone else f"{len(bugs)} bugs"
     print(f"{crate}: a check of {of} took {seconds:.0f} s of processors\n", end="", flush=True)
-    unread = [*UNREAD.finditer(said)]
-    is_judged = status == 1 and "\nlogic=not-proved" in said and not unread
+    # (a function that is passed over may leave something undetermined)
+    unread = [it for it in UNREAD.finditer(said) if is_alone or any(bug.is_at(it) for bug in bugs)]
+    is_judged = status == 1 and re.search(r"^(logic=not-proved|only=)", said, re.M) and not unread
     all_said = [(it[0], TOLD.match(it[0])) for it in SAID.finditer(said if is_judged else "")]
-    told = [it for text, it in all_said if it and not (it["of"] and TAKEN.search(text))]
+    all_said = [it for it in all_said if it[1] and not LIMIT.search(it[0])]
+    told = [it for text, it in all_said if not (it["of"] and TAKEN.search(text))]
     return not status, told, unread
 
 
 def refused_alone(proved, bug):
     """Tries a bug alone, and returns whether it is refused."""
-    is_proved, told, unread = checked(proved, [bug])
+    is_proved, told, unread = checked(proved, [bug], True)
     why = "the crate is still proved with it" if is_proved else None
     why = why or unread and f"it does not compile: {unread[0][0]}"
     why = why or not told and "the check came to no complaint about a contract"
@@ -279,9 +216,12 @@ def refused_alone(proved, bug):
 
 
 def refused(proved, bugs):
-    """Tries bugs in one check, and alone those of which it says nothing. Returns how many are
-    refused."""
-    _, told, unread = checked(proved, bugs) if len(bugs) > 1 else (False, [], [])
+    """Tries bugs in one check, and those of which it says nothing in checks of their own, and last
+    alone. Returns how many are refused."""
+    if None in bugs[0].functions:
+        return sum(refused_alone(proved, it) for it in bugs)
+    again = refused_alone if len(bugs) == 1 else lambda proved, it: refused(proved, [it])
+    _, told, unread = checked(proved, bugs, False)
     if bad := [it for it in bugs if any(map(it.is_at, unread))]:
         rest = [it for it in bugs if it not in bad]
         return sum(refused_alone(proved, it) for it in bad) + (refused(proved, rest) if rest else 0)
@@ -290,7 +230,7 @@ def refused(proved, bugs):
     for bug in bugs:
         lines = [it for it, found in zip(told, of) if bug.is_at(it) or found == [bug]]
         lines = [it for it in lines if bug.counts(it)]
-        count += bug.judge(None, lines) if lines else refused_alone(proved, bug)
+        count += bug.judge(None, lines) if lines else again(proved, bug)
     return count
 
 
@@ -302,16 +242,13 @@ def version():
 def sum_of(crate):
     """Returns the sum of what it rests on that the bugs of a crate are refused."""
     below = sorted(with_below([crate]))
-    files = ["scripts/bugs.py", "scripts/lay_out.py", f"crates/{crate}/bugs.txt"]
+    files = ["scripts/bug.py", "scripts/bugs.py", "scripts/lay_out.py", f"crates/{crate}/bugs.txt"]
+    files += edits_of(crate)
     for at in (f"crates/{it}/{part}" for it in below for part in PARTS):
         files += sorted(glob.glob(f"{at}/**/*.*t", recursive=True))
     texts = [f"{it}\n{read(it)}" for it in files]
-    return hashlib.sha256("\0".join([version(), *lines_of(below), *texts]).encode()).hexdigest()[:32]
-
-
-def with_bugs():
-    """Returns the crates that have deliberate bugs."""
-    return sorted(it for it in os.listdir("crates") if os.path.isfile(f"crates/{it}/bugs.txt"))
+    texts = [version(), *lines_of(below), *texts]
+    return hashlib.sha256("\0".join(texts).encode()).hexdigest()[:32]
 
 
 def lines_of_record():
@@ -337,7 +274,7 @@ def fewer_than_recorded(found):
     """Prints of which crates there are fewer bugs than in the record, and returns how many."""
     fewer = 0
     for crate, (count, _) in lines_of_record().items():
-        left = sum(not it.name.endswith(".edit") for it in found.get(crate, ([], 0))[0])
+        left = len(found.get(crate, ([], 0))[0])
         if left < count:
             print(f"{crate}: FAILED: {left} bugs are left of {count}: what went has to be recorded")
             fewer += 1
@@ -383,9 +320,8 @@ def main(words):
     crates = with_bugs() if asked == ["--all"] or is_list else asked or due()
     for it in crates:
         if it not in with_bugs():
-            sys.exit(f"bugs.py: there is no crates/{it}/bugs.txt")
-    every = sorted(os.listdir("crates")) if is_list else crates
-    found = {it: bugs_of(it, is_list) for it in every}
+            sys.exit(f"bugs.py: there are no bugs of a crate {it}")
+    found = {it: bugs_of(it) for it in crates}
     bugs = [bug for it, _ in found.values() for bug in it]
     faults = sum(it for _, it in found.values())
     if is_list:
