@@ -165,11 +165,12 @@ settle() {
 # Prints of a release, for it and for the copy as it was: that it is withdrawn, or for another kit.
 warn() {
     local name commit kit why has
-    has=$(rt version 2>/dev/null | cut -d ' ' -f 1) || true
     while read -r name commit kit why; do
         [[ $commit = "$target" || $commit = "$was" ]] || continue
         [ ! "$why" ] || echo "# $name is $why"
-        [[ $commit != "$target" || -z $has || $has = "$kit" ]] ||
+        [ "$commit" = "$target" ] || continue
+        has=$(rt version 2>/dev/null </dev/null | cut -d ' ' -f 1) || true
+        [[ -z $has || $has = "$kit" ]] ||
             echo "# $name is for $kit, and rt is of $has: it may not find each proof."
     done <"$work/releases"
     [ "$target" != "$(git rev-parse HEAD)" ] ||
