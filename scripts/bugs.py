@@ -17,8 +17,8 @@ what a call requires. `= returns` is a contract of one clause, `= loop` the inva
 words of that proof may not fit any other body.
 
 The record, scripts/bugs.lock, has a line for each crate all of whose bugs were refused: how many,
-and a sum of what that rests on: `rt version`, this script, and the texts of the crate and of those
-below it.
+and a sum of what that rests on: `rt version`, the scripts that try them, and the texts of the crate
+and of those below it.
 
 It works on a copy, whose crates `rt ci` proves, or has from the gate. A crate is then checked with
 bugs, from nothing, over the libraries that were built there. A bug changes the body of one function
@@ -42,7 +42,7 @@ from collections import Counter
 from concurrent.futures import ThreadPoolExecutor
 
 from bug import FN, above_of, bugs_of, edits_of, groups_of, with_bugs, with_files
-from lay_out import READ, TOP, read, write
+from lay_out import READ, TOP, read, uses_of, write
 from try_kit import KIT
 
 RECORD = "scripts/bugs.lock"
@@ -75,15 +75,9 @@ def proved_in(folder, bugs):
     return [it for it in named if it.is_in(module)] or named
 
 
-def rows():
-    """Returns what each crate of the repository uses, as crates.txt says."""
-    every = re.findall(r"^(\w+)[^:#\n]*:(.*)", read("crates.txt"), re.M)
-    return {name: used.split() for name, used in every}
-
-
 def with_below(names):
     """Returns crates and those of the repository that they stand on."""
-    uses, found, left = rows(), set(), {*names}
+    uses, found, left = uses_of("."), set(), {*names}
     while left:
         found |= left
         left = {it for name in left for it in uses[name] if it in uses} - found
@@ -120,7 +114,7 @@ def command(proved, crate):
     words = [*UNSAVED, f"{KIT}/bin/rattle", "check", "--crate-name", crate, f"src/{root}.rt"]
     words += ["--antt-project", f"{KIT}/rattle/logic/antt-project.json"]
     words += ["--logic-built", f"{KIT}/logic_built", "--jobs", "1"]
-    uses = rows()
+    uses = uses_of(".")
     folders = {it: f"{proved}/crates/{it}/out/rlib" for it in with_below([crate]) - {crate}}
     for it in (f"{KIT}/rlibs", *sorted(folders.values())):
         words += ["-L", f"dependency={it}"]

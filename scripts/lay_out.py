@@ -34,6 +34,12 @@ def write(path, text):
         file.write(text)
 
 
+def uses_of(project):
+    """Returns what each crate of a project uses, by its name, as crates.txt says."""
+    rows = re.findall(r"^(\w+)[^:#\n]*:(.*)", read(f"{project}/crates.txt"), re.M)
+    return {name: used.split() for name, used in rows}
+
+
 def texts_below(folder):
     """Returns the paths of all texts below a folder, from that folder on, in order."""
     found = [os.path.join(at, name) for at, _, names in os.walk(folder) for name in names]
