@@ -103,8 +103,8 @@ impl<M: Stores<Core = CellCore<T, W, N>>, T: Drop, W: Wakes, N: Protocol<T, W>> 
         by.shows(core);
         seen.catch_up(core);
         if O::IS_FAST {
-            // Nobody waits on a full cell. In a branch of its own the compiler sees that a call of
-            // one wakes nobody: to ask would cost 6.
+            // Nobody waits on a full cell. In a branch of its own the compiler sees that a call on
+            // one wakes nobody: to ask would cost 6 instructions.
             if core.is_set() {
                 return made_fast!(op, core, step, by, seen);
             }

@@ -18,7 +18,7 @@ use std::{fmt, mem};
 
 /// A cell with an optional value, counted owners and the wait list of the wakers that wait for a
 /// value. Its calls wake nobody. They return the wakers, and you wake these by `wake_all`: dropping
-/// the `Wakers` wakes nobody. Only the drop of the `Core` itself wakes.
+/// the `Wakers` does not call their `wake`. Only the drop of the `Core` itself does.
 pub struct Core<T, W: Wakes> {
     value: Option<T>,
     /// 0 once the cell is closed.

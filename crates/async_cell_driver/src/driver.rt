@@ -176,9 +176,9 @@ impl<T: Clone> Driver<T> {
 
     /// Makes one poll of each task that is now ready, in order of task number, and returns how many
     /// polls were made. If a poll returns `Ready`, stores the poll's result, so that the method
-    /// `result` can return it. A refused poll ends the call: its task and the ready tasks after it
-    /// are still ready. The call visits every task that was ever started, since done tasks stay in
-    /// the list.
+    /// `result` can return it. If a poll fails with `Memory`, the call does, too: the task of that
+    /// poll and the ready tasks after it are still ready. The call visits every task that was ever
+    /// started, since done tasks stay in the list.
     #[tactic(auto, using(crate::proofs::CoreCalls::poll_steps))]
     pub fn settle(&mut self) -> Result<usize, Refusal>
         ensures settles { (log : Log T) × Settles T.is_clone self.old result log self.new }

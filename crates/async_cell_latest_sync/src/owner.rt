@@ -54,8 +54,8 @@ impl<T: Drop, R: Wait + Copy> Owner<T, R> {
 
 impl<T: Drop, R: Wait + Copy, P: Rule<T>> Owner<T, R, Ruled<P>> {
     /// Makes a state that holds `value`, and the state's first owner. All values satisfy the rule
-    /// `P`: each write requires this, and each read ensures it. Fails with `Memory` if there is no
-    /// memory, and then drops the value.
+    /// `P`: each write requires this, and each `peek` ensures it. A `read` gives a clone of such a
+    /// value. Fails with `Memory` if there is no memory, and then drops the value.
     pub fn ruled(alloc: Global, value: T, rt: R) -> Result<Self, Refusal>
         requires rule { P.holds value }
         ensures refused { FailsWithMemory result }
@@ -158,7 +158,8 @@ impl<T: Drop, R: Wait + Drop, N: Protocol<T>> Owner<T, R, N> {
         self.cell.peek(look, &self.rt).1
     }
 
-    /// Sets the value and drops the old one. Wakes all followers that wait.
+    /// Sets the value and drops the old one. Wakes all followers that wait. If the state takes no
+    /// further write, drops `value` instead, and wakes nobody.
     pub fn set(&self, value: T)
         requires may { (before : List T) → N.may before value }
     {
@@ -192,7 +193,8 @@ impl<T: Drop, R: Wait + Drop, N: Protocol<T>> Owner<T, R, N> {
     }
 
     /// Calls the closure on the value, under the lock. Stores the value that the closure returns,
-    /// and drops the old value. Wakes all followers that wait.
+    /// and drops the old value. Wakes all followers that wait. If the state takes no further write,
+    /// drops the returned value instead, and wakes nobody.
     pub fn update<F: FnOnce(&T) -> T>(&self, change: F)
         requires callable { F.IsAlwaysCallable change }
         requires may { (before : List T) (old new : T) → N.holds old
@@ -251,10 +253,11 @@ impl<T: Drop, R: Wait + Drop, N: Protocol<T>> Owner<T, R, N> {
     /// Drops each waker that a dropped future left in the state. Dropping a waker wakes its task,
     /// so the task of each such waker is polled once more.
     ///
-    /// Without this call, the wakers of dropped futures stay until the next write. While such a
-    /// waker stays, memory of its executor, such as the task, cannot be freed. Call `purge` if many
-    /// waiting futures are dropped before they are ready. `purge` takes the lock once for each
-    /// place in the wait list.
+    /// Without this call, the wakers of dropped futures stay until the next write or the close, or
+    /// until another future takes over their place. While such a waker stays, memory of its
+    /// executor, such as the task, cannot be freed. Call `purge` if many waiting futures are
+    /// dropped before they are ready. `purge` takes the lock once more than the wait list has
+    /// places.
     pub fn purge(&self) {
         self.cell.core.purge(&self.rt);
     }

@@ -5,8 +5,8 @@ use std::{fmt, io};
 /// The reason why a call was refused. A refused call changes nothing.
 #[derive(Clone, Copy, Debug, PartialEq, Eq)]
 pub enum Refusal {
-    /// There was no memory to grow a list, for a clone, or for the waker of a task. Or the
-    /// reference count of an `Arc` or an `Rc` is full.
+    /// There was no memory, or a clone of a value failed. Or the reference count of an `Arc` or an
+    /// `Rc` is full.
     Memory,
     /// The cell is closed. Writes, calls that add or end an owner (except `upgrade`, which gives
     /// `None`), `take_inner`, and futures that are not weak fail with `Closed`.
@@ -18,7 +18,8 @@ pub enum Refusal {
     /// A recorded call was made with a share whose count is not the number of that share's entries
     /// in the history.
     OutOfTurn,
-    /// A recorded cell was finished without all of its shares.
+    /// A share of a recorded cell is missing. No call returns this: `Recorded::finish` gives back
+    /// the cell and the shares.
     ShareMissing,
 }
 

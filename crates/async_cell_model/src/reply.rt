@@ -10,8 +10,8 @@ pub enum Reply<T> {
     Value(Option<T>),
     /// Whether there is a value.
     Is(bool),
-    /// There is no value yet. The poll's waker is registered, unless it is skipped (see
-    /// `WaitList::skips`).
+    /// There is no value yet. The poll's waker is registered, unless a waiting waker would wake its
+    /// task.
     Pending,
     /// The value, or `None` if the cell is closed.
     Ready(Option<T>),

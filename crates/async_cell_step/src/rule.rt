@@ -3,7 +3,8 @@ ghost use Rattle.std.specs.Prelude.{⊤};
 use std::marker::{Brand, PhantomData};
 
 /// A rule on values. Whoever writes a value to the cell proves that the value satisfies the rule,
-/// so whoever takes or gets a value may rely on the rule. Only contracts read the rule.
+/// so whoever takes a value may rely on the rule. A get gives a clone of such a value. Only
+/// contracts read the rule.
 ///
 /// ```rust
 /// struct Even;

@@ -55,7 +55,7 @@ pub trait Opens<'a, M: Stores> {
 }
 
 /// Does what `open` does, with an `else` for `None`, in the calls that are made most. Only the part
-/// that waits is a function: of another one the compiler would test the result twice.
+/// that waits is a function. If all of it were one, its result would be tested twice.
 #[doc(hidden)]
 #[macro_export]
 macro_rules! opened {

@@ -24,7 +24,7 @@ pub trait Places<R> {
     fn cancel(&self, place: Place, rt: &R);
 }
 
-/// A `Take`, a `Get`, a `TakeWeak` or a `GetWeak`. `With` makes a future of it.
+/// What a future asks of a cell, such as a `Take` or a `TakeAs`. `With` makes a future of it.
 pub trait Request<R>: Drop {
     /// The type of the cell.
     type Cell: Places<R>;
@@ -70,17 +70,21 @@ pub trait Upgrade<R>: Request<R> {
         ensures refused { FailsToUpgrade result };
 }
 
-/// The future of a `Take`, a `Get`, a `TakeWeak` or a `GetWeak`. The future also holds an `R`: the
-/// right that each step on the cell needs, such as the right to wait for the cell's lock. The
-/// `with` of each of these four types makes such a future. So do the calls of an `Owner` and a
-/// `WeakOwner`, such as `take`.
+/// The future of a request, such as a `Take` or a `TakeAs`. The future also holds an `R`: the right
+/// that each step on the cell needs, such as the right to wait for the cell's lock. The `with` of a
+/// `Take`, a `Get`, a `TakeWeak` or a `GetWeak` makes such a future. So do calls of an `Owner` and
+/// a `WeakOwner`, such as `take` and `take_as`.
 ///
 /// While the future waits, it holds one place in the cell's wait list. Each poll renews the waker
-/// in this place, so the task that will be woken is the one that polled the future last. **Dropping
-/// the future may wait for the lock**, and wakes nobody. After the drop, the place is free for the
-/// next `With` that waits for the same cell, and the task that polled the dropped future may be
-/// woken once more. **So keep a future and poll it again.** Two tasks that each make a new future
-/// for every poll wake each other forever.
+/// in this place, so the task that will be woken is the one that polled the future last. A poll
+/// fails with `Memory` if there is no memory for the task's waker, to grow the list, or for a clone
+/// of the value. The future can then be polled again.
+///
+/// **Dropping the future may wait for the cell's lock.** If the future is the last owner, its drop
+/// closes the cell: it drops the value, and wakes all waiters. Any other drop wakes nobody. After
+/// the drop, the place is free for the next `With` that waits for the same cell, and the task that
+/// polled the dropped future may be woken once more. **So keep a future and poll it again.** Two
+/// tasks that each make a new future for every poll wake each other forever.
 #[derive_where(Debug)]
 pub struct With<P: Request<R>, R> {
     #[derive_where(skip)]
@@ -200,9 +204,10 @@ pub trait Takes<R>: Polled<R, Output = Result<Option<Self::Value>, Refusal>> {
 /// stream is polled, and ends when the last owner has ended. It is no owner.
 ///
 /// **Several takers do not take turns.** A value goes to the first that is polled, and a write
-/// wakes them in the order in which they began to wait. So if several streams, or loops of takes,
-/// run on one executor, the first may get every value: it polls again before the others, and so is
-/// the first to wait again.
+/// wakes them in the order of their places in the wait list: that in which they began to wait, but
+/// a taker may have the place of a dropped future. So if several streams, or loops of takes, run on
+/// one executor, the first may get every value: it polls again before the others, and so is the
+/// first to wait again.
 ///
 /// **The last value may be lost**: the end of the last owner drops a value that was not yet taken.
 /// If a poll fails with `Memory`, the item is that error, and the stream may be polled again.

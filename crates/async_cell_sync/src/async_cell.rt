@@ -154,14 +154,15 @@ impl<T: Drop, N: Protocol<T, TaskWaker>> AsyncCell<T, N> {
         core.into_inner()
     }
 
-    /// Returns a future that takes the value (`try_take` takes it at once).
+    /// Returns a request to take the value, whose `with(rt)` is the future (`try_take` takes the
+    /// value at once).
     pub fn take(&self) -> Take<&Self>
         ensures of_this { result.0.now ≡ self.now }
     {
         Take(self)
     }
 
-    /// Returns a future that clones the value and leaves it in the cell.
+    /// Returns a request to clone the value and leave it in the cell. Its `with(rt)` is the future.
     pub fn get(&self) -> Get<&Self>
     where
         T: Clone,
@@ -187,7 +188,7 @@ impl AsyncCell<()> {
         self.set((), rt);
     }
 
-    /// As `Owner::wait`.
+    /// Returns a request, whose `with(rt)` is the future of `Owner::wait`.
     pub fn wait(&self) -> Take<&AsyncCell<()>>
         ensures of_this { result.0.now ≡ self.now }
     {

@@ -104,9 +104,10 @@ impl<T: Drop, N: Protocol<T, TaskWaker>> AsyncCell<T, N> {
         self.core.is_closed(rt)
     }
 
-    /// Returns one of four texts: `AsyncCell::Empty`, `AsyncCell::Pending` if a task waits,
-    /// `AsyncCell::Closed`, or `AsyncCell::Full(..)` with the text of the value. The text of the
-    /// value is made under the lock. Fails with `Memory` if there is no memory for the text.
+    /// Returns one of four texts: `AsyncCell::Empty`, `AsyncCell::Pending` if the cell has a waker
+    /// (maybe of a dropped future), `AsyncCell::Closed`, or `AsyncCell::Full(..)` with the text of
+    /// the value. The text of the value is made under the lock. Fails with `Memory` if there is no
+    /// memory for the text, or if the value's `Debug` fails.
     pub fn debug_text<R: Wait>(&self, rt: &R) -> Result<String, Refusal>
     where
         T: fmt::Debug,
@@ -118,7 +119,7 @@ impl<T: Drop, N: Protocol<T, TaskWaker>> AsyncCell<T, N> {
     /// Drops each waker that a dropped future left in the cell. The drop of a waker wakes the
     /// waker's task. While a waker stays in the cell, memory of its executor, such as the task,
     /// cannot be freed. So call this if many waits end early while the cell lives on. This call
-    /// takes the lock once for each place in the wait list.
+    /// takes the lock once more than the wait list has places.
     pub fn purge<R: Wait>(&self, rt: &R) {
         self.core.store.purge(rt);
     }

@@ -88,10 +88,10 @@ impl<T: Drop, R: Wait + Copy, P: Rule<T>> Owner<T, R, Ruled<P>> {
 impl<T: Drop, R: Wait + Copy, N: Protocol<T, TaskWaker>> Owner<T, R, N> {
     /// Makes the cell of this blank, the first owner of the cell, and the first witness of the
     /// cell's history. The blank is a cell that is not made yet (see `Blank`), and `N` is the name
-    /// of its history (see `Protocol`). Fails with `Memory` if there is no memory for the cell.
-    /// Call `witnessed` in a function generic over `N`, and call that function with
-    /// `std::marker::Brand` for `N`. The caller's `Invariants.antt` defines the name, the changes
-    /// that may be made, and the rule.
+    /// of its history (see `Protocol`). Fails with `Memory` if there is no memory for the cell, and
+    /// then drops the blank's content. Call `witnessed` in a function generic over `N`, and call
+    /// that function with `std::marker::Brand` for `N`. The caller's `Invariants.antt` defines the
+    /// name, the changes that may be made, and the rule.
     pub fn witnessed(
         alloc: Global,
         blank: Blank<T, TaskWaker>,
@@ -208,7 +208,8 @@ impl<T: Drop, R: Wait + Copy, N: Protocol<T, TaskWaker>> Owner<T, R, N> {
     }
 
     /// Returns a future that takes the value and is not an owner. The future gives `None` once the
-    /// last owner has ended. A value that was not taken by then is lost.
+    /// last owner has ended. A value that was not taken by then is lost. The future fails with
+    /// `Memory` if the count of the cell's `Arc` was full when the future was made.
     ///
     /// ```rust
     /// let slot = Owner::new_with(rt.alloc(), 7, rt)?;

@@ -136,14 +136,14 @@ impl<T: Drop, N: Protocol<T, TaskWaker>> Shared<T, N> {
         Weak::of(&self.cell)
     }
 
-    /// As `Owner::take_weak`.
+    /// Returns a request, whose `with(rt)` is the future of `Owner::take_weak`.
     pub fn take_weak(&self) -> TakeWeak<T, N>
         ensures of_this { NamesAtMost result.0 (cell_of self.now) }
     {
         TakeWeak(Weak::of(&self.cell))
     }
 
-    /// As `Owner::get_weak`.
+    /// Returns a request, whose `with(rt)` is the future of `Owner::get_weak`.
     pub fn get_weak(&self) -> GetWeak<T, N>
     where
         T: Clone,

@@ -226,7 +226,7 @@ impl<T: Drop, N: Free<T, TaskWaker>> AsyncCell<T, N> {
     }
 
     /// Returns the text that `{:?}` prints for this cell. Fails with `Memory` if there is no memory
-    /// for the text.
+    /// for the text, or if the value's `Debug` fails.
     pub fn debug_text(&self) -> Result<String, Refusal>
     where
         T: fmt::Debug,
@@ -357,9 +357,9 @@ impl<T: Drop, N: Free<T, TaskWaker>> Places<OneThread> for AsyncCell<T, N> {
     }
 }
 
-/// Prints `AsyncCell::Empty`, `AsyncCell::Pending` if a task waits, `AsyncCell::Full(..)` with the
-/// value's own text, or `AsyncCell::Closed`. The value is taken out while it prints, and then
-/// stored in place of whatever was set meanwhile.
+/// Prints `AsyncCell::Empty`, `AsyncCell::Pending` if the cell has a waker (maybe of a dropped
+/// future), `AsyncCell::Full(..)` with the value's own text, or `AsyncCell::Closed`. The value is
+/// taken out while it prints, and then stored in place of whatever was set meanwhile.
 impl<T: fmt::Debug + Drop, N: Free<T, TaskWaker>> fmt::Debug for AsyncCell<T, N> {
     fn fmt<F: fmt::Write>(&self, f: &mut fmt::Formatter<F>) -> fmt::Result {
         let Some(value) = self.try_take() else {

@@ -161,7 +161,8 @@ impl<T: Drop, N: Free<T, TaskWaker>> Owner<T, N> {
     }
 
     /// Returns a future that takes the value and is not an owner. The future gives `None` once the
-    /// last owner has ended. A value that was not taken by then is lost.
+    /// last owner has ended. A value that was not taken by then is lost. The future fails with
+    /// `Memory` if the count of the cell's `Rc` was full when the future was made.
     pub fn take_weak(&self) -> With<TakeWeak<T, N>>
         ensures of_this { NamesAtMost result.polled.0 (cell_owned self.now) }
     {

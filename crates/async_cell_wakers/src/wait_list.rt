@@ -12,7 +12,7 @@ use std::cell::Cell;
 use std::marker::Model;
 use std::mem;
 
-/// The largest number of wakers that room is made for at once.
+/// The most wakers that a list without memory makes room for when it grows.
 const MOST: usize = 64;
 
 /// The wakers that wait on a cell, in order of registration. The first is stored inline, the others
@@ -25,7 +25,7 @@ pub struct WaitList<W> {
     round: u64,
     /// The number of the free place that is taken over next, counted from 1: 0 if none is free.
     free: Cell<usize>,
-    /// How many were in the vector when the wakers were last handed out, at most `MOST`.
+    /// How many were in the vector when all wakers were last handed out, at most `MOST`.
     expected: usize,
 }
 

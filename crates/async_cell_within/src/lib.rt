@@ -22,8 +22,8 @@ use std::time::{Clock, Duration, Instant};
 ///
 /// Between polls the thread naps. After each nap it checks whether the future was woken. A nap
 /// takes a sixteenth of the time that the wait took so far, but at least 50 microseconds and at
-/// most 5 milliseconds. A wake is noticed at most one nap late. `block_on`, which has no limit,
-/// sleeps until it is woken.
+/// most 5 milliseconds, and ends when the limit has passed. A wake is noticed at most one nap late.
+/// `block_on`, which has no limit, sleeps until it is woken.
 ///
 /// Fails if there is no memory, no random number to identify the task that polls, or no clock.
 ///

@@ -25,7 +25,7 @@ Each call, what it prints, and what it does:
   update put V       done, or refused closed; sets V
   update none        done, or refused closed; removes the value
   update keep        done, or refused closed; keeps the value, if there is one
-  update_some add V  done, or refused closed; adds V to the value, if there is one
+  update_some add V  done, or refused closed; adds V to the value, if there is one, and saturates
   take W             ready X, pending, closed, or refused memory; takes the value, or W waits
   get W              ready X, pending, closed, or refused memory; copies the value, or W waits
   try_take           some X, or none; takes the value

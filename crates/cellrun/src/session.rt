@@ -20,7 +20,7 @@ pub struct Session {
     core: Core<i64, Named>,
     /// The names that polled since the last time when nobody waited.
     names: BTreeSet<u64>,
-    /// Whether these are all that wait. It is false if there was no memory for one of them.
+    /// Whether all that wait are among these. It is false if there was no memory for one of them.
     are_all: bool,
     ghost known: { KnowsNames core.waiting names are_all },
 }

@@ -2,9 +2,10 @@
 //!
 //! - `even`, `square` and `fact`: what the value of a reply satisfies.
 //! - `job`, `shutdown`, `startup` and `watcher`: what the two threads return on every schedule, or
-//!   whom a call of one wakes. A type `N` names the cell.
+//!   whom a call of one wakes.
 //!
-//! Calls are made at `Brand`, and the `Invariants.antt` of the caller picks what it stands for.
+//! In all but `even` and `fact`, a type names the cell or its rule. Calls are made at `Brand`, and
+//! the `Invariants.antt` of the caller picks what it stands for.
 #![tactic(auto)]
 
 mod even;

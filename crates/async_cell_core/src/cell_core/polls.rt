@@ -12,9 +12,9 @@ use std::alloc::AllocError;
 
 impl<T: Drop, W: Wakes> Core<T, W> {
     /// Takes the value. If there is none yet, returns `Pending` and registers the waker: a clone of
-    /// the waker is added at the end of the wait list, unless the waker is skipped (see
-    /// `WaitList::skips`). Returns `Ready(None)` if the cell is closed. Fails with `Memory` if
-    /// there is no memory for the clone or to grow the wait list.
+    /// the waker is added at the end of the wait list, unless a waiting waker would wake its task
+    /// (see `Wakes::will_wake`). Returns `Ready(None)` if the cell is closed. Fails with `Memory`
+    /// if there is no memory for the clone or to grow the wait list.
     ///
     /// ```rust
     /// let mut core = Core::new_with(rt.alloc(), 7);

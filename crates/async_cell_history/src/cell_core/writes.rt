@@ -48,8 +48,8 @@ impl<T: Drop, W: Wakes, N: Protocol<T, W>> CellCore<T, W, N> {
         }
     }
 
-    /// Fills a vacant cell on which nobody waits. Fails on other cells, and then returns the value
-    /// in the error.
+    /// Fills a vacant cell on which nobody waits and whose wait list has allocated no memory. Fails
+    /// on other cells, and then returns the value in the error.
     #[inline(always)]
     pub fn put_quiet(&mut self, value: T) -> Result<(), Deferred<T>>
         requires may { N.may (Kept.Replace value) }

@@ -44,9 +44,9 @@ impl<T: Drop, W: Wakes> Latest<T, W> {
 
     /// Polls for a version other than `seen`, and returns it. The value can then be read. If the
     /// state is open and has no other version, returns `Pending` and registers the waker: a clone
-    /// of the waker is added at the end of the wait list, unless the waker is skipped (see
-    /// `WaitList::skips`). Returns `Ready(None)` if the state has no other version and is closed.
-    /// Fails with `Memory` if there is no memory for the clone or to grow the wait list.
+    /// of the waker is added at the end of the wait list, unless a waiting waker would wake its
+    /// task (see `Wakes::will_wake`). Returns `Ready(None)` if the state has no other version and
+    /// is closed. Fails with `Memory` if there is no memory for the clone or to grow the wait list.
     pub fn poll_changed(&mut self, seen: u64, waker: &W) -> Result<Poll<Option<u64>>, Refusal>
         ensures model { IsStep W.Wakes self.old
             (PollChanged seen waker.now) (changed_answer self.old.value result) self.new }
