@@ -256,8 +256,7 @@ impl<T: Drop, R: Wait + Drop, N: Protocol<T>> Owner<T, R, N> {
     /// Without this call, the wakers of dropped futures stay until the next write or the close, or
     /// until another future takes over their place. While such a waker stays, memory of its
     /// executor, such as the task, cannot be freed. Call `purge` if many waiting futures are
-    /// dropped before they are ready. `purge` takes the lock once more than the wait list has
-    /// places.
+    /// dropped before they are ready. `purge` locks once more than the wait list has places.
     pub fn purge(&self) {
         self.cell.core.purge(&self.rt);
     }

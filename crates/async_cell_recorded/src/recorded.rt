@@ -244,8 +244,7 @@ impl<T: Copy, M: Pick<T>> Recorded<T, M> {
         self.call(share, NoEditCall::<T>::PollGet(name), rt)
     }
 
-    /// Adds an owner. The reply is a refusal if the cell is closed (`Closed`), or if it has
-    /// 4,294,967,295 owners (`OwnersFull`).
+    /// Adds an owner. The refusals are `Closed` and, at 4,294,967,295 owners, `OwnersFull`.
     pub fn add_owner(&self, share: &mut Share<M>, rt: &impl Wait) -> CallResult<T>
         ensures call { IsCallResult M.pick (λ _. Kept.AddOwner) share.old result share.new }
         ensures replied { IfOk result (λ answer.
@@ -257,8 +256,7 @@ impl<T: Copy, M: Pick<T>> Recorded<T, M> {
     }
 
     /// Ends one owner. If it was the last owner, the cell is closed, the reply has the value of the
-    /// cell, and the waiting wakers are returned. On a closed cell the reply is the refusal
-    /// `Closed`.
+    /// cell, and the waiting wakers are returned. The refusal of a closed cell is `Closed`.
     pub fn end_owner(&self, share: &mut Share<M>, rt: &impl Wait) -> CallResult<T>
         ensures call { IsCallResult M.pick (λ _. Kept.EndOwner) share.old result share.new }
         ensures replied { IfOk result (λ answer.

@@ -154,8 +154,7 @@ impl<T: Drop, N: Protocol<T, TaskWaker>> AsyncCell<T, N> {
         core.into_inner()
     }
 
-    /// Returns a request to take the value, whose `with(rt)` is the future (`try_take` takes the
-    /// value at once).
+    /// Returns a request to take the value. Its `with(rt)` is the future (see also `try_take`).
     pub fn take(&self) -> Take<&Self>
         ensures of_this { result.0.now ≡ self.now }
     {
