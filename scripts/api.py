@@ -55,9 +55,7 @@ FRAME = """<!doctype html>
 body {{ margin: 0; display: flex; font: 16px/1.5 system-ui, sans-serif }}
 pre, code, h4 {{ font: 14px/1.5 ui-monospace, monospace; background: #8882; overflow: auto }}
 nav {{ position: sticky; top: 0; height: 100vh; width: 250px; flex: none; overflow: auto }}
-nav, main {{ padding: 1em }}
-nav a {{ display: block }}
-main {{ max-width: 58em; min-width: 0 }}
+nav a {{ display: block }} nav, main {{ padding: 1em }} main {{ max-width: 58em; min-width: 0 }}
 section section {{ padding-left: 1em; border-left: 3px solid #8884 }}
 @media (width < 50em) {{ body {{ display: block }}
 nav {{ position: static; height: 9em; width: auto }} }}

@@ -99,7 +99,7 @@ class Bug:
     def counts(self, told):
         """Returns whether this complaint is of the clause that is to refuse it."""
         last = "" if self.clause == "returns" else rf"-clause-{self.clause}"
-        goal = rf"returns(?:-(?!clause-)[\w-]*?)?{last}(?:-\d+)?"
+        goal = rf"returns(?:-(?!clause-)\w+)*?{last}(?:-\d+)?"
         others = {"loop": r"loop-[\w-]+", "invariant": r"invariant_of-[\w-]+"}
         goal = others.get(self.clause, goal)
         return not self.clause or bool(re.search(f"`{goal}`", told[0]))
@@ -116,8 +116,10 @@ class Bug:
 
 def bugs_of(crate):
     """Returns the bugs of a crate, and how many are none."""
-    found, faults = [], 0
     edits = edits_of(crate)
+    others = {*glob.glob(f"crates/{crate}/must-fail/**/*.*", recursive=True)} - {*edits}
+    print("".join(f"{it}: FAILED: edits are must-fail/NAME.edit\n" for it in others), end="")
+    found, faults = [], len(others)
     for path in [*glob.glob(f"crates/{crate}/bugs.txt"), *edits]:
         text, form = read(path), EDIT if path in edits else BUG
         for it in form.finditer(text):

@@ -2,12 +2,10 @@
 """Has the prover refuse the deliberate bugs: those of crates/NAME/bugs.txt, and the edits of
 crates/NAME/must-fail/, which `rt ci` tries too where it finds them.
 
-    bugs.py [CRATE..]   tries those of these crates; none: of those that are not in the record, and
-                        of one that is, another after each commit
-    bugs.py --all       tries all
-    bugs.py --record [CRATE..|--all]   does the same, and writes the record
-    bugs.py --list      looks alone whether each can be applied; a crate has no fewer than in the
-                        record
+    bugs.py [CRATE..]   those of these crates; without, of those that are not in the record, and of
+                        one that is, another after each commit
+    bugs.py --record [CRATE..|--all]   the same, or all, and writes the record
+    bugs.py --list      whether each can be applied, and no crate has fewer than in the record
 
 A bug is a line 'FILE: what it does', with the file below src/, and after it pairs of lines '- OLD'
 and '+ NEW': a text that stands in the file once, and what comes in its place. A line '= CLAUSE' may
@@ -171,14 +169,14 @@ def only(proved, bugs):
     return [word for it in dict.fromkeys(asked) for word in ("--only", it)]
 
 
-def checked(proved, bugs, is_alone):
-    """Checks a crate with these bugs. Returns whether it is proved too, what is told of functions
-    (nothing if it came to no verdict), and what cannot be read."""
+def checked(proved, bugs, is_alone, is_put_in=True):
+    """Checks a crate with these bugs, or without. Returns whether it is proved too, what is told of
+    functions (nothing if it came to no verdict), and what cannot be read."""
     crate = bugs[0].crate
     with tempfile.TemporaryDirectory(dir=os.path.dirname(proved)) as room:
         for it in (it for it in PARTS if os.path.isdir(f"crates/{crate}/{it}")):
             shutil.copytree(f"crates/{crate}/{it}", f"{room}/{it}")
-        for it in bugs:
+        for it in bugs if is_put_in else ():
             it.apply(room)
         if not is_alone:
             pass_over_others(room, bugs)
@@ -220,12 +218,24 @@ def refused(proved, bugs):
         rest = [it for it in bugs if it not in bad]
         return sum(refused_alone(proved, it) for it in bad) + (refused(proved, rest) if rest else 0)
     count = 0
+    for bug, lines in told_of(bugs, told):
+        count += bug.judge(None, lines) if lines else again(proved, bug)
+    return count
+
+
+def told_of(bugs, told):
+    """Yields each bug, and what of this counts against it."""
     of = [proved_in(it["of"] or it["loop"] or "", bugs) for it in told]
     for bug in bugs:
         lines = [it for it, found in zip(told, of) if bug.is_at(it) or found == [bug]]
-        lines = [it for it in lines if bug.counts(it)]
-        count += bug.judge(None, lines) if lines else again(proved, bug)
-    return count
+        yield bug, [it for it in lines if bug.counts(it)]
+
+
+def is_told_without(proved, bugs):
+    """Returns whether a check complains of the function of one of these bugs without any bug."""
+    told = checked(proved, bugs, False, False)[1]
+    found = [bug for bug, lines in told_of(bugs, told) if lines]
+    return not all(it.judge("its function is complained of without it, too") for it in found)
 
 
 @functools.cache
@@ -301,6 +311,10 @@ def try_all(bugs):
             print(f"{said[-3000:]}\nthe crates are not proved without a bug", flush=True)
             return counts
         groups = groups_of(bugs)
+        # (that a complaint comes of a bug is seen by a check of a small crate with none put in)
+        of_crate = Counter(it.crate for it in bugs)
+        if is_told_without(proved, min(groups, key=lambda it: of_crate[it[0].crate])):
+            return counts
         ran = pool.map(lambda it: refused(proved, it), groups)
         for group, count in zip(groups, ran):
             counts[group[0].crate] += count

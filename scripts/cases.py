@@ -59,7 +59,7 @@ def play(project, inputs, random_text):
     begins = {max(at for at in range(int(it)) if lines[at].startswith("#")) for it in differ}
     for begin in sorted(begins):
         print("\n".join(lines[begin : lines.index("", begin) + 1]))
-    return [map(int, it) for it in re.findall(r"(?m)^(\d+) passed, (\d+) failed$", said)]
+    return [[*map(int, it)] for it in re.findall(r"(?m)^(\d+) passed, (\d+) failed$", said)]
 
 
 def of_commit():
@@ -88,7 +88,7 @@ def main(words):
         write(f"{folder}/inputs/refusing", f"refuse\n{refusing}")
         counts = play(f"{folder}/project", f"{folder}/inputs", made)
     passed, failed = (sum(it) for it in zip((0, len(faults + wrong)), *counts))
-    failed += 2 - len(counts)
+    failed += abs(2 - len(counts)) + sum(not any(it) for it in counts)
     print(f"{passed} passed, {failed} failed")
     return 1 if failed or not passed else 0
 

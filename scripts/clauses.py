@@ -22,7 +22,8 @@ CLAUSE = r"(?m)^ *(?=(?:requires|ensures|ghost)\b)"
 MODULE = r"(?ms)^(?: *module _(?:(?!where$).)*where\s)?"
 SPEC = MODULE + r"\s*(?:abbrev )?pub (?!mod)(?:record |data )?(\S+)"
 CELLS = ("async_cell_sync", "async_cell_unsync")
-# The public types of the Rust crate, and what each has, but for futures and drops; other names.
+# The public types of the Rust crate, and what each has, but for futures and drops; other names. Of
+# these a cell may lack those that are ABSENT, where DIFFERENCES names them.
 RUST = """AsyncCell Debug Default const new new_with into_inner shared into_shared set or_set replace
  update update_some notify try_take try_get is_set take take_shared take_weak get get_shared
  get_weak guard guard_shared wait wait_shared
@@ -32,6 +33,8 @@ TakeWeak Clone upgrade
 GetWeak Clone upgrade
 GuardedCell Deref set or_set release
 AsyncCell TakeRef GetRef weakref parking_lot no_std"""
+ABSENT = """Debug Default Deref GetRef TakeRef const get_shared get_weak guard_shared must_use
+ no_std parking_lot repr take_shared take_weak wait_shared weakref""".split()
 
 
 def facts(path, *texts):
@@ -114,6 +117,7 @@ def unnamed(now, then, told):
 def missing():
     """Yields each item of the Rust crate that neither both cells have, nor DIFFERENCES names."""
     told = re.findall(r"`([^`]+)`", api.read(f"{HERE}/docs/DIFFERENCES.md"))
+    told = [it for it in re.findall(r"\w+", " ".join(told)) if it in ABSENT]
     for of, *names in map(str.split, re.split(r"\n(?! )", RUST)):
         for cell in map(api.crate, CELLS):
             item = cell.named[of]
@@ -136,7 +140,8 @@ def main(since):
         now, lost = all_facts(HERE), {*missing()}
         then = all_facts(folder)
     section = re.split(r"(?m)^## ", api.read(f"{HERE}/CHANGELOG.md"))[1]
-    told = set(re.findall(r"\w+", " ".join(re.findall(r"`([^`]+)`", section))))
+    is_old = not since and section.startswith(f"{name} ")
+    told = set(re.findall(r"\w+", " ".join(re.findall(r"`([^`]+)`", "" if is_old else section))))
     faults = sorted(lost | set(unnamed(now, then, told)))
     changes = sorted(f"{'+' if it in now else '-'} {it}" for it in now ^ then)
     total = f"clauses: {len(now)} facts, {len(changes)} changed, {len(faults)} faults"

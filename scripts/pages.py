@@ -28,11 +28,13 @@ MACHINE = re.compile(
     r"(?<![\w.~])/(?:tmp|home|root|work|opt|usr|mnt)\b|(?<![\w(/])#\d+\b|\bissues? #?\d+"
 )
 CODE = re.compile(r"`([^`\n]+)`")
+# Code that may go on in the next lines.
+SPAN = re.compile(r"(?<!`)(`+)(?!`)((?:[^\n]|\n(?!\s*\n))+?)(?<!`)\1(?!`)")
 # Paths of the repository begin so; what stands for any name is no path.
 PATH = re.compile(r"(?:crates|docs|scripts|tests|bench|misuse|reentry|examples)/[\w./*-]+")
 # Names of crates begin so.
 CRATE = re.compile(r"(?:async_cell|bench|example)_\w+|cellrun|ghost_log")
-OPTION = re.compile(r"\b((?:scripts|bench|misuse)/\w+\.(?:py|sh))[^|`]*? (--\w[\w-]*)")
+CALL = re.compile(r"\b((?:scripts|bench|misuse)/\w+\.(?:py|sh))([^|`]*)")
 # Pages whose names, written as code, have to stand in the sources (no part of a path does).
 NAMED = re.compile(r"docs/(?:PROMISES|DEFINITIONS|EXPLICIT)\.md|crates/\w+/CALLING\.md")
 NAME = re.compile(r"(?<![\w./-])[A-Za-z_]\w{2,}(?![\w/-]|\.\w)")
@@ -63,7 +65,9 @@ def prose_of(text):
             lines.append("")
         else:
             lines.append(f"`{line}`" if block == "sh" else line if block is None else "")
-    return lines
+    # (a span of code that goes on in the next line is one in each)
+    split = SPAN.sub(lambda it: it[0].replace("\n", f"{it[1]}\n{it[1]}"), "\n".join(lines))
+    return split.split("\n")
 
 
 def rows_without_header(lines):
@@ -109,9 +113,11 @@ def names_of_nothing(lines):
         for name in code:
             if CRATE.fullmatch(name) and not os.path.isdir(f"crates/{name}"):
                 yield at, f"`{name}`, and there is no such crate"
-        for script, option in OPTION.findall(" ".join(code)):
-            if os.path.isfile(script) and option not in read(script):
-                yield at, f"{option}, which {script} does not know"
+        for script, words in CALL.findall(" | ".join(code)):
+            known = read(script) if os.path.isfile(script) else words
+            for option in re.findall(r" (--\w[\w-]*)", words):
+                if not re.search(rf"{option}(?![\w-])", known):
+                    yield at, f"{option}, which {script} does not know"
         for it in MACHINE.findall(line):
             yield at, f"{it}, a path of a machine or the number of an issue"
 

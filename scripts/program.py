@@ -70,7 +70,9 @@ def run(script, command=(PROGRAM,)):
 def scripts():
     """The cases of program.txt, whose head says how they are written."""
     text = re.sub(r"(?m)^#.*\n", "", read(f"{TOP}/scripts/program.txt")).replace("\n  ", " ")
-    for script, printed, bad in re.findall(r"^(.*)\n-> ?(.*?)(?: ?! (\d+))?$", text, re.MULTILINE):
+    found = re.findall(r"^(.*)\n-> ?(.*?)(?: ?! (\d+))?$", text, re.MULTILINE)
+    same("the lines of program.txt, two a case", text.count("\n"), 2 * len(found))
+    for script, printed, bad in found:
         given, wanted = ("".join(f"{it}\n" for it in said.split(" / ") if it).encode()
                          for said in (script, printed))
         given = re.sub(rb"(^|\n)\$\n\Z", b"", given)

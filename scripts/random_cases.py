@@ -8,8 +8,7 @@ from random_maker import TASKS, Maker
 from random_states import States, StatesAs
 
 LENGTH = 40
-MAKES = ["own", "guard", "into_guard", "values"]
-MAKES += ["take_shared", "get_shared", "take_weak", "get_weak"]
+MAKES = "own guard into_guard values take_shared get_shared take_weak get_weak".split()
 
 
 class Cells(Maker):

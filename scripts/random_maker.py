@@ -1,4 +1,4 @@
-"""Writes a random case down, call by call, with what scripts/random_model.py says must come back."""
+"""Writes a random case down, call by call, with what scripts/random_model.py says comes back."""
 import random
 
 from random_model import Cell

@@ -6,9 +6,8 @@ import itertools
 import re
 from collections import namedtuple
 
-KINDS = ["locked", "sync", "unsync", "sync_owner", "unsync_owner", "shared"]
-KINDS += ["owner_as", "cell_as", "sync_closed", "unsync_closed", "states", "states_as"]
-KINDS += ["sync_slot", "unsync_slot"]
+KINDS = """locked sync unsync sync_owner unsync_owner shared owner_as cell_as sync_closed
+ unsync_closed states states_as sync_slot unsync_slot""".split()
 GROUPS = {
     "cells": ("sync", "unsync"),
     "owners": ("sync_owner", "unsync_owner", "owner_as", "cell_as"),
