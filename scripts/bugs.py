@@ -2,9 +2,9 @@
 """Has the prover refuse the deliberate bugs: those of crates/NAME/bugs.txt, and the edits of
 crates/NAME/must-fail/, which `rt ci` tries too where it finds them.
 
-    bugs.py [CRATE..]   those of these crates; without, of those that are not in the record, and of
-                        one that is, another after each commit
-    bugs.py --record [CRATE..|--all]   the same, or all, and writes the record
+    bugs.py [--record] [--all|CRATE..]   those of all crates, or of these; without, of those that
+                        are not in the record, and of one that is, another after each commit.
+                        With `--record` also writes the record.
     bugs.py --list      whether each can be applied, and no crate has fewer than in the record
 
 A bug is a line 'FILE: what it does', with the file below src/, and after it pairs of lines '- OLD'
@@ -24,7 +24,7 @@ and no contract, so bugs of many functions share a check: the first of each func
 second of each the second. Other functions are passed over there, but those that they call and that
 have proof files. A bug is refused if the prover complains of its function, at a line of it or in a
 file of its proof. One of which a check says nothing is tried in a check of its own. If that says
-nothing, or if the bug changes more than a body, it is tried alone: the whole crate is checked, where
+nothing, or if the bug changes more than a body, it is tried alone: the whole crate is checked, and
 any complaint is about it. Prints a line for each check and each bug, and last 'N passed, M failed'.
 """
 import functools
@@ -311,9 +311,9 @@ def try_all(bugs):
             print(f"{said[-3000:]}\nthe crates are not proved without a bug", flush=True)
             return counts
         groups = groups_of(bugs)
-        # (that a complaint comes of a bug is seen by a check of a small crate with none put in)
+        # (that a complaint comes of a bug is seen by a check of one function with none put in)
         of_crate = Counter(it.crate for it in bugs)
-        if is_told_without(proved, min(groups, key=lambda it: of_crate[it[0].crate])):
+        if is_told_without(proved, min(groups, key=lambda it: of_crate[it[0].crate])[:1]):
             return counts
         ran = pool.map(lambda it: refused(proved, it), groups)
         for group, count in zip(groups, ran):

@@ -172,7 +172,7 @@ impl<T: Drop, W: Wakes, N: Protocol<T, W>> CellCore<T, W, N> {
         self.inner.waiting()
     }
 
-    /// Returns whether to wake all waiters would wake no task (see `Wakes::wakes_nobody`).
+    /// Returns whether waking all waiters would wake no task (see `Wakes::wakes_nobody`).
     #[inline(always)]
     pub fn wakes_nobody(&self) -> bool {
         self.inner.wakes_nobody()

@@ -3,7 +3,7 @@ ghost use Rattle.std.specs.Prelude.{⊤};
 use std::marker::{Brand, PhantomData};
 
 /// A rule on values. Whoever writes a value to the cell proves that the value satisfies the rule,
-/// so who takes a value may rely on it. A get clones such a value. Only contracts read the rule.
+/// so whoever takes a value may rely on it. A get clones such a value. Only contracts read rules.
 ///
 /// ```rust
 /// struct Even;
