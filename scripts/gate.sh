@@ -73,6 +73,8 @@ prove() {
         diff -rq -x out -x must-fail "$it" "$work/proved/$it" || return
         rm -rf "$it/out" && mv "$work/proved/$it/out" "$it" || return
     done
+    # (misuse/check.sh wants libraries that are newer than the sources, and a kept proof is older)
+    find crates -path '*/out/*/format' -exec sed -i '' {} +
 }
 
 # The last line of a step that counts.

@@ -31,12 +31,7 @@ impl<C: CellRef> Get<C> {
         ensures kept { Keeps cx.old cx.new }
         ensures refused { IfReady result FailsWithMemoryOrClosed }
     {
-        let cell = self.0.cell();
-        match poll(&cell.core.store, &cell.source, Taking, None, cx, &OneThread) {
-            Poll::Ready(Ok(value)) => Poll::Ready(cell.copy_back(value)),
-            Poll::Ready(Err(why)) => Poll::Ready(Err(why)),
-            Poll::Pending => Poll::Pending,
-        }
+        self.poll_at(None, cx, &OneThread)
     }
 
     /// Returns the future that holds one place in the wait list while it waits.

@@ -31,8 +31,7 @@ impl<C: CellRef> Take<C> {
         ensures kept { Keeps cx.old cx.new }
         ensures refused { IfReady result FailsWithMemoryOrClosed }
     {
-        let cell = self.0.cell();
-        poll(&cell.core.store, &cell.source, Taking, None, cx, &OneThread)
+        self.poll_at(None, cx, &OneThread)
     }
 
     /// Returns the future that holds one place in the wait list while it waits.
