@@ -167,8 +167,7 @@ class Slots(Maker):
             self.is_over |= reply != "pending"
             return self.line(f"poll {name} by {task}", reply)
         if word == "try_take":
-            is_open = self.cell.owners and not self.is_over
-            reply = self.cell.try_take() if is_open else "closed"
+            reply = self.cell.try_take() if self.cell.owners and not self.is_over else "closed"
             self.is_over |= reply != "none"
             return self.line(f"try_take {name}", reply)
         reply = "ok"
@@ -189,8 +188,7 @@ class Slots(Maker):
 def cases(count, first=0):
     """Returns the text of so many cases of each sort, one of each after the other."""
     seeds = range(first, first + count)
-    sorts = (Cells, Owners, Slots, States, StatesAs)
-    made = [sort(seed) for seed in seeds for sort in sorts]
+    made = [sort(seed) for seed in seeds for sort in (Cells, Owners, Slots, States, StatesAs)]
     for it in made:
         for _ in range(LENGTH):
             it.step()

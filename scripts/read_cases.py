@@ -99,8 +99,7 @@ def line_of(at, text, kinds):
         replies.update(dict.fromkeys(kinds_of(on, kinds), otherwise))
         if len(set(replies.values())) == 1:
             raise Wrong("another reply on some of the kinds")
-    word = "without" if without else "call"
-    return Line(at, int(times or 1), word, words_of(call), replies, [])
+    return Line(at, int(times or 1), "without" if without else "call", words_of(call), replies, [])
 
 
 def add_note(line, at, text):

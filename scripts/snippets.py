@@ -44,8 +44,7 @@ class Snippet:
 
     def __init__(self, where, text, copied=None, printed=None):
         self.where, self.text, self.copied = where, text, copied
-        said = re.findall(r"// prints (.*)", self.text)
-        self.printed = printed or "\n".join(said)
+        self.printed = printed or "\n".join(re.findall(r"// prints (.*)", self.text))
         self.name = re.sub(r"\W", "_", self.where).lower()
         self.failure = None
 

@@ -112,8 +112,7 @@ def listed(program, sources):
     """Returns the names of the tests that the program lists, and a complaint if these texts have
     more: one to be ignored, or to panic, is not listed, and nothing would run it."""
     how = {"env": {}, "stdout": subprocess.PIPE, "text": True, "check": True}
-    said = subprocess.run([*program, "--list"], **how).stdout
-    every = re.findall(r"^(.*): test$", said, re.M)
+    every = re.findall(r"^(.*): test$", subprocess.run([*program, "--list"], **how).stdout, re.M)
     texts = glob.glob(f"{sources}/**/*.rt", recursive=True)
     wanted = sum(len(re.findall(r"(?m)^ *#\[test\]", lay_out.read(it))) for it in texts)
     lost = f"the texts have {wanted} tests, and the program lists {len(every)}"
@@ -162,8 +161,7 @@ def main(words):
         told.count(f"tests/{it}", "not as `python3 scripts/lay_out.py --format` writes it")
     with tempfile.TemporaryDirectory(prefix="tests-") as room:
         program, said = build(told, room, words)
-        sources = f"{room}/project/crates/tests/src"
-        every, lost = listed(program, sources) if program else ([], None)
+        every, lost = listed(program, f"{room}/project/crates/tests/src") if program else ([], None)
         runs = chosen(every, words) if program else []
         if lost:
             told.count("the list of tests", lost)

@@ -32,8 +32,7 @@ pub fn watch_gauge<R: Host + Threads + Send + Sync>(rt: R, limit: u64) -> Result
     requires limit { 0 < limit }
     ensures below { IfOk result (λ value. value < limit) }
 {
-    let blank = Blank::new();
-    watch_named::<Brand, R>(rt, limit, blank)
+    watch_named::<Brand, R>(rt, limit, Blank::new())
 }
 
 /// Does so with the state that `N` names.

@@ -97,6 +97,5 @@ fn all_named<N: Protocol<u64, TaskWaker>, R: Host>(
 
 /// Makes them, on a cell of which any call may be made.
 pub fn all<R: Host>(rt: R) -> anyhow::Result<()> {
-    let blank = Blank::new(rt.alloc(), None);
-    all_named::<Brand, R>(rt, blank)
+    all_named::<Brand, R>(rt, Blank::new(rt.alloc(), None))
 }

@@ -82,6 +82,5 @@ fn all_named<N: Protocol<u64, Named>, R: Host>(rt: R, blank: Blank<u64, Named>)
 
 /// Does so, on a cell of which any call may be made.
 pub fn all<R: Host>(rt: R) {
-    let blank = Blank::new(rt.alloc(), None);
-    all_named::<Brand, R>(rt, blank);
+    all_named::<Brand, R>(rt, Blank::new(rt.alloc(), None));
 }

@@ -1,8 +1,11 @@
 ghost use Rattle.std.specs.Prelude.{◌≡◌, None, IfOk, IfErr, IfSome};
+ghost use Rattle.futures.specs.Poll.{IfReady, OnPending};
+ghost use Rattle.futures.specs.Task.{Covers, Keeps};
 ghost use Rattle.async_cell_model.specs.Machine.{content};
-ghost use Rattle.async_cell_model.specs.Refusal.{FailsWithMemory};
+ghost use Rattle.async_cell_model.specs.Refusal.{FailsWithMemory, FailsWithMemoryOrClosed};
 ghost use Rattle.async_cell_sync.specs.Names.{cell_of};
 ghost use Rattle.async_cell_sync.specs.Owned.{cell_owned};
+ghost use Rattle.async_cell_sync.specs.Source.{source_of};
 
 use crate::guard::GuardedCell;
 use crate::owner::Owner;
@@ -12,8 +15,8 @@ use async_cell_calls::CellStore;
 use async_cell_core::{Core, Place, Refusal, TaskWaker};
 use async_cell_history::{CellCore, Protocol, Unruled};
 use async_cell_model::Kept;
-use async_cell_step::{Places, Rule, Ruled};
-use futures::task::Source;
+use async_cell_step::{At, Places, Query, Rule, Ruled, poll};
+use futures::task::{Context, Poll, Source};
 use std::alloc::Global;
 use std::sync::{Mutex, Wait};
 
@@ -64,14 +67,12 @@ impl<T: Drop> AsyncCell<T> {
         AsyncCell::of(alloc, Core::new(alloc))
     }
 
-    /// Makes a cell that holds a value. Allocates nothing. Stores the allocator for all memory that
-    /// the cell allocates later.
+    /// As `new`, but the cell holds a value.
     pub fn new_with(alloc: Global, value: T) -> Self {
         AsyncCell::of(alloc, Core::new_with(alloc, value))
     }
 
-    /// Makes a cell without a value, with one counted owner. Fails with `Memory` if there is no
-    /// memory for the cell.
+    /// As `Shared::shared`.
     pub fn shared(alloc: Global) -> Result<Shared<T>, Refusal>
         ensures refused { FailsWithMemory result }
     {
@@ -106,6 +107,26 @@ impl<T: Drop, N: Protocol<T, TaskWaker>> AsyncCell<T, N> {
         }
     }
 
+    /// As `async_cell_step::poll`, on this cell.
+    #[inline(always)]
+    pub(crate) fn poll<Q: Query<CellCore<T, TaskWaker, N>>, R: Wait>(
+        &self,
+        query: Q,
+        at: At<'_>,
+        cx: &mut Context<'_>,
+        rt: &R,
+    ) -> Poll<Result<Q::Answer, Refusal>>
+        requires asks { Q.asks query }
+        ensures gives { IfReady result (λ answer. IfOk answer (Q.gives query)) }
+        ensures closed { IfReady result (λ answer. IfErr answer (λ why. why ≡ Refusal.Closed
+            → (core : _) × Q.closed core)) }
+        ensures refused { IfReady result FailsWithMemoryOrClosed }
+        ensures registered { OnPending result (Covers cx.new (λ s. s ≡ source_of self.now)) }
+        ensures kept { Keeps cx.old cx.new }
+    {
+        poll(&self.core.store, &self.source, query, at, cx, rt)
+    }
+
     /// As `Shared::into_shared`.
     pub fn into_shared(self) -> Result<Shared<T, N>, (Refusal, Self)>
         requires nameless { N.named ≡ None }
@@ -115,9 +136,8 @@ impl<T: Drop, N: Protocol<T, TaskWaker>> AsyncCell<T, N> {
         Shared::into_shared(self)
     }
 
-    /// Makes the first owner of this cell, with the right to wait. If there is no memory, fails
-    /// with `Memory` and returns the cell in the error. To use `?`, call `Owner::new_with` instead,
-    /// or write `into_shared_or_drop()?.with(rt)`.
+    /// As `Shared::into_shared`, but makes an `Owner`, which has the right to wait. To use `?`,
+    /// call `Owner::new_with` instead, or write `into_shared_or_drop()?.with(rt)`.
     pub fn into_owner<R: Wait + Drop>(self, rt: R) -> Result<Owner<T, R, N>, (Refusal, Self)>
         requires nameless { N.named ≡ None }
         ensures owns { IfOk result (λ owner. cell_owned owner ≡ self) }
@@ -170,8 +190,7 @@ impl<T: Drop, N: Protocol<T, TaskWaker>> AsyncCell<T, N> {
         Get(self)
     }
 
-    /// Returns a guard, which must be consumed. The guard's method `cancel` sets the value that was
-    /// passed here as `cancel`, unless the cell holds a value by then.
+    /// Returns a guard with this cancel value. The guard must be consumed (see `GuardedCell`).
     pub fn guard(&self, cancel: T) -> GuardedCell<T, &Self>
         requires may { N.may (Kept.OrSet cancel) }
         ensures of_this { result.pointer.now ≡ self.now }

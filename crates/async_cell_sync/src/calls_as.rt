@@ -1,8 +1,9 @@
 //! The calls that extend a witness. After such a call, the witness knows the cell's history up to
 //! the call, and the call's reply. Any number of threads may make such calls, each thread with a
 //! witness of its own.
-ghost use Rattle.std.specs.Prelude.{◌≡◌, Option, Some, None, IfErr, IfOk, IfSome, IsOk, IsSomeAnd, OnErr, OnOk};
+ghost use Rattle.std.specs.Prelude.{◌≡◌, false, Option, Some, None, IfErr, IfOk, IfSome, IsOk, IsSomeAnd, OnErr, OnOk};
 ghost use mathlib.Core.List.{IsPrefix};
+ghost use Rattle.async_cell_model.specs.Machine.{State, is_closed};
 ghost use Rattle.async_cell_model.specs.Refusal.{FailsWithClosed, FailsWithMemory, IsOwnerRefusal};
 ghost use Rattle.async_cell_history.specs.History.{IsSigned, IsLinearized, IsSeenClosed, IsLinearizedUpTo, set_reply, write_reply, end_reply};
 ghost use Rattle.async_cell_step.specs.Rule.{IsCloneOfOne};
@@ -13,12 +14,32 @@ use crate::owner::Owner;
 use crate::shared::Shared;
 use async_cell_core::{Refusal, TaskWaker, Wakes};
 use async_cell_history::{
-    Anyone, IsSet, OrSet, Protocol, Replace, Set, TryGet, TryTake, Update, UpdateSome, Witness,
+    Anyone, Caller, IsSet, Op, OrSet, Protocol, Replace, Set, TryGet, TryTake, Update, UpdateSome,
+    Witness,
 };
 use async_cell_model::{Kept, Reply};
 use std::sync::{Arc, Wait};
 
 impl<T: Drop, N: Protocol<T, TaskWaker>> AsyncCell<T, N> {
+    /// Makes the call, and shows it to the witness. The cell of a caller that is an owner is open.
+    #[inline(always)]
+    fn make_as<O: Op<T, TaskWaker, N>, K: Caller<T, TaskWaker, N>, R: Wait>(
+        &self,
+        op: O,
+        by: &K,
+        seen: &mut Witness<T, TaskWaker, N>,
+        rt: &R,
+    ) -> O::Answer
+        requires can { O.can op }
+        ensures made { (from to : State _ _) × O.gives from op result to
+            × (K.owns → is_closed from.cell ≡ false)
+            × IsLinearized ⟦<TaskWaker as Wakes>⟧ N.named seen.old.calls
+            (O.call from op to) (O.reply from result) seen.new.calls }
+        ensures signed { IsSigned seen.old seen.new }
+    {
+        self.core.make(op, by, seen, rt)
+    }
+
     /// Sets the value, drops the old one and wakes all waiters. Fails on a closed cell, and then
     /// returns the value.
     pub fn set_as<R: Wait>(
@@ -33,7 +54,7 @@ impl<T: Drop, N: Protocol<T, TaskWaker>> AsyncCell<T, N> {
         ensures signed { IsSigned seen.old seen.new }
         ensures comes_back { IfErr result (λ back. back ≡ value) }
     {
-        self.core.make(Set(value), &Anyone, seen, rt)
+        self.make_as(Set(value), &Anyone, seen, rt)
     }
 
     /// Sets the value, wakes all waiters and returns the old value. Fails on a closed cell, and
@@ -51,7 +72,7 @@ impl<T: Drop, N: Protocol<T, TaskWaker>> AsyncCell<T, N> {
         ensures rule { IfOk result (λ old. IfSome old N.holds) }
         ensures comes_back { IfErr result (λ back. back ≡ value) }
     {
-        self.core.make(Replace(value), &Anyone, seen, rt)
+        self.make_as(Replace(value), &Anyone, seen, rt)
     }
 
     /// If an open cell holds no value, sets `value` and wakes all waiters. Otherwise returns
@@ -68,7 +89,7 @@ impl<T: Drop, N: Protocol<T, TaskWaker>> AsyncCell<T, N> {
         ensures signed { IsSigned seen.old seen.new }
         ensures comes_back { IfErr result (λ back. back ≡ value) }
     {
-        self.core.make(OrSet(value), &Anyone, seen, rt)
+        self.make_as(OrSet(value), &Anyone, seen, rt)
     }
 
     /// Takes the value, if there is one.
@@ -79,7 +100,7 @@ impl<T: Drop, N: Protocol<T, TaskWaker>> AsyncCell<T, N> {
         ensures signed { IsSigned seen.old seen.new }
         ensures rule { IfSome result N.holds }
     {
-        self.core.make(TryTake, &Anyone, seen, rt)
+        self.make_as(TryTake, &Anyone, seen, rt)
     }
 
     /// Returns a clone of the value, if there is one. Fails with `Memory` if the clone fails.
@@ -96,7 +117,7 @@ impl<T: Drop, N: Protocol<T, TaskWaker>> AsyncCell<T, N> {
         ensures rule { IfOk result (λ found. IfSome found (IsCloneOfOne T.is_clone N.holds)) }
         ensures refused { FailsWithMemory result }
     {
-        self.core.make(TryGet, &Anyone, seen, rt)
+        self.make_as(TryGet, &Anyone, seen, rt)
     }
 
     /// Returns whether the cell holds a value.
@@ -105,7 +126,7 @@ impl<T: Drop, N: Protocol<T, TaskWaker>> AsyncCell<T, N> {
             Kept.IsSet (Reply.Is result) seen.new.calls }
         ensures signed { IsSigned seen.old seen.new }
     {
-        self.core.make(IsSet, &Anyone, seen, rt)
+        self.make_as(IsSet, &Anyone, seen, rt)
     }
 
     /// As `Owner::update`. On a closed cell it fails with `Closed`, and does not call the closure.
@@ -127,7 +148,7 @@ impl<T: Drop, N: Protocol<T, TaskWaker>> AsyncCell<T, N> {
         ensures seen_closed { OnErr result (IsSeenClosed N.named seen.old seen.new) }
         ensures refused { FailsWithClosed result }
     {
-        self.core.make(Update(change), &Anyone, seen, rt)
+        self.make_as(Update(change), &Anyone, seen, rt)
     }
 
     /// As `update_as`, but the closure is given a value and returns a value. If the cell holds no
@@ -150,7 +171,7 @@ impl<T: Drop, N: Protocol<T, TaskWaker>> AsyncCell<T, N> {
         ensures seen_closed { OnErr result (IsSeenClosed N.named seen.old seen.new) }
         ensures refused { FailsWithClosed result }
     {
-        self.core.make(UpdateSome(change), &Anyone, seen, rt)
+        self.make_as(UpdateSome(change), &Anyone, seen, rt)
     }
 }
 
@@ -166,7 +187,7 @@ impl<T: Drop, R: Wait + Drop, N: Protocol<T, TaskWaker>> Owner<T, R, N> {
     {
         let Shared { cell, permit } = &self.shared;
         seen.lawful();
-        cell.core.make(Set(value), permit, seen, &self.rt)
+        cell.make_as(Set(value), permit, seen, &self.rt)
     }
 
     /// As `AsyncCell::replace_as`, but never fails.
@@ -181,7 +202,7 @@ impl<T: Drop, R: Wait + Drop, N: Protocol<T, TaskWaker>> Owner<T, R, N> {
     {
         let Shared { cell, permit } = &self.shared;
         seen.lawful();
-        cell.core.make(Replace(value), permit, seen, &self.rt)
+        cell.make_as(Replace(value), permit, seen, &self.rt)
     }
 
     /// As `AsyncCell::or_set_as`, but never fails.
@@ -195,7 +216,7 @@ impl<T: Drop, R: Wait + Drop, N: Protocol<T, TaskWaker>> Owner<T, R, N> {
     {
         let Shared { cell, permit } = &self.shared;
         seen.lawful();
-        cell.core.make(OrSet(value), permit, seen, &self.rt)
+        cell.make_as(OrSet(value), permit, seen, &self.rt)
     }
 
     /// Takes the value, if there is one.
@@ -206,7 +227,8 @@ impl<T: Drop, R: Wait + Drop, N: Protocol<T, TaskWaker>> Owner<T, R, N> {
         ensures signed { IsSigned seen.old seen.new }
         ensures rule { IfSome result N.holds }
     {
-        self.shared.cell.core.make(TryTake, &Anyone, seen, &self.rt)
+        let cell = &self.shared.cell;
+        cell.make_as(TryTake, &Anyone, seen, &self.rt)
     }
 
     /// Returns a clone of the value, if there is one. Fails with `Memory` if the clone fails.
@@ -219,7 +241,8 @@ impl<T: Drop, R: Wait + Drop, N: Protocol<T, TaskWaker>> Owner<T, R, N> {
         ensures rule { IfOk result (λ found. IfSome found (IsCloneOfOne T.is_clone N.holds)) }
         ensures refused { FailsWithMemory result }
     {
-        self.shared.cell.core.make(TryGet, &Anyone, seen, &self.rt)
+        let cell = &self.shared.cell;
+        cell.make_as(TryGet, &Anyone, seen, &self.rt)
     }
 
     /// Returns whether the cell holds a value.
@@ -251,7 +274,7 @@ impl<T: Drop, R: Wait + Drop, N: Protocol<T, TaskWaker>> Owner<T, R, N> {
     {
         let Shared { cell, permit } = &self.shared;
         seen.lawful();
-        cell.core.make(Update(change), permit, seen, &self.rt)
+        cell.make_as(Update(change), permit, seen, &self.rt)
     }
 
     /// As `AsyncCell::update_some_as`, but never fails.
@@ -275,7 +298,7 @@ impl<T: Drop, R: Wait + Drop, N: Protocol<T, TaskWaker>> Owner<T, R, N> {
     {
         let Shared { cell, permit } = &self.shared;
         seen.lawful();
-        cell.core.make(UpdateSome(change), permit, seen, &self.rt)
+        cell.make_as(UpdateSome(change), permit, seen, &self.rt)
     }
 }
 
@@ -295,7 +318,9 @@ impl<T: Drop, R: Wait + Copy, N: Protocol<T, TaskWaker>> Owner<T, R, N> {
     {
         seen.lawful();
         let cell = Arc::try_clone(&self.shared.cell)?;
-        let permit = cell.core.add_counted(&self.shared.permit, seen, &self.rt)?;
-        Ok(Shared { cell, permit }.with(self.rt))
+        match Shared::counted(cell, &self.shared.permit, seen, &self.rt) {
+            Ok(shared) => Ok(shared.with(self.rt)),
+            Err(why) => Err(why),
+        }
     }
 }

@@ -59,8 +59,8 @@ impl<T: Drop, R: Wait + Copy> Owner<T, R> {
     pub fn new_with(alloc: Global, value: T, rt: R) -> Result<Self, Refusal>
         ensures refused { FailsWithMemory result }
     {
-        let cell = AsyncCell::new_with(alloc, value);
-        cell.into_owner(rt).map_err(|(why, _)| why)
+        let owner = AsyncCell::new_with(alloc, value).into_shared_or_drop()?;
+        Ok(owner.with(rt))
     }
 }
 
@@ -126,8 +126,8 @@ impl<T: Drop, R: Wait + Copy, N: Protocol<T, TaskWaker>> Owner<T, R, N> {
         ensures refused { IfErr result IsOwnerRefusal }
     {
         let cell = Arc::try_clone(&self.shared.cell)?;
-        let permit = cell.core.add_counted(&Anyone, &mut Nobody, &self.rt)?;
-        Ok(Shared { cell, permit }.with(self.rt))
+        let owner = Shared::counted(cell, &Anyone, &mut Nobody, &self.rt)?;
+        Ok(owner.with(self.rt))
     }
 
     /// Returns a weak owner. If the count of the cell's `Arc` is full, the calls of the returned
@@ -294,7 +294,7 @@ impl<T: Drop, R: Wait + Copy, N: Protocol<T, TaskWaker>> Owner<T, R, N> {
         ensures keeps { IfOk result (λ guard. guard.guarded.cancel ≡ cancel) }
         ensures refused { IfErr result IsOwnerRefusal }
     {
-        self.guard_shared(cancel).map_err(|(why, _)| why)
+        Ok(GuardedCell::new(self.another()?, cancel).with(self.rt))
     }
 }
 
@@ -316,11 +316,17 @@ impl<R: Wait + Copy> Owner<(), R> {
     }
 }
 
-/// Ends the owner. May wait for the lock.
+/// Ends the owner. May wait for the lock, unless it has the only pointer: then the cell ends, too.
 impl<T: Drop, R: Wait + Drop, N: Protocol<T, TaskWaker>> Drop for Owner<T, R, N> {
     fn drop(self) {
         let Owner { shared, rt } = self;
-        shared.let_go(&rt);
+        let Shared { mut cell, permit } = shared;
+        match Arc::get_mut(&mut cell) {
+            Some(last) => last.core.rest(permit),
+            None => {
+                let _ = cell.core.end_counted(permit, &rt);
+            }
+        }
     }
 }
 

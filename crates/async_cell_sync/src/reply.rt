@@ -12,7 +12,7 @@ use async_cell_calls::Taking;
 use async_cell_core::{Core, Place, Refusal, TaskWaker};
 use async_cell_history::{Unruled, Unwitnessed};
 use async_cell_model::Kept;
-use async_cell_step::{Rule, Ruled, poll};
+use async_cell_step::{Rule, Ruled};
 use futures::future::Future;
 use futures::task::{Context, Poll};
 use std::alloc::Global;
@@ -214,8 +214,7 @@ impl<T: Drop, R: Wait + Drop, N: Unwitnessed<T, TaskWaker>> Future for Reply<T, 
         let Some(cell) = &self.cell else {
             return Poll::Ready(Err(Refusal::Closed));
         };
-        let place = Some(&mut self.place);
-        let polled = poll(&cell.core.store, &cell.source, Taking, place, cx, &self.rt);
+        let polled = cell.poll(Taking, Some(&mut self.place), cx, &self.rt);
         match polled {
             Poll::Pending | Poll::Ready(Err(Refusal::Memory)) => {}
             Poll::Ready(_) => self.cell = None,

@@ -1,6 +1,7 @@
-ghost use Rattle.std.specs.Prelude.{◌≡◌, None, IfOk, IfErr, IfSome};
+ghost use Rattle.std.specs.Prelude.{◌≡◌, ◌⊎◌, None, IfOk, IfErr, IfSome};
 ghost use Rattle.std.specs.Arc.{arc_value};
 ghost use Rattle.async_cell_model.specs.Refusal.{FailsWithMemory, IsOwnerRefusal};
+ghost use Rattle.async_cell_history.specs.History.{done_reply};
 ghost use Rattle.async_cell_sync.specs.Names.{cell_of, NamesAtMost};
 
 use crate::async_cell::AsyncCell;
@@ -9,7 +10,7 @@ use crate::owner::Owner;
 use crate::take::{Get, GetWeak, Take, TakeWeak};
 use crate::weak::Weak;
 use async_cell_core::{Refusal, TaskWaker};
-use async_cell_history::{Anyone, Nobody, OwnerPermit, Protocol, Unruled};
+use async_cell_history::{Anyone, Caller, Nobody, OwnerPermit, Protocol, Sees, Unruled};
 use async_cell_model::Kept;
 use std::alloc::{AllocFailed, Global};
 use std::sync::{Arc, Wait};
@@ -31,7 +32,7 @@ impl<T: Drop> Shared<T> {
     pub fn shared(alloc: Global) -> Result<Self, Refusal>
         ensures refused { FailsWithMemory result }
     {
-        Shared::into_shared(AsyncCell::new(alloc)).map_err(|(why, _)| why)
+        AsyncCell::new(alloc).into_shared_or_drop()
     }
 }
 
@@ -73,7 +74,7 @@ impl<T: Drop, N: Protocol<T, TaskWaker>> Shared<T, N> {
         ensures of_this { IfOk result (λ owner. cell_of owner ≡ cell_of self.now) }
         ensures refused { IfErr result IsOwnerRefusal }
     {
-        Shared::owning(&self.cell, rt)
+        Shared::counted(Arc::try_clone(&self.cell)?, &Anyone, &mut Nobody, rt)
     }
 
     /// Returns a `Take` that is a new owner. Fails as `another` does.
@@ -94,8 +95,7 @@ impl<T: Drop, N: Protocol<T, TaskWaker>> Shared<T, N> {
         Ok(Get(self.another(rt)?))
     }
 
-    /// Returns a guard that is a new owner. Fails as `another` does, and then returns `cancel` in
-    /// the error.
+    /// As `Owner::guard_shared`, but returns a `GuardedCell`, which must be consumed.
     pub fn guard_shared<R: Wait>(
         &self,
         cancel: T,
@@ -113,8 +113,7 @@ impl<T: Drop, N: Protocol<T, TaskWaker>> Shared<T, N> {
         }
     }
 
-    /// As `guard_shared`, but drops `cancel` if the call fails, so that `?` can be used on the
-    /// result.
+    /// As `guard_shared`, but drops `cancel` if it fails, so that `?` can be used on the result.
     pub fn guard_shared_or_drop<R: Wait>(
         &self,
         cancel: T,
@@ -125,11 +124,10 @@ impl<T: Drop, N: Protocol<T, TaskWaker>> Shared<T, N> {
         ensures keeps { IfOk result (λ guard. guard.cancel ≡ cancel) }
         ensures refused { IfErr result IsOwnerRefusal }
     {
-        self.guard_shared(cancel, rt).map_err(|(why, _)| why)
+        Ok(GuardedCell::new(self.another(rt)?, cancel))
     }
 
-    /// Returns a weak pointer to the cell. If the pointer cannot be counted, because the count of
-    /// the cell's `Arc` is full, calls on the pointer fail with `Memory`.
+    /// As `Owner::downgrade`, but returns a `Weak`, whose calls take `rt`.
     pub fn downgrade(&self) -> Weak<T, N>
         ensures of_this { NamesAtMost result (cell_of self.now) }
     {
@@ -175,28 +173,26 @@ impl<T: Drop, N: Protocol<T, TaskWaker>> Shared<T, N> {
         let _ = cell.core.end_counted(permit, rt);
     }
 
-    /// Ends the owner. If it has the only pointer, the cell ends, and no lock is taken.
+    /// Makes a new owner of the cell that `cell` points to, and shows the call to `seen`. Fails
+    /// with `OwnersFull` if there are 4,294,967,295 owners, and with `Closed` if the cell is
+    /// closed, which cannot be if the caller `by` is an owner.
     #[inline(always)]
-    pub(crate) fn let_go<R: Wait>(self, rt: &R) {
-        let Shared { mut cell, permit } = self;
-        match Arc::get_mut(&mut cell) {
-            Some(last) => last.core.rest(permit),
-            None => {
-                let _ = cell.core.end_counted(permit, rt);
-            }
-        }
-    }
-
-    /// Makes a new owner. Fails with `Memory` if the count of the cell's `Arc` is full (checked
-    /// first), with `Closed` if the cell is closed, and with `OwnersFull` if the cell has
-    /// 4,294,967,295 owners.
-    pub(crate) fn owning<R: Wait>(cell: &Arc<AsyncCell<T, N>>, rt: &R) -> Result<Self, Refusal>
-        ensures of_this { IfOk result (λ owner. cell_of owner ≡ arc_value cell.now) }
-        ensures refused { IfErr result IsOwnerRefusal }
+    pub(crate) fn counted<K: Caller<T, TaskWaker, N>, S: Sees<T, TaskWaker, N>, R: Wait>(
+        cell: Arc<AsyncCell<T, N>>,
+        by: &K,
+        seen: &mut S,
+        rt: &R,
+    ) -> Result<Self, Refusal>
+        ensures sees { S.sees seen.old Kept.AddOwner (done_reply result) seen.new }
+        ensures of_this { IfOk result (λ owner. cell_of owner ≡ arc_value cell) }
+        ensures open { K.owns → IfErr result (λ why. why ≡ Refusal.OwnersFull) }
+        ensures refused { IfErr result (λ why.
+            (why ≡ Refusal.Closed) ⊎ (why ≡ Refusal.OwnersFull)) }
     {
-        let cell = Arc::try_clone(cell)?;
-        let permit = cell.core.add_counted(&Anyone, &mut Nobody, rt)?;
-        Ok(Shared { cell, permit })
+        match cell.core.add_counted(by, seen, rt) {
+            Ok(permit) => Ok(Shared { cell, permit }),
+            Err(why) => Err(why),
+        }
     }
 }
 

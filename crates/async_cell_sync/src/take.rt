@@ -19,7 +19,7 @@ use crate::weak::Weak;
 use async_cell_calls::{Cloning, Taking};
 use async_cell_core::{Refusal, TaskWaker};
 use async_cell_history::{Protocol, Takeable, Unruled};
-use async_cell_step::{At, Polled, Request, Takes, Upgrade, With, poll, weakly};
+use async_cell_step::{At, Polled, Request, Takes, Upgrade, With};
 use futures::task::{Context, Poll};
 use std::sync::Wait;
 
@@ -46,8 +46,7 @@ impl<C: TakeRef> Take<C> {
         ensures kept { Keeps cx.old cx.new }
         ensures refused { IfReady result FailsWithMemoryOrClosed }
     {
-        let cell = self.0.cell();
-        poll(&cell.core.store, &cell.source, Taking, None, cx, rt)
+        self.0.cell().poll(Taking, None, cx, rt)
     }
 }
 
@@ -83,8 +82,7 @@ impl<C: TakeRef + Drop, R: Wait> Polled<R> for Take<C> {
 
     #[inline(always)]
     fn poll_at(&self, at: At<'_>, cx: &mut Context<'_>, rt: &R) -> Poll<Self::Output> {
-        let cell = self.0.cell();
-        poll(&cell.core.store, &cell.source, Taking, at, cx, rt)
+        self.0.cell().poll(Taking, at, cx, rt)
     }
 }
 
@@ -108,8 +106,7 @@ impl<C: CellRef<Value: Clone>> Get<C> {
         ensures kept { Keeps cx.old cx.new }
         ensures refused { IfReady result FailsWithMemoryOrClosed }
     {
-        let cell = self.0.cell();
-        poll(&cell.core.store, &cell.source, Cloning, None, cx, rt)
+        self.0.cell().poll(Cloning, None, cx, rt)
     }
 }
 
@@ -140,8 +137,7 @@ impl<C: CellRef<Value: Clone> + Drop, R: Wait> Polled<R> for Get<C> {
 
     #[inline(always)]
     fn poll_at(&self, at: At<'_>, cx: &mut Context<'_>, rt: &R) -> Poll<Self::Output> {
-        let cell = self.0.cell();
-        poll(&cell.core.store, &cell.source, Cloning, at, cx, rt)
+        self.0.cell().poll(Cloning, at, cx, rt)
     }
 }
 
@@ -207,10 +203,7 @@ impl<T: Drop, R: Wait, N: Takeable<T, TaskWaker>> Polled<R> for TakeWeak<T, N> {
     ghost may_give = { λ take. GivesWeakly N.holds take.0 };
 
     fn poll_at(&self, at: At<'_>, cx: &mut Context<'_>, rt: &R) -> Poll<Self::Output> {
-        match self.0.cell() {
-            Ok(cell) => weakly(poll(&cell.core.store, &cell.source, Taking, at, cx, rt)),
-            Err(why) => Poll::Ready(Err(why)),
-        }
+        self.0.poll(Taking, at, cx, rt)
     }
 }
 
@@ -220,8 +213,10 @@ impl<T: Drop, R: Wait + Copy, N: Protocol<T, TaskWaker>> Upgrade<R> for TakeWeak
     ghost owned_by = { λ weak owning. Names weak.0 (cell_owned owning.0) };
 
     fn owning(&self, rt: &R) -> Result<Option<Take<Owner<T, R, N>>>, Refusal> {
-        let owner = self.0.upgrade(rt)?;
-        Ok(owner.map(|owner| Take(owner.with(*rt))))
+        match self.0.upgrade(rt)? {
+            Some(owner) => Ok(Some(Take(owner.with(*rt)))),
+            None => Ok(None),
+        }
     }
 }
 
@@ -297,10 +292,7 @@ impl<T: Clone, R: Wait, N: Protocol<T, TaskWaker>> Polled<R> for GetWeak<T, N> {
     ghost may_give = { λ get. GivesWeakly (IsCloneOfOne T.is_clone N.holds) get.0 };
 
     fn poll_at(&self, at: At<'_>, cx: &mut Context<'_>, rt: &R) -> Poll<Self::Output> {
-        match self.0.cell() {
-            Ok(cell) => weakly(poll(&cell.core.store, &cell.source, Cloning, at, cx, rt)),
-            Err(why) => Poll::Ready(Err(why)),
-        }
+        self.0.poll(Cloning, at, cx, rt)
     }
 }
 
@@ -310,8 +302,10 @@ impl<T: Drop, R: Wait + Copy, N: Protocol<T, TaskWaker>> Upgrade<R> for GetWeak<
     ghost owned_by = { λ weak owning. Names weak.0 (cell_owned owning.0) };
 
     fn owning(&self, rt: &R) -> Result<Option<Get<Owner<T, R, N>>>, Refusal> {
-        let owner = self.0.upgrade(rt)?;
-        Ok(owner.map(|owner| Get(owner.with(*rt))))
+        match self.0.upgrade(rt)? {
+            Some(owner) => Ok(Some(Get(owner.with(*rt)))),
+            None => Ok(None),
+        }
     }
 }
 

@@ -17,7 +17,7 @@ use crate::weak::{Weak, WeakOwner};
 use async_cell_calls::{By, CloningAs, TakingAs};
 use async_cell_core::{Refusal, TaskWaker, Wakes};
 use async_cell_history::{Protocol, Witness};
-use async_cell_step::{At, Polled, Request, Takes, With, poll, weakly};
+use async_cell_step::{At, Polled, Request, Takes, With};
 use futures::task::{Context, Poll};
 use std::marker::Model;
 use std::sync::Wait;
@@ -26,7 +26,7 @@ use std::sync::Wait;
 /// seen.
 #[derive(Drop)]
 pub(crate) struct Taker<T, N: Protocol<T, TaskWaker>> {
-    seen: Witness<T, TaskWaker, N>,
+    witness: Witness<T, TaskWaker, N>,
 }
 
 impl<T, N: Protocol<T, TaskWaker>> Model for Taker<T, N> {
@@ -36,32 +36,9 @@ impl<T, N: Protocol<T, TaskWaker>> Model for Taker<T, N> {
 
     ghost Value = { Seen T TaskWaker };
 
-    ghost view = { λ t. t.seen };
+    ghost view = { λ t. t.witness };
 
     ghost invariant = { λ _. N.may TryTake };
-}
-
-impl<T, N: Protocol<T, TaskWaker>> Taker<T, N> {
-    /// Makes a `Taker` of this witness. The invariant of the `Taker` says that the protocol allows
-    /// the value to be taken.
-    #[inline(always)]
-    pub(crate) fn of(seen: Witness<T, TaskWaker, N>) -> Self
-        requires may { N.may TryTake }
-        ensures seen { result ≡ seen }
-    {
-        Taker { seen }
-    }
-
-    /// Returns what a poll asks of the cell: to take the value. Ensures that the protocol allows
-    /// this take.
-    #[inline(always)]
-    pub(crate) fn query(&self) -> TakingAs<T, N>
-        ensures may { N.may TryTake }
-        ensures seen { result.0 ≡ self.now }
-    {
-        self.seen.lawful();
-        TakingAs(self.seen.again())
-    }
 }
 
 /// A `Take` that extends a witness, and gives it back with the value. In the history, the poll that
@@ -94,8 +71,8 @@ impl<T: Drop, R: Wait + Drop, N: Protocol<T, TaskWaker>> Polled<R> for TakeAs<'_
     #[inline(always)]
     fn poll_at(&self, at: At<'_>, cx: &mut Context<'_>, rt: &R) -> Poll<Self::Output> {
         let Shared { cell, permit } = &self.owner.shared;
-        let query = By::new(permit, self.seen.query());
-        poll(&cell.core.store, &cell.source, query, at, cx, rt)
+        let taking = TakingAs(self.seen.witness.again());
+        cell.poll(By::new(permit, taking), at, cx, rt)
     }
 }
 
@@ -130,8 +107,7 @@ impl<T: Clone, R: Wait + Drop, N: Protocol<T, TaskWaker>> Polled<R> for GetAs<'_
     fn poll_at(&self, at: At<'_>, cx: &mut Context<'_>, rt: &R) -> Poll<Self::Output> {
         let Shared { cell, permit } = &self.owner.shared;
         self.seen.lawful();
-        let query = By::new(permit, CloningAs(self.seen.again()));
-        poll(&cell.core.store, &cell.source, query, at, cx, rt)
+        cell.poll(By::new(permit, CloningAs(self.seen.again())), at, cx, rt)
     }
 }
 
@@ -142,7 +118,7 @@ impl<T: Drop, R: Wait + Copy, N: Protocol<T, TaskWaker>> Owner<T, R, N> {
         ensures of_this { result.polled.owner.now ≡ self.now }
         ensures seen { result.polled.seen ≡ seen }
     {
-        let seen = Taker::of(seen);
+        let seen = Taker { witness: seen };
         With::new(TakeAs { owner: self, seen }, self.rt)
     }
 
@@ -189,11 +165,8 @@ impl<T: Drop, R: Wait, N: Protocol<T, TaskWaker>> Polled<R> for TakeWeakAs<T, N>
         TryTake (Value (Some both.0)) both.1.calls × IsSigned asked.seen both.1)) };
 
     fn poll_at(&self, at: At<'_>, cx: &mut Context<'_>, rt: &R) -> Poll<Self::Output> {
-        let taking = self.seen.query();
-        match self.weak.cell() {
-            Ok(cell) => weakly(poll(&cell.core.store, &cell.source, taking, at, cx, rt)),
-            Err(why) => Poll::Ready(Err(why)),
-        }
+        let taking = TakingAs(self.seen.witness.again());
+        self.weak.poll(taking, at, cx, rt)
     }
 }
 
@@ -237,11 +210,7 @@ impl<T: Clone, R: Wait, N: Protocol<T, TaskWaker>> Polled<R> for GetWeakAs<T, N>
         TryGet (Value (Some both.0)) both.1.calls × IsSigned asked.seen both.1)) };
 
     fn poll_at(&self, at: At<'_>, cx: &mut Context<'_>, rt: &R) -> Poll<Self::Output> {
-        let query = CloningAs(self.seen.again());
-        match self.weak.cell() {
-            Ok(cell) => weakly(poll(&cell.core.store, &cell.source, query, at, cx, rt)),
-            Err(why) => Poll::Ready(Err(why)),
-        }
+        self.weak.poll(CloningAs(self.seen.again()), at, cx, rt)
     }
 }
 
@@ -252,7 +221,7 @@ impl<T: Drop, R: Wait + Copy, N: Protocol<T, TaskWaker>> WeakOwner<T, R, N> {
         ensures of_this { NameAtMostTheSame self.now.weak result.polled.weak }
         ensures seen { result.polled.seen ≡ seen }
     {
-        let (weak, seen) = (self.weak.again(), Taker::of(seen));
+        let (weak, seen) = (self.weak.again(), Taker { witness: seen });
         With::new(TakeWeakAs { weak, seen }, self.rt)
     }
 

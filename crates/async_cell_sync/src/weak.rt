@@ -1,5 +1,7 @@
 ghost use Rattle.std.specs.Prelude.{◌≡◌, ℕ, Err, IfOk, IfSome};
 ghost use Rattle.std.specs.Arc.{arc_value};
+ghost use Rattle.futures.specs.Poll.{IfReady, OnPending};
+ghost use Rattle.futures.specs.Task.{Covers, Keeps};
 ghost use Rattle.async_cell_model.specs.Refusal.{FailsWithMemory};
 ghost use Rattle.async_cell_step.specs.Upgrade.{FailsToUpgrade};
 ghost use Rattle.async_cell_sync.specs.Names.{IsLost, NameAtMostTheSame, NameTheSame, Names, NamesAtMost, OwnsNamed};
@@ -11,8 +13,9 @@ use crate::owner::Owner;
 use crate::shared::Shared;
 use crate::take::{GetWeak, TakeWeak};
 use async_cell_core::{Refusal, TaskWaker};
-use async_cell_history::{Protocol, Unruled};
-use async_cell_step::With;
+use async_cell_history::{Anyone, CellCore, Nobody, Protocol, Unruled};
+use async_cell_step::{At, Query, With, weakly};
+use futures::task::{Context, Poll};
 use std::alloc::AllocError;
 use std::sync::{Arc, Wait};
 
@@ -41,8 +44,29 @@ impl<T: Drop, N: Protocol<T, TaskWaker>> Weak<T, N> {
         ensures lost { IsLost self.now → result ≡ Err Refusal.Memory }
         ensures refused { FailsWithMemory result }
     {
-        let found = self.cell.as_ref().ok_or(Refusal::Memory)?;
-        Ok(found.as_ref())
+        Ok(self.cell.as_ref().ok_or(Refusal::Memory)?.as_ref())
+    }
+
+    /// As `AsyncCell::poll`, but gives `None` on a closed cell, and `Memory` if this one is lost.
+    #[inline(always)]
+    pub(crate) fn poll<Q: Query<CellCore<T, TaskWaker, N>>, R: Wait>(
+        &self,
+        query: Q,
+        at: At<'_>,
+        cx: &mut Context<'_>,
+        rt: &R,
+    ) -> Poll<Result<Option<Q::Answer>, Refusal>>
+        requires asks { Q.asks query }
+        ensures gives { IfReady result (λ a. IfOk a (λ found. IfSome found (Q.gives query))) }
+        ensures lost { IsLost self.now → result ≡ Poll.Ready (Err Refusal.Memory) }
+        ensures refused { IfReady result FailsWithMemory }
+        ensures registered { OnPending result (Covers cx.new (IsSourceOf self.now)) }
+        ensures kept { Keeps cx.old cx.new }
+    {
+        match self.cell() {
+            Ok(cell) => weakly(cell.poll(query, at, cx, rt)),
+            Err(why) => Poll::Ready(Err(why)),
+        }
     }
 
     /// Returns another pointer to the same cell. If the new pointer cannot be counted, it points to
@@ -79,8 +103,10 @@ impl<T: Drop, N: Protocol<T, TaskWaker>> Weak<T, N> {
         ensures lost { IsLost self.now → result ≡ Err Refusal.Memory }
         ensures refused { FailsToUpgrade result }
     {
-        let cell = self.cell.as_ref().ok_or(Refusal::Memory)?;
-        match Shared::owning(cell, rt) {
+        let Some(cell) = &self.cell else {
+            return Err(Refusal::Memory);
+        };
+        match Shared::counted(Arc::try_clone(cell)?, &Anyone, &mut Nobody, rt) {
             Ok(owner) => Ok(Some(owner)),
             Err(Refusal::Closed) => Ok(None),
             Err(why) => Err(why),
@@ -126,8 +152,10 @@ impl<T: Drop, R: Wait + Copy, N: Protocol<T, TaskWaker>> WeakOwner<T, R, N> {
         ensures lost { IsLost self.now.weak → result ≡ Err Refusal.Memory }
         ensures refused { FailsToUpgrade result }
     {
-        let owner = self.weak.upgrade(&self.rt)?;
-        Ok(owner.map(|owner| owner.with(self.rt)))
+        match self.weak.upgrade(&self.rt)? {
+            Some(owner) => Ok(Some(owner.with(self.rt))),
+            None => Ok(None),
+        }
     }
 
     /// As `Weak::is_closed`.
@@ -138,16 +166,15 @@ impl<T: Drop, R: Wait + Copy, N: Protocol<T, TaskWaker>> WeakOwner<T, R, N> {
         self.weak.is_closed(&self.rt)
     }
 
-    /// As `Owner::take_weak`. The future fails with `Memory` if it got no pointer to the cell,
-    /// because the count of the cell's `Arc` was full.
+    /// As `Owner::take_weak`. The future also fails with `Memory` if this weak owner could not be
+    /// counted when it was made.
     pub fn take(&self) -> With<TakeWeak<T, N>, R>
         ensures of_this { NameAtMostTheSame self.now.weak result.polled.0 }
     {
         TakeWeak(self.weak.again()).with(self.rt)
     }
 
-    /// As `Owner::get_weak`. The future fails with `Memory` if it got no pointer to the cell,
-    /// because the count of the cell's `Arc` was full.
+    /// As `take`, but the future clones the value.
     pub fn get(&self) -> With<GetWeak<T, N>, R>
     where
         T: Clone,

@@ -59,14 +59,12 @@ impl<T: Drop> AsyncCell<T> {
         AsyncCell::of(alloc, Core::new(alloc))
     }
 
-    /// Makes a cell that holds a value. Allocates nothing. Stores the allocator for all memory that
-    /// the cell allocates later.
+    /// As `new`, but the cell holds a value.
     pub fn new_with(alloc: Global, value: T) -> Self {
         AsyncCell::of(alloc, Core::new_with(alloc, value))
     }
 
-    /// Makes a cell without a value, with one counted owner. Fails with `Memory` if there is no
-    /// memory for the cell.
+    /// As `Shared::shared`.
     pub fn shared(alloc: Global) -> Result<Shared<T>, Refusal>
         ensures refused { FailsWithMemory result }
     {
@@ -101,8 +99,7 @@ impl<T: Drop, N: Free<T, TaskWaker>> AsyncCell<T, N> {
         }
     }
 
-    /// Makes the first counted owner of this cell. If there is no memory, fails with `Memory` and
-    /// returns the cell in the error.
+    /// As `Shared::into_shared`.
     pub fn into_shared(self) -> Result<Shared<T, N>, (Refusal, AsyncCell<T, N>)>
         requires nameless { N.named ≡ None }
         ensures owns { IfOk result (λ owner. cell_of owner ≡ self) }
@@ -135,8 +132,7 @@ impl<T: Drop, N: Free<T, TaskWaker>> AsyncCell<T, N> {
         let _ = self.core.or_set(value, &OneThread);
     }
 
-    /// As `or_set`, but if `value` is not stored, returns it in the error. This includes the case
-    /// of a closed cell.
+    /// As `or_set`, but returns an unused `value` in the error, also on a closed cell.
     pub fn try_set(&self, value: T) -> Result<(), T>
         requires rule { N.holds value }
         ensures comes_back { IfErr result (λ back. back ≡ value) }
@@ -337,8 +333,7 @@ impl AsyncCell<()> {
         self.set(());
     }
 
-    /// Returns a future that waits for `notify`. The future takes the value, so each `notify` ends
-    /// at most one `wait`. If several tasks wait, use `get`.
+    /// As `Owner::wait`, but the future holds no place until you call its `with`.
     pub fn wait(&self) -> Take<&AsyncCell<()>>
         ensures of_this { result.0.now ≡ self.now }
     {

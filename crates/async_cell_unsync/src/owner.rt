@@ -73,8 +73,7 @@ impl<T: Drop, P: Rule<T>> Owner<T, Ruled<P>> {
     pub fn ruled(alloc: Global) -> Result<Self, Refusal>
         ensures refused { FailsWithMemory result }
     {
-        let cell = AsyncCell::<T, Ruled<P>>::ruled(alloc);
-        let owner = cell.into_shared_or_drop()?;
+        let owner = AsyncCell::<T, Ruled<P>>::ruled(alloc).into_shared_or_drop()?;
         Ok(owner.with())
     }
 

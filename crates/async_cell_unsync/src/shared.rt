@@ -61,9 +61,7 @@ impl<T: Drop, N: Free<T, TaskWaker>> Shared<T, N> {
         Owner { shared: self }
     }
 
-    /// Adds an owner. Use this in place of `clone`. Fails with `Memory` if the count of the cell's
-    /// `Rc` is full, and with `OwnersFull` if the cell has 4,294,967,295 owners already. `Closed`
-    /// is in the contract, but cannot happen while this owner lives.
+    /// As `Owner::another`.
     pub fn another(&self) -> Result<Self, Refusal>
         ensures of_this { IfOk result (λ owner. cell_of owner ≡ cell_of self.now) }
         ensures refused { IfErr result IsOwnerRefusal }
@@ -89,8 +87,7 @@ impl<T: Drop, N: Free<T, TaskWaker>> Shared<T, N> {
         Ok(Get(self.another()?))
     }
 
-    /// Returns a guard that is a new owner. Fails as `another` does, and then returns `cancel` in
-    /// the error.
+    /// As `Owner::guard_shared`.
     pub fn guard_shared(&self, cancel: T) -> Result<GuardedCell<T, Self>, (Refusal, T)>
         requires rule { N.holds cancel }
         ensures of_this { IfOk result (λ guard. cell_of guard.pointer ≡ cell_of self.now) }
@@ -104,8 +101,7 @@ impl<T: Drop, N: Free<T, TaskWaker>> Shared<T, N> {
         }
     }
 
-    /// As `guard_shared`, but drops `cancel` if the call fails, so that `?` can be used on the
-    /// result.
+    /// As `Owner::guard_shared_or_drop`.
     pub fn guard_shared_or_drop(&self, cancel: T) -> Result<GuardedCell<T, Self>, Refusal>
         requires rule { N.holds cancel }
         ensures of_this { IfOk result (λ guard. cell_of guard.pointer ≡ cell_of self.now) }
@@ -130,8 +126,7 @@ impl<T: Drop, N: Free<T, TaskWaker>> Shared<T, N> {
         TakeWeak(Weak::of(&self.cell))
     }
 
-    /// Returns a future that clones the value and leaves the value in the cell. The future is not
-    /// an owner.
+    /// As `take_weak`, but the future clones the value.
     pub fn get_weak(&self) -> GetWeak<T, N>
     where
         T: Clone,
@@ -140,8 +135,7 @@ impl<T: Drop, N: Free<T, TaskWaker>> Shared<T, N> {
         GetWeak(Weak::of(&self.cell))
     }
 
-    /// If this is the only owner, closes the cell, wakes all waiters and returns the content of the
-    /// cell. Otherwise this owner is returned in the error.
+    /// As `Owner::try_into_inner`.
     pub fn try_into_inner(self) -> Result<Option<T>, Self>
         ensures rule { IfOk result (λ content. IfSome content N.holds) }
         ensures comes_back { IfErr result (λ back. back ≡ self) }

@@ -54,8 +54,7 @@ impl<T: Drop, N: Free<T, TaskWaker>> Weak<T, N> {
         ensures lost { IsLost self.now → result ≡ Err Refusal.Memory }
         ensures refused { FailsWithMemory result }
     {
-        let found = self.cell.as_ref().ok_or(Refusal::Memory)?;
-        Ok(found.as_ref())
+        Ok(self.cell.as_ref().ok_or(Refusal::Memory)?.as_ref())
     }
 
     /// Returns another pointer to the same cell. If the new pointer cannot be counted, it points to
@@ -121,9 +120,7 @@ pub struct WeakOwner<T, N: Free<T, TaskWaker> = Unruled> {
 }
 
 impl<T: Drop, N: Free<T, TaskWaker>> WeakOwner<T, N> {
-    /// Makes an owner. Fails with `Memory` if the count of the cell's `Rc` is full, or if this weak
-    /// pointer could not be counted when it was made. These two causes are checked first. Returns
-    /// `None` if the cell is closed. Fails with `OwnersFull` at 4,294,967,295 owners.
+    /// As `Weak::upgrade`, but makes an `Owner`.
     pub fn upgrade(&self) -> Result<Option<Owner<T, N>>, Refusal>
         ensures of_this { IfOk result (λ found. IfSome found (λ owner.
             Names self.now.weak (cell_owned owner))) }
@@ -133,8 +130,7 @@ impl<T: Drop, N: Free<T, TaskWaker>> WeakOwner<T, N> {
         Ok(self.weak.upgrade()?.map(|owner| owner.with()))
     }
 
-    /// Returns whether the last owner has ended. If it has, no owner can be made. Fails with
-    /// `Memory` if this weak pointer could not be counted when it was made.
+    /// As `Weak::is_closed`.
     pub fn is_closed(&self) -> Result<bool, Refusal>
         ensures lost { IsLost self.now.weak → result ≡ Err Refusal.Memory }
         ensures refused { FailsWithMemory result }
@@ -265,9 +261,7 @@ impl<T: Drop, N: Free<T, TaskWaker>> Future for TakeWeak<T, N> {
     }
 }
 
-/// A future that clones the value of a cell. The future is not an owner of the cell. The future may
-/// be polled again after it returned `Ready`. **Each poll that waits adds a waker.** The future
-/// that `with` makes, in contrast, has only one waker in the cell (see `Take`).
+/// Like `TakeWeak`, but the future clones the value.
 #[derive(Drop)]
 #[derive_where(Clone; T: Drop)]
 #[derive_where(Debug)]

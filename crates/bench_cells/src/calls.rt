@@ -14,8 +14,7 @@ use std::sync::Wait;
 /// Runs what is asked for on a cell with a history, and returns what it counted: 0 if there is no
 /// memory.
 pub fn count<R: Wait + AllocGlobal + Copy>(asked: &Asked, hidden: &Hidden, rt: R) -> u64 {
-    let blank = Blank::new(rt.alloc(), None);
-    count_named::<Brand, R>(asked, hidden, blank, rt).unwrap_or(0)
+    count_named::<Brand, R>(asked, hidden, Blank::new(rt.alloc(), None), rt).unwrap_or(0)
 }
 
 /// Sets each number, and adds up what the second call finds.

@@ -50,8 +50,7 @@ fn reply_slots<K: Kind<R>, R: Wait>(given: Given<'_, '_, R>) -> u64 {
     let mut sum = 0u64;
     for i in 0..rounds {
         if let Some(cell) = K::make(alloc, rt) {
-            let taken = reply(&cell, cx, hidden.number(i), rt);
-            sum = sum.wrapping_add(taken.unwrap_or(0));
+            sum = sum.wrapping_add(reply(&cell, cx, hidden.number(i), rt).unwrap_or(0));
         }
     }
     sum
