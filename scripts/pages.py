@@ -106,9 +106,8 @@ def names_of_nothing(lines):
     for at, line in enumerate(lines):
         code = CODE.findall(line)
         for path in PATH.findall(" ".join(code)):
-            is_any_name = re.search(r"\b[A-Z]{3,}\b(?!\.\w)|\.\.\.?$", path)
-            is_any_name = is_any_name or path.startswith(THEIRS)
-            if not is_any_name and not glob.glob(path.rstrip("./")):
+            is_any = path.startswith(THEIRS) or re.search(r"\b[A-Z]{3,}\b(?!\.\w)|\.\.\.?$", path)
+            if not is_any and not glob.glob(path.rstrip("./")):
                 yield at, f"`{path}`, where nothing lies"
         for name in code:
             if CRATE.fullmatch(name) and not os.path.isdir(f"crates/{name}"):
@@ -138,8 +137,7 @@ def unknown_names(page, lines):
             if name not in words:
                 yield at, f"`{name}`, which stands in no source"
     if page == "CONTRIBUTING.md":
-        of_table = lines.index("## Labels of clauses")
-        for at in range(of_table, len(lines)):
+        for at in range(lines.index("## Labels of clauses"), len(lines)):
             for name in re.findall(r"`(\w+)`", lines[at].split(" | ")[0]):
                 if name not in labels:
                     yield at, f"`{name}`, which is the label of no clause"

@@ -64,8 +64,7 @@ class Owners(Maker):
     def upgrade(self):
         """Upgrades a weak owner or a weak future, or makes another one of a weak owner."""
         weak, name, how = self.some(self.weak), self.name("u"), self.some(["take", "get", "clone"])
-        futures = [it for it, (_, _, kind) in self.made.items() if kind == "weak"]
-        of = self.some([weak, *futures])
+        of = self.some([weak, *(it for it, (_, _, kind) in self.made.items() if kind == "weak")])
         if self.random.random() < 0.2:
             return self.line(f"is_closed {weak}", self.cell.look("is_closed"))
         if self.random.random() < 0.3 and how == "clone":

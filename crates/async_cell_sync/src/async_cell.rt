@@ -107,7 +107,7 @@ impl<T: Drop, N: Protocol<T, TaskWaker>> AsyncCell<T, N> {
         }
     }
 
-    /// As `async_cell_step::poll`, on this cell.
+    /// As `async_cell_step::poll`, on this cell. `at` is the future's place, if it has one.
     #[inline(always)]
     pub(crate) fn poll<Q: Query<CellCore<T, TaskWaker, N>>, R: Wait>(
         &self,

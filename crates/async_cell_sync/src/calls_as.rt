@@ -14,30 +14,27 @@ use crate::owner::Owner;
 use crate::shared::Shared;
 use async_cell_core::{Refusal, TaskWaker, Wakes};
 use async_cell_history::{
-    Anyone, Caller, IsSet, Op, OrSet, Protocol, Replace, Set, TryGet, TryTake, Update, UpdateSome,
-    Witness,
+    Anyone, IsSet, Op, OrSet, Protocol, Replace, Set, TryGet, TryTake, Update, UpdateSome, Witness,
 };
 use async_cell_model::{Kept, Reply};
 use std::sync::{Arc, Wait};
 
 impl<T: Drop, N: Protocol<T, TaskWaker>> AsyncCell<T, N> {
-    /// Makes the call, and shows it to the witness. The cell of a caller that is an owner is open.
+    /// Makes the call, and shows it to the witness.
     #[inline(always)]
-    fn make_as<O: Op<T, TaskWaker, N>, K: Caller<T, TaskWaker, N>, R: Wait>(
+    fn make_as<O: Op<T, TaskWaker, N>, R: Wait>(
         &self,
         op: O,
-        by: &K,
         seen: &mut Witness<T, TaskWaker, N>,
         rt: &R,
     ) -> O::Answer
         requires can { O.can op }
         ensures made { (from to : State _ _) × O.gives from op result to
-            × (K.owns → is_closed from.cell ≡ false)
             × IsLinearized ⟦<TaskWaker as Wakes>⟧ N.named seen.old.calls
             (O.call from op to) (O.reply from result) seen.new.calls }
         ensures signed { IsSigned seen.old seen.new }
     {
-        self.core.make(op, by, seen, rt)
+        self.core.make(op, &Anyone, seen, rt)
     }
 
     /// Sets the value, drops the old one and wakes all waiters. Fails on a closed cell, and then
@@ -54,7 +51,7 @@ impl<T: Drop, N: Protocol<T, TaskWaker>> AsyncCell<T, N> {
         ensures signed { IsSigned seen.old seen.new }
         ensures comes_back { IfErr result (λ back. back ≡ value) }
     {
-        self.make_as(Set(value), &Anyone, seen, rt)
+        self.make_as(Set(value), seen, rt)
     }
 
     /// Sets the value, wakes all waiters and returns the old value. Fails on a closed cell, and
@@ -72,7 +69,7 @@ impl<T: Drop, N: Protocol<T, TaskWaker>> AsyncCell<T, N> {
         ensures rule { IfOk result (λ old. IfSome old N.holds) }
         ensures comes_back { IfErr result (λ back. back ≡ value) }
     {
-        self.make_as(Replace(value), &Anyone, seen, rt)
+        self.make_as(Replace(value), seen, rt)
     }
 
     /// If an open cell holds no value, sets `value` and wakes all waiters. Otherwise returns
@@ -89,7 +86,7 @@ impl<T: Drop, N: Protocol<T, TaskWaker>> AsyncCell<T, N> {
         ensures signed { IsSigned seen.old seen.new }
         ensures comes_back { IfErr result (λ back. back ≡ value) }
     {
-        self.make_as(OrSet(value), &Anyone, seen, rt)
+        self.make_as(OrSet(value), seen, rt)
     }
 
     /// Takes the value, if there is one.
@@ -100,7 +97,7 @@ impl<T: Drop, N: Protocol<T, TaskWaker>> AsyncCell<T, N> {
         ensures signed { IsSigned seen.old seen.new }
         ensures rule { IfSome result N.holds }
     {
-        self.make_as(TryTake, &Anyone, seen, rt)
+        self.make_as(TryTake, seen, rt)
     }
 
     /// Returns a clone of the value, if there is one. Fails with `Memory` if the clone fails.
@@ -117,7 +114,7 @@ impl<T: Drop, N: Protocol<T, TaskWaker>> AsyncCell<T, N> {
         ensures rule { IfOk result (λ found. IfSome found (IsCloneOfOne T.is_clone N.holds)) }
         ensures refused { FailsWithMemory result }
     {
-        self.make_as(TryGet, &Anyone, seen, rt)
+        self.make_as(TryGet, seen, rt)
     }
 
     /// Returns whether the cell holds a value.
@@ -126,7 +123,7 @@ impl<T: Drop, N: Protocol<T, TaskWaker>> AsyncCell<T, N> {
             Kept.IsSet (Reply.Is result) seen.new.calls }
         ensures signed { IsSigned seen.old seen.new }
     {
-        self.make_as(IsSet, &Anyone, seen, rt)
+        self.make_as(IsSet, seen, rt)
     }
 
     /// As `Owner::update`. On a closed cell it fails with `Closed`, and does not call the closure.
@@ -148,7 +145,7 @@ impl<T: Drop, N: Protocol<T, TaskWaker>> AsyncCell<T, N> {
         ensures seen_closed { OnErr result (IsSeenClosed N.named seen.old seen.new) }
         ensures refused { FailsWithClosed result }
     {
-        self.make_as(Update(change), &Anyone, seen, rt)
+        self.make_as(Update(change), seen, rt)
     }
 
     /// As `update_as`, but the closure is given a value and returns a value. If the cell holds no
@@ -171,11 +168,31 @@ impl<T: Drop, N: Protocol<T, TaskWaker>> AsyncCell<T, N> {
         ensures seen_closed { OnErr result (IsSeenClosed N.named seen.old seen.new) }
         ensures refused { FailsWithClosed result }
     {
-        self.make_as(UpdateSome(change), &Anyone, seen, rt)
+        self.make_as(UpdateSome(change), seen, rt)
     }
 }
 
 impl<T: Drop, R: Wait + Drop, N: Protocol<T, TaskWaker>> Owner<T, R, N> {
+    /// As `AsyncCell::make_as`. This owner shows that the cell is open. `set_as`, `try_take_as` and
+    /// `try_get_as` call the core themselves, because that saves two instructions.
+    #[inline(always)]
+    fn make_as<O: Op<T, TaskWaker, N>>(
+        &self,
+        op: O,
+        seen: &mut Witness<T, TaskWaker, N>,
+    ) -> O::Answer
+        requires can { O.can op }
+        ensures made { (from to : State _ _) × O.gives from op result to
+            × (is_closed from.cell ≡ false)
+            × IsLinearized ⟦<TaskWaker as Wakes>⟧ N.named seen.old.calls
+            (O.call from op to) (O.reply from result) seen.new.calls }
+        ensures signed { IsSigned seen.old seen.new }
+    {
+        let Shared { cell, permit } = &self.shared;
+        seen.lawful();
+        cell.core.make(op, permit, seen, &self.rt)
+    }
+
     /// As `AsyncCell::set_as`, but never fails.
     pub fn set_as(&self, seen: &mut Witness<T, TaskWaker, N>, value: T) -> Result<(), T>
         requires may { N.may (Kept.Set value) }
@@ -187,7 +204,7 @@ impl<T: Drop, R: Wait + Drop, N: Protocol<T, TaskWaker>> Owner<T, R, N> {
     {
         let Shared { cell, permit } = &self.shared;
         seen.lawful();
-        cell.make_as(Set(value), permit, seen, &self.rt)
+        cell.core.make(Set(value), permit, seen, &self.rt)
     }
 
     /// As `AsyncCell::replace_as`, but never fails.
@@ -200,9 +217,7 @@ impl<T: Drop, R: Wait + Drop, N: Protocol<T, TaskWaker>> Owner<T, R, N> {
         ensures open { IsOk result }
         ensures comes_back { IfErr result (λ back. back ≡ value) }
     {
-        let Shared { cell, permit } = &self.shared;
-        seen.lawful();
-        cell.make_as(Replace(value), permit, seen, &self.rt)
+        self.make_as(Replace(value), seen)
     }
 
     /// As `AsyncCell::or_set_as`, but never fails.
@@ -214,9 +229,7 @@ impl<T: Drop, R: Wait + Drop, N: Protocol<T, TaskWaker>> Owner<T, R, N> {
         ensures open { IsOk result }
         ensures comes_back { IfErr result (λ back. back ≡ value) }
     {
-        let Shared { cell, permit } = &self.shared;
-        seen.lawful();
-        cell.make_as(OrSet(value), permit, seen, &self.rt)
+        self.make_as(OrSet(value), seen)
     }
 
     /// Takes the value, if there is one.
@@ -227,8 +240,7 @@ impl<T: Drop, R: Wait + Drop, N: Protocol<T, TaskWaker>> Owner<T, R, N> {
         ensures signed { IsSigned seen.old seen.new }
         ensures rule { IfSome result N.holds }
     {
-        let cell = &self.shared.cell;
-        cell.make_as(TryTake, &Anyone, seen, &self.rt)
+        self.shared.cell.core.make(TryTake, &Anyone, seen, &self.rt)
     }
 
     /// Returns a clone of the value, if there is one. Fails with `Memory` if the clone fails.
@@ -241,8 +253,7 @@ impl<T: Drop, R: Wait + Drop, N: Protocol<T, TaskWaker>> Owner<T, R, N> {
         ensures rule { IfOk result (λ found. IfSome found (IsCloneOfOne T.is_clone N.holds)) }
         ensures refused { FailsWithMemory result }
     {
-        let cell = &self.shared.cell;
-        cell.make_as(TryGet, &Anyone, seen, &self.rt)
+        self.shared.cell.core.make(TryGet, &Anyone, seen, &self.rt)
     }
 
     /// Returns whether the cell holds a value.
@@ -251,7 +262,7 @@ impl<T: Drop, R: Wait + Drop, N: Protocol<T, TaskWaker>> Owner<T, R, N> {
             Kept.IsSet (Reply.Is result) seen.new.calls }
         ensures signed { IsSigned seen.old seen.new }
     {
-        self.shared.cell.is_set_as(seen, &self.rt)
+        self.make_as(IsSet, seen)
     }
 
     /// As `AsyncCell::update_as`, but never fails.
@@ -272,9 +283,7 @@ impl<T: Drop, R: Wait + Drop, N: Protocol<T, TaskWaker>> Owner<T, R, N> {
         ensures open { IsOk result }
         ensures refused { FailsWithClosed result }
     {
-        let Shared { cell, permit } = &self.shared;
-        seen.lawful();
-        cell.make_as(Update(change), permit, seen, &self.rt)
+        self.make_as(Update(change), seen)
     }
 
     /// As `AsyncCell::update_some_as`, but never fails.
@@ -296,9 +305,7 @@ impl<T: Drop, R: Wait + Drop, N: Protocol<T, TaskWaker>> Owner<T, R, N> {
         ensures open { IsOk result }
         ensures refused { FailsWithClosed result }
     {
-        let Shared { cell, permit } = &self.shared;
-        seen.lawful();
-        cell.make_as(UpdateSome(change), permit, seen, &self.rt)
+        self.make_as(UpdateSome(change), seen)
     }
 }
 

@@ -316,7 +316,7 @@ impl<R: Wait + Copy> Owner<(), R> {
     }
 }
 
-/// Ends the owner. May wait for the lock, unless it has the only pointer: then the cell ends, too.
+/// Ends the owner. May wait for the lock. If no other pointer to the cell is left, takes no lock.
 impl<T: Drop, R: Wait + Drop, N: Protocol<T, TaskWaker>> Drop for Owner<T, R, N> {
     fn drop(self) {
         let Owner { shared, rt } = self;

@@ -131,14 +131,15 @@ impl<T: Drop, N: Protocol<T, TaskWaker>> Shared<T, N> {
     pub fn downgrade(&self) -> Weak<T, N>
         ensures of_this { NamesAtMost result (cell_of self.now) }
     {
-        Weak::of(&self.cell)
+        let cell = Arc::try_clone(&self.cell).ok();
+        Weak { cell }
     }
 
     /// Returns a request, whose `with(rt)` is the future of `Owner::take_weak`.
     pub fn take_weak(&self) -> TakeWeak<T, N>
         ensures of_this { NamesAtMost result.0 (cell_of self.now) }
     {
-        TakeWeak(Weak::of(&self.cell))
+        TakeWeak(self.downgrade())
     }
 
     /// Returns a request, whose `with(rt)` is the future of `Owner::get_weak`.
@@ -147,7 +148,7 @@ impl<T: Drop, N: Protocol<T, TaskWaker>> Shared<T, N> {
         T: Clone,
         ensures of_this { NamesAtMost result.0 (cell_of self.now) }
     {
-        GetWeak(Weak::of(&self.cell))
+        GetWeak(self.downgrade())
     }
 
     /// As `Owner::try_into_inner`.

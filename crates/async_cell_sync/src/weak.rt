@@ -1,10 +1,9 @@
 ghost use Rattle.std.specs.Prelude.{◌≡◌, ℕ, Err, IfOk, IfSome};
-ghost use Rattle.std.specs.Arc.{arc_value};
 ghost use Rattle.futures.specs.Poll.{IfReady, OnPending};
 ghost use Rattle.futures.specs.Task.{Covers, Keeps};
 ghost use Rattle.async_cell_model.specs.Refusal.{FailsWithMemory};
 ghost use Rattle.async_cell_step.specs.Upgrade.{FailsToUpgrade};
-ghost use Rattle.async_cell_sync.specs.Names.{IsLost, NameAtMostTheSame, NameTheSame, Names, NamesAtMost, OwnsNamed};
+ghost use Rattle.async_cell_sync.specs.Names.{IsLost, NameAtMostTheSame, NameTheSame, Names, OwnsNamed};
 ghost use Rattle.async_cell_sync.specs.Owned.{cell_owned};
 ghost use Rattle.async_cell_sync.specs.Source.{source_of, IsSourceOf};
 
@@ -27,27 +26,23 @@ use std::sync::{Arc, Wait};
 pub struct Weak<T, N: Protocol<T, TaskWaker> = Unruled> {
     /// `None` if the pointer could not be counted when it was made.
     #[derive_where(skip)]
-    cell: Option<Arc<AsyncCell<T, N>>>,
+    pub(crate) cell: Option<Arc<AsyncCell<T, N>>>,
 }
 
 impl<T: Drop, N: Protocol<T, TaskWaker>> Weak<T, N> {
-    pub(crate) fn of(cell: &Arc<AsyncCell<T, N>>) -> Self
-        ensures of_this { NamesAtMost result (arc_value cell.now) }
-    {
-        let cell = Arc::try_clone(cell).ok();
-        Weak { cell }
-    }
-
     /// Returns the cell. Fails with `Memory` if the pointer could not be counted when it was made.
     pub(crate) fn cell(&self) -> Result<&AsyncCell<T, N>, Refusal>
         ensures source { IfOk result (λ c. (s : ℕ) → IsSourceOf self.now s → s ≡ source_of c.now) }
         ensures lost { IsLost self.now → result ≡ Err Refusal.Memory }
         ensures refused { FailsWithMemory result }
     {
-        Ok(self.cell.as_ref().ok_or(Refusal::Memory)?.as_ref())
+        match &self.cell {
+            Some(cell) => Ok(cell.as_ref()),
+            None => Err(Refusal::Memory),
+        }
     }
 
-    /// As `AsyncCell::poll`, but gives `None` on a closed cell, and `Memory` if this one is lost.
+    /// As `AsyncCell::poll`, but gives `None` on a closed cell. Also fails when `cell` fails.
     #[inline(always)]
     pub(crate) fn poll<Q: Query<CellCore<T, TaskWaker, N>>, R: Wait>(
         &self,

@@ -61,7 +61,7 @@ pub fn reply_slot<T: Drop>(alloc: Global) -> Result<(Replier<T>, Reply<T>), Refu
 }
 
 /// As `reply_slot`, but the value satisfies the rule `P`: `set` requires this, and a poll of the
-/// reply ensures it. The file `even.rt` of `example_theorems` has such a slot of threads.
+/// reply ensures it. The file `even.rt` of `example_theorems` has one, of `async_cell_sync`.
 pub fn reply_slot_of<P: Rule<T>, T: Drop>(
     alloc: Global,
 ) -> Result<(Replier<T, Ruled<P>>, Reply<T, Ruled<P>>), Refusal>
