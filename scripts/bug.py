@@ -1,15 +1,23 @@
-"""The deliberate bugs of crates: how their texts are read, and what each changes."""
+"""The deliberate bugs of crates: how their texts are read, what each changes, and how a complaint of
+the prover is judged."""
 import glob
+import hashlib
 import os
 import re
+import subprocess
+import tempfile
 
-from lay_out import read, write
+from lay_out import READ, read, write
+from try_kit import KIT
 
 BUG = re.compile(
     r"^(?P<file>[^\s:]+): (?P<name>.+)\n(?P<pairs>(?:- .+\n\+.*\n)+)(?:= (?P<clause>\w+)\n)?", re.M
 )
-EDIT = re.compile(r"^file: src/(?P<file>\S+)\n(?P<pairs>(?:old: .+\nnew:.*\n)+)(?P<clause>)", re.M)
-PAIR = re.compile(r"^(?:- |old: )(.+)\n(?:\+|new:) ?(.*)\n", re.M)
+PAIR = re.compile(r"^- (.+)\n\+ ?(.*)\n", re.M)
+# How a bug is refused, best first: there are values at which a goal is false; a search ended without
+# a proof; or one met its limits, so that it may only be lost. And the words that tell it.
+WAYS = ("by values", "by a clause", "lost")
+TOLD_BY = {"allow values at which": "by values", "gave up at one of its limits": "lost"}
 FN = re.compile(r"( *)(?:pub(?:\([a-z]+\))? )?(?:const )?(?:unsafe )?fn (\w+)")
 
 
@@ -46,14 +54,13 @@ def with_files(folder):
 
 
 class Bug:
-    """A bug: its changes, in which functions' bodies they are (None: in no body), and the clause
-    that is to refuse it, if that matters."""
+    """A bug: its changes, in which functions' bodies they are (None: in no body), the clause that is
+    to refuse it, if that matters, and, once it is refused, how: one of WAYS."""
 
     def __init__(self, crate, name, file, pairs, clause):
         self.crate, self.name, self.file, self.clause = crate, name, f"src/{file}", clause
-        self.changes, self.functions, self.fault = [], set(), None
-        path = f"crates/{crate}/src/{file}"
-        text = read(path) if os.path.isfile(path) and os.path.normpath(path) == path else ""
+        self.changes, self.functions, self.fault, self.how = [], set(), None, None
+        text = read(self.path()) if os.path.isfile(self.path()) and ".." not in file else ""
         for old, new in pairs:
             at, times = text.partition(old)[0].count("\n"), text.count(old)
             self.changes.append((at, old, new))
@@ -62,13 +69,18 @@ class Bug:
                 self.fault = f"'{old}' is not changed"
             elif times != 1:
                 self.fault = f"'{old}' stands in {self.file} {times} times, and not once"
+        parts = [self.file, *(it for _, *pair in self.changes for it in pair), clause or ""]
+        self.sum = hashlib.sha256("\0".join(parts).encode()).hexdigest()[:8]
 
-    def apply(self, folder):
-        """Writes it into the crate in this folder. A change is of one line, so that none moves."""
-        lines = read(f"{folder}/{self.file}").split("\n")
+    def path(self):
+        return f"crates/{self.crate}/{self.file}"
+
+    def apply(self, source, path):
+        """Writes the text of a file with it to a path. A change is of one line, so none moves."""
+        lines = read(source).split("\n")
         for at, old, new in self.changes:
             lines[at] = lines[at].replace(old, new)
-        write(f"{folder}/{self.file}", "\n".join(lines))
+        write(path, "\n".join(lines))
 
     def is_beside(self, other):
         """Returns whether both change bodies of functions of one crate, and of no same one."""
@@ -105,40 +117,56 @@ class Bug:
         return not self.clause or bool(re.search(f"`{goal}`", told[0]))
 
     def judge(self, why, told=()):
-        """Prints why it is not refused, or what the prover has told of it. Returns whether it is
-        refused."""
-        clause = f" by `{self.clause}`" if self.clause else ""
-        said = f"FAILED: {why}" if why else f"refused{clause}: {told[0][0]}"
+        """Prints why it is not refused, or what the prover has told of it."""
+        said = f"FAILED: {why}"
+        if not why:
+            ways = [way_of(it.string) for it in told]
+            self.how = min(ways, key=WAYS.index)
+            clause = f" by `{self.clause}`" if self.clause else ""
+            said = f"refused{clause}, {self.how}: {told[ways.index(self.how)][0]}"
         # (the text and its line feed at once: other threads print too)
-        print(f"{self.crate}: {self.name}: {said[:160]}\n", end="", flush=True)
-        return not why
+        print(f"{self.crate}: {self.name}: {said[:180]}\n", end="", flush=True)
+
+
+def way_of(complaint):
+    """Returns which of WAYS a complaint of the prover tells."""
+    return next((way for words, way in TOLD_BY.items() if words in complaint), "by a clause")
 
 
 def bugs_of(crate):
-    """Returns the bugs of a crate, and how many are none."""
-    edits = edits_of(crate)
-    others = {*glob.glob(f"crates/{crate}/must-fail/**/*.*", recursive=True)} - {*edits}
-    print("".join(f"{it}: FAILED: edits are must-fail/NAME.edit\n" for it in others), end="")
-    found, faults = [], len(others)
-    for path in [*glob.glob(f"crates/{crate}/bugs.txt"), *edits]:
-        text, form = read(path), EDIT if path in edits else BUG
-        for it in form.finditer(text):
-            name = os.path.basename(path) if path in edits else it["name"]
-            found.append(Bug(crate, name, it["file"], PAIR.findall(it["pairs"]), it["clause"]))
-        rest = [it for it in form.sub("", text).split("\n") if it.strip()]
-        print("".join(f"{path}: FAILED: this line is of no bug: {it}\n" for it in rest[:1]), end="")
-        faults += bool(rest)
-    names = [it.name for it in found]
+    """Returns the bugs of a crate that can be applied, and how many cannot."""
+    path = f"crates/{crate}/bugs.txt"
+    text = read(path)
+    found = [Bug(crate, it["name"], it["file"], PAIR.findall(it["pairs"]), it["clause"])
+             for it in BUG.finditer(text)]
+    rest = [it for it in BUG.sub("", text).split("\n") if it.strip()]
+    print("".join(f"{path}: FAILED: this line is of no bug: {it}\n" for it in rest[:1]), end="")
+    names, sums = [it.name for it in found], [it.sum for it in found]
     for it in found:
         it.fault = it.fault or (names.count(it.name) > 1 and "another has its name")
+        it.fault = it.fault or (sums.count(it.sum) > 1 and "another changes the same")
         if it.clause is None and it.needs_clause():
             it.fault = it.fault or "it names no clause, and an Answers.antt proves its function"
-        faults += not it.judge(f"it cannot be applied: {it.fault}") if it.fault else 0
-    return [it for it in found if not it.fault], faults
+    parses = [it for it in found if not it.fault]
+    for it, why in unread(parses):
+        it.fault = f"its text does not parse: {why}"
+    bad = [it for it in found if it.fault]
+    for it in bad:
+        it.judge(f"it cannot be applied: {it.fault}")
+    return [it for it in found if not it.fault], len(bad) + bool(rest)
 
 
-def edits_of(crate):
-    return sorted(glob.glob(f"crates/{crate}/must-fail/*.edit"))
+def unread(bugs):
+    """Yields each of these bugs whose text does not parse, with what the kit says of it."""
+    with tempfile.TemporaryDirectory() as room:
+        for at, it in enumerate(bugs):
+            it.apply(it.path(), f"{room}/{at}.rt")
+        asked = [f"{KIT}/bin/rattle", "fmt", "--check", *(f"{it}.rt" for it in range(len(bugs)))]
+        ran = subprocess.run(asked, cwd=room, check=False, **READ) if bugs else None
+    if ran and ran.returncode not in (0, 1):
+        raise OSError(f"the kit cannot read the bugs: {ran.stdout[-500:]}")
+    said = re.findall(r"(?m)^(\d+)\.rt: it does not parse: (.*)", ran.stdout if ran else "")
+    yield from ((bugs[int(at)], why) for at, why in said)
 
 
 def groups_of(bugs):
@@ -152,5 +180,4 @@ def groups_of(bugs):
 
 def with_bugs():
     """Returns the crates that have deliberate bugs."""
-    every = os.listdir("crates")
-    return sorted(it for it in every if os.path.isfile(f"crates/{it}/bugs.txt") or edits_of(it))
+    return sorted(it for it in os.listdir("crates") if os.path.isfile(f"crates/{it}/bugs.txt"))
