@@ -2,17 +2,18 @@
 # The whole gate, which CI runs too: the steps below. With the word --all, as before a release, it
 # tries the bugs of all crates, which it records, all cases of copies, as root, and the program of
 # examples/tokio. Without valgrind it fails, but where WITHOUT_VALGRIND=yes says so.
+# A step fails if its status is not 0, or if it has counted less than floors.txt says, or if that has
+# no row of it. The first one that fails ends the gate, whose status is then not 0.
 # Prints a line at least every minute. At the end comes a line for each step, with its seconds by
 # the clock, its minutes of processors and its last line, then how large the repository is, and last
-# 'N passed, M failed', the totals of all steps that end so. A step fails if its status is not 0, or
-# if its last line is not as it has to be. The first one that fails ends the gate, whose status is
-# then not 0. A failure without a number counts as one.
+# 'N passed, M failed', the totals of all steps that end so. A failure without a number counts as
+# one.
 set -u
 [ $# -eq 0 ] || [ "$*" = --all ] || { echo 'gate.sh [--all]' >&2 && exit 2; }
 cd "$(dirname "$0")/.." || exit 1
 work=$(mktemp -d)
 TIMEFORMAT='%U %S'
-passed=0 failed=0
+passed=0 failed=0 ran=
 
 # Says every 45 seconds what the step has last printed.
 tick() {
@@ -41,53 +42,67 @@ finish() {
     exit "$1"
 }
 
-# Runs a step: its name, a pattern of its last line, and its command. Adds 'N passed, M failed' in
-# that line to the totals. The step ends the gate unless its status is 0 and that line is as the
-# pattern says. The status of a pipe is that of its first command here.
+# Compares what a step has counted with its rows of floors.txt, of which the first is of its last
+# line: NAME
+reaches() {
+    local of least line got rows=0
+    while IFS='|' read -r of least line; do
+        [ "$of" = "$1" ] || continue
+        rows=$((rows + 1))
+        got=$({ [ "$rows" -gt 1 ] && cat "$work/log" || tail -n 1 "$work/log"; } |
+            sed -nE "s/^$line\$/\1/p" | tail -n 1)
+        [ "${got:-0}" -ge "$least" ] ||
+            { echo "gate: $1 has to count $least of '$line', and counts ${got:-none}" && return 1; }
+    done <scripts/floors.txt
+    [ "$rows" -gt 0 ] || { echo "gate: floors.txt has no row of $1" && return 1; }
+}
+
+# Runs a step: its name, and its command. Adds 'N passed, M failed' in its last line to the totals.
+# The status of a pipe is that of its first command here.
 step() {
-    local name=$1 wanted=$2 status spent last begun=$SECONDS
-    shift 2
+    local name=$1 status spent last begun=$SECONDS
+    shift
     echo "gate: $name"
     echo "$name" >"$work/name"
     { time "$@" 2>&1 </dev/null | tee "$work/log"; status=${PIPESTATUS[0]}; } 2>"$work/time"
     spent=$(awk 'END { printf "%.1f", ($1 + $2) / 60 }' "$work/time")
     last=$(tail -n 1 "$work/log")
     echo "gate: $name, $((SECONDS - begun)) s, $spent min of processors: $last" >>"$work/shown"
+    grep -E '^rt: ok; |^edits: |^[0-9]+ by values, ' "$work/log" | sed 's/^/gate:   /' >>"$work/shown"
     if [[ $last =~ ^([0-9]+)\ passed,\ ([0-9]+)\ failed$ ]]; then
         passed=$((passed + BASH_REMATCH[1]))
         failed=$((failed + BASH_REMATCH[2]))
     fi
-    [ "$status" -eq 0 ] && [[ $last =~ $wanted ]] && return
+    ran+="$name|"
+    [ "$status" -eq 0 ] && reaches "$name" >>"$work/shown" && return
     [ "$failed" -gt 0 ] || failed=1
     finish 1
 }
 
-# Proves all, and brings what was built to its place. Works on a copy without must-fail/, of whose
-# edits rt ci would try each by itself, over one more check of its crate: bugs.py tries them.
-prove() {
-    local it
-    mkdir "$work/proved" && cp -a ./* "$work/proved" || return
-    rm -rf "$work/proved"/crates/*/must-fail
-    (cd "$work/proved" && RT_JOBS="$lanes" rt ci) || return
-    for it in crates/*/; do
-        diff -rq -x out -x must-fail "$it" "$work/proved/$it" || return
-        rm -rf "$it/out" && mv "$work/proved/$it/out" "$it" || return
-    done
-    # (misuse/check.sh wants libraries that are newer than the sources, and a kept proof is older)
-    find crates -path '*/out/*/format' -exec sed -i '' {} +
+# Passes a step over, and says why: NAME WHY
+pass_over() {
+    ran+="$1|"
+    echo "gate: $1 is passed over: $2" >>"$work/shown"
 }
 
-# The last line of a step that counts.
-counts='^([a-z]+: )?[1-9][0-9]* passed, 0 failed$'
+# Runs the kit's own gate on what is here, and says how many must-fail edits are refuted by values or
+# by a clause, and how many only as a search met its limits (of these lines the kit cuts the end).
+prove() {
+    RT_JOBS=$lanes rt ci | tee "$work/ci"
+    local status=${PIPESTATUS[0]}
+    awk '/^rt: must-fail .*: refused, as it must be/ { /`[a-z_]+[^`]*`(\)|: )(; t|[^;]|$)/ ? n++ : lost++ }
+        END { print "edits: " n + 0 " refuted, " lost + 0 " lost" }' "$work/ci"
+    tail -n 1 "$work/ci"
+    return "$status"
+}
 
-step 'the deliberate bugs can be applied' \
-    '^[1-9][0-9]* deliberate bugs, 0 of which cannot be applied$' python3 scripts/bugs.py --list
-step 'the pages (scripts/pages.py)' '^pages: [1-9][0-9]* read, 0 faults; ' python3 scripts/pages.py
-step 'the docstrings (scripts/api.py)' '^api: [1-9][0-9]* public items, 0 faults$' \
-    python3 scripts/api.py --check
-step 'what changed for users (scripts/clauses.py)' \
-    '^clauses: [1-9][0-9]* facts, [0-9]+ changed, 0 faults$' python3 scripts/clauses.py
-step 'all tests, without a proof (scripts/tests.sh)' "$counts" bash scripts/tests.sh
+# Tries misuse over what `rt ci` built: it wants libraries that are newer than the sources, and a
+# kept proof is older.
+misuse() {
+    find crates -path '*/out/*/format' -exec sed -i '' {} +
+    bash misuse/check.sh
+}
+
 # (each proof gets one processor: rt ci would give it a second where one is free, which takes a fifth
 # more of them; as many run at a time as there are processors, and memory at 4 GB each)
 limits=(/sys/fs/cgroup/{memory.max,memory/memory.limit_in_bytes})
@@ -95,19 +110,31 @@ lanes=$(cat /proc/meminfo "${limits[@]}" 2>/dev/null | awk -v all="$(nproc)" '
     /^MemAvailable:/ { n = int($2 / 4e6) }
     /^[0-9]+$/ && $1 < n * 4e9 { n = int($1 / 4e9) }
     END { print n < 1 ? 1 : n < all ? n : all }')
-step 'proofs and programs (rt ci)' "$counts" prove
-step 'the bugs of bugs.txt and must-fail/ (scripts/bugs.py)' "$counts" \
-    python3 scripts/bugs.py ${1:+--record --all}
-step 'the built program (scripts/program.py)' "$counts" python3 scripts/program.py
-step 'misuse that must not compile (misuse/check.sh)' "$counts" bash misuse/check.sh
-step 'a project of its own (scripts/vendor_check.sh)' \
-    '^vendor_check: [1-9].* runs in a repository of its own: .' bash scripts/vendor_check.sh "$@"
-step 'the snippets of the pages (scripts/snippets.py)' "$counts" python3 scripts/snippets.py
-[ $# -eq 0 ] || step 'the example on tokio (scripts/examples.sh)' "$counts" bash scripts/examples.sh
-if [ "${WITHOUT_VALGRIND:-}" = yes ] && ! command -v valgrind >/dev/null; then
-    echo 'gate: what the calls cost is not counted, as there is no valgrind' >>"$work/shown"
+
+step bugs.txt python3 scripts/bugs.py --list
+step pages python3 scripts/pages.py
+step api python3 scripts/api.py --check
+step clauses python3 scripts/clauses.py
+step tests bash scripts/tests.sh
+step 'rt ci' prove
+step bugs python3 scripts/bugs.py ${1:+--record --all}
+step program python3 scripts/program.py
+step misuse misuse
+step vendor bash scripts/vendor_check.sh "$@"
+step snippets python3 scripts/snippets.py
+if [ $# -gt 0 ]; then
+    step tokio bash scripts/examples.sh
 else
-    step 'what the calls cost (bench/count.py)' '^count: [1-9][0-9]* counted, 0 rose ' \
-        python3 bench/count.py
+    pass_over tokio 'it is part of --all'
 fi
-finish 0
+if [ "${WITHOUT_VALGRIND:-}" = yes ] && ! command -v valgrind >/dev/null; then
+    pass_over count 'there is no valgrind'
+else
+    step count python3 bench/count.py
+fi
+for it in $(sed '/^#/d; s/|.*//; s/ /_/g' scripts/floors.txt | sort -u); do
+    [[ "|$ran" = *"|${it//_/ }|"* ]] && continue
+    echo "gate: ${it//_/ } has a row in floors.txt, and did not run" >>"$work/shown"
+    failed=$((failed + 1))
+done
+finish $((failed > 0))
