@@ -19,8 +19,6 @@ import api
 HERE = api.TOP
 ITEM = re.compile(r"\w+::\w+")
 CLAUSE = r"(?m)^ *(?=(?:requires|ensures|ghost)\b)"
-MODULE = r"(?ms)^(?: *module _(?:(?!where$).)*where\s)?"
-SPEC = MODULE + r"\s*(?:abbrev )?pub (?!mod)(?:record |data )?(\S+)"
 CELLS = ("async_cell_sync", "async_cell_unsync")
 # The public types of the Rust crate, and what each has, but for futures and drops; other names. Of
 # these a cell may lack those that are ABSENT, where DIFFERENCES names them.
@@ -40,7 +38,7 @@ ABSENT = """Debug Default Deref GetRef TakeRef const get_shared get_weak guard_s
 def facts(path, *texts):
     """Yields each text, or each clause of it, on a line without comments."""
     for it in (it for text in texts for it in re.split(CLAUSE, text)):
-        if it := " ".join(re.sub(r"(?m)(^|\s)//.*", "", it).split()):
+        if it := " ".join(re.sub(r"(?m)(^|\s)(//|-- ).*", "", it).split()):
             yield f"{path} | {it}"
 
 
@@ -60,40 +58,28 @@ def stated(of):
             yield from facts(f"{path} as {' '.join(it.head.split())}", it.declaration, it.contract)
 
 
-def definitions(text):
-    """Returns where each definition of specs/ begins. A field of a record is a part of it."""
-    found, deepest = [], 99
-    for it in re.finditer(SPEC, text):
-        depth = len(re.match(" *", it[0].rpartition("\n")[2])[0])
-        if depth <= deepest:
-            found.append(it)
-            deepest = depth if re.search("(?:record|data) .*$", it[0]) else 99
-    return found
-
-
-def words_of(top, parts):
+def words_of(parts):
     """Yields what a clause may name, with its fact: definitions of specs/, and types of parts."""
-    for file in pathlib.Path(top).glob("crates/*/specs/*.antt"):
-        text = re.sub(r"(?m)^ *--.*\n", "", api.read(file))
-        at = definitions(text) if not re.search("callers|uses", file.parts[-3]) else []
-        for it, end in zip(at, [it.start() for it in at[1:]] + [len(text)]):
-            said = " ".join(text[it.start() : end].split())
-            yield it[1], f"{file.parts[-3]}.{file.stem}.{it[1]} | {said}"
-    for of in filter(None, map(api.crate, parts)):
-        for it in (it for it in of.named.values() if it.kind in ("struct", "enum")):
-            yield from ((it.name, fact) for fact in facts(f"{of.name}.{it.name}", it.declaration))
+    found = [(it, f"{of}.{pathlib.Path(file).stem}.{it}", text)
+             for it, homes in api.definitions().items() for of, (file, text) in homes.items()
+             if not re.search("callers|uses", of)]
+    found += [(it.name, f"{of.name}.{it.name}", it.declaration)
+              for of in filter(None, map(api.crate, parts)) for it in of.named.values()
+              if it.kind in ("struct", "enum")]
+    return [(name, fact) for name, path, text in found for fact in facts(path, text)]
 
 
 def all_facts(top):
     """Returns what is stated, and the words that this names, or that these name in turn."""
     api.TOP = top
     api.crate.cache_clear()
+    api.definitions.cache_clear()
     taken = re.findall(r"`(?!example_)(\w+)`(?=.* \| )", api.read(f"{top}/README.md"))
     needs = dict(re.findall(r"(?m)^(\w+):(.*)", api.read(f"{top}/crates.txt")))
     taken = [it for it in taken if it in needs]
     found = {fact for of in filter(None, map(api.crate, taken)) for fact in stated(of)}
     found |= {f"crates.txt {it} |{needs[it]}" for it in taken}
-    words = [*words_of(top, [it for it in needs if "async" in it and it not in taken])]
+    words = words_of([it for it in needs if "async" in it and it not in taken])
     named, before = set(re.findall(r"\w+", " ".join(found))), 0
     while len(named) > before:
         before = len(named)
