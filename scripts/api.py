@@ -23,7 +23,7 @@ from lay_out import TOP, read, write
 from try_kit import KIT
 
 # The comments of crates.txt, and the libraries that it lists.
-LISTED = re.compile(r"^# (.*)|^(async_cell(?!\w*_callers:)\w*):", re.M)
+LISTED = re.compile(r"^# (.*)|^((?:async_cell|ghost_)(?!\w*_callers:)\w*):", re.M)
 # An item as `rt fmt` lays it out: docstring and attributes, head, and body.
 ITEM = (
     r"((?:^PAD(?:///|#\[)[^\n]*\n)*)^PAD((pub )?(?:const (?=fn|unsafe)|unsafe (?=fn|trait|impl))*"
