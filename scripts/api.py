@@ -23,7 +23,7 @@ from lay_out import TOP, read, write
 from try_kit import KIT
 
 # The comments of crates.txt, and the libraries that it lists.
-LISTED = re.compile(r"^# (.*)|^(async_cell(?!\w*_callers:)\w*):", re.M)
+LISTED = re.compile(r"^# (.*)|^((?:async_cell|ghost_)(?!\w*_callers:)\w*):", re.M)
 # An item as `rt fmt` lays it out: docstring and attributes, head, and body.
 ITEM = (
     r"((?:^PAD(?:///|#\[)[^\n]*\n)*)^PAD((pub )?(?:const (?=fn|unsafe)|unsafe (?=fn|trait|impl))*"
@@ -41,10 +41,12 @@ GENERICS = re.compile(r"^impl<(?:[^<>]|<(?:[^<>]|<[^<>]*>)*>)*>")
 PRIVATE = re.compile(r"(?:^ *(?:///|#\[).*\n)*^    (?!pub |///|#\[)\S.*\n", re.M)
 # A variant or a field without a docstring, also a field of a variant.
 BARE = re.compile(r"^(?! *(?:///|#\[)).*\n    (?:    )?(?:pub )?\w", re.M)
-# A definition of `specs/`, with its comment, and a word of a contract.
+# In `specs/`: the head of a module or a definition, with its comment; and what is none, but code.
 DEFINED = re.compile(
-    r"(?m)((?:^ *-- .*\n)*^( *)(?:abbrev )?pub (?:record |data )?(\w\S*) .*(?:\n\2(?: +|\3 ).*)*)"
+    r"(?m)^((?: *--.*\n)*( *)(?:module(?:.*\n)*?.* where$|"
+    r"(?:[a-z]+ )*?pub (?!mod |use )(?:record |data )?(\S+).*(?:\n\2(?: +|\3 |}).*)*))"
 )
+OTHER = re.compile(r"(?m)^(?! *--|(?:pub )?(?:use|mod) ).*\S")
 WORD = re.compile(r"\b\w+\b")
 USE = re.compile(r"pub use ([\w:]+?)(?:::\{(.*)\})?(?: as (\w+))?$", re.S)
 ALSO = re.compile(r"(\w+)(?: as (\w+))?")
@@ -79,17 +81,18 @@ class Item:
         self.contract = textwrap.dedent(head[len(self.head) :].strip("\n")).rstrip()
         derives = [it for it in marks if "derive" in it]
         self.declaration = re.sub(r"#\[.*?\] |pub\(crate\) ", "", "\n".join([*derives, self.head]))
-        if body and self.kind in ("struct", "enum"):
+        self.is_type = self.kind in ("struct", "enum")
+        if body and self.is_type:
             body = PRIVATE.sub("", body) if self.kind == "struct" else body
             body = body or "    // private fields\n"
             self.declaration += f" {{\n{body}}}"
+        self.is_declared = self.is_public and self.kind not in ("use", "mod")
         self.inside, self.names, self.is_of_trait = [], [], False
         if self.kind in ("impl", "trait"):
             self.inside = list(items(file, found.string, pad + "    ", *found.span(6)))
             text = re.split(r"\swhere\b", GENERICS.sub("", head.replace("->", "")))[0]
             self.is_of_trait = self.kind == "impl" and " for " in text
-            names = re.findall(r"\b[A-Z]\w+", text)
-            self.names = names if self.is_of_trait else names[:1]
+            self.names = re.findall(r"\b[A-Z]\w+", text)[: None if self.is_of_trait else 1]
             told = [it for it in self.inside if it.kind == "ghost" and it.name != "use"]
             told += [it for it in self.inside if it.contract] if self.is_of_trait else []
             self.contract = "\n\n".join(it.told() for it in told)
@@ -112,8 +115,7 @@ class Crate:
         self.folder, self.name = folder, os.path.basename(folder)
         files = sorted(glob.glob(f"{folder}/src/**/*.rt", recursive=True))
         self.items = [it for file in files for it in items(file, read(file))]
-        declared = [it for it in self.items if it.is_public and it.kind not in ("use", "mod")]
-        self.named = {it.name: it for it in declared}
+        self.named = {it.name: it for it in self.items if it.is_declared}
         self.modules = [it.name for it in self.items if it.kind == "mod" and it.is_public]
         self.docs = "\n".join(re.findall(r"(?m)^//! ?(.*)", read(f"{folder}/src/lib.rt")))
         self.unknown = [(file, it) for file in files for it in UNKNOWN.finditer(read(file))]
@@ -174,13 +176,16 @@ def code(text):
 
 @functools.cache
 def definitions():
-    """Returns the definitions by their names, each by its crate with its file and its text."""
-    files = sorted(glob.glob(f"{TOP}/crates/*/specs/**/*.antt", recursive=True))
+    """Returns the definitions by name and crate: file, and text below the heads of its modules."""
     found = {}
-    for file in files:
-        of = file.split("/crates/")[1].split("/")[0]
+    for file in sorted(glob.glob(f"{TOP}/crates/*/specs/**/*.antt", recursive=True)):
+        of, within = file.split("/crates/")[1].split("/")[0], {}
+        if lost := OTHER.search(DEFINED.sub("", read(file))):
+            sys.exit(f"api: {file} has a definition of a form that is not known: {lost[0]}")
         for text, pad, name in DEFINED.findall(read(file)):
-            found.setdefault(name, {})[of] = file, textwrap.dedent(pad + text.strip())
+            within = {at: it for at, it in within.items() if len(at) < len(pad)} | {pad: text}
+            if name:
+                found.setdefault(name, {})[of] = file, "\n".join(within.values())
     return found
 
 
@@ -233,7 +238,7 @@ def one(item):
     labels = re.findall(r"(?m)^(?:    )?(?:requires|ensures|ghost) (\w+)", item.contract)
     label = ": ".join(["Contract", ", ".join(dict.fromkeys(labels))]).rstrip(": ")
     said = linked_code(item.contract, imported(item.file).get) * bool(item.contract)
-    is_law = item.file.endswith("laws.rt") or "/laws/" in item.file
+    is_law = re.search(r"/laws(?:/|\.rt$)", item.file)
     return prose(item.docs) + (said if is_law else folded(label, said))
 
 
@@ -256,16 +261,11 @@ def section(of, name, home, item):
             f"{inner}</section>")
 
 
-def named_at(name):
-    """Returns where GUIDE first names it, so that what users meet first comes first."""
-    guide = read(f"{TOP}/docs/GUIDE.md")
-    found = re.search(rf"\b{name}\b", guide)
-    return found.start() if found else len(guide)
-
-
 def page(of):
-    """Returns the page of a crate."""
-    exports = sorted(of.exports(), key=lambda it: (it[1] != of, "::" in it[0], named_at(it[0])))
+    """Returns the page of a crate. What GUIDE names first comes first."""
+    guide = read(f"{TOP}/docs/GUIDE.md")
+    exports = sorted(of.exports(), key=lambda it: (
+        it[1] != of, "::" in it[0], len(re.split(rf"\b{it[0]}\b", guide, maxsplit=1)[0])))
     listed = ""
     for name, home, item in exports:
         own = functions(home, item) if item and home == of else []
@@ -305,7 +305,7 @@ def make(folder):
 def public_items(found):
     """Yields the public items among these and inside of them: of a public trait all."""
     for it in found:
-        if it.is_public and it.kind not in ("use", "mod"):
+        if it.is_declared:
             yield from [it, *it.inside]
         elif it.kind == "impl":
             yield from public_items(it.inside)
@@ -316,20 +316,15 @@ def main(folder):
     for of in libraries():
         public = list(public_items(of.items))
         count += len(public)
-        types = [it for it in public if it.kind in ("struct", "enum")]
-        bare = [it for it in public if not it.docs]
-        bare += [it for it in types if BARE.search(it.declaration)]
-        why = "has no docstring, or a part of it has none"
-        faults += [f"{it.file}:{it.line}: {it.name} {why}" for it in bare]
+        faults += [f"{it.file}:{it.line}: {it.name}, or a part, has no docstring" for it in public
+                   if not it.docs or it.is_type and BARE.search(it.declaration)]
         faults += [f"{of.folder}/src/lib.rt: the crate has no docstring"] * (not of.docs)
         for file, it in of.unknown:
             line = it.string.count("\n", 0, it.start()) + 1
             faults += [f"{file}:{line}: no item of a form that is known: {it[0].strip()}"]
-        lost = [name for name, home, item in of.exports()
-                if not home or not item and home not in libraries()]
-        faults += [f"{of.folder}/src/lib.rt: {name} is not found" for name in lost]
-    for it in faults:
-        print(os.path.relpath(it, TOP))
+        faults += [f"{of.folder}/src/lib.rt: {it} is not found" for it, home, item in of.exports()
+                   if not home or not item and home not in libraries()]
+    print("".join(f"{os.path.relpath(it, TOP)}\n" for it in faults), end="")
     if not faults and folder != "--check":
         make(folder)
     print(f"api: {count} public items, {len(faults)} faults")

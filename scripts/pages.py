@@ -186,7 +186,7 @@ def too_wide():
 
 
 def faults_of(page):
-    lines = prose_of(read(page))
+    lines = prose_of(re.split(r"\n## \d", read(page))[0])  # (what is released stays as it was)
     looks = [rows_without_header(lines), dead_links(page, lines), names_of_nothing(lines)]
     looks += [unknown_names(page, lines), typed_figures(page, lines)]
     return [fault for it in looks for fault in it]

@@ -13,7 +13,9 @@ use std::marker::{Model, PhantomData};
 #[derive(Drop)]
 pub struct Count {
     marker: PhantomData<()>,
+    /// The name of the count, if it has one.
     pub ghost name: { Option ℕ },
+    /// How many permits are given out.
     pub ghost out: { ℕ },
 }
 
@@ -25,6 +27,7 @@ impl Model for Count {
 /// dropped nor copied. It may be sent to another thread, and shared.
 pub struct Permit {
     marker: PhantomData<()>,
+    /// The name of the count that gave the permit, if that has one.
     pub ghost name: { Option ℕ },
     ghost key: { ℕ },
 }

@@ -11,6 +11,7 @@ use std::marker::{Model, PhantomData};
 /// Says which entry is made from an `X`. An `X` may be, for example, the arguments of a call and
 /// its result. Only contracts read `entry`.
 pub trait Makes<X, E> {
+    /// The entry that is made from an `X`.
     ghost entry: { X → E };
 }
 
@@ -18,7 +19,9 @@ pub trait Makes<X, E> {
 /// only one thread at a time can use it: under a lock, or behind a `&mut`.
 pub struct Log<E> {
     marker: PhantomData<E>,
+    /// The name of the list.
     pub ghost name: { ℕ },
+    /// The whole list.
     pub ghost list: { List E } by { coded_list E.code },
 }
 
@@ -32,7 +35,9 @@ impl<E> Model for Log<E> {
 /// list only grows. The token can be copied by `again`, and sent to another thread.
 pub struct Seen<E> {
     marker: PhantomData<E>,
+    /// The name of the list.
     pub ghost name: { ℕ },
+    /// How the list begins.
     pub ghost list: { List E } by { coded_list E.code },
 }
 
