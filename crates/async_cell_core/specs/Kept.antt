@@ -8,7 +8,8 @@ use Rattle.async_cell_core.specs.Polled.{IsCopied}
 use Rattle.async_cell_core.specs.declared.call.Call.{Call}
 use Rattle.async_cell_core.specs.declared.call.Call.TheVariants.{Set, OrSet, Replace, Update, UpdateSome, TryTake, TryGet, IsSet, PollTake, PollGet, AddOwner, EndOwner, TakeInner}
 
--- whether the call is a get: it copies the value
+-- Whether the call is a get: it copies the value. Any other call is none, and `copy_is` proves that
+-- these are the copies of the model.
 abbrev pub is_get : {T W E : Type 0} → Call T W E → Bool
 is_get TryGet = true
 is_get (PollGet w) = true

@@ -13,7 +13,7 @@ pub use Rattle.async_cell_model.proofs.Exact.{NoClone, legal_of_exact}
 pub use Rattle.async_cell_model.proofs.JoinedHistory.{cell_after-append, after-append}
 pub use Rattle.async_cell_model.proofs.Machine.{model_of, machine_of}
 pub use Rattle.async_cell_model.proofs.Whole.{stays_covered, IsLegalAfter-first, after-nil, IsSound-after}
-pub use Rattle.async_cell_model.specs.Machine.{FitsUpdate, next_open, is_closed, owners_of}
+pub use Rattle.async_cell_model.specs.Machine.{FitsUpdate, on_open, is_closed, owners_of}
 pub use Rattle.async_cell_model.specs.declared.cell.Cell.{Cell}
 pub use Rattle.async_cell_model.specs.declared.cell.Cell.TheVariants.{Closed, Open}
 pub use Rattle.async_cell_model.specs.declared.entry.Entry.{Entry}

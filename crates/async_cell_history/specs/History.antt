@@ -1,20 +1,22 @@
 -- The history of a cell: which cell it is, the calls on it, and what a call adds to it.
-use Rattle.std.specs.Prelude.{◌≡◌, ◌+◌, ℕ, Bool, true, false, List, [], ◌∷◌, ◌++◌, Contains, length, filter_map, option_to_list, ⊤, Option, Some, None, IfSome, IsSome, IsSomeAnd, Result, Ok, Err}
+use Rattle.std.specs.Prelude.{◌≡◌, ◌+◌, ℕ, Bool, true, false, List, [], ◌∷◌, ◌++◌, Contains, length, filter_map, option_to_list, ⊤, Option, Some, None, IfSome, IsSome}
+use Rattle.std.specs.Prelude.{IsSomeAnd, Result, Ok, Err, is_some, if◌then◌else◌}
 use Rattle.std.specs.List.{All}
 use mathlib.Core.List.{IsPrefix}
 use Rattle.async_cell_model.specs.declared.cell.Cell.{Cell}
 use Rattle.async_cell_model.specs.declared.cell.Cell.TheVariants.{Closed}
 use Rattle.async_cell_model.specs.declared.entry.Entry.{Entry}
 use Rattle.async_cell_model.specs.declared.entry.Kept.{Kept}
-use Rattle.async_cell_model.specs.declared.entry.Kept.TheVariants.{Set, OrSet, Replace, Update, UpdateSome, TryTake, TryGet, IsSet, PollTake, PollGet, AddOwner, EndOwner, TakeInner}
+use Rattle.async_cell_model.specs.declared.entry.Kept.TheVariants.{Set, OrSet, TryTake}
 use Rattle.async_cell_model.specs.declared.refusal.Refusal.{Refusal}
 use Rattle.async_cell_model.specs.declared.refusal.Refusal.TheVariants as why
 use Rattle.async_cell_model.specs.declared.reply.Reply.{Reply}
 use Rattle.async_cell_model.specs.declared.reply.Reply.TheVariants as reply
 use Rattle.async_cell_model.specs.Machine.{State, Does, UpToClones, content, is_closed, next, pending_waker}
+use Rattle.async_cell_model.specs.Taken.{given_by}
 use Rattle.async_cell_model.specs.History.{History, after, cell_after, has_fill_or_close}
 use Rattle.async_cell_model.specs.Legal.{IsLegal, Runs, wakes_after}
-use Rattle.async_cell_model.specs.Taken.{put_by}
+use Rattle.async_cell_model.specs.Facts.{Fate, stays, moved, copied, lost, updated, updated_if_full, facts}
 use Rattle.async_cell_core.specs.declared.call.Answer.{Answer}
 use Rattle.async_cell_core.specs.IsStep.{WakerRules}
 use Rattle.futures.specs.declared.task.Poll.{Poll}
@@ -71,10 +73,7 @@ module _ {T W : Type 0} where
 
   -- whether the call adds an owner or ends one
   abbrev pub is_of_owners : Kept T W → Bool
-  is_of_owners AddOwner = true
-  is_of_owners EndOwner = true
-  is_of_owners TakeInner = true
-  is_of_owners _ = false
+  is_of_owners call = (facts call).of_owners
 
   -- a call and the reply to it
   abbrev pub entry_of : Kept T W → Answer T W → Entry T W
@@ -87,12 +86,7 @@ module _ {T W : Type 0} where
 
   -- whether the call may change the content: the writes and the takes do
   abbrev pub is_change : Kept T W → Bool
-  is_change TryGet = false
-  is_change IsSet = false
-  is_change (PollGet w) = false
-  is_change AddOwner = false
-  is_change EndOwner = false
-  is_change _ = true
+  is_change call = (facts call).changes
 
   -- a change is one that may be made; any other call is
   abbrev pub IsAllowed : (Kept T W → Type 0) → Kept T W → Type 0
@@ -225,56 +219,71 @@ module _ {T : Type 0} where
   own_poll held (Err why) = reply.Refused why None
 
 -- The values of a cell.
+module _ {T : Type 0} where
+  -- without a rule, any value is one that keeps it
+  abbrev pub any_value : (put : Option T) → IfSome put (λ _. ⊤)
+  any_value None = tt
+  any_value (Some x) = tt
+
+  -- the value in a reply, also one that comes back from a refused call
+  abbrev pub value_in : Reply T → Option T
+  value_in (reply.Refused why back) = back
+  value_in answer = given_by answer
+
+  -- The value that comes out at a call with this fate of what it finds, and which puts in `put`.
+  -- Where the reply neither moves nor copies, a value in it is the call's own, which was not used.
+  abbrev pub out_by : Fate T → Option T → Reply T → Option T
+  out_by (updated saw) put answer = saw
+  out_by (updated_if_full saw) put answer = saw
+  out_by copied put answer = None
+  out_by moved put answer = value_in answer
+  out_by stays put answer = if is_some (value_in answer) then put else None
+  out_by lost put answer = if is_some (value_in answer) then put else None
+
+  -- what a call with this fate of the content drops
+  abbrev pub lost_by : Fate T → Option T → List T
+  lost_by stays old = []
+  lost_by moved old = []
+  lost_by copied old = []
+  lost_by lost old = option_to_list old
+  lost_by (updated saw) old = []
+  lost_by (updated_if_full saw) old = []
+
+  -- it is the fate at a take: a change whose reply moves the value out, and which puts none in
+  abbrev pub IsTaken : Fate T → Option T → Bool → Type 0
+  IsTaken moved None true = ⊤
+  IsTaken fate put changes = ⊥
+
+  -- with this fate, the value stays, or the one put in follows it
+  abbrev pub IsFollowed : (T → T → Type 0) → Fate T → Option T → Type 0
+  IsFollowed Follows stays (Some x) = ⊤
+  IsFollowed Follows (updated (Some old)) put = IsSomeAnd put (Follows old)
+  IsFollowed Follows (updated None) put = ⊤
+  IsFollowed Follows (updated_if_full (Some old)) put = IsSomeAnd put (Follows old)
+  IsFollowed Follows (updated_if_full None) put = ⊤
+  IsFollowed Follows fate put = ⊥
+
 module _ {T W : Type 0} where
-  -- the values that the call puts in satisfy `P`
+  -- the value that goes in: passed to a write, or returned by the closure of an update
+  abbrev pub goes_in : Kept T W → Option T
+  goes_in call = (facts call).puts
+
+  -- the value that the call puts in satisfies `P`
   abbrev pub Puts : (T → Type 0) → Kept T W → Type 0
-  Puts P (Set x) = P x
-  Puts P (OrSet x) = P x
-  Puts P (Replace x) = P x
-  Puts P (Update saw put) = IfSome put P
-  Puts P (UpdateSome saw put) = IfSome put P
-  Puts P _ = ⊤
+  Puts P call = IfSome (goes_in call) P
 
   -- without a rule, each call puts in what keeps it
   abbrev pub puts_any : (call : Kept T W) → Puts (λ _. ⊤) call
-  puts_any (Set x) = tt
-  puts_any (OrSet x) = tt
-  puts_any (Replace x) = tt
-  puts_any (Update saw None) = tt
-  puts_any (Update saw (Some x)) = tt
-  puts_any (UpdateSome saw None) = tt
-  puts_any (UpdateSome saw (Some x)) = tt
-  puts_any TryTake = tt
-  puts_any TryGet = tt
-  puts_any IsSet = tt
-  puts_any (PollTake w) = tt
-  puts_any (PollGet w) = tt
-  puts_any AddOwner = tt
-  puts_any EndOwner = tt
-  puts_any TakeInner = tt
-
-  -- the value that goes in: passed to a write, or returned by the closure of an update
-  abbrev pub goes_in : Kept T W → Option T
-  goes_in (Update saw put) = put
-  goes_in (UpdateSome saw put) = put
-  goes_in call = put_by call
+  puts_any call = any_value (goes_in call)
 
   -- the value that comes out: moved to the closure of an update, or by the reply, also where it was
   -- not used or the call was refused. A get only copies it.
   abbrev pub comes_out : Kept T W → Reply T → Option T
-  comes_out (Update saw put) reply = saw
-  comes_out (UpdateSome saw put) reply = saw
-  comes_out TryGet reply = None
-  comes_out (PollGet w) reply = None
-  comes_out call (reply.Value v) = v
-  comes_out call (reply.Ready v) = v
-  comes_out call (reply.Refused why back) = back
-  comes_out call reply = None
+  comes_out call reply = out_by (facts call).fate (facts call).puts reply
 
   -- what the call drops: a `set` the value that it replaces
   abbrev pub dropped_by : Cell T → Kept T W → List T
-  dropped_by c (Set x) = option_to_list (content c)
-  dropped_by c call = []
+  dropped_by c call = lost_by (facts call).fate (content c)
 
   -- all values that these calls put in
   abbrev pub gone_in : History T W → List T
@@ -293,31 +302,23 @@ module _ {T W : Type 0} where
   pub record HasEntry (calls : History T W) (call : Kept T W) (reply : Reply T) : Type 0 where
     pub there : Contains calls (record { call = call; reply = reply })
 
-  -- the call is an `or_set`
+  -- the call is an `or_set`, and no other one
   abbrev pub IsOrSet : Kept T W → Type 0
   IsOrSet (OrSet x) = ⊤
-  IsOrSet call = ⊥
+  IsOrSet _ = ⊥
 
-  -- the call is no `set`
+  -- the call is no `set`: any other one, which then must drop nothing (`none_dropped`)
   abbrev pub IsNoSet : Kept T W → Type 0
   IsNoSet (Set x) = ⊥
-  IsNoSet call = ⊤
+  IsNoSet _ = ⊤
 
   -- the call takes the value
   abbrev pub IsTake : Kept T W → Type 0
-  IsTake TryTake = ⊤
-  IsTake (PollTake w) = ⊤
-  IsTake TakeInner = ⊤
-  IsTake call = ⊥
+  IsTake call = IsTaken (facts call).fate (facts call).puts (facts call).changes
 
   -- of a full cell, the call makes one with a value that follows the one that was there
   abbrev pub GoesOn : (T → T → Type 0) → Kept T W → Type 0
-  GoesOn Follows (OrSet x) = ⊤
-  GoesOn Follows (Update (Some old) put) = IsSomeAnd put (Follows old)
-  GoesOn Follows (Update None put) = ⊤
-  GoesOn Follows (UpdateSome (Some old) put) = IsSomeAnd put (Follows old)
-  GoesOn Follows (UpdateSome None put) = ⊤
-  GoesOn Follows call = ⊥
+  GoesOn Follows call = IsFollowed Follows (facts call).fate (facts call).puts
 
   -- the changes that may be made are such calls
   abbrev pub OnlyMakes : (Kept T W → Type 0) → (Kept T W → Type 0) → Type 0

@@ -1,5 +1,5 @@
 -- What a single entry does: a refused one changes nothing.
-use Rattle.async_cell_model.proofs.Words.{arith, ◌≡◌, inl, inr, Bool, true, false, List, [], ◌∷◌, ◌++◌, None, refl, ap, sym, subst, ◌∙◌, append-nil, ◌+◌}
+use Rattle.async_cell_model.proofs.Words.{arith, ◌≡◌, inl, inr, Bool, true, false, List, [], ◌∷◌, None, refl, ap, sym, subst, ◌∙◌, append-nil}
 use Rattle.async_cell_model.proofs.Words.{Cell, Entry, Kept, Reply, Refused, ends_waiting, IsCounted, is_vacant, next, reply, wait_list, State, IsSound}
 use Rattle.async_cell_model.proofs.Words.{pending_waker, IsCloned, UpToClones, is_refused, RunsBy, MayFollowBy, wakes_after, History, waiting}
 use Rattle.async_cell_model.specs.declared.refusal.Refusal.TheVariants as why

@@ -1,3 +1,4 @@
+pub mod Facts
 pub mod History
 pub mod Legal
 pub mod Machine

@@ -10,6 +10,7 @@ use Rattle.async_cell_model.specs.declared.entry.Kept.TheVariants.{Set, OrSet, R
 use Rattle.async_cell_model.specs.declared.refusal.Refusal.TheVariants as why
 use Rattle.async_cell_model.specs.declared.reply.Reply.{Reply}
 use Rattle.async_cell_model.specs.declared.reply.Reply.TheVariants.{Done, Value, Is, Pending, Ready, Refused}
+use Rattle.async_cell_model.specs.Facts.{Fate, stays, moved, copied, lost, updated, updated_if_full, is_copied, facts}
 
 -- THE CELL: its content, its owners, and the two changes that end all waiting.
 
@@ -70,85 +71,78 @@ abbrev pub is_memory : {T : Type 0} → Reply T → Bool
 is_memory (Refused why.Memory back) = true
 is_memory _ = false
 
-module _ {T W : Type 0} where
-  -- the reply to a call on an open cell
-  abbrev pub reply_open : Option T → ℕ → Kept T W → Reply T
-  reply_open value owners (Set x) = Done
-  reply_open None owners (OrSet x) = Value None
-  reply_open (Some v) owners (OrSet x) = Value (Some x)
-  reply_open value owners (Replace x) = Value value
-  reply_open value owners (Update saw put) = Done
-  reply_open value owners (UpdateSome saw put) = Done
-  reply_open value owners TryTake = Value value
-  reply_open value owners TryGet = Value value
-  reply_open value owners IsSet = Is (is_some value)
-  reply_open None owners (PollTake w) = Pending
-  reply_open (Some v) owners (PollTake w) = Ready (Some v)
-  reply_open None owners (PollGet w) = Pending
-  reply_open (Some v) owners (PollGet w) = Ready (Some v)
-  reply_open value owners AddOwner =
-      if nat_eq owners owners_limit then Refused why.OwnersFull None else Done
-  reply_open value owners EndOwner = Value (if nat_eq owners 1 then value else None)
-  reply_open value owners TakeInner =
-      if nat_eq owners 1 then Value value else Refused why.StillShared None
+-- Whether an update fits the cell: `saw` is what its closure was called with, and `put` is what it
+-- returned. `update` calls its closure exactly on an open cell. `update_some` calls it exactly on a
+-- full one, and it returns a value. If no closure was called, both are `None`. A call without a
+-- closure fits each cell.
+abbrev pub FitsFate : {T : Type 0} → Cell T → Fate T → Option T → Type 0
+FitsFate Closed (updated saw) put = (saw ≡ None) × (put ≡ None)
+FitsFate (Open value owners) (updated saw) put = saw ≡ value
+FitsFate Closed (updated_if_full saw) put = (saw ≡ None) × (put ≡ None)
+FitsFate (Open None owners) (updated_if_full saw) put = (saw ≡ None) × (put ≡ None)
+FitsFate (Open (Some v) owners) (updated_if_full saw) put = (saw ≡ Some v) × IsSome put
+FitsFate c stays put = ⊤
+FitsFate c moved put = ⊤
+FitsFate c copied put = ⊤
+FitsFate c lost put = ⊤
 
-  -- the reply to a call on a closed cell
-  abbrev pub reply_closed : Kept T W → Reply T
-  reply_closed (Set x) = Refused why.Closed (Some x)
-  reply_closed (OrSet x) = Refused why.Closed (Some x)
-  reply_closed (Replace x) = Refused why.Closed (Some x)
-  reply_closed (Update saw put) = Refused why.Closed None
-  reply_closed (UpdateSome saw put) = Refused why.Closed None
-  reply_closed TryTake = Value None
-  reply_closed TryGet = Value None
-  reply_closed IsSet = Is false
-  reply_closed (PollTake w) = Ready None
-  reply_closed (PollGet w) = Ready None
-  reply_closed AddOwner = Refused why.Closed None
-  reply_closed EndOwner = Refused why.Closed None
-  reply_closed TakeInner = Refused why.Closed None
+module _ {T W : Type 0} where
+  -- what a call does to an open cell: its reply, and the cell after it
+  abbrev pub on_open : Option T → ℕ → Kept T W → Reply T × Cell T
+  on_open value owners (Set x) = (Done, Open (Some x) owners)
+  on_open None owners (OrSet x) = (Value None, Open (Some x) owners)
+  on_open (Some v) owners (OrSet x) = (Value (Some x), Open (Some v) owners)
+  on_open value owners (Replace x) = (Value value, Open (Some x) owners)
+  on_open value owners (Update saw put) = (Done, Open put owners)
+  on_open None owners (UpdateSome saw put) = (Done, Open None owners)
+  on_open (Some v) owners (UpdateSome saw put) = (Done, Open put owners)
+  on_open value owners TryTake = (Value value, Open None owners)
+  on_open value owners TryGet = (Value value, Open value owners)
+  on_open value owners IsSet = (Is (is_some value), Open value owners)
+  on_open None owners (PollTake w) = (Pending, Open None owners)
+  on_open (Some v) owners (PollTake w) = (Ready (Some v), Open None owners)
+  on_open None owners (PollGet w) = (Pending, Open None owners)
+  on_open (Some v) owners (PollGet w) = (Ready (Some v), Open (Some v) owners)
+  on_open value owners AddOwner =
+      if nat_eq owners owners_limit then (Refused why.OwnersFull None, Open value owners)
+      else (Done, Open value (owners + 1))
+  on_open value owners EndOwner =
+      if nat_eq owners 1 then (Value value, Closed) else (Value None, Open value (owners - 1))
+  on_open value owners TakeInner =
+      if nat_eq owners 1 then (Value value, Closed)
+      else (Refused why.StillShared None, Open value owners)
+
+  -- the reply to a call on a closed cell, which stays closed
+  abbrev pub on_closed : Kept T W → Reply T
+  on_closed (Set x) = Refused why.Closed (Some x)
+  on_closed (OrSet x) = Refused why.Closed (Some x)
+  on_closed (Replace x) = Refused why.Closed (Some x)
+  on_closed (Update saw put) = Refused why.Closed None
+  on_closed (UpdateSome saw put) = Refused why.Closed None
+  on_closed TryTake = Value None
+  on_closed TryGet = Value None
+  on_closed IsSet = Is false
+  on_closed (PollTake w) = Ready None
+  on_closed (PollGet w) = Ready None
+  on_closed AddOwner = Refused why.Closed None
+  on_closed EndOwner = Refused why.Closed None
+  on_closed TakeInner = Refused why.Closed None
 
   -- the reply to a call that does not fail with `Memory`
   abbrev pub reply : Cell T → Kept T W → Reply T
-  reply Closed call = reply_closed call
-  reply (Open value owners) call = reply_open value owners call
-
-  -- the cell after a call on an open cell
-  abbrev pub next_open : Option T → ℕ → Kept T W → Cell T
-  next_open value owners (Set x) = Open (Some x) owners
-  next_open None owners (OrSet x) = Open (Some x) owners
-  next_open (Some v) owners (OrSet x) = Open (Some v) owners
-  next_open value owners (Replace x) = Open (Some x) owners
-  next_open value owners (Update saw put) = Open put owners
-  next_open None owners (UpdateSome saw put) = Open None owners
-  next_open (Some v) owners (UpdateSome saw put) = Open put owners
-  next_open value owners TryTake = Open None owners
-  next_open value owners TryGet = Open value owners
-  next_open value owners IsSet = Open value owners
-  next_open value owners (PollTake w) = Open None owners
-  next_open value owners (PollGet w) = Open value owners
-  next_open value owners AddOwner =
-      Open value (if nat_eq owners owners_limit then owners else owners + 1)
-  next_open value owners EndOwner = if nat_eq owners 1 then Closed else Open value (owners - 1)
-  next_open value owners TakeInner = if nat_eq owners 1 then Closed else Open value owners
+  reply Closed call = on_closed call
+  reply (Open value owners) call = (on_open value owners call).0
 
   -- The cell after an entry. A closed cell stays closed, and a call that failed with `Memory`
   -- changes nothing.
   abbrev pub next : Cell T → Entry T W → Cell T
   next Closed e = Closed
   next (Open value owners) e =
-      if is_memory e.reply then Open value owners else next_open value owners e.call
+      if is_memory e.reply then Open value owners else (on_open value owners e.call).1
 
-  -- Whether an update fits the cell: `saw` is what its closure was called with, and `put` is what
-  -- it returned. `update` calls its closure exactly on an open cell. `update_some` calls it exactly
-  -- on a full one, and it returns a value. If no closure was called, both are `None`.
+  -- whether the call fits the cell, if it is an update
   abbrev pub FitsUpdate : Cell T → Kept T W → Type 0
-  FitsUpdate Closed (Update saw put) = (saw ≡ None) × (put ≡ None)
-  FitsUpdate (Open value owners) (Update saw put) = saw ≡ value
-  FitsUpdate Closed (UpdateSome saw put) = (saw ≡ None) × (put ≡ None)
-  FitsUpdate (Open None owners) (UpdateSome saw put) = (saw ≡ None) × (put ≡ None)
-  FitsUpdate (Open (Some v) owners) (UpdateSome saw put) = (saw ≡ Some v) × IsSome put
-  FitsUpdate c _ = ⊤
+  FitsUpdate c call = FitsFate c (facts call).fate (facts call).puts
 
 -- THE WAIT LIST. `will_wake v w` says whether waking v also wakes what w would wake.
 
@@ -194,11 +188,13 @@ is_pending Pending = true
 is_pending _ = false
 
 module _ {T W : Type 0} where
+  -- whether the call copies the value: the two gets do
+  abbrev pub is_copy : Kept T W → Bool
+  is_copy call = is_copied (facts call).fate
+
   -- the waker of a poll: `None` for any other call
   abbrev pub waker_of : Kept T W → Option W
-  waker_of (PollTake w) = Some w
-  waker_of (PollGet w) = Some w
-  waker_of _ = None
+  waker_of call = (facts call).waker
 
   -- the waker of a poll that returned `Pending`
   abbrev pub pending_waker : Entry T W → Option W
@@ -212,32 +208,33 @@ module _ {T W : Type 0} (will_wake : W → W → Bool) (sure_wakers : Bool) wher
   needs_no_memory at w =
       skips will_wake at.waiting w || (sure_wakers && (is_empty at.waiting || nat_lt 0 at.room))
 
+  -- whether a poll with this waker has to wait, and needs memory for that
+  abbrev pub needs_memory : State T W → Option W → Bool
+  needs_memory at None = false
+  needs_memory at (Some w) = is_vacant at.cell && not (needs_no_memory at w)
+
   -- whether a call may fail with `Memory`: a get of a full cell, which clones the value, or a poll
   -- of a vacant cell that needs memory
   abbrev pub may_refuse : State T W → Kept T W → Bool
-  may_refuse at TryGet = is_full at.cell
-  may_refuse at (PollTake w) = is_vacant at.cell && not (needs_no_memory at w)
-  may_refuse at (PollGet w) = is_full at.cell || (is_vacant at.cell && not (needs_no_memory at w))
-  may_refuse at _ = false
+  may_refuse at call = (is_copy call && is_full at.cell) || needs_memory at (facts call).waker
 
 -- CLONES: which replies may stand in for the machine's own: no other, or at a get a clone.
 
+-- the call copies the value, and the second reply has a clone of the one in the first
+abbrev pub HasClone : {T : Type 0} → (T → T → Type 0) → Bool → Reply T → Reply T → Type 0
+HasClone is_clone false own answer = ⊥
+HasClone is_clone true (Value (Some a)) (Value (Some b)) = is_clone a b
+HasClone is_clone true (Ready (Some a)) (Ready (Some b)) = is_clone a b
+HasClone is_clone true own answer = ⊥
+
 module _ {T W : Type 0} where
-  -- whether the call copies the value: the two gets do
-  abbrev pub is_copy : Kept T W → Bool
-  is_copy TryGet = true
-  is_copy (PollGet w) = true
-  is_copy _ = false
+  -- the call is a get, and the reply has a clone of the value that the model's own reply has
+  abbrev pub IsCloned : (T → T → Type 0) → Kept T W → Reply T → Reply T → Type 0
+  IsCloned is_clone call own reply = HasClone is_clone (is_copy call) own reply
 
   -- the reply is the model's own
   abbrev pub Exactly : Kept T W → Reply T → Reply T → Type 0
   Exactly call own reply = reply ≡ own
-
-  -- the call is a get, and the reply has a clone of the value that the model's own reply has
-  abbrev pub IsCloned : (T → T → Type 0) → Kept T W → Reply T → Reply T → Type 0
-  IsCloned is_clone TryGet (Value (Some a)) (Value (Some b)) = is_clone a b
-  IsCloned is_clone (PollGet w) (Ready (Some a)) (Ready (Some b)) = is_clone a b
-  IsCloned is_clone call own reply = ⊥
 
   -- the reply is the model's own, or at a get of a full cell it has a clone of the value
   abbrev pub UpToClones : (T → T → Type 0) → Kept T W → Reply T → Reply T → Type 0

@@ -1,10 +1,10 @@
 -- The values passed to writes, and those that replies move out of the cell.
-use Rattle.std.specs.Prelude.{◌≢◌, Bool, true, false, List, [], ◌∷◌, Option, Some, None, filter_map, AllPairs}
+use Rattle.std.specs.Prelude.{◌≢◌, Bool, List, [], ◌∷◌, Option, None, filter_map, AllPairs, if◌then◌else◌}
 use Rattle.std.specs.List.{list_any}
 use Rattle.async_cell_model.specs.declared.entry.Kept.{Kept}
-use Rattle.async_cell_model.specs.declared.entry.Kept.TheVariants.{Set, OrSet, Replace, Update, UpdateSome, TryTake, PollTake, EndOwner, TakeInner}
 use Rattle.async_cell_model.specs.declared.reply.Reply.{Reply}
-use Rattle.async_cell_model.specs.declared.reply.Reply.TheVariants.{Value, Ready}
+use Rattle.async_cell_model.specs.declared.reply.Reply.TheVariants.{Done, Value, Is, Pending, Ready, Refused}
+use Rattle.async_cell_model.specs.Facts.{is_moved, is_updated, facts}
 use Rattle.async_cell_model.specs.History.{History}
 
 -- no two of these values are equal
@@ -17,12 +17,19 @@ pub data IsSubsequence {A : Type 0} : List A → List A → Type 0 where
   skip : {x : A} {xs ys : List A} → IsSubsequence xs ys → IsSubsequence xs (x ∷ ys)
   both : {x : A} {xs ys : List A} → IsSubsequence xs ys → IsSubsequence (x ∷ xs) (x ∷ ys)
 
+-- the value that a reply gives
+abbrev pub given_by : {T : Type 0} → Reply T → Option T
+given_by Done = None
+given_by (Value v) = v
+given_by (Is set) = None
+given_by Pending = None
+given_by (Ready v) = v
+given_by (Refused why back) = None
+
 module _ {T W : Type 0} where
   -- whether the call is an update
   abbrev pub is_update : Kept T W → Bool
-  is_update (Update saw put) = true
-  is_update (UpdateSome saw put) = true
-  is_update _ = false
+  is_update call = is_updated (facts call).fate
 
   -- whether some call of the history is an update
   abbrev pub has_update : History T W → Bool
@@ -30,10 +37,7 @@ module _ {T W : Type 0} where
 
   -- the value passed to the call, if it writes one
   abbrev pub put_by : Kept T W → Option T
-  put_by (Set x) = Some x
-  put_by (OrSet x) = Some x
-  put_by (Replace x) = Some x
-  put_by _ = None
+  put_by call = if is_update call then None else (facts call).puts
 
   -- the values passed to the writes, in order
   abbrev pub put_in : History T W → List T
@@ -41,12 +45,7 @@ module _ {T W : Type 0} where
 
   -- the value that a reply moves out of the cell: a get only copies it
   abbrev pub taken_by : Kept T W → Reply T → Option T
-  taken_by TryTake (Value v) = v
-  taken_by (Replace x) (Value v) = v
-  taken_by TakeInner (Value v) = v
-  taken_by EndOwner (Value v) = v
-  taken_by (PollTake w) (Ready v) = v
-  taken_by _ _ = None
+  taken_by call reply = if is_moved (facts call).fate then given_by reply else None
 
   -- the values that the replies moved out of the cell, in order
   abbrev pub taken_out : History T W → List T
