@@ -19,7 +19,7 @@ import tempfile
 
 from api import libraries
 from lay_out import TOP, read, write
-from pages import git_files
+from pages import git_files, line_of
 
 SNIPPET = re.compile(
     r"(?:<!-- snippet of (\S+) -->\n)?```rust\n(.*?)\n```\n(?:\nIt prints:?\n\n```text\n(.*?)\n```)?",
@@ -72,10 +72,6 @@ class Snippet:
             if line.strip() and line not in theirs:
                 self.failure = f"{self.copied} has not this line there: {line}"
                 return
-
-
-def line_of(found):
-    return found.string.count("\n", 0, found.start()) + 1
 
 
 def snippets_of(page):
