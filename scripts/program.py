@@ -109,10 +109,8 @@ def readers_that_leave():
 
 def wait_for_state(program, wanted):
     """Waits until the system says that the program sleeps (S) or is stopped (T)."""
-    state = None
-    while state != wanted:
+    while try_kit.states(program.pid) != {wanted}:
         time.sleep(0.002)
-        state = read(f"/proc/{program.pid}/stat").rpartition(")")[2].split()[0]
 
 
 def interrupt(program):
