@@ -5,9 +5,10 @@ A snippet of a page is whole: with its `use` lines it is a program, or the body 
 items alone, which only have to compile. An example in a docstring is the body of a `main`, and has
 the exports of its crate and IMPORTS. All are modules of one program in a temporary project, which
 `rt try` builds and runs, and proves nothing. What one prints has to be what its comments
-`// prints TEXT` say, or the text block after it that `It prints` introduces. Of one below the
-comment `<!-- snippet of crates/NAME/src/FILE.rt -->` it is only seen that its lines stand in that
-file, in their order. The last line is 'N passed, M failed'; the status is 0 if none failed.
+`// prints TEXT` say, or the text block after it. Of one below the comment `<!-- snippet of
+crates/NAME/src/FILE.rt -->` it is only seen that its lines stand in that file, one after the other,
+but where a line `// ..` stands for others. Other blocks, of text or of a shell, are not read here.
+The last line is 'N passed, M failed'; the status is 0 if none failed.
 """
 import glob
 import os
@@ -22,7 +23,7 @@ from lay_out import TOP, read, write
 from pages import git_files, line_of
 
 SNIPPET = re.compile(
-    r"(?:<!-- snippet of (\S+) -->\n)?```rust\n(.*?)\n```\n(?:\nIt prints:?\n\n```text\n(.*?)\n```)?",
+    r"(?:<!-- snippet of (\S+) -->\n)?```rust\n(.*?)\n```\n(?:\n(?:It prints:?\n\n)?```text\n(.*?)\n```)?",
     re.S,
 )
 EXAMPLE = re.compile(r"^ */// ```rust\n((?: *///.*\n)+?) */// ```$", re.M)
@@ -65,13 +66,20 @@ class Snippet:
             self.failure = f"it printed\n{printed.strip()}\nand the page says\n{self.printed}"
 
     def compare_with_file(self):
-        """Whether the lines of the snippet stand in the file that it names, in their order."""
+        """Whether the file that it names has the parts of the snippet, in their order."""
         path = os.path.join(TOP, self.copied)
-        theirs = iter(read(path).splitlines() if os.path.isfile(path) else [])
-        for line in self.text.splitlines():
-            if line.strip() and line not in theirs:
-                self.failure = f"{self.copied} has not this line there: {line}"
+        theirs, at = lines_of(read(path) if os.path.isfile(path) else ""), 0
+        for part in re.split(r"(?m)^ *// \.\.$", self.text):
+            ours = lines_of(part)
+            places = (it for it in range(at, len(theirs) + 1) if theirs[it:][: len(ours)] == ours)
+            at = next(places, len(theirs) + 1) + len(ours)
+            if at > len(theirs):
+                self.failure = f"{self.copied} has not there, one after the other:\n{part.strip()}"
                 return
+
+
+def lines_of(text):
+    return [it for it in text.splitlines() if it.strip()]
 
 
 def snippets_of(page):
