@@ -17,6 +17,7 @@ import os
 import re
 import subprocess
 import sys
+from collections import Counter
 
 from lay_out import TOP, read
 
@@ -36,8 +37,7 @@ PATH = re.compile(r"(?:crates|docs|scripts|tests|bench|misuse|reentry|examples)/
 # Names of crates begin so.
 CRATE = re.compile(r"(?:async_cell|bench|example)_\w+|cellrun|ghost_[a-z]+")
 CALL = re.compile(r"\b((?:scripts|bench|misuse)/\w+\.(?:py|sh))([^|`]*)")
-# An option that stands alone; what `rt` is told, on a page and in its help; and what it prints.
-OPTION = re.compile(r"^--[a-z][\w-]*")
+# What `rt` is told, on a page and in its help, and what it prints of itself.
 TOLD = re.compile(r"(?:^|[ (;&])rt ([a-z][\w-]*)")
 KNOWN = re.compile(r"(?m)^(?:usage:| ) +rt ([a-z][\w|-]*)")
 KIT = re.compile(r"rattle-kit-\w+ logic \w+")
@@ -59,7 +59,7 @@ FUNCTION = re.compile(r"^ *(?:pub(?:\([a-z]+\))? )?(?:const )?(?:unsafe )?fn [a-
 LONGEST, LONGEST_BODY, WIDEST, WIDEST_PROOF = 400, 40, 112, 200
 LINE = re.compile(r"(?m)^(?! *(?:(?:ghost )?use |#!?\[)).+")
 BODY = re.compile(
-    r"(?m)^( *)(?:\{|\)(?: -> .*)? \{|(?:pub\S* )?(?:const |unsafe )*fn [a-z].*\{)\n(?:.*\n)*?\1\}\n"
+    r"(?m)^( *)(?:\{|\)(?: ->.*)? \{|(?:pub\S* )?(?:const |unsafe )*fn [a-z].*\{)\n(?:.*\n)*?\1\}\n"
     r"|^( *)def .*\n(?:\2 +.*\n|\n(?=\2 ))*"
 )
 # What a page says of a project of its reader's.
@@ -123,14 +123,14 @@ def names_of_nothing(page, lines):
         for name in code:
             if CRATE.fullmatch(name) and not os.path.isdir(f"crates/{name}"):
                 yield at, f"`{name}`, and there is no such crate"
-            for option in OPTION.findall(name) if page != "CHANGELOG.md" else []:
-                if not re.search(rf"{option}(?![\w-])", tools()):
-                    yield at, f"{option}, which no script knows"
             for word in TOLD.findall(name):
                 if word not in "|".join(KNOWN.findall(tools())).split("|"):
                     yield at, f"`rt {word}`, which `rt help` does not name"
-        for script, words in CALL.findall(" | ".join(code)):
-            known = read(script) if os.path.isfile(script) else words
+        # (an option that stands alone is one of any script; CHANGELOG has some that are gone)
+        alone = [it for it in code if it.startswith("--") and page != "CHANGELOG.md"]
+        called = CALL.findall(" | ".join(code)) + [("any script", f" {it}") for it in alone]
+        for script, words in called:
+            known = read(script) if os.path.isfile(script) else tools()
             for option in re.findall(r" (--\w[\w-]*)", words):
                 if not re.search(rf"{option}(?![\w-])", known):
                     yield at, f"{option}, which {script} does not know"
@@ -152,7 +152,7 @@ def tools():
 @functools.cache
 def sources():
     """Returns the words of the libraries' texts and of crates.txt, and the labels of clauses."""
-    texts = [read(it) for it in git_files("crates/*.rt", "crates/*.antt") if os.path.isfile(it)]
+    texts = [read(it) for it in git_files("crates/*.rt", "crates/*.antt")]
     words = {*re.findall(r"\w+", "\n".join([*texts, read("crates.txt")]))}
     words |= {it.removeprefix("async_cell_") for it in words} | {it.split("/")[1] for it in THEIRS}
     return words, {*re.findall(r"\b(?:requires|ensures|ghost) (\w+)", "\n".join(texts))}
@@ -192,19 +192,21 @@ def line_of(found):
 
 def git_files(*patterns):
     words = ["git", "ls-files", *patterns]
-    return subprocess.run(words, stdout=subprocess.PIPE, text=True, check=True).stdout.split()
+    said = subprocess.run(words, stdout=subprocess.PIPE, text=True, check=True).stdout
+    return [it for it in said.split() if os.path.isfile(it)]
 
 
 def sizes(pages):
     """Says how large all is: words of pages, lines of two sorts of files, and functions of crates
     that have more than the toolchain advises."""
-    lines = {it: read(it).count("\n") for it in git_files() if os.path.isfile(it)}
+    lines = {it: read(it).count("\n") for it in git_files()}
     around, own = (sum(n for it, n in lines.items() if of.match(it)) for of in (AROUND, SOURCES))
-    has = {it: git_files(f"crates/{it}/src/*") for it in sorted(os.listdir("crates"))}
-    has = {it: sum(len(FUNCTION.findall(read(file))) for file in of) for it, of in has.items()}
+    found = ((it, FUNCTION.findall(read(it))) for it in git_files("crates/*/src/*"))
+    has = Counter(it.split("/")[1] for it, functions in found for _ in functions)
     crowded = ", ".join(f"{it} {n}" for it, n in has.items() if n > ADVISED)
-    return (f"{sum(len(read(it).split()) for it in pages):,} words, {around:,} lines around the"
-            f" libraries, {own:,} of their sources, over {ADVISED} functions: {crowded or 'none'}")
+    words = sum(len(read(it).split()) for it in pages)
+    return (f"{words:,} words, {around:,} lines around the libraries, {own:,} of their sources,"
+            f" over {ADVISED} functions: {crowded or 'none'}")
 
 
 def too_long():

@@ -68,7 +68,7 @@ def run(script, command=(PROGRAM,)):
 
 
 def scripts():
-    """The cases of program.txt, whose head says how they are written."""
+    """The cases of program.txt, whose head says how they are written, and CALLING.md's example."""
     text = re.sub(r"(?m)^#.*\n", "", read(f"{TOP}/scripts/program.txt")).replace("\n  ", " ")
     found = re.findall(r"^(.*)\n-> ?(.*?)(?: ?! (\d+))?$", text, re.MULTILINE)
     same("the lines of program.txt, two a case", text.count("\n"), 2 * len(found))
@@ -78,6 +78,12 @@ def scripts():
         given = re.sub(rb"(^|\n)\$\n\Z", b"", given)
         told = f"bad line {bad}\n".encode() if bad else b""
         same(script, run(given), (wanted, told, 2 if bad else 0))
+    page = read(f"{TOP}/crates/cellrun/CALLING.md")
+    example = r"(?s)```text\n(take .*?)```\n\nStandard error is `(.*?)`"
+    table, told = re.search(example, page).groups()
+    wanted = "".join(f"{it}\n" for it in re.findall(r"  +(.*)", table))
+    got = run(re.sub(r"  +.*", "", table).encode())
+    same("CALLING.md's example", got, (wanted.encode(), f"{told}\n".encode(), 2))
 
 
 def failing_streams():

@@ -133,9 +133,9 @@ def case_of(file, text):
                 add_note(lines[-1], at, said.strip())
         except Wrong as wanted:
             faults.append(f"{file}:{at}: wanted: {wanted}")
-    # (a case that was made at random may want nothing but what stands for no reply)
-    is_wanting = file == "random" or any(" -> " in said for _, said in text)
-    if not faults and not (title and kinds and lines and is_wanting):
+    # (a case that was made at random may have none of the replies)
+    has_reply = file == "random" or any(" -> " in said for _, said in text)
+    if not faults and not (title and kinds and lines and has_reply):
         faults.append(f"{file}:{text[0][0]}: wanted: a title, `on` with kinds, calls, and a reply")
     return Case(file, title, kinds, lines), faults
 

@@ -23,8 +23,8 @@ from lay_out import TOP, read, write
 from pages import git_files, line_of
 
 SNIPPET = re.compile(
-    r"(?:<!-- snippet of (\S+) -->\n)?```rust\n(.*?)\n```\n(?:\n(?:It prints:?\n\n)?```text\n(.*?)\n```)?",
-    re.S,
+    r"(?s)(?:<!-- snippet of (\S+) -->\n)?```rust\n(.*?)\n```\n"
+    r"(?:\n(?:It prints:?\n\n)?```text\n(.*?)\n```)?"
 )
 EXAMPLE = re.compile(r"^ */// ```rust\n((?: *///.*\n)+?) */// ```$", re.M)
 # What the examples in docstrings name, where it is from.
@@ -68,18 +68,11 @@ class Snippet:
     def compare_with_file(self):
         """Whether the file that it names has the parts of the snippet, in their order."""
         path = os.path.join(TOP, self.copied)
-        theirs, at = lines_of(read(path) if os.path.isfile(path) else ""), 0
-        for part in re.split(r"(?m)^ *// \.\.$", self.text):
-            ours = lines_of(part)
-            places = (it for it in range(at, len(theirs) + 1) if theirs[it:][: len(ours)] == ours)
-            at = next(places, len(theirs) + 1) + len(ours)
-            if at > len(theirs):
-                self.failure = f"{self.copied} has not there, one after the other:\n{part.strip()}"
-                return
-
-
-def lines_of(text):
-    return [it for it in text.splitlines() if it.strip()]
+        texts = [self.text + "\n", read(path) if os.path.isfile(path) else ""]
+        ours, theirs = (re.sub(r"\n\s*\n", "\n", it) for it in texts)
+        parts = re.split(r"(?m)^ *// \.\.\n", ours)
+        if not re.search(".*".join(f"^{re.escape(it)}" for it in parts), theirs, re.M | re.S):
+            self.failure = f"{self.copied} has not these lines, none left out but at `// ..`"
 
 
 def snippets_of(page):
