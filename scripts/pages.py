@@ -21,11 +21,9 @@ from collections import Counter
 
 from lay_out import TOP, read
 
-# The end of a link, whose words may begin on the line above; what a reference stands for; and HTML.
-LINK = re.compile(
-    r"\]\(<?([^)\s>]+)[^)]*\)|^ {0,3}\[[^\]]+\]: *<?([^\s>]+)|\b(?:href|src)=[\"']([^\"']+)"
-)
-USED = re.compile(r"\[([^\[\]]+)\]\[([^\[\]]*)\]")
+# The end of a link, whose words may begin on the line above; and links of other forms.
+LINK = re.compile(r"\]\(<?([^)\s>]+)")
+STRANGE = re.compile(r"\]\[|^ {0,3}\[[^\]]+\]:|\b(?:href|src)=")
 MACHINE = re.compile(
     r"(?<![\w.~])/(?:tmp|home|root|work|opt|usr|mnt)\b|(?<![\w(/])#\d+\b|\bissues? #?\d+"
 )
@@ -99,7 +97,7 @@ def anchors_of(text):
 def dead_links(page, lines):
     for at, line in enumerate(lines):
         plain = re.sub(CODE, "", line)
-        for link in map("".join, LINK.findall(plain)):
+        for link in LINK.findall(plain):
             file, _, anchor = link.partition("#")
             if re.match(r"[a-z]+:", link):
                 continue
@@ -108,9 +106,8 @@ def dead_links(page, lines):
                 yield at, f"a link to {link}, and there is no such file"
             elif anchor and path.endswith(".md") and anchor not in anchors_of(read(path)):
                 yield at, f"a link to {link}, and there is no such heading"
-        for words, of in USED.findall(plain):
-            if not re.search(rf"(?im)^ {{0,3}}\[{re.escape(of or words)}\]:", "\n".join(lines)):
-                yield at, f"a link by the reference [{of or words}], which stands for nothing"
+        if STRANGE.search(plain):
+            yield at, "a link of another form than [words](place)"
 
 
 def names_of_nothing(page, lines):

@@ -7,6 +7,7 @@ fail, or come by parts: what the proof of `script` does not say. What is wanted 
 hand from CALLING.md. Prints each case that failed, and last 'N passed, M failed'; the status is 0
 if none failed.
 """
+import contextlib
 import fcntl
 import itertools
 import os
@@ -47,10 +48,8 @@ def start(**streams):
 
 def send(program, text):
     """Sends the bytes, also where nobody reads them any more."""
-    try:
+    with contextlib.suppress(BrokenPipeError):
         program.stdin.write(text)
-    except BrokenPipeError:
-        pass
 
 
 def ended(program, written=None):
@@ -115,7 +114,7 @@ def readers_that_leave():
 
 def wait_for_state(program, wanted):
     """Waits until the system says that the program sleeps (S) or is stopped (T)."""
-    while try_kit.states(program.pid) != {wanted}:
+    while f") {wanted} " not in read(f"/proc/{program.pid}/stat"):
         time.sleep(0.002)
 
 

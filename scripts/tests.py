@@ -67,7 +67,9 @@ def ended(ran):
     while asleep < LOOKS_ASLEEP:
         with contextlib.suppress(subprocess.TimeoutExpired):
             return ran.wait(timeout=1)
-        asleep += try_kit.states(ran.pid) == {"S"}
+        with contextlib.suppress(OSError):  # (a thread may end meanwhile)
+            states = map(lay_out.read, glob.glob(f"/proc/{ran.pid}/task/*/stat"))
+            asleep += all(") S " in it for it in states)
     ran.kill()
     ran.wait()
     return f"none, as all its threads slept at {asleep} looks, one a second"
