@@ -26,7 +26,7 @@ from lay_out import TOP, read
 
 PROGRAM = try_kit.program_of("cellrun")
 # How long the cases of one kind may take.
-SECONDS = 30
+SECONDS = try_kit.by_the_clock(60)
 # Answers that are longer together than the pipes and sockets below hold.
 LONG = b"set -9223372036854775808\n" + 1_300 * b"debug\n"
 ANSWERS = b"done\n" + 1_300 * b"AsyncCell::Full(-9223372036854775808)\n"
