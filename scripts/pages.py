@@ -130,7 +130,7 @@ def names_of_nothing(page, lines):
             known = read(script) if os.path.isfile(script) else tools()
             for option in re.findall(r" (--\w[\w-]*)", words):
                 if not re.search(rf"{option}(?![\w-])", known):
-                    yield at, f"{option}, which {script} does not know"
+                    yield at, f"{option}, which is not known to {script}"
         for kit in KIT.findall(line):
             if kit not in tools():
                 yield at, f"{kit}, which is not what `rt version` prints"
