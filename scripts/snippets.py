@@ -10,7 +10,6 @@ crates/NAME/src/FILE.rt -->` it is only seen that its lines stand in that file, 
 but where a line `// ..` stands for others. Other blocks, of text or of a shell, are not read here.
 The last line is 'N passed, M failed'; the status is 0 if none failed.
 """
-import glob
 import os
 import re
 import shutil
@@ -158,7 +157,7 @@ def main(pages):
         run(work, [it for it in snippets if not it.copied])
     failed = [f"{it.where}: {it.failure}" for it in snippets if it.failure]
     passed = len(snippets) - len(failed)
-    sources = [] if pages else glob.glob("crates/*/src/**/*.rt", recursive=True)
+    sources = [] if pages else git_files("crates/*.rt")
     failed += unread([*asked, *sources], snippets)
     for it in failed:
         print(f"FAILED {it}")
