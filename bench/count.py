@@ -2,10 +2,10 @@
 """Counts what the calls cost, by callgrind: `count.py [--write]`.
 
 It runs the programs crates/bench_cells and bench_pair, proved and built as users' are (`rt run`
-builds one that is not there, or older than a source). It prints each figure that rose or fell by
-more than 2 per cent since the table of bench/README.md. The status is 0 if none rose by more than 5
-per cent, and the figures are those of the table. --write writes the table anew, and the picture
-that bench/tables.py draws of it.
+builds one that is not there, or older than a source). It prints each figure that is not that of
+the table of bench/README.md. The status is 0 if none rose or fell by more than 5 per cent (and 2
+instructions), the table has the same fields, and the picture is what bench/tables.py draws of it.
+--write writes both anew. The rows of others are not counted: their figures are taken as they are.
 """
 import os
 import platform
@@ -53,7 +53,7 @@ def collected(program, words, rounds, waiters):
 
 
 def instructions(programs, row, operation, waiters):
-    """Counts the instructions of one operation: those of twice as many rounds, less those of once."""
+    """Counts the instructions of an operation: those of twice as many rounds less those of once."""
     few = max(POLLS // waiters, 2)
     name, word = ROWS[row][0].split()
     once, twice = (
@@ -87,17 +87,21 @@ def main(words):
     now = counted()
     page = read(tables.PAGE)
     said, table = tables.table_of(page)
+    is_drawn = read(tables.PICTURE) == tables.drawn(table)
     others = {it: table.pop(it) for it in [*table] if it in tables.OTHERS}
     if said != conditions():
         print(f"the table is of {said}, and this is {conditions()}")
     told, faults = tables.compared(table, now)
+    if not is_drawn:
+        told, faults = [*told, "counts.svg is not what is drawn of the table"], faults + 1
     print("\n".join(told))
     if words:
         columns, whole = [it[0] for it in COLUMNS], {**now, **others}
         write(tables.PAGE, tables.written(page, conditions(), columns, whole))
         write(tables.PICTURE, tables.drawn(whole))
     figures = sum(map(len, now.values()))
-    print(f"count: {figures} counted, {faults} rose by more than {tables.FAILS} % or are not there")
+    said = f"rose or fell by more than {tables.FAILS} % or are not there"
+    print(f"count: {figures} counted, {faults} {said}")
     return 1 if faults and not words else 0
 
 

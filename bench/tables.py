@@ -15,9 +15,9 @@ PAGE, PICTURE = f"{FOLDER}/README.md", f"{FOLDER}/counts.svg"
 TABLE = re.compile(
     r"(?<=<!-- made by tables\.py -->\n\n)Counted with (.*?)\.\n\n(.*?\n)\n(?=<!-- end)", re.S
 )
-# What is told of, and what fails: a rise of so many per cent, if it is one of more than so many
-# instructions, since of 13 one more is already 8 per cent.
-TOLD, FAILS, LEAST = 2, 5, 2
+# What fails: a rise or a fall by so many per cent, if it is one by more than so many instructions,
+# since of 13 one more is already 8 per cent.
+FAILS, LEAST = 5, 2
 # What the picture has: a panel a column, and in it the rows of ours and of others.
 PANELS = ["reply slot", "watcher", "fan-out 64"]
 OURS = ["unsync pair", "sync pair", "unsync Owner", "sync Owner", "latest_sync"]
@@ -48,7 +48,7 @@ def written(page, said, columns, table):
 
 
 def compared(before, now):
-    """Compares two tables. Returns lines that tell of what has risen or fallen, or has no figure in
+    """Compares two tables. Returns lines that tell of each figure that is not the same, or not in
     one of them, and how many of these are faults."""
     told, faults = [], 0
     for name in dict.fromkeys([*before, *now]):
@@ -58,10 +58,10 @@ def compared(before, now):
             if old is None or new is None:
                 told.append(f"{name}, {column}: not {'in the table' if old is None else 'counted'}")
                 faults += 1
-            elif abs(new - old) > max(LEAST, old * TOLD / 100):
+            elif new != old:
                 rise = (new - old) * 100 / old
                 told.append(f"{name}, {column}: {old:,} before, {new:,} now, {rise:+.1f} %")
-                faults += rise > FAILS
+                faults += abs(new - old) > max(LEAST, old * FAILS / 100)
     return told, faults
 
 

@@ -1,13 +1,13 @@
 #!/usr/bin/env bash
 # Tries what must not compile: `bash misuse/check.sh [TEXT..]` (none: all texts of this folder). A
 # text is added as a module to a copy of each crate that its first line names: so it may use what is
-# private there. A line that ends in `//~ ERROR` has to be refused by that error, and no other line
-# by any. An error of one kind hides those that are looked for after it: so functions that were
-# refused are left out, and the rest is read again, until nothing is refused: then its tests have to
-# pass. Over libraries that are built (by `rt ci`, say) the kit's compiler reads it, asked to check
-# a function that is not there: it says so once it has read all. Else, and for tests, it is
-# `rt try --test`, which takes six times as long. Prints what came of each line, and at the end how
-# many passed and failed; the status is 0 if none failed.
+# private there. A line that ends in `//~ ERROR`, of which a text has at least one, has to be refused
+# by that error, and no other line by any. An error of one kind hides those that are looked for
+# after it: so functions that were refused are left out, and the rest is read again, until nothing
+# is refused: then its tests have to pass. Over libraries that are built (by `rt ci`, say) the kit's
+# compiler reads it, asked to check a function that is not there: it says so once it has read all.
+# Else, and for tests, it is `rt try --test`, which takes six times as long. Prints what came of each
+# line, and at the end how many passed and failed; the status is 0 if none failed.
 set -u
 top=$(cd "$(dirname "$0")/.." && pwd)
 [ $# -gt 0 ] || set -- $(cd "$top/misuse" && basename -s .txt ./*.txt)
@@ -112,6 +112,7 @@ try() {
 
 for it in "${texts[@]}"; do
     head -n 1 "$it" | grep -q 'async_cell_[a-z]' || count 1 "$it: its first line names no crate"
+    grep -q '//~ ' "$it" || count 1 "$it: no line of it has to be refused"
 done
 for crate in $(head -qn 1 "${texts[@]}" | grep -o 'async_cell_[a-z_]*' | sort -u); do
     mapfile -t of_it < <(for it in "${texts[@]}"; do sed -n "1s/.*$crate\b.*/$it/p" "$it"; done)

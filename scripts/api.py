@@ -44,7 +44,7 @@ BARE = re.compile(r"^(?! *(?:///|#\[)).*\n    (?:    )?(?:pub )?\w", re.M)
 # In `specs/`: the head of a module or a definition, with its comment; and what is none, but code.
 DEFINED = re.compile(
     r"(?m)^((?: *--.*\n)*( *)(?:module(?:.*\n)*?.* where$|"
-    r"(?:[a-z]+ )*?pub (?!mod |use )(?:record |data )?(\S+).*(?:\n\2(?: +|\3 |}).*)*))"
+    r"(?:[a-z]+ )*?(?:pub|abbrev) (?!pub |mod |use )(?:record |data )?(\S+).*(?:\n\2(?: +|\3 |}).*)*))"
 )
 OTHER = re.compile(r"(?m)^(?! *--|(?:pub )?(?:use|mod) ).*\S")
 WORD = re.compile(r"\b\w+\b")

@@ -22,7 +22,8 @@ from lay_out import READ, TOP, lay_crate, read, texts_below, write
 from one_thread import without_lock
 
 PLAYER = f"{TOP}/tests/player"
-SECONDS = "600"
+# How long the player may run, which takes a minute of a processor.
+SECONDS = str(try_kit.by_the_clock(600))
 
 
 def lay_player(folder):

@@ -7,6 +7,7 @@ fail, or come by parts: what the proof of `script` does not say. What is wanted 
 hand from CALLING.md. Prints each case that failed, and last 'N passed, M failed'; the status is 0
 if none failed.
 """
+import contextlib
 import fcntl
 import itertools
 import os
@@ -25,7 +26,7 @@ from lay_out import TOP, read
 
 PROGRAM = try_kit.program_of("cellrun")
 # How long the cases of one kind may take.
-SECONDS = 30
+SECONDS = try_kit.by_the_clock(60)
 # Answers that are longer together than the pipes and sockets below hold.
 LONG = b"set -9223372036854775808\n" + 1_300 * b"debug\n"
 ANSWERS = b"done\n" + 1_300 * b"AsyncCell::Full(-9223372036854775808)\n"
@@ -47,10 +48,8 @@ def start(**streams):
 
 def send(program, text):
     """Sends the bytes, also where nobody reads them any more."""
-    try:
+    with contextlib.suppress(BrokenPipeError):
         program.stdin.write(text)
-    except BrokenPipeError:
-        pass
 
 
 def ended(program, written=None):
@@ -68,7 +67,7 @@ def run(script, command=(PROGRAM,)):
 
 
 def scripts():
-    """The cases of program.txt, whose head says how they are written."""
+    """The cases of program.txt, whose head says how they are written, and CALLING.md's example."""
     text = re.sub(r"(?m)^#.*\n", "", read(f"{TOP}/scripts/program.txt")).replace("\n  ", " ")
     found = re.findall(r"^(.*)\n-> ?(.*?)(?: ?! (\d+))?$", text, re.MULTILINE)
     same("the lines of program.txt, two a case", text.count("\n"), 2 * len(found))
@@ -78,6 +77,12 @@ def scripts():
         given = re.sub(rb"(^|\n)\$\n\Z", b"", given)
         told = f"bad line {bad}\n".encode() if bad else b""
         same(script, run(given), (wanted, told, 2 if bad else 0))
+    page = read(f"{TOP}/crates/cellrun/CALLING.md")
+    example = r"(?s)```text\n(take .*?)```\n\nStandard error is `(.*?)`"
+    table, told = re.search(example, page).groups()
+    wanted = "".join(f"{it}\n" for it in re.findall(r"  +(.*)", table))
+    got = run(re.sub(r"  +.*", "", table).encode())
+    same("CALLING.md's example", got, (wanted.encode(), f"{told}\n".encode(), 2))
 
 
 def failing_streams():
@@ -109,10 +114,8 @@ def readers_that_leave():
 
 def wait_for_state(program, wanted):
     """Waits until the system says that the program sleeps (S) or is stopped (T)."""
-    state = None
-    while state != wanted:
+    while f") {wanted} " not in read(f"/proc/{program.pid}/stat"):
         time.sleep(0.002)
-        state = read(f"/proc/{program.pid}/stat").rpartition(")")[2].split()[0]
 
 
 def interrupt(program):

@@ -37,7 +37,7 @@ class Maker:
             told += f" {number}" if word == last else f", {word} {number}"
             last = word
         self.cell.events = []
-        self.lines.append(call if told == "ok" else f"{call} -> {told}")
+        self.lines.append(f"{call} -> {told}")
         looked, self.cell.seen_in_drops = self.cell.seen_in_drops, []
         for number, text in looked if self.owners and self.random.random() < 0.5 else []:
             self.lines.append(f"  in drop of {number}: {self.LOOK} {self.owners[0]} -> {text}")

@@ -133,8 +133,8 @@ def case_of(file, text):
                 add_note(lines[-1], at, said.strip())
         except Wrong as wanted:
             faults.append(f"{file}:{at}: wanted: {wanted}")
-    if not faults and not (title and kinds and lines):
-        faults.append(f"{file}:{text[0][0]}: wanted: a title, `on` with kinds, and calls")
+    if not (faults or title and kinds and lines and any(" -> " in said for _, said in text)):
+        faults.append(f"{file}:{text[0][0]}: wanted: a title, `on` with kinds, calls, and a reply")
     return Case(file, title, kinds, lines), faults
 
 

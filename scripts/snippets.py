@@ -5,11 +5,11 @@ A snippet of a page is whole: with its `use` lines it is a program, or the body 
 items alone, which only have to compile. An example in a docstring is the body of a `main`, and has
 the exports of its crate and IMPORTS. All are modules of one program in a temporary project, which
 `rt try` builds and runs, and proves nothing. What one prints has to be what its comments
-`// prints TEXT` say, or the text block after it that `It prints` introduces. Of one below the
-comment `<!-- snippet of crates/NAME/src/FILE.rt -->` it is only seen that its lines stand in that
-file, in their order. The last line is 'N passed, M failed'; the status is 0 if none failed.
+`// prints TEXT` say, or the text block after it. Of one below the comment `<!-- snippet of
+crates/NAME/src/FILE.rt -->` it is only seen that its lines stand in that file, one after the other,
+but where a line `// ..` stands for others. Other blocks, of text or of a shell, are not read here.
+The last line is 'N passed, M failed'; the status is 0 if none failed.
 """
-import glob
 import os
 import re
 import shutil
@@ -19,11 +19,11 @@ import tempfile
 
 from api import libraries
 from lay_out import TOP, read, write
-from pages import git_files
+from pages import git_files, line_of
 
 SNIPPET = re.compile(
-    r"(?:<!-- snippet of (\S+) -->\n)?```rust\n(.*?)\n```\n(?:\nIt prints:?\n\n```text\n(.*?)\n```)?",
-    re.S,
+    r"(?s)(?:<!-- snippet of (\S+) -->\n)?```rust\n(.*?)\n```\n"
+    r"(?:\n(?:It prints:?\n\n)?```text\n(.*?)\n```)?"
 )
 EXAMPLE = re.compile(r"^ */// ```rust\n((?: *///.*\n)+?) */// ```$", re.M)
 # What the examples in docstrings name, where it is from.
@@ -65,17 +65,13 @@ class Snippet:
             self.failure = f"it printed\n{printed.strip()}\nand the page says\n{self.printed}"
 
     def compare_with_file(self):
-        """Whether the lines of the snippet stand in the file that it names, in their order."""
+        """Whether the file that it names has the parts of the snippet, in their order."""
         path = os.path.join(TOP, self.copied)
-        theirs = iter(read(path).splitlines() if os.path.isfile(path) else [])
-        for line in self.text.splitlines():
-            if line.strip() and line not in theirs:
-                self.failure = f"{self.copied} has not this line there: {line}"
-                return
-
-
-def line_of(found):
-    return found.string.count("\n", 0, found.start()) + 1
+        texts = [self.text + "\n", read(path) if os.path.isfile(path) else ""]
+        ours, theirs = (re.sub(r"\n\s*\n", "\n", it) for it in texts)
+        parts = re.split(r"(?m)^ *// \.\.\n", ours)
+        if not re.search(".*".join(f"^{re.escape(it)}" for it in parts), theirs, re.M | re.S):
+            self.failure = f"{self.copied} has not these lines, none left out but at `// ..`"
 
 
 def snippets_of(page):
@@ -161,7 +157,7 @@ def main(pages):
         run(work, [it for it in snippets if not it.copied])
     failed = [f"{it.where}: {it.failure}" for it in snippets if it.failure]
     passed = len(snippets) - len(failed)
-    sources = [] if pages else glob.glob("crates/*/src/**/*.rt", recursive=True)
+    sources = [] if pages else git_files("crates/*.rt")
     failed += unread([*asked, *sources], snippets)
     for it in failed:
         print(f"FAILED {it}")

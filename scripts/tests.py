@@ -5,6 +5,7 @@ of tests/again.txt once more, in the way that stands there. Beside them scripts/
 cases of tests/cases, if no word is given. Prints a line for each folder of tests as it ends, the
 output of each test that fails, and at the end how many passed and failed.
 """
+import contextlib
 import glob
 import itertools
 import os
@@ -26,10 +27,13 @@ from lay_out import TOP
 OWN_ERRORS = {"error: AllocError", "Error: AllocError", "error: AllocFailed { .. }"}
 OWN_ERRORS |= {"error: Kind(OutOfMemory)"}
 SMALL_STACK = 64 * 1024
-# The limits are what ends a test that waits for what never comes: on a busy machine the one of its
-# processors' time alone, since it then gets little of that.
-SECONDS = 300
+# What ends a test: its processors' time, and, as one that waits for what never comes uses none, so
+# many looks, one a second, at which all its threads slept. On a busy machine neither comes sooner:
+# a thread that wants a processor and gets none, or that is stopped, does not sleep.
 SECONDS_OF_PROCESSORS = 60
+LOOKS_ASLEEP = 60
+# A test that can show nothing.
+EMPTY = re.compile(r"#\[test\]\s*fn (\w+)\([^)]*\)[^{;]*\{\s*(?:Ok\(\(\)\))?\s*\}")
 
 
 class Told:
@@ -57,6 +61,20 @@ def limit(is_small):
         resource.setrlimit(resource.RLIMIT_STACK, (SMALL_STACK, SMALL_STACK))
 
 
+def ended(ran):
+    """Waits until a process ends, or ends it. Returns its status, or why it has none."""
+    asleep = 0
+    while asleep < LOOKS_ASLEEP:
+        with contextlib.suppress(subprocess.TimeoutExpired):
+            return ran.wait(timeout=1)
+        with contextlib.suppress(OSError):  # (a thread may end meanwhile)
+            states = map(lay_out.read, glob.glob(f"/proc/{ran.pid}/task/*/stat"))
+            asleep += all(") S " in it for it in states)
+    ran.kill()
+    ran.wait()
+    return f"none, as all its threads slept at {asleep} looks, one a second"
+
+
 def run_once(program, test, refuse=0, is_small=False):
     """Runs a test, with the request for memory of this number refused (0: none), or on a small
     stack. Returns its status, what it said, and whether a request was refused."""
@@ -65,10 +83,7 @@ def run_once(program, test, refuse=0, is_small=False):
         how = {"stdin": subprocess.DEVNULL, "stdout": said, "stderr": said, "pass_fds": [tell]}
         how["env"] = {"REFUSE": str(refuse), "TELL": str(tell)} if refuse else {}
         how["preexec_fn"] = lambda: limit(is_small)
-        try:
-            status = subprocess.run([*program, test], timeout=SECONDS, **how).returncode
-        except subprocess.TimeoutExpired:
-            status = f"none after {SECONDS} seconds"
+        status = ended(subprocess.Popen([*program, test], **how))
         said.seek(0)
         return status, said.read().decode(errors="replace"), os.fstat(tell).st_size > 0
 
@@ -110,13 +125,14 @@ def build(told, room, words):
 
 def listed(program, sources):
     """Returns the names of the tests that the program lists, and a complaint if these texts have
-    more: one to be ignored, or to panic, is not listed, and nothing would run it."""
+    more, as one to be ignored, or to panic, is not listed, and nothing would run it; or if the body
+    of one is empty."""
     how = {"env": {}, "stdout": subprocess.PIPE, "text": True, "check": True}
     every = re.findall(r"^(.*): test$", subprocess.run([*program, "--list"], **how).stdout, re.M)
-    texts = glob.glob(f"{sources}/**/*.rt", recursive=True)
-    wanted = sum(len(re.findall(r"(?m)^ *#\[test\]", lay_out.read(it))) for it in texts)
-    lost = f"the texts have {wanted} tests, and the program lists {len(every)}"
-    return every, None if wanted == len(every) else lost
+    texts = "".join(map(lay_out.read, glob.glob(f"{sources}/**/*.rt", recursive=True)))
+    wanted, empty = len(re.findall(r"(?m)^ *#\[test\]", texts)), EMPTY.findall(texts)
+    lost = f"the texts have {wanted} tests, {empty} with no body; the program lists {len(every)}"
+    return every, lost if empty or wanted != len(every) else None
 
 
 def chosen(every, words):
