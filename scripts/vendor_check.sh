@@ -43,6 +43,21 @@ is_whole() {
     [ -e "$to" ] || { mkdir "$to" && (cd "$to" && vendor $names crates); }
     diff -r --no-dereference -x out -x mine crates "$to/crates"
 }
+# Whether a first copy of these crates has what git lists of all that they stand on, of pages the
+# words, and no bugs, and whether the project's own files are as they have to be: CRATE..
+has_all() {
+    local IFS='|' all=$room/all/crates parts
+    parts=$(grep -E "^($*):" "$clone/crates.txt" | grep -oE '[a-z_]+' | sort -u | paste -sd '|')
+    (cd "$clone" && mkdir -p "$all/railyarrow" &&
+        git ls-files | grep -E "^crates/($parts)/" | xargs -d '\n' cp --parents -t "$room/all" &&
+        cp LICENSE NOTICE CHANGELOG.md docs/{GUIDE,DEFINITIONS,PROMISES}.md "$all/railyarrow")
+    find "$all" \( -name 'bugs*' -o -name must-fail \) -prune -exec rm -r {} +
+    cp -r crates "$room/has"
+    find "$all" "$room/has" -name '*.md' -exec sed -zEi 's/\]\([^)]*\)|[][]//g' {} +
+    diff -rq -x .gitattributes -x VERSION "$all" "$room/has" &&
+        diff <(grep -E "^($parts):" "$clone/crates.txt" | sort) <(grep -v '^#' crates.txt) &&
+        [ "$(cat .gitignore HANDLES)" = $'out/\nHandles allowed: Threads, Wait.' ]
+}
 
 # Wants a call that ended anywhere to be finished by the next one, of this clone: HOW CLONE CALL..
 ends() {
