@@ -23,6 +23,7 @@ trap 'rm -rf "$work"; [ -z "$made" ] || rmdir "$made" 2>/dev/null' EXIT
 # The pages of a copy, as calls of 0.2.0 made it, and as it is made now.
 old='GUIDE|DEFINITIONS' now='GUIDE|DEFINITIONS|PROMISES|CHANGELOG'
 refuse() { printf 'vendor: %s\n' "$*" >&2 && exit 1; }
+names_of() { sed -n 's/^\([a-z0-9_]*\):.*/\1/p' "$@"; }
 git() { command git -c core.autocrlf=false --git-dir="$top/.git" "$@"; }
 
 # The lines of a crates.txt for these crates, and for what they stand on of it: FILE CRATE..
@@ -141,7 +142,7 @@ write_lines() {
         sed "/^$begin/,/^$end/d; \$a\\" "$work/yours" | grep -vxE "$ours" || true
         [ ! -s "$work/program" ] || grep -q "^$1:" "$work/yours" || cat "$work/program"
     } >"$work/crates.txt"
-    twice=$(sed -n 's/^\([a-z0-9_]*\):.*/\1/p' "$work/crates.txt" | sort | uniq -d | paste -sd ' ')
+    twice=$(names_of "$work/crates.txt" | sort | uniq -d | paste -sd ' ')
     [ -z "$twice" ] || refuse "$project/crates.txt has other lines for $twice: remove these"
 }
 
@@ -162,11 +163,13 @@ replace() {
     done
 }
 
-# Writes HANDLES, if the sources or the program need one, and .gitignore, or prints what they lack.
+# Writes HANDLES, if the sources or programs need one, and .gitignore, or prints what these and
+# crates.txt lack: there, which names of crates are Railyarrow's, or were, and not the copy's.
 settle() {
     local it words='' has=$project/HANDLES
     for it in Threads Wait; do
-        [ "$option" = --program ] || grep -rqw --include='*.rt' "$it" "$work/to" || continue
+        grep -qsE 'thread::(spawn|scope)' "$folder"/*/src/main.rt ||
+            grep -rqw --include='*.rt' "$it" "$work/to" || continue
         words+="${words:+, }$it"
     done
     [ -s "$has" ] || [ -z "$words" ] || echo "Handles allowed: $words." >"$has"
@@ -176,6 +179,10 @@ settle() {
     [ -s "$project/.gitignore" ] || echo 'out/' >"$project/.gitignore"
     tr -d '\r' <"$project/.gitignore" | grep -xE '(\*\*/|/?crates/\*/)?out/?' >/dev/null ||
         echo '# .gitignore has to have: out/'
+    git show HEAD:crates.txt $(awk '{ print $2 ":crates.txt" }' "$work/releases") 2>/dev/null |
+        names_of - "$work"/*.txt | grep -vxFf <(names_of "$work/crates.txt") >"$work/gone" || true
+    sed 's/^#.*//' "$work/crates.txt" | grep -nowFf "$work/gone" |
+        sed 's/:/ names /; s/.*/# crates.txt: line &, which the copy has not/' || true
 }
 
 # Prints that a release, or the one that a commit came after, is withdrawn or for another kit.
@@ -232,14 +239,13 @@ for it in "$new"/old/*; do
 done
 
 # What the copy was, and what it is to be. The rest was changed.
-names=() was='' said='' pages=$old
+names=() copied='' was='' said='' pages=$old
 if [ -e "$version" ]; then
-    state='^(version .* )?commit ([0-9a-f]{40}) crates ([a-z0-9_ ]+)$'
+    state='^(version .* )?commit ([0-9a-f]{40}) crates ([a-z0-9_][a-z0-9_ ]*)$'
     [[ $(tr -d '\r' <"$version" | paste -sd ' ') =~ $state ]] ||
         refuse "$version is damaged: take it from your repository's history"
-    read -ra names <<<"${BASH_REMATCH[3]}"
-    [ ${#names[@]} -gt 0 ] || refuse "$version names no crate"
-    was=$(commit_of "${BASH_REMATCH[2]}")
+    was=$(commit_of "${BASH_REMATCH[2]}") copied=${BASH_REMATCH[3]}
+    read -ra names <<<"$copied"
     [ ! -e "$folder/railyarrow/CHANGELOG.md" ] || pages=$now
     lay_out was "$was" "${names[@]}"
     cp "$version" "$work/was/railyarrow/" # However it names that commit.
@@ -253,12 +259,14 @@ pages=$now
 decide
 lay_out to "$target" "${names[@]}"
 for it in "${names[@]}"; do
-    grep -q "^$it:" "$work/to.txt" || refuse "no crate $it in $(name_of "$target")" \
-        "$([ ! "$was" ] || echo "(take it out of $version, or --to another release)")"
+    if grep -q "^$it:" "$work/to.txt"; then continue; fi
+    [[ " $copied " != *" $it "* ]] || said="take it out of $version, or go --to another release"
+    [ "$said" ] || said="there are $(names_of "$work/to.txt" | paste -sd ' ')"
+    refuse "no crate $it in $(name_of "$target"): $said"
 done
 if [ "$option" = --program ]; then
-    taken=$(cat "$work/to.txt" && echo railyarrow out std alloc)
-    ! grep -qw -- "$1" <<<"$taken" || refuse "a crate cannot be named $1 here"
+    ! grep -qw -- "$1" <<<"$(cat "$work/to.txt") railyarrow out std alloc" ||
+        refuse "a crate cannot be named $1 here"
     if [ -d "$folder/$1/src" ]; then said="was there, and stays"; else
         [ ! -e "$folder/$1" ] || refuse "$folder/$1 is no crate"
         said='is a program now, a copy of the reply slot'
@@ -285,7 +293,7 @@ if ! cmp -s "$work/crates.txt" "$project/crates.txt"; then
     mv "$project/.crates.txt.new" "$project/crates.txt"
 fi
 if [ -e "$new" ]; then rm -rf "$new/old" "$new/next" && rm -rf "$new"; fi
-settle
-warn
 [ ! "$said" ] || printf '# %s\n' "$folder/$1 $said. To run it, and to prove it:" \
     "(cd '$folder/$1' && rt try && rt check)"
+settle
+warn

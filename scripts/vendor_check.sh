@@ -19,7 +19,7 @@ two='async_cell_sync async_cell_within' few='async_cell_core async_cell_within'
 need='async_cell_within: futures' lib=async_cell_core/src/lib.rt passed=0 failed=0 every=5
 nobody='setpriv --reuid=65534 --regid=65534 --clear-groups env HOME=/none'
 kit=$(rt version | sed 's/ .*//')
-[ "${1:-}" != --all ] || every=1
+[ "${1:-}" != --all ] || every=1 all=yes
 
 vendor() { ${as:-} bash "$clone/scripts/vendor.sh" "$@"; }
 commit() {
