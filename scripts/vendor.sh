@@ -90,10 +90,9 @@ decide() {
     target=$(commit_of "${to:-${name:-HEAD}}")
     if [[ $to || $target = "$was" ]]; then return; fi
     git merge-base --is-ancestor "${was:-$target}" "$target" ||
-        why="this would go back, from $(name_of "$was") to $name"
+        why="this would go back to $name from $(name_of "$was")"
     [[ $name && ! ($was && $words) ]] || why="${last:-no release} is ${words:-there}"
-    [ ! "$why" ] || refuse "$why. This needs --to:" \
-        "bash $0 --to ${name:-HEAD}$(printf ' %q' "${call[@]}")"
+    [ ! "$why" ] || refuse "$why. To go on: bash $0 --to ${name:-HEAD}$(printf ' %q' "${call[@]}")"
 }
 
 # The release of a commit, or that before it and how many commits came since: COMMIT
@@ -185,9 +184,10 @@ settle() {
         sed 's/:/ names /; s/.*/# crates.txt: line &, which the copy has not/' || true
 }
 
-# Prints that a release, or the one that a commit came after, is withdrawn or for another kit.
+# Prints where a copy moved, and if a release, or that before a commit, is withdrawn or not for rt.
 warn() {
     local name kit has
+    [ "${was:-$target}" = "$target" ] || echo "# $(name_of "$was") became $(name_of "$target")."
     for it in $was "$target"; do
         name=$(name_of "$it") && name=${name%%,*}
         sed -n "s/^$name [^ ]* [^ ]* /# $name is /p" "$work/releases"
