@@ -2,15 +2,15 @@
 # Takes crates into another project, as a crate can depend only on those of its own, and the kit's.
 #
 #     bash scripts/vendor.sh CRATE.. FOLDER          copies the crates, or adds further ones
-#     bash scripts/vendor.sh --update FOLDER         brings what was copied to a release
+#     bash scripts/vendor.sh --update FOLDER         brings what was copied on to the last release
 #     bash scripts/vendor.sh --program NAME FOLDER   makes a program there, a copy of the reply slot
-#     bash scripts/vendor.sh --to RELEASE ..         each of these, at another release than the last
+#     bash scripts/vendor.sh --to RELEASE ..         each of these, at this release or commit
 #
-# FOLDER is the project's `crates`. RELEASE is one of RELEASES, or a commit; without it, the last
-# that is not withdrawn, or if there is none, the last commit. Crates come with those that they
-# stand on, without deliberate bugs. Each call brings all of the copy to one release, which
-# FOLDER/railyarrow/VERSION names, and finishes one that was cut off. If a file was changed there, it
-# tells which, and writes nothing. It keeps its part of crates.txt; HANDLES and .gitignore are
+# FOLDER is the project's `crates`. All of a copy is of one commit, which FOLDER/railyarrow/VERSION
+# names: at first the last release that RELEASES does not call withdrawn. Only --update moves it,
+# forward, if the last release is not withdrawn, and --to, anywhere. Crates come with those that
+# they stand on, without deliberate bugs. A call finishes one that was cut off. It writes nothing if
+# a file was changed, and tells which. It keeps its part of crates.txt; HANDLES and .gitignore are
 # written, or what they lack is printed. By .gitattributes of a crate a call knows of which tree it
 # was, and git keeps its lines.
 set -eu
@@ -23,18 +23,17 @@ trap 'rm -rf "$work"; [ -z "$made" ] || rmdir "$made" 2>/dev/null' EXIT
 # The pages of a copy, as calls of 0.2.0 made it, and as it is made now.
 old='GUIDE|DEFINITIONS' now='GUIDE|DEFINITIONS|PROMISES|CHANGELOG'
 refuse() { printf 'vendor: %s\n' "$*" >&2 && exit 1; }
+names_of() { sed -n 's/^\([a-z0-9_]*\):.*/\1/p' "$@"; }
 git() { command git -c core.autocrlf=false --git-dir="$top/.git" "$@"; }
 
 # The lines of a crates.txt for these crates, and for what they stand on of it: FILE CRATE..
 lines_of() {
-    awk -F : -v names="${*:2}" '{ needs[$1] = $2 } END {
-        for (n = split(names, all, " "); n; ) {
-            it = all[n--]
-            if (!(it in needs) || seen[it]++) continue
-            print it ":" needs[it]
-            for (k = split(needs[it], more, " "); k; ) all[++n] = more[k--]
-        }
-    }' "$1" | sort
+    local all='' more="${*:2}"
+    while [ "$more" != "$all" ]; do
+        all=$more
+        more=$(sed -nE "/^(${all// /|}):/p" "$1" | tr -s ': ' '\n' | sort -u | paste -sd ' ')
+    done
+    sed -nE "/^(${all// /|}):/p" "$1" | sort
 }
 
 # Links of a folder's pages that lead elsewhere than to those of the copy become plain words.
@@ -58,8 +57,6 @@ lay_crate() {
 lay_out() {
     local it to=$work/$1
     mkdir -p "$to/railyarrow"
-    git cat-file -e "$2^{commit}" 2>/dev/null ||
-        refuse "the copy has commit $2, which $top has not: git fetch (--unshallow) gets it"
     git show "$2:crates.txt" >"$to.txt"
     lines_of "$to.txt" "${@:3}" >"$to.lines"
     while IFS=: read -r it _; do
@@ -76,15 +73,36 @@ lay_out() {
         >"$to/railyarrow/VERSION"
 }
 
+# The hash of a release or commit: NAME
+commit_of() {
+    local it
+    it=$(awk -v it="$1" '$1 == it { print $2 }' "$work/releases")
+    git rev-parse -q --verify "${it:-$1}^{commit}" ||
+        refuse "$top has no $1, of RELEASES, VERSION or --to: git fetch (--unshallow) may get it"
+}
+
+# Sets $target, the commit that the copy is to be of, or refuses, with the call that would move it.
+decide() {
+    local name last words why=''
+    name=$(awk 'NF == 3 { it = $1 } END { print it }' "$work/releases")
+    read -r last _ _ words <<<"$(tail -n 1 "$work/releases")"
+    [ "$option" = --update ] || name=${was:-$name}
+    target=$(commit_of "${to:-${name:-HEAD}}")
+    if [[ $to || $target = "$was" ]]; then return; fi
+    git merge-base --is-ancestor "${was:-$target}" "$target" ||
+        why="this would go back to $name from $(name_of "$was")"
+    [[ $name && ! ($was && $words) ]] || why="${last:-no release} is ${words:-there}"
+    [ ! "$why" ] || refuse "$why. To go on: bash $0 --to ${name:-HEAD}$(printf ' %q' "${call[@]}")"
+}
+
 # The release of a commit, or that before it and how many commits came since: COMMIT
 name_of() {
     local name commit last='no release'
     while read -r name commit _; do
-        [ "$commit" != "$1" ] || { echo "$name" && return; }
         ! git merge-base --is-ancestor "$commit" "$1" 2>/dev/null ||
             last="$name, and $(git rev-list --count "$commit..$1") commits since"
     done <"$work/releases"
-    echo "$last"
+    echo "${last%, and 0 *}"
 }
 
 # Whether a folder is as in $work/NAME, but for how lines end and for what was built in its own
@@ -101,14 +119,12 @@ is_as() {
     [ -z "$told" ]
 }
 
-# The tree that a folder says that it was copied from: FOLDER
-tree_of() { sed -n "s/^# $1 of tree //p" "$folder/$1/.gitattributes" 2>/dev/null; }
-
-# Whether a folder is as a call of this script made it, at the commit of VERSION or at another one.
+# Whether a folder is as a call made it, at VERSION's commit, or of its .gitattributes' tree: FOLDER
 is_known() {
     local tree
     if [ -e "$work/was/$1" ] && is_as was "$1"; then return; fi
-    tree=$(tree_of "$1") && git cat-file -e "${tree:-none}^{tree}" 2>/dev/null &&
+    tree=$(sed -n "s/^# $1 of tree //p" "$folder/$1/.gitattributes" 2>/dev/null) &&
+        git cat-file -e "${tree:-none}^{tree}" 2>/dev/null &&
         lay_crate from "$1" "$tree" && is_as from "$1"
 }
 
@@ -125,7 +141,7 @@ write_lines() {
         sed "/^$begin/,/^$end/d; \$a\\" "$work/yours" | grep -vxE "$ours" || true
         [ ! -s "$work/program" ] || grep -q "^$1:" "$work/yours" || cat "$work/program"
     } >"$work/crates.txt"
-    twice=$(sed -n 's/^\([a-z0-9_]*\):.*/\1/p' "$work/crates.txt" | sort | uniq -d | paste -sd ' ')
+    twice=$(names_of "$work/crates.txt" | sort | uniq -d | paste -sd ' ')
     [ -z "$twice" ] || refuse "$project/crates.txt has other lines for $twice: remove these"
 }
 
@@ -146,11 +162,13 @@ replace() {
     done
 }
 
-# Writes HANDLES, if the sources or the program need one, and .gitignore, or prints what they lack.
+# Writes HANDLES, if the sources or programs need one, and .gitignore, or prints what these and
+# crates.txt lack: there, which names of crates are Railyarrow's, or were, and not the copy's.
 settle() {
     local it words='' has=$project/HANDLES
     for it in Threads Wait; do
-        [ "$option" = --program ] || grep -rqw --include='*.rt' "$it" "$work/to" || continue
+        grep -qsE 'thread::(spawn|scope)' "$folder"/*/src/main.rt ||
+            grep -rqw --include='*.rt' "$it" "$work/to" || continue
         words+="${words:+, }$it"
     done
     [ -s "$has" ] || [ -z "$words" ] || echo "Handles allowed: $words." >"$has"
@@ -160,28 +178,32 @@ settle() {
     [ -s "$project/.gitignore" ] || echo 'out/' >"$project/.gitignore"
     tr -d '\r' <"$project/.gitignore" | grep -xE '(\*\*/|/?crates/\*/)?out/?' >/dev/null ||
         echo '# .gitignore has to have: out/'
+    git show HEAD:crates.txt $(awk '{ print $2 ":crates.txt" }' "$work/releases") 2>/dev/null |
+        names_of - "$work"/*.txt | grep -vxFf <(names_of "$work/crates.txt") >"$work/gone" || true
+    sed 's/^#.*//' "$work/crates.txt" | grep -nowFf "$work/gone" |
+        sed 's/:/ names /; s/.*/# crates.txt: line &, which the copy has not/' || true
 }
 
-# Prints of a release, for it and for the copy as it was: that it is withdrawn, or for another kit.
+# Prints where a copy moved, and if a release, or that before a commit, is withdrawn or not for rt.
 warn() {
-    local name commit kit why has
-    while read -r name commit kit why; do
-        [[ $commit = "$target" || $commit = "$was" ]] || continue
-        [ ! "$why" ] || echo "# $name is $why"
-        [ "$commit" = "$target" ] || continue
-        has=$(rt version 2>/dev/null </dev/null | cut -d ' ' -f 1) || true
-        [[ -z $has || $has = "$kit" ]] ||
-            echo "# $name is for $kit, and rt is of $has: it may not find each proof."
-    done <"$work/releases"
+    local name kit has
+    [ "${was:-$target}" = "$target" ] || echo "# $(name_of "$was") became $(name_of "$target")."
+    for it in $was "$target"; do
+        name=$(name_of "$it") && name=${name%%,*}
+        sed -n "s/^$name [^ ]* [^ ]* /# $name is /p" "$work/releases"
+    done | uniq
+    kit=$(sed -n 's/^version .*, for //p' "$work/to/railyarrow/VERSION")
+    has=$(rt version 2>/dev/null </dev/null | cut -d ' ' -f 1) || true
+    [[ -z $has || ${kit:-$has} = "$has" ]] ||
+        echo "# This release is for $kit, and rt is of $has: it may not find each proof."
     [ "$target" != "$(git rev-parse HEAD)" ] ||
         git --work-tree="$top" diff --quiet HEAD -- "$top/crates" ||
         echo "# $top has changes that are in no commit; they did not come along."
-    [ "${was:-$target}" = "$target" ] || ! git merge-base --is-ancestor "$target" "$was" ||
-        echo "# This goes back, from $(name_of "$was") to $(name_of "$target")."
 }
 
 to='' option=''
 [ "${1:-}" != --to ] || { to=${2:-} && shift $(($# < 2 ? 1 : 2)); }
+call=("$@")
 case ${1:-} in --update | --program) option=$1 && shift ;; esac
 [[ $option$# =~ ^(--update1|--program2|[2-9]|[1-9][0-9]+)$ ]] ||
     { sed -n '4,7s/^# *//p' "$0" >&2 && exit 2; }
@@ -195,10 +217,6 @@ new=$folder/.railyarrow version=$folder/railyarrow/VERSION
 git rev-parse -q --verify HEAD >/dev/null 2>"$work/why" ||
     refuse "$top is no clone with a commit, as a copy needs it: $(cat "$work/why")"
 git show HEAD:RELEASES 2>/dev/null | sed '/^#/d' >"$work/releases" || true
-target=$(awk -v it="$to" 'it == $1 || it == "" && !/withdrawn/ { found = $2 }
-    END { print found }' "$work/releases")
-target=$(git rev-parse -q --verify "${target:-${to:-HEAD}}^{commit}") ||
-    refuse "${to:-the last release} is no release of RELEASES and no commit of $top"
 for it in "$folder" "$version" "$project"/{crates.txt,HANDLES,.gitignore}; do
     [ "$(realpath -m "$it")" = "$it" ] || refuse "$it is a link"
     [ ! -e "$it" ] || [[ -d $folder && $it = "$folder" ]] || iconv -f utf-8 "$it" &>/dev/null ||
@@ -221,14 +239,13 @@ for it in "$new"/old/*; do
 done
 
 # What the copy was, and what it is to be. The rest was changed.
-names=() was='' said='' pages=$old
+names=() copied='' was='' said='' pages=$old
 if [ -e "$version" ]; then
-    state='^(version .* )?commit ([0-9a-f]{40}) crates ([a-z0-9_ ]+)$'
+    state='^(version .* )?commit ([0-9a-f]{40}) crates ([a-z0-9_][a-z0-9_ ]*)$'
     [[ $(tr -d '\r' <"$version" | paste -sd ' ') =~ $state ]] ||
         refuse "$version is damaged: take it from your repository's history"
-    was=${BASH_REMATCH[2]}
-    read -ra names <<<"${BASH_REMATCH[3]}"
-    [ ${#names[@]} -gt 0 ] || refuse "$version names no crate"
+    was=$(commit_of "${BASH_REMATCH[2]}") copied=${BASH_REMATCH[3]}
+    read -ra names <<<"$copied"
     [ ! -e "$folder/railyarrow/CHANGELOG.md" ] || pages=$now
     lay_out was "$was" "${names[@]}"
     cp "$version" "$work/was/railyarrow/" # However it names that commit.
@@ -239,14 +256,17 @@ for it in "${names[@]}" "${given[@]}"; do
 done
 mapfile -t names < <(printf '%s\n' "${names[@]}" | awk '!seen[$0]++')
 pages=$now
+decide
 lay_out to "$target" "${names[@]}"
 for it in "${names[@]}"; do
-    grep -q "^$it:" "$work/to.txt" || refuse "no crate $it in $(name_of "$target")" \
-        "$([ ! "$was" ] || echo "(take it out of $version, or --to another release)")"
+    if grep -q "^$it:" "$work/to.txt"; then continue; fi
+    [[ " $copied " != *" $it "* ]] || said="take it out of $version, or go --to another release"
+    [ "$said" ] || said="there are $(names_of "$work/to.txt" | paste -sd ' ')"
+    refuse "no crate $it in $(name_of "$target"): $said"
 done
 if [ "$option" = --program ]; then
-    taken=$(cat "$work/to.txt" && echo railyarrow out std alloc)
-    ! grep -qw -- "$1" <<<"$taken" || refuse "a crate cannot be named $1 here"
+    ! grep -qw -- "$1" <<<"$(cat "$work/to.txt") railyarrow out std alloc" ||
+        refuse "a crate cannot be named $1 here"
     if [ -d "$folder/$1/src" ]; then said="was there, and stays"; else
         [ ! -e "$folder/$1" ] || refuse "$folder/$1 is no crate"
         said='is a program now, a copy of the reply slot'
@@ -257,9 +277,8 @@ if [ "$option" = --program ]; then
 fi
 todo=() changed=''
 for it in $({ ls "$work/to" && [ ! "$was" ] || ls "$work/was"
-    for it in "$folder"/*/.gitattributes; do
-        it=${it%/*} && it=${it##*/} && [ ! "$(tree_of "$it")" ] || echo "$it"
-    done; } | sort -u); do
+    sed -nE 's/^# ([a-z0-9_]+) of tree .*/\1/p' "$folder"/*/.gitattributes 2>/dev/null
+} | sort -u); do
     [ ! -L "$folder/$it" ] || refuse "$folder/$it is a link"
     if [ -e "$work/to/$it" ] && is_as to "$it"; then continue; fi
     todo+=("$it")
@@ -274,7 +293,7 @@ if ! cmp -s "$work/crates.txt" "$project/crates.txt"; then
     mv "$project/.crates.txt.new" "$project/crates.txt"
 fi
 if [ -e "$new" ]; then rm -rf "$new/old" "$new/next" && rm -rf "$new"; fi
-settle
-warn
 [ ! "$said" ] || printf '# %s\n' "$folder/$1 $said. To run it, and to prove it:" \
     "(cd '$folder/$1' && rt try && rt check)"
+settle
+warn

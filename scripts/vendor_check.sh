@@ -1,8 +1,12 @@
 #!/usr/bin/env bash
 # Plays cases of vendor.sh, which are lines of vendor_cases.txt: those of the gate, with every fifth
-# cut, and runs the program that one call makes, without a proof.
+# cut. Then it runs README's first commands as they stand, without a proof.
 #
 #     bash scripts/vendor_check.sh [--all [WORD]]   as root all, or those whose line holds the word
+#
+# Those commands copy the last release. Here they copy HEAD if it is withdrawn, or for another
+# toolchain. HEAD needs no run of its own: each case wants all of its texts, and `rt ci` runs it.
+# A shallow clone lacks the release: then this ends with the words of vendor.sh.
 set -euo pipefail
 top=$(cd "$(dirname "$0")/.." && pwd)
 work=$(realpath "$(mktemp -d)")
@@ -13,21 +17,19 @@ chmod 755 "$work"
 export TMPDIR=$work/tmp GIT_AUTHOR_DATE='@1 +0000' GIT_COMMITTER_DATE='@1 +0000' moves
 two='async_cell_sync async_cell_within' few='async_cell_core async_cell_within'
 need='async_cell_within: futures' lib=async_cell_core/src/lib.rt passed=0 failed=0 every=5
-[ "${1:-}" != --all ] || every=1
+nobody='setpriv --reuid=65534 --regid=65534 --clear-groups env HOME=/none'
+kit=$(rt version | sed 's/ .*//')
+[ "${1:-}" != --all ] || every=1 all=yes
 
-vendor() { bash "$clone/scripts/vendor.sh" "$@"; }
-nobody() {
-    local user=(setpriv --reuid=65534 --regid=65534 --clear-groups)
-    HOME=/none "${user[@]}" bash "$clone/scripts/vendor.sh" "$@"
-}
+vendor() { ${as:-} bash "$clone/scripts/vendor.sh" "$@"; }
 commit() {
     echo // newer >>"$clone/crates/$lib"
     git -C "$clone" -c user.name=a -c user.email=a@b commit -qam newer
 }
-# Makes two releases, of which the last has this word in its line, and a commit since: WORD
-released() {
-    echo "0.8.0 $(git -C "$clone" rev-parse HEAD) kit" >>"$clone/RELEASES" && commit
-    echo "0.9.0 $(git -C "$clone" rev-parse HEAD) kit ${1#-}" >>"$clone/RELEASES" && commit
+# Makes a commit, and a release of it by a further one: NUMBER [withdrawn: WHY]
+release() {
+    commit && echo "$1 $(git -C "$clone" rev-parse HEAD) $kit${2:+ $2}" >>"$clone/RELEASES"
+    commit
 }
 
 # All that is in the project, but for git's.
@@ -35,14 +37,22 @@ state() {
     find . -path ./.git -prune -o -printf '%y %m %p %l\n' -type f -exec sha256sum {} + | sort
 }
 
-# Whether the copy is as one that nothing disturbed, with nothing beside it.
-is_whole() {
-    local names to
-    names=$(sed -n 's/^crates //p' crates/railyarrow/VERSION)
-    to="$work/whole $(git -C "$clone" rev-parse HEAD) $names"
-    [ -e "$to" ] || { mkdir "$to" && (cd "$to" && vendor $names crates); }
-    diff -r --no-dereference -x out -x mine crates "$to/crates"
-}
+# Whether the copy is what git has at a commit, or at the last release's: all files of what its
+# crates stand on, but bugs; of pages the words; and the lines of crates.txt: [COMMIT]
+is_whole() (
+    mine=$PWD
+    rm -rf "$room"/{all,has} && cp -r crates "$room/has" && git clone -qsn "$clone" "$room/all" &&
+        cd "$room/all" && git checkout -q "${1:-HEAD^}" && mkdir copy copy/railyarrow || exit
+    names=$(sed -n 's/^crates //p' ../has/railyarrow/VERSION)
+    names=$(grep -E "^(${names// /|}):" crates.txt | grep -oE '[a-z_]+' | paste -sd '|')
+    cp LICENSE NOTICE CHANGELOG.md docs/{DEFINITIONS,GUIDE,PROMISES}.md copy/railyarrow
+    for it in $(ls crates | grep -xE "$names"); do cp -r "crates/$it" copy; done
+    find copy \( -name 'bugs*' -o -name must-fail \) -prune -exec rm -r {} +
+    find copy ../has -name '*.md' -exec sed -zEi 's/\]\([^)]*\)|[][]//g' {} +
+    diff -r --no-dereference -x out -x mine -x VERSION -x .gitattributes copy ../has &&
+        diff <(grep -E "^($names):" crates.txt | sort) <(grep -E "^($names):" "$mine/crates.txt") &&
+        grep -x "commit $(git rev-parse HEAD)" ../has/railyarrow/VERSION
+)
 
 # Wants a call that ended anywhere to be finished by the next one, of this clone: HOW CLONE CALL..
 ends() {
@@ -64,19 +74,15 @@ cut() (
     done
     export room moves=$1 && vendor "${@:2}"
 )
-# Ends it and its children at a random moment, 20 times: NUMBER CALL..
-killed() {
-    [ "$1" -ge 20 ] ||
-        ! timeout -s KILL "$((RANDOM * long / 32768))e-6" bash "$clone/scripts/vendor.sh" "${@:2}"
-    [ "$1" -ge 20 ]
-}
+# Ends it and its children after some time, longer each time: NUMBER CALL..
+killed() { timeout -s KILL "$((($1 + 1) ** 2 * 5))e-3" bash "$clone/scripts/vendor.sh" "${@:2}"; }
 
 # Plays a case for one of its values: START BEFORE CALL WANTED
 play() {
     local status=0 was told words
     umount "$room"/* 2>/dev/null || true
     rm -rf "$room" && mkdir -p "$room/mine" && cd "$room/mine" && clone=$work/1 || return
-    [[ ! "$* $it" =~ \$clone|commit|released ]] ||
+    [[ ! "$* $it" =~ \$clone|commit|release ]] ||
         { cp -r "$work/1" "$room/clone" && clone=$room/clone; }
     [ "$1" = new ] || cp -r "$work/$1/." .
     [ "$2" = - ] || eval "$2" &>"$room/before" || { cat "$room/before" && return 1; }
@@ -93,18 +99,13 @@ play() {
     esac
 }
 
-# Three commits, of which the first was copied.
+# Three releases, of which the first was copied.
 git clone -q "$top" "$work/0"
 cp "$top/scripts/vendor.sh" "$work/0/scripts/"
 echo '# None yet.' >"$work/0/RELEASES"
-clone=$work/0 && git -C "$clone" add -A && commit
-for it in 1 2; do cp -r "$clone" "$work/$it" && clone=$work/$it && commit; done
-clone=$work/0
-mkdir "$work"/{old,few}
-(cd "$work/old" && vendor $two crates)
-long=${EPOCHREALTIME/./}
-(cd "$work/few" && vendor $few crates)
-long=$((${EPOCHREALTIME/./} - long))
+clone=$work/0 && release 0.1.0
+for it in 1 2; do cp -r "$clone" "$work/$it" && clone=$work/$it && release "0.$((it + 1)).0"; done
+mkdir "$work/old" && (cd "$work/old" && clone=$work/0 vendor $two crates)
 
 while read -r line; do
     [[ $line != \#* && ( $every = 1 || $line = \** ) && $line = *"${2:-}"* ]] || continue
@@ -122,9 +123,11 @@ echo "vendor_check: $passed passed, $failed failed"
 [ "$failed" = 0 ] || exit 1
 [ $# -lt 2 ] || exit 0
 
-mkdir "$work/mine" && cd "$work/mine"
-vendor --program mine crates
-cd crates/mine
-rt try >"$work/output" 2>"$work/log" </dev/null || { cat "$work/log" && exit 1; }
-cmp "$work/output" stdout
-echo "vendor_check: $passed passed, and a program runs in a repository of its own: $(cat stdout)"
+calls=$(grep -oE '(bash scripts/vendor.sh --program|cd ~/my_project/crates/)[^`]*' "$top/README.md")
+[[ $(git -C "$top" show HEAD:RELEASES | tail -n 1) = *" $kit" ]] ||
+    calls=${calls/vendor.sh/vendor.sh --to HEAD}
+(cd "$top" && bash -ec "${calls//\~/$work}") >"$work/output" 2>"$work/log" </dev/null &&
+    said=$(sed '/^# /d' "$work/output") && [ "$said" = 'the reply is 42' ] ||
+    { cat "$work"/{output,log} && exit 1; }
+name=$(sed -n 's/^version //p' "$work/my_project/crates/railyarrow/VERSION")
+echo "vendor_check: $passed passed, and a program of $name runs in a repository of its own: $said"
