@@ -1,7 +1,7 @@
 #!/usr/bin/env bash
 # The whole gate, which CI runs too: the steps below. With the word --all, as before a release, it
-# tries the bugs of all crates, which it records, all cases of copies, as root, and the program of
-# examples/tokio. Without valgrind it fails, but where WITHOUT_VALGRIND=yes says so.
+# tries the bugs of all crates, which it records, and all cases of copies, as root. Without valgrind
+# it fails, but where WITHOUT_VALGRIND=yes says so.
 # A step fails if its status is not 0, or if it has counted less than floors.txt says, or if that has
 # no row of it. The first one that fails ends the gate, whose status is then not 0.
 # Prints a line at least every minute. At the end comes a line for each step, with its seconds by
@@ -122,11 +122,6 @@ step program python3 scripts/program.py
 step misuse misuse
 step vendor bash scripts/vendor_check.sh "$@"
 step snippets python3 scripts/snippets.py
-if [ $# -gt 0 ]; then
-    step tokio bash scripts/examples.sh
-else
-    pass_over tokio 'it is part of --all'
-fi
 if [ "${WITHOUT_VALGRIND:-}" = yes ] && ! command -v valgrind >/dev/null; then
     pass_over count 'there is no valgrind'
 else

@@ -61,7 +61,7 @@ BODY = re.compile(
     r"|^( *)def .*\n(?:\2 +.*\n|\n(?=\2 ))*"
 )
 # What a page says of a project of its reader's.
-THEIRS = ("crates/my_program", "crates/railyarrow")
+THEIRS = ("crates/my_program", "crates/queue", "crates/railyarrow")
 
 
 def prose_of(text):

@@ -1,6 +1,7 @@
 #!/usr/bin/env bash
 # Plays cases of vendor.sh, which are lines of vendor_cases.txt: those of the gate, with every fifth
-# cut. Then it runs README's first commands as they stand, without a proof.
+# cut. Then it runs README's first commands as they stand, and with --all those of examples/tokio,
+# without a proof.
 #
 #     bash scripts/vendor_check.sh [--all [WORD]]   as root all, or those whose line holds the word
 #
@@ -123,11 +124,20 @@ echo "vendor_check: $passed passed, $failed failed"
 [ "$failed" = 0 ] || exit 1
 [ $# -lt 2 ] || exit 0
 
+# Runs commands of a page, with a folder of this script's as ~, and prints what they do: CALLS
+runs() {
+    (cd "$top" && bash -ec "${1//\~/$work}") 2>"$work/log" </dev/null | sed '/^# /d' ||
+        { cat "$work/log" >&2 && exit 1; }
+}
 calls=$(grep -oE '(bash scripts/vendor.sh --program|cd ~/my_project/crates/)[^`]*' "$top/README.md")
 [[ $(git -C "$top" show HEAD:RELEASES | tail -n 1) = *" $kit" ]] ||
     calls=${calls/vendor.sh/vendor.sh --to HEAD}
-(cd "$top" && bash -ec "${calls//\~/$work}") >"$work/output" 2>"$work/log" </dev/null &&
-    said=$(sed '/^# /d' "$work/output") && [ "$said" = 'the reply is 42' ] ||
-    { cat "$work"/{output,log} && exit 1; }
+said=$(runs "$calls")
+[ "$said" = 'the reply is 42' ] || { cat "$work/log" >&2 && exit 1; }
 name=$(sed -n 's/^version //p' "$work/my_project/crates/railyarrow/VERSION")
+if [ "${all:-}" ]; then
+    runs "$(sed -n '/^```sh/,/^```$/{/^```/!p}' "$top/examples/tokio/README.md")" >"$work/output"
+    diff "$work/output" "$top/examples/tokio/queue/stdout" || { cat "$work/log" >&2 && exit 1; }
+    passed=$((passed + 1))
+fi
 echo "vendor_check: $passed passed, and a program of $name runs in a repository of its own: $said"
