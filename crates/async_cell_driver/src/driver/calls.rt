@@ -7,7 +7,7 @@ ghost use Rattle.async_cell_wakers.specs.Named.{same_name};
 ghost use Rattle.async_cell_driver.specs.{Log.with_edit, History.call_of, History.is_call, History.told_by, Drives.Happens, Drives.ResultsStay};
 
 use crate::{Driver, Edit, Event, Named, Refusal, Reply, Told};
-use async_cell_core::{Answer, Core, Wakers};
+use async_cell_core::{Answer, Core, NoEdit, Wakers};
 
 impl<T: Clone> Driver<T> {
     /// Makes the call that `event` stands for, and wakes the tasks whose names the core returns.
@@ -231,25 +231,3 @@ fn step<T: Clone, E: Edit<T> + Drop>(
 
 /// An event that takes no edit.
 type NoEditEvent<T> = Event<T, NoEdit>;
-
-/// The edit of the events that have none.
-#[derive(Drop)]
-struct NoEdit;
-
-impl<T> Edit<T> for NoEdit {
-    ghost edit = { λ _ c. c };
-
-    ghost edit_some = { λ _ v. v };
-
-    fn edit(&self, content: Option<T>) -> Option<T>
-        ensures { result ≡ content }
-    {
-        content
-    }
-
-    fn edit_some(&self, value: T) -> T
-        ensures { result ≡ value }
-    {
-        value
-    }
-}
