@@ -15,6 +15,12 @@ is_get TryGet = true
 is_get (PollGet w) = true
 is_get _ = false
 
+-- whether the call may wait: it is a poll
+abbrev pub is_poll : {T W E : Type 0} → Call T W E → Bool
+is_poll (PollTake w) = true
+is_poll (PollGet w) = true
+is_poll _ = false
+
 -- `edit` and `edit_some` give what an edit makes of a content and of a value
 module _ {T W E : Type 0} (edit : E → Option T → Option T) (edit_some : E → T → T) where
   -- A call on this cell, as a history holds it. An update has what its edit was called with and

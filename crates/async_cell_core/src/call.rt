@@ -57,6 +57,28 @@ pub trait Edit<T> {
         ensures { result ≡ edit_some self.now value };
 }
 
+/// The edit of calls that have none: it changes nothing.
+#[derive(Clone, Copy, Debug, Drop, PartialEq, Eq)]
+pub struct NoEdit;
+
+impl<T> Edit<T> for NoEdit {
+    ghost edit = { λ _ c. c };
+
+    ghost edit_some = { λ _ v. v };
+
+    fn edit(&self, content: Option<T>) -> Option<T>
+        ensures { result ≡ content }
+    {
+        content
+    }
+
+    fn edit_some(&self, value: T) -> T
+        ensures { result ≡ value }
+    {
+        value
+    }
+}
+
 /// The reply to a call, and the wakers that the call returns. The caller must wake them.
 #[derive(Drop)]
 pub struct Answer<T, W> {

@@ -14,7 +14,7 @@ pub use async_cell_model::{Refusal, Reply};
 #[doc(hidden)]
 pub use async_cell_wakers::Place;
 pub use async_cell_wakers::{Named, TaskWaker, Wakers, Wakes};
-pub use call::{Answer, Call, Edit};
+pub use call::{Answer, Call, Edit, NoEdit};
 pub use cell_core::Core;
 pub use futures::task::Poll;
 #[doc(hidden)]

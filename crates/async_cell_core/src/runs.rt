@@ -1,8 +1,8 @@
 //! Lists of calls, made in order.
 ghost use Rattle.std.specs.Prelude.{◌≡◌, map, vec_len, true, false, [], IfOk, IfErr, IfSome, OnErr, IsOk};
 ghost use Rattle.std.specs.List.{list_any};
-ghost use Rattle.async_cell_model.specs.{Machine.{content, is_vacant, is_memory}, Legal.{Runs, RunsUpTo}};
-ghost use Rattle.async_cell_core.specs.{IsStep.{IsStep, IsStepUpTo}, Kept.{is_get, kept_call, history_of, GetsAreCopied}, Polled.{IsCopied, IsExact}};
+ghost use Rattle.async_cell_model.specs.{Machine.{content, is_vacant, is_memory}, Legal.{Runs, RunsUpTo, is_refused}};
+ghost use Rattle.async_cell_core.specs.{IsStep.{IsStep, IsStepUpTo}, Kept.{is_get, is_poll, kept_call, history_of, GetsAreCopied}, Polled.{IsCopied, IsExact}};
 
 use crate::call::{Answer, Call, Edit};
 use crate::cell_core::Core;
@@ -15,8 +15,10 @@ fn step_no_get<T: Drop, W: Wakes, E: Edit<T> + Drop>(
     call: Call<T, W, E>,
 ) -> Answer<T, W>
     requires { is_get call ≡ false }
-    ensures { IsStep W.Wakes
+    ensures model { IsStep W.Wakes
         core.old (kept_call E.edit E.edit_some core.old.cell call) result core.new }
+    ensures unchanged { is_poll call ≡ false → is_refused result.reply ≡ true
+        → core.new ≡ core.old }
 {
     match call {
         Call::Set(value) => match core.set(value) {
@@ -76,6 +78,8 @@ pub fn step<T: Clone, W: Wakes, E: Edit<T> + Drop>(
         → IsStep W.Wakes core.old (kept_call E.edit E.edit_some core.old.cell call) result core.new }
     ensures copies { is_get call ≡ true → IfSome (content core.old.cell) (λ value.
         IsCopied T.is_clone T.is_infallible value result.reply) }
+    ensures unchanged { is_poll call ≡ false → is_refused result.reply ≡ true
+        → core.new ≡ core.old }
 {
     match call {
         Call::TryGet => match core.try_get() {

@@ -11,6 +11,7 @@ use crate::share::ShareCount;
 use crate::{
     Blanks, Call, Edit, Entry, History, Journal, Named, Pick, Refusal, Reply, Share, Wakers,
 };
+use async_cell_core::NoEdit;
 use async_cell_model::Kept;
 use std::alloc::Global;
 use std::sync::{Mutex, Wait};
@@ -39,28 +40,6 @@ pub type CallResult<T> = Result<(Entry<T>, Wakers<Named>), Refusal>;
 
 /// A call that takes no edit.
 type NoEditCall<T> = Call<T, Named, NoEdit>;
-
-/// The edit of the calls that have none.
-#[derive(Drop)]
-struct NoEdit;
-
-impl<T> Edit<T> for NoEdit {
-    ghost edit = { λ _ c. c };
-
-    ghost edit_some = { λ _ v. v };
-
-    fn edit(&self, content: Option<T>) -> Option<T>
-        ensures { result ≡ content }
-    {
-        content
-    }
-
-    fn edit_some(&self, value: T) -> T
-        ensures { result ≡ value }
-    {
-        value
-    }
-}
 
 impl<T: Copy, M: Pick<T>> Recorded<T, M> {
     /// Makes an open cell without a value and with one owner for each share. Also makes the shares

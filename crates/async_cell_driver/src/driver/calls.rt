@@ -1,13 +1,14 @@
 //! Calls on the cell of a driver, and the one function that makes them.
 ghost use Rattle.std.specs.Prelude.{◌≡◌, ◌↔◌, ◌+◌, ◌-◌, [], true, false, Some, None, Err, IsOk, IfOk, IfErr, OnOk, OnErr, IsSomeAnd};
-ghost use Rattle.async_cell_model.specs.Machine.{Does, next, reply, is_closed, is_full, is_vacant, content, owners_of, owners_limit};
+ghost use Rattle.async_cell_model.specs.Machine.{next, reply, is_closed, is_full, is_vacant, content, owners_of, owners_limit};
 ghost use Rattle.async_cell_model.specs.Legal.{is_refused};
 ghost use Rattle.async_cell_model.specs.declared.entry.Kept.TheVariants as kept;
-ghost use Rattle.async_cell_wakers.specs.Named.{same_name};
+ghost use Rattle.async_cell_model.specs.declared.cell.Cell.{Cell};
+ghost use Rattle.async_cell_core.specs.Kept.{is_get, is_poll, kept_call};
 ghost use Rattle.async_cell_driver.specs.{Log.with_edit, History.call_of, History.is_call, History.told_by, Drives.Happens, Drives.ResultsStay};
 
 use crate::{Driver, Edit, Event, Named, Refusal, Reply, Told};
-use async_cell_core::{Answer, Core, Wakers};
+use async_cell_core::{Call, NoEdit, step};
 
 impl<T: Clone> Driver<T> {
     /// Makes the call that `event` stands for, and wakes the tasks whose names the core returns.
@@ -22,7 +23,7 @@ impl<T: Clone> Driver<T> {
         ensures results_stay { ResultsStay self.old self.new }
         ensures unchanged { is_refused result ≡ true → self.new ≡ self.old }
     {
-        let answer = step(&mut self.core, event);
+        let answer = step(&mut self.core, call_of(event));
         self.tasks.wake(answer.woken);
         answer.reply
     }
@@ -187,69 +188,25 @@ impl<T: Clone> Driver<T> {
     }
 }
 
-/// Makes the core's call of an event.
-fn step<T: Clone, E: Edit<T> + Drop>(
-    core: &mut Core<T, Named>,
-    event: Event<T, E>,
-) -> Answer<T, Named>
+/// Returns the core's call of an event.
+fn call_of<T, E: Edit<T>>(event: Event<T, E>) -> Call<T, Named, E>
     requires { is_call event ≡ true }
-    ensures model { IsSomeAnd (call_of [] core.old.cell (with_edit E.edit event)) (λ call.
-        Does same_name true core.old (record { call = call; reply = result.reply })
-        result.woken core.new) }
-    ensures unchanged { is_refused result.reply ≡ true → core.new ≡ core.old }
+    ensures stands_for { (cell : Cell T) → call_of [] cell (with_edit E.edit event)
+        ≡ Some (kept_call E.edit E.edit_some cell result) }
+    ensures no_get { is_get result ≡ false }
+    ensures no_poll { is_poll result ≡ false }
 {
-    let (reply, woken) = match event {
-        Event::Set(value) => match core.set(value) {
-            Ok(woken) => (Reply::Done, woken),
-            Err(back) => (Reply::Refused(Refusal::Closed, Some(back)), Wakers::none()),
-        },
-        Event::OrSet(value) => match core.or_set(value) {
-            Ok((unused, woken)) => (Reply::Value(unused), woken),
-            Err(back) => (Reply::Refused(Refusal::Closed, Some(back)), Wakers::none()),
-        },
-        Event::Replace(value) => match core.replace(value) {
-            Ok((old, woken)) => (Reply::Value(old), woken),
-            Err(back) => (Reply::Refused(Refusal::Closed, Some(back)), Wakers::none()),
-        },
-        Event::Update(edit) => match core.update(|content| edit.edit(content)) {
-            Ok(woken) => (Reply::Done, woken),
-            Err(why) => (Reply::Refused(why, None), Wakers::none()),
-        },
-        Event::TryTake => (Reply::Value(core.try_take()), Wakers::none()),
-        Event::AddOwner => match core.add_owner() {
-            Ok(()) => (Reply::Done, Wakers::none()),
-            Err(why) => (Reply::Refused(why, None), Wakers::none()),
-        },
-        Event::EndOwner => match core.end_owner() {
-            Ok((last, woken)) => (Reply::Value(last), woken),
-            Err(why) => (Reply::Refused(why, None), Wakers::none()),
-        },
+    match event {
+        Event::Set(value) => Call::Set(value),
+        Event::OrSet(value) => Call::OrSet(value),
+        Event::Replace(value) => Call::Replace(value),
+        Event::Update(edit) => Call::Update(edit),
+        Event::TryTake => Call::TryTake,
+        Event::AddOwner => Call::AddOwner,
+        Event::EndOwner => Call::EndOwner,
         Event::Start(_) | Event::Poll(_) => unreachable!(),
-    };
-    Answer { reply, woken }
+    }
 }
 
 /// An event that takes no edit.
 type NoEditEvent<T> = Event<T, NoEdit>;
-
-/// The edit of the events that have none.
-#[derive(Drop)]
-struct NoEdit;
-
-impl<T> Edit<T> for NoEdit {
-    ghost edit = { λ _ c. c };
-
-    ghost edit_some = { λ _ v. v };
-
-    fn edit(&self, content: Option<T>) -> Option<T>
-        ensures { result ≡ content }
-    {
-        content
-    }
-
-    fn edit_some(&self, value: T) -> T
-        ensures { result ≡ value }
-    {
-        value
-    }
-}
