@@ -10,11 +10,9 @@
 # A shallow clone lacks the release: then this ends with the words of vendor.sh.
 set -euo pipefail
 top=$(cd "$(dirname "$0")/.." && pwd)
-work=$(realpath "$(mktemp -d)")
-room=$work/room
+work=$(realpath "$(mktemp -d)") && room=$work/room
 trap 'umount "$room"/* 2>/dev/null || true; rm -rf "$work"' EXIT
-mkdir -m 1777 "$work/tmp"
-chmod 755 "$work"
+mkdir -m 1777 "$work/tmp" && chmod 755 "$work"
 export TMPDIR=$work/tmp GIT_AUTHOR_DATE='@1 +0000' GIT_COMMITTER_DATE='@1 +0000' moves
 two='async_cell_sync async_cell_within' few='async_cell_core async_cell_within'
 need='async_cell_within: futures' lib=async_cell_core/src/lib.rt passed=0 failed=0 every=5
@@ -55,7 +53,8 @@ is_whole() (
         grep -x "commit $(git rev-parse HEAD)" ../has/railyarrow/VERSION
 )
 
-# Wants a call that ended anywhere to be finished by the next one, of this clone: HOW CLONE CALL..
+# Wants a call that ended anywhere to be finished by the next one, of this clone, at its release; or
+# if that was a first copy, and VERSION was there, at that one: HOW CLONE CALL..
 ends() {
     local at first=$clone
     cp -r . "$room/start"
@@ -63,7 +62,8 @@ ends() {
         find . -mindepth 1 -delete && cp -r "$room/start/." . && clone=$first
         ! "$1" "$at" "${@:3}" &>/dev/null || break
         clone=$work/$2
-        { vendor "${@:3}" && is_whole; } || return
+        vendor "${@:3}" || return
+        is_whole || { [ "$3" != --update ] && is_whole HEAD~3; } || return
     done
     [ "$at" != 0 ]
 }
