@@ -85,13 +85,16 @@ pass_over() {
     echo "gate: $1 is passed over: $2" >>"$work/shown"
 }
 
-# Runs the kit's own gate on what is here, and says how many must-fail edits are refuted by values or
-# by a clause, and how many only as a search met its limits (of these lines the kit cuts the end).
+# Runs the kit's own gate on what is here, and says of how many must-fail edits its line tells that
+# they are refuted, by values or by a clause, of how many that a search met its limits, and of how
+# many neither (the kit cuts these lines).
 prove() {
     RT_JOBS=$lanes rt ci | tee "$work/ci"
     local status=${PIPESTATUS[0]}
-    awk '/^rt: must-fail .*: refused, as it must be/ { /`[a-z_]+[^`]*`(\)|: )(; t|[^;]|$)/ ? n++ : lost++ }
-        END { print "edits: " n + 0 " refuted, " lost + 0 " lost" }' "$work/ci"
+    awk '/^rt: must-fail .*: refused, as it must be/ {
+            if (/`[a-z_]+[^`]*`(\)|: )(; t|[^;]|$)/) n++; else if (/`\); `/) lost++; else cut++
+        }
+        END { print "edits: " n + 0 " refuted, " lost + 0 " lost, " cut + 0 " not told" }' "$work/ci"
     tail -n 1 "$work/ci"
     return "$status"
 }
