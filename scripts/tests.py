@@ -36,7 +36,7 @@ LOOKS_ASLEEP = 60
 EMPTY = re.compile(r"#\[test\]\s*fn (\w+)\([^)]*\)[^{;]*\{\s*(?:Ok\(\(\)\))?\s*\}")
 
 
-class Told:
+class Tally:
     """What is printed, with the seconds that it took, and how many tests passed and failed."""
 
     def __init__(self):
@@ -170,7 +170,7 @@ def read_cases(played, told):
 
 
 def main(words):
-    told = Told()
+    told = Tally()
     cases = [sys.executable, f"{TOP}/scripts/cases.py"]
     played = None if words else subprocess.Popen(cases, **lay_out.READ)
     for it in [] if words else lay_out.formatted():

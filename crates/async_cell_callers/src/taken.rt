@@ -11,7 +11,7 @@ use std::sync::Wait;
 
 /// What a call was answered, and the history of its cell.
 #[derive(Drop)]
-pub struct Told {
+pub struct FiveTaken {
     /// The entry of the call.
     pub entry: Entry<u32>,
 
@@ -23,7 +23,11 @@ pub struct Told {
 }
 
 /// The same for a cell that is named by `M`, whose test picks the entries that hand a value out.
-fn take_five<M: Pick<u32>>(alloc: Global, blanks: Blanks, rt: &impl Wait) -> Result<Told, Refusal>
+fn take_five<M: Pick<u32>>(
+    alloc: Global,
+    blanks: Blanks,
+    rt: &impl Wait,
+) -> Result<FiveTaken, Refusal>
     requires calls { (blanks.calls.name ≡ M.calls) × (blanks.calls.parts ≡ 1) }
     requires picked { (blanks.picked.name ≡ M.picked) × (blanks.picked.parts ≡ 1) }
     requires shares { M.shares ≡ 1 }
@@ -41,7 +45,7 @@ fn take_five<M: Pick<u32>>(alloc: Global, blanks: Blanks, rt: &impl Wait) -> Res
     let (entry, names) = cell.try_take(&mut share, rt)?;
     shares.push_reserved(share);
     let history = cell.finish(shares).map_err(|_| Refusal::ShareMissing)?;
-    Ok(Told {
+    Ok(FiveTaken {
         entry,
         names,
         history,
@@ -50,7 +54,7 @@ fn take_five<M: Pick<u32>>(alloc: Global, blanks: Blanks, rt: &impl Wait) -> Res
 
 /// Puts five into a new cell, and takes the value. If the take was told a value, exactly one entry
 /// of the finished history hands a value out. So nobody else was handed it.
-pub fn five_taken(alloc: Global, rt: &impl Wait) -> Result<Told, Refusal>
+pub fn five_taken(alloc: Global, rt: &impl Wait) -> Result<FiveTaken, Refusal>
     ensures take { IfOk result (λ told. told.entry.call ≡ Kept.TryTake) }
     ensures as_told { IfOk result (λ told.
         picked hands_out told.history ≡ from_bool (hands_out told.entry told.names)) }

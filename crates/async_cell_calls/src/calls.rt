@@ -36,7 +36,7 @@ impl<M: Stores<Core = CellCore<T, W, N>>, T: Drop, W: Wakes, N: Protocol<T, W>> 
         requires may { N.may (Kept.Replace value) }
     {
         let mut step = opened!(rt, &self.store, else return);
-        if step.shown().is_set() {
+        if step.core().is_set() {
             let old = step.lend().overwrite(value); // Nobody waits on a full cell.
             let _ = end(step, old);
             return;
@@ -55,7 +55,7 @@ impl<M: Stores<Core = CellCore<T, W, N>>, T: Drop, W: Wakes, N: Protocol<T, W>> 
         ensures comes_back { IfErr result (λ back. back ≡ value) }
     {
         let mut step = opened!(rt, &self.store, else return Err(value));
-        if step.shown().is_set() {
+        if step.core().is_set() {
             let old = step.lend().overwrite(value); // Nobody waits on a full cell.
             return Ok(Some(end(step, old)?));
         }
@@ -144,7 +144,7 @@ impl<M: Stores<Core = CellCore<T, W, N>>, T: Drop, W: Wakes, N: Protocol<T, W>> 
         ensures rule { IfSome result (λ content. IfSome content N.holds) }
     {
         let mut step = rt.open(&self.store)?;
-        if step.shown().owners() == 0 {
+        if step.core().owners() == 0 {
             return end(step, Deferred::of(None));
         }
         let content = step.lend().make(TryTake, &Nobody);
@@ -206,10 +206,10 @@ impl<M: Stores<Core = CellCore<T, W, N>>, T: Drop, W: Wakes, N: Protocol<T, W>> 
     #[inline(always)]
     pub fn look<'a, R: Opens<'a, M>>(&'a self, rt: &R) -> Option<R::Open>
         ensures lent { IsTrue R.always → IsSome result }
-        ensures sound { IfSome result (λ step. IsSound W.will_wake (R.Open.shows step).inner) }
+        ensures sound { IfSome result (λ step. IsSound W.will_wake (R.Open.core_of step).inner) }
     {
         let step = rt.open(&self.store)?;
-        step.shown().soundness();
+        step.core().soundness();
         Some(step)
     }
 
@@ -236,7 +236,7 @@ impl<M: Stores<Core = CellCore<T, W, N>>, T: Drop, W: Wakes, N: Protocol<T, W>> 
             × N.holds seen × FnOnceReturnsAt F.FnOnce look seen answer) }
     {
         let step = self.look(rt)?;
-        let looked = step.shown().peek(look);
+        let looked = step.core().peek(look);
         match end(step, looked) {
             Ok(answer) => Some(answer),
             Err(_not_called) => None,
@@ -259,7 +259,7 @@ impl<M: Stores<Core = CellCore<T, W, N>>, T: Drop, W: Wakes, N: Protocol<T, W>> 
         let Some(step) = self.look(rt) else {
             return 0;
         };
-        let owners = step.shown().owners();
+        let owners = step.core().owners();
         end(step, Deferred::of(owners))
     }
 
@@ -268,7 +268,7 @@ impl<M: Stores<Core = CellCore<T, W, N>>, T: Drop, W: Wakes, N: Protocol<T, W>> 
         let Some(step) = self.look(rt) else {
             return 0;
         };
-        let waiting = step.shown().waiting();
+        let waiting = step.core().waiting();
         end(step, Deferred::of(waiting))
     }
 
@@ -276,7 +276,7 @@ impl<M: Stores<Core = CellCore<T, W, N>>, T: Drop, W: Wakes, N: Protocol<T, W>> 
     #[doc(hidden)]
     pub fn is_pending<'a, R: Opens<'a, M>>(&'a self, rt: &R) -> Option<bool> {
         let step = self.look(rt)?;
-        let core = step.shown();
+        let core = step.core();
         let waits = core.is_vacant().then_some(!core.wakes_nobody());
         end(step, Deferred::of(waits))
     }
@@ -294,7 +294,7 @@ impl<M: Stores<Core = CellCore<T, W, N>>, T: Drop, W: Wakes, N: Protocol<T, W>> 
         ensures refused { FailsWithMemory result }
     {
         let step = self.look(rt).ok_or(Refusal::Memory)?;
-        let text = step.shown().debug_text(alloc);
+        let text = step.core().debug_text(alloc);
         end(step, text)
     }
 }

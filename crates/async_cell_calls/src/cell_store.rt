@@ -100,7 +100,7 @@ impl<M: Stores<Core = CellCore<T, W, N>>, T: Drop, W: Wakes, N: Protocol<T, W>> 
     {
         let mut step = opened!(rt, &self.store, else return op.unlent());
         let core = step.lend();
-        by.shows(core);
+        by.proves_open(core);
         seen.catch_up(core);
         if O::IS_FAST {
             // Nobody waits on a full cell. In a branch of its own the compiler sees that a call on
@@ -135,7 +135,7 @@ where
         × S.sees first (O.call from op to) (O.reply from result) seen.new }
 {
     let core = step.lend();
-    by.shows(core);
+    by.proves_open(core);
     seen.catch_up(core);
     let held = core.make(op, &*seen);
     seen.see(core);

@@ -72,7 +72,7 @@ impl<M: Stores<Core = CellCore<T, W, N>>, T: Drop, W: Wakes, N: Protocol<T, W>> 
     {
         let mut step = opened!(rt, &self.store, else return Err(Refusal::Closed));
         let core = step.lend();
-        by.shows(core);
+        by.proves_open(core);
         seen.catch_up(core);
         let added = core.add_owner(&*seen);
         seen.see(core);

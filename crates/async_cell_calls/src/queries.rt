@@ -64,22 +64,22 @@ impl<T: Clone, N: Protocol<T, TaskWaker>> Query<CellCore<T, TaskWaker, N>> for C
 
 /// A query and its caller. A caller that is an owner never gets `Closed`.
 #[derive(Drop)]
-pub struct By<'a, K, Q> {
+pub struct WithCaller<'a, K, Q> {
     caller: &'a K,
     query: Q,
 }
 
-impl<'a, K, Q> By<'a, K, Q> {
-    /// Makes a `By` of this caller and this query.
+impl<'a, K, Q> WithCaller<'a, K, Q> {
+    /// Makes a `WithCaller` of this caller and this query.
     #[inline(always)]
     pub fn new(caller: &'a K, query: Q) -> Self
         ensures { result.query ≡ query }
     {
-        By { caller, query }
+        WithCaller { caller, query }
     }
 }
 
-impl<T, N, K, Q> Query<CellCore<T, TaskWaker, N>> for By<'_, K, Q>
+impl<T, N, K, Q> Query<CellCore<T, TaskWaker, N>> for WithCaller<'_, K, Q>
 where
     T: Drop,
     N: Protocol<T, TaskWaker>,
@@ -103,8 +103,8 @@ where
 
     #[inline(always)]
     fn answer(self, core: &mut CellCore<T, TaskWaker, N>) -> Deferred<Result<Q::Answer, Refusal>> {
-        let By { caller, query } = self;
-        caller.shows(core);
+        let WithCaller { caller, query } = self;
+        caller.proves_open(core);
         query.answer(core)
     }
 }
@@ -145,7 +145,7 @@ impl<T: Drop, N: Protocol<T, TaskWaker>> Query<CellCore<T, TaskWaker, N>> for Ta
         seen.catch_up(core);
         let taken = core.make(TryTake, &seen);
         seen.see(core);
-        taken.or_closed().beside(seen)
+        taken.or_closed().paired_with(seen)
     }
 }
 
@@ -176,6 +176,6 @@ impl<T: Clone, N: Protocol<T, TaskWaker>> Query<CellCore<T, TaskWaker, N>> for C
         seen.catch_up(core);
         let copied = core.make(TryGet, &seen);
         seen.see(core);
-        copied.or_closed().beside(seen)
+        copied.or_closed().paired_with(seen)
     }
 }

@@ -154,14 +154,14 @@ impl<T, W: Wakes> Start<T, W> {
         ensures { result ≡ core.now }
     {
         let mut log = Log::open();
-        log.push::<_, Itself>(core);
+        log.push::<_, Identity>(core);
         Start { log }
     }
 }
 
 /// The entry is the core itself.
-struct Itself;
+struct Identity;
 
-impl<T, W: Wakes> Makes<Core<T, W>, Core<T, W>> for Itself {
+impl<T, W: Wakes> Makes<Core<T, W>, Core<T, W>> for Identity {
     ghost entry = { λ core. core };
 }

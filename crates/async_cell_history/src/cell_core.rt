@@ -10,7 +10,7 @@ mod owners;
 mod room;
 mod writes;
 
-use crate::op::Makes;
+use crate::op::RunsOp;
 use crate::{Before, Blank, Op, Opened, OwnerPermit, Past, Protocol, Signs, Unruled, Witness};
 use async_cell_core::{Core, Refusal, Wakes};
 use async_cell_step::Deferred;
@@ -117,7 +117,7 @@ impl<T: Drop, W: Wakes, N: Protocol<T, W>> CellCore<T, W, N> {
     {
         let before = Before::of(&self.inner, &op);
         let held = op.make(&mut self.inner);
-        let made = &Makes::<N, O>(PhantomData);
+        let made = &RunsOp::<N, O>(PhantomData);
         before.enter(&mut self.past, made, &held, &self.inner, by);
         held
     }
@@ -129,19 +129,19 @@ impl<T: Drop, W: Wakes, N: Protocol<T, W>> CellCore<T, W, N> {
         &mut self,
         op: O,
         by: &B,
-    ) -> Result<Deferred<O::Answer, O::Few>, O>
+    ) -> Result<Deferred<O::Answer, O::FastAfter>, O>
         requires can { O.can op }
         ensures made { IfOk result (λ held. Made W.will_wake W.SURE_CLONE self.old
             (O.call self.old.inner op self.new.inner) (O.reply self.old.inner held.answer)
-            (O.Few.wakes held.woken) (B.number by.now) self.new) }
+            (O.FastAfter.wakes held.woken) (B.number by.now) self.new) }
         ensures gives { IfOk result (λ held.
             O.gives self.old.inner op held.answer self.new.inner) }
-        ensures leaves { IfOk result (λ held. O.leaves_few self.old.inner op held.woken) }
+        ensures leaves { IfOk result (λ held. O.leaves_fast self.old.inner op held.woken) }
         ensures comes_back { IfErr result (λ back. back ≡ op) }
     {
         let before = Before::of(&self.inner, &op);
         let held = op.fast(&mut self.inner)?;
-        let made = &Makes::<N, O>(PhantomData);
+        let made = &RunsOp::<N, O>(PhantomData);
         before.enter(&mut self.past, made, &held, &self.inner, by);
         Ok(held)
     }

@@ -29,7 +29,7 @@ pub(crate) fn number_of<A: Author>() -> Number
     ensures { first_number result.list ≡ A.number }
 {
     let mut log = Log::open();
-    log.push::<_, By<A>>(&());
+    log.push::<_, NumberOf<A>>(&());
     log.seen()
 }
 
@@ -44,9 +44,9 @@ pub(crate) fn number_after(number: &Number) -> Number
 }
 
 /// The entry is the number of the author.
-struct By<A>(PhantomData<A>);
+struct NumberOf<A>(PhantomData<A>);
 
-impl<A: Author> Makes<(), u64> for By<A> {
+impl<A: Author> Makes<(), u64> for NumberOf<A> {
     ghost entry = { λ _. A.number };
 }
 

@@ -19,7 +19,7 @@ pub trait Op<T: Drop, W: Wakes, N: Protocol<T, W>>: Sized {
     type After: After<W>;
 
     /// The same, on its fast path.
-    type Few: After<W>;
+    type FastAfter: After<W>;
 
     /// Whether it has a fast path.
     const IS_FAST: bool = false;
@@ -39,8 +39,8 @@ pub trait Op<T: Drop, W: Wakes, N: Protocol<T, W>>: Sized {
     /// What is known of `After`.
     ghost leaves: { State T W → Self → Self.After → Type 0 } = { λ _ _ _. ⊤ };
 
-    /// What is known of `Few`.
-    ghost leaves_few: { State T W → Self → Self.Few → Type 0 } = { λ _ _ _. ⊤ };
+    /// What is known of `FastAfter`.
+    ghost leaves_fast: { State T W → Self → Self.FastAfter → Type 0 } = { λ _ _ _. ⊤ };
 
     /// Makes the call.
     fn make(self, core: &mut Core<T, W>) -> Deferred<Self::Answer, Self::After>
@@ -57,17 +57,17 @@ pub trait Op<T: Drop, W: Wakes, N: Protocol<T, W>>: Sized {
     /// Makes the call, if it has a fast path and wakes at most one waker. Otherwise returns the
     /// call in the error.
     #[inline(always)]
-    fn fast(self, core: &mut Core<T, W>) -> Result<Deferred<Self::Answer, Self::Few>, Self>
+    fn fast(self, core: &mut Core<T, W>) -> Result<Deferred<Self::Answer, Self::FastAfter>, Self>
         requires can { can self }
         requires rule { IfSome (content core.old.cell) N.holds }
         ensures made { IfOk result (λ held. Does W.will_wake W.SURE_CLONE core.old
             (record { call = call core.old self core.new; reply = reply core.old held.answer })
-            (Self.Few.wakes held.woken) core.new) }
+            (Self.FastAfter.wakes held.woken) core.new) }
         ensures allowed { IfOk result (λ _. IsAllowed N.may (call core.old self core.new)) }
         ensures of_content { IfOk result (λ _.
             is_of_owners (call core.old self core.new) ≡ false) }
         ensures gives { IfOk result (λ held. gives core.old self held.answer core.new) }
-        ensures leaves { IfOk result (λ held. leaves_few core.old self held.woken) }
+        ensures leaves { IfOk result (λ held. leaves_fast core.old self held.woken) }
         ensures comes_back { IfErr result (λ back. back ≡ self) }
         ensures unchanged { OnErr result (core.new ≡ core.old) }
     {
@@ -81,9 +81,9 @@ pub trait Op<T: Drop, W: Wakes, N: Protocol<T, W>>: Sized {
 }
 
 /// The entry of a call that was made.
-pub(crate) struct Makes<N, O>(pub(crate) PhantomData<(N, O)>);
+pub(crate) struct RunsOp<N, O>(pub(crate) PhantomData<(N, O)>);
 
-impl<T, W, N, O, L> Enters<O, Deferred<O::Answer, L>, T, W> for Makes<N, O>
+impl<T, W, N, O, L> Enters<O, Deferred<O::Answer, L>, T, W> for RunsOp<N, O>
 where
     T: Drop,
     W: Wakes,

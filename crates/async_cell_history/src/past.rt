@@ -106,7 +106,7 @@ impl<C, T, W: Wakes> Before<C, T, W> {
             (M.call self.now.from.value self.now.passed.value to.now) ≡ false
             → owners_of to.now.cell ≡ owners_of self.now.from.value.cell }
     {
-        past.log.push::<_, By<M>>(&Made {
+        past.log.push::<_, SignedEntry<M>>(&FinishedCall {
             before: self,
             returned,
             to,
@@ -146,7 +146,7 @@ impl<T, W: Wakes> Before<W, T, W> {
 
 /// A call that was made: what it returned, the core after it, and who signed it.
 #[derive(Drop)]
-struct Made<'a, C, A, T, W: Wakes, B> {
+struct FinishedCall<'a, C, A, T, W: Wakes, B> {
     before: &'a Before<C, T, W>,
     returned: &'a A,
     to: &'a Core<T, W>,
@@ -154,12 +154,12 @@ struct Made<'a, C, A, T, W: Wakes, B> {
 }
 
 /// The entry that `M` makes of a call.
-struct By<M>(PhantomData<M>);
+struct SignedEntry<M>(PhantomData<M>);
 
 impl<C, A, T, W: Wakes, B: Signs, M: Enters<C, A, T, W>> Makes<
-    Made<'_, C, A, T, W, B>,
+    FinishedCall<'_, C, A, T, W, B>,
     Signed<T, W>,
-> for By<M> {
+> for SignedEntry<M> {
     ghost use Rattle.async_cell_history.specs.History.{entry_of};
 
     ghost entry = { λ made. record {

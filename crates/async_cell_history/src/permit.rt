@@ -101,11 +101,11 @@ impl<T, W: Wakes, N: Protocol<T, W>> Past<T, W, N> {
     /// Does nothing. Its contract states that at least one owner is counted, because `permit`
     /// belongs to an owner.
     #[inline(always)]
-    pub(crate) fn shows(&mut self, permit: &OwnerPermit<T, W, N>)
+    pub(crate) fn proves_counted(&mut self, permit: &OwnerPermit<T, W, N>)
         ensures stays { self.new ≡ self.old }
         ensures out { IsSome (permits_of N.named) → 0 < self.old.out }
     {
-        self.count.shows(&permit.permit);
+        self.count.proves_counted(&permit.permit);
     }
 }
 
@@ -115,7 +115,7 @@ pub trait Caller<T, W: Wakes, N: Protocol<T, W>> {
     ghost owns: { Type 0 };
 
     /// Does nothing. Its contract states that the cell of an owner is open.
-    fn shows(&self, core: &mut CellCore<T, W, N>)
+    fn proves_open(&self, core: &mut CellCore<T, W, N>)
         ensures stays { core.new ≡ core.old }
         ensures open { owns → is_closed core.old.inner.cell ≡ false };
 }
@@ -127,7 +127,7 @@ impl<T: Drop, W: Wakes, N: Protocol<T, W>> Caller<T, W, N> for Anyone {
     ghost owns = { ⊥ };
 
     #[inline(always)]
-    fn shows(&self, _: &mut CellCore<T, W, N>) {}
+    fn proves_open(&self, _: &mut CellCore<T, W, N>) {}
 }
 
 impl<T: Drop, W: Wakes, N: Protocol<T, W>> Caller<T, W, N> for OwnerPermit<T, W, N> {
@@ -138,7 +138,7 @@ impl<T: Drop, W: Wakes, N: Protocol<T, W>> Caller<T, W, N> for OwnerPermit<T, W,
 
     #[inline(always)]
     #[tactic(auto, using(crate::proofs::Leading::open_if_owned))]
-    fn shows(&self, core: &mut CellCore<T, W, N>) {
-        core.past.shows(self);
+    fn proves_open(&self, core: &mut CellCore<T, W, N>) {
+        core.past.proves_counted(self);
     }
 }

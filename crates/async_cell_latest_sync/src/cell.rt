@@ -32,8 +32,8 @@ impl<T: Drop, N: Protocol<T>> LatestCell<T, N> {
         ensures called { (seen : T) × N.holds seen × FnOnceReturnsAt F.FnOnce look seen result.1 }
     {
         let step = self.core.lock(rt);
-        let (version, _) = step.shown().read();
-        let answer = step.shown().look(look);
+        let (version, _) = step.core().read();
+        let answer = step.core().look(look);
         end(step, Deferred::of(()));
         (version, answer)
     }
@@ -48,7 +48,7 @@ impl<T: Drop, N: Protocol<T>> LatestCell<T, N> {
         ensures refused { FailsWithMemory result }
     {
         let step = self.core.lock(rt);
-        let copy = step.shown().get();
+        let copy = step.core().get();
         end(step, copy)
     }
 
@@ -72,7 +72,7 @@ impl<T: Drop, N: Protocol<T>> LatestCell<T, N> {
         ensures refused { IfSome result (λ tested. FailsWithMemory tested.1) }
     {
         let step = self.core.lock(rt);
-        let (version, value) = step.shown().read();
+        let (version, value) = step.core().read();
         if version == seen {
             end(step, Deferred::of(()));
             return None;
@@ -89,7 +89,7 @@ impl<T: Drop, N: Protocol<T>> LatestCell<T, N> {
     /// Returns whether the last owner has ended.
     pub(crate) fn is_closed<R: Wait>(&self, rt: &R) -> bool {
         let step = self.core.lock(rt);
-        let is_closed = step.shown().is_closed();
+        let is_closed = step.core().is_closed();
         end(step, Deferred::of(is_closed))
     }
 }

@@ -198,8 +198,8 @@ impl<T: Clone, R: Wait + Drop, N: Protocol<T>> Follower<T, R, N> {
     {
         let mut now = seen.again();
         let step = self.cell.core.lock(&self.rt);
-        step.shown().show_to(&mut now);
-        let copy = step.shown().get();
+        step.core().teach(&mut now);
+        let copy = step.core().get();
         let (version, value) = end(step, copy)?;
         *seen = now;
         self.seen = version;

@@ -127,7 +127,7 @@ impl<T: Drop, R: Wait + Copy, N: Protocol<T>> Owner<T, R, N> {
     {
         let cell = Arc::try_clone(&self.cell)?;
         let mut step = cell.core.lock(&self.rt);
-        let added = step.lend().add_writer();
+        let added = step.lend().add_owner();
         end(step, added)?;
         Ok(Owner { cell, rt: self.rt })
     }
@@ -202,7 +202,7 @@ impl<T: Drop, R: Wait + Drop, N: Protocol<T>> Owner<T, R, N> {
         ensures called { (old new : T) × FnOnceReturnsAt F.FnOnce change old new }
     {
         let mut step = self.cell.core.lock(&self.rt);
-        let value = step.shown().look(change);
+        let value = step.core().look(change);
         let written = step.lend().write(value);
         let _ = end_and_wake(step, written);
     }
@@ -292,10 +292,10 @@ impl<T: Drop, R: Wait + Drop, N: Protocol<T>> Owner<T, R, N> {
     {
         let mut step = self.cell.core.lock(&self.rt);
         let core = step.lend();
-        core.show_to(seen);
+        core.teach(seen);
         seen.lawful();
         let replaced = core.write(value);
-        core.show_to(seen);
+        core.teach(seen);
         end_and_wake(step, replaced)
     }
 
@@ -317,11 +317,11 @@ impl<T: Drop, R: Wait + Drop, N: Protocol<T>> Owner<T, R, N> {
     {
         let mut step = self.cell.core.lock(&self.rt);
         let core = step.lend();
-        core.show_to(seen);
+        core.teach(seen);
         seen.lawful();
         let value = core.look(change);
         let updated = core.write(value);
-        core.show_to(seen);
+        core.teach(seen);
         match end_and_wake(step, updated) {
             Ok(_old) => Ok(()),
             Err(unused) => Err(unused),
@@ -337,9 +337,9 @@ impl<T: Drop, R: Wait + Drop, N: Protocol<T>> Owner<T, R, N> {
     {
         let Owner { cell, rt } = self;
         let mut step = cell.core.lock(&rt);
-        let ended = step.lend().end_writer();
-        step.shown().show_to(seen);
-        let is_closed = step.shown().is_closed();
+        let ended = step.lend().end_owner();
+        step.core().teach(seen);
+        let is_closed = step.core().is_closed();
         end_and_wake(step, ended);
         is_closed
     }
@@ -350,7 +350,7 @@ impl<T: Drop, R: Wait + Drop, N: Protocol<T>> Drop for Owner<T, R, N> {
     fn drop(self) {
         let Owner { cell, rt } = self;
         let mut step = cell.core.lock(&rt);
-        let ended = step.lend().end_writer();
+        let ended = step.lend().end_owner();
         end_and_wake(step, ended);
     }
 }

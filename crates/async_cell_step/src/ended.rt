@@ -187,9 +187,9 @@ impl<X> Deferred<X> {
         ensures { result.answer ≡ (self.answer, other.answer) }
     {
         let Deferred { answer, woken: _ } = other;
-        let beside = answer;
+        let second = answer;
         let Deferred { answer, woken: _ } = self;
-        Deferred::of((answer, beside))
+        Deferred::of((answer, second))
     }
 }
 
@@ -274,7 +274,7 @@ impl<X, E> Deferred<Result<X, E>> {
     /// If the answer is `Ok(found)`, the result holds the pair of `found` and `other`. If the
     /// answer is an error, the result holds the same error.
     #[inline(always)]
-    pub fn beside<Y: Drop>(self, other: Y) -> Deferred<Result<(X, Y), E>>
+    pub fn paired_with<Y: Drop>(self, other: Y) -> Deferred<Result<(X, Y), E>>
         ensures found { IfOk result.answer (λ both.
             (self.answer ≡ Ok both.0) × (both.1 ≡ other)) }
         ensures refused { IfErr result.answer (λ why. self.answer ≡ Err why) }

@@ -39,7 +39,7 @@ pub fn poll<'a, C: Room, M: Stores<Core = C>, Q: Query<C>, R: Opens<'a, M>>(
     ensures refused { IfReady result FailsWithMemoryOrClosed }
 {
     let mut step = opened!(rt, store, else return cx.yield_now());
-    if !query.must_wait(step.shown()) {
+    if !query.must_wait(step.core()) {
         if let Some(place) = place {
             place.forget();
         }
@@ -49,7 +49,7 @@ pub fn poll<'a, C: Room, M: Stores<Core = C>, Q: Query<C>, R: Opens<'a, M>>(
     let Some(place) = place else {
         return waits(add(step, source, cx));
     };
-    if step.shown().is_new(place) {
+    if step.core().is_new(place) {
         return waits(add_at(step, source, place, cx));
     }
     renew(store, step, source, query, place, cx, rt)
@@ -63,7 +63,7 @@ fn add<C: Room, G: Step<Core = C>>(
     source: &Source,
     cx: &mut Context<'_>,
 ) -> Result<(), Refusal>
-    requires { C.vacant (G.shows step) }
+    requires { C.vacant (G.core_of step) }
     ensures armed { IsArmed cx.new }
     ensures heard { Hears cx.new source.now.id }
     ensures kept { Keeps cx.old cx.new }
@@ -88,7 +88,7 @@ fn add_at<C: Room, G: Step<Core = C>>(
     place: &mut Place,
     cx: &mut Context<'_>,
 ) -> Result<(), Refusal>
-    requires { C.vacant (G.shows step) }
+    requires { C.vacant (G.core_of step) }
     ensures armed { IsArmed cx.new }
     ensures heard { Hears cx.new source.now.id }
     ensures kept { Keeps cx.old cx.new }
@@ -138,7 +138,7 @@ fn renew<'a, C: Room, M: Stores<Core = C>, Q: Query<C>, R: Opens<'a, M>>(
         return cx.yield_now();
     };
     // Between the two steps the core may have been written to, or closed.
-    if !query.must_wait(step.shown()) {
+    if !query.must_wait(step.core()) {
         place.forget();
         let answer = query.answer(step.lend());
         let (answer, _unused) = end(step, answer.and(waker));
@@ -180,7 +180,7 @@ impl<M: Stores<Core: Room>> StoredCore<M> {
         let Some(step) = rt.open(self) else {
             return 0;
         };
-        let places = step.shown().places();
+        let places = step.core().places();
         end(step, Deferred::of(places))
     }
 

@@ -77,15 +77,15 @@ pub trait Step {
     type Core;
 
     /// The core that it lends.
-    ghost shows: { Self → Self.Core };
+    ghost core_of: { Self → Self.Core };
 
-    /// Shows the core.
-    fn shown(&self) -> &Self::Core
-        ensures { result.now ≡ shows self.now };
+    /// Returns the core.
+    fn core(&self) -> &Self::Core
+        ensures { result.now ≡ core_of self.now };
 
     /// Lends the core to one call. After the call nothing is known of the core.
     fn lend(&mut self) -> &mut Self::Core
-        ensures { result.now ≡ shows self.old };
+        ensures { result.now ≡ core_of self.old };
 
     /// Gives the core back.
     fn release(self);
@@ -136,10 +136,10 @@ impl<'a, C: 'a> Opens<'a, RefCell<C>> for OneThread {
 impl<C> Step for Lent<'_, C> {
     type Core = C;
 
-    ghost shows = { λ lent. ref_mut_value lent.core };
+    ghost core_of = { λ lent. ref_mut_value lent.core };
 
     #[inline(always)]
-    fn shown(&self) -> &C {
+    fn core(&self) -> &C {
         &*self.core
     }
 
@@ -210,10 +210,10 @@ impl<'a, C: 'a, R: Wait> Opens<'a, Mutex<C>> for R {
 impl<C> Step for Locked<'_, C> {
     type Core = C;
 
-    ghost shows = { λ locked. mutex_guard_value locked.core };
+    ghost core_of = { λ locked. mutex_guard_value locked.core };
 
     #[inline(always)]
-    fn shown(&self) -> &C {
+    fn core(&self) -> &C {
         &*self.core
     }
 

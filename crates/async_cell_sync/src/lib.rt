@@ -23,14 +23,14 @@ pub use async_cell_history::{
     Anyone, Author, Blank, Free, IsSet, Nobody, OrSet, PollGet, PollTake, Protocol, Replace, Set,
     Takeable, TryGet, TryTake, Unruled, Unwitnessed, Update, UpdateSome, Witness, laws,
 };
-pub use async_cell_model::{Entry, Kept, Reply as CallReply};
+pub use async_cell_model::{Entry, Kept, Reply};
 #[doc(hidden)]
 pub use async_cell_step::Request;
 pub use async_cell_step::{Rule, Ruled, With};
 pub use cell_ref::{CellRef, TakeRef};
 pub use guard::{Guard, GuardedCell};
 pub use owner::Owner;
-pub use reply::{Replier, Reply, reply_slot, reply_slot_of};
+pub use reply::{Replier, ReplyFuture, reply_slot, reply_slot_of};
 pub use shared::Shared;
 pub use take::{Get, GetWeak, Take, TakeWeak, Values};
 pub use take_as::{GetAs, GetWeakAs, TakeAs, TakeWeakAs};

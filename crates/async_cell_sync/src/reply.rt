@@ -20,8 +20,8 @@ use std::mem::ManuallyDrop;
 use std::sync::{Arc, Wait};
 
 /// The side of a reply slot that replies, once, by `set`. If the `Replier` is dropped without a
-/// `set`, for example at `?` or an early `return`, the slot is closed, and the `Reply` is ready
-/// with `Closed`. **Dropping a `Replier` may wait for the lock**, as its calls may.
+/// `set`, for example at `?` or an early `return`, the slot is closed, and the `ReplyFuture` is
+/// ready with `Closed`. **Dropping a `Replier` may wait for the lock**, as its calls may.
 #[derive_where(Debug)]
 pub struct Replier<T: Drop, R: Wait + Drop, N: Unwitnessed<T, TaskWaker> = Unruled> {
     #[derive_where(skip)]
@@ -35,9 +35,9 @@ pub struct Replier<T: Drop, R: Wait + Drop, N: Unwitnessed<T, TaskWaker> = Unrul
 /// later poll fails with `Closed`. The future fails with `Memory` if there is no memory to register
 /// the waker, and may then be polled again.
 ///
-/// If the `Reply` is dropped before it was ready, the slot is closed. Then a value that was already
-/// set is dropped, and a later `set` returns its value in the error. **This drop of the `Reply` may
-/// wait for the lock**, and wakes the task that polled it last.
+/// If the `ReplyFuture` is dropped before it was ready, the slot is closed. Then a value that was
+/// already set is dropped, and a later `set` returns its value in the error. **This drop of the
+/// `ReplyFuture` may wait for the lock**, and wakes the task that polled it last.
 ///
 /// ```rust
 /// let (replier, reply) = reply_slot::<u32, _>(rt.alloc(), rt)?;
@@ -45,7 +45,7 @@ pub struct Replier<T: Drop, R: Wait + Drop, N: Unwitnessed<T, TaskWaker> = Unrul
 /// println!(rt; "{:?}", block_on(&rt, reply)?)?; // prints Err(Closed)
 /// ```
 #[derive_where(Debug)]
-pub struct Reply<T: Drop, R: Wait + Drop, N: Unwitnessed<T, TaskWaker> = Unruled> {
+pub struct ReplyFuture<T: Drop, R: Wait + Drop, N: Unwitnessed<T, TaskWaker> = Unruled> {
     /// `None` once it was ready.
     #[derive_where(skip)]
     cell: Option<Arc<ManuallyDrop<AsyncCell<T, N>>>>,
@@ -67,7 +67,7 @@ pub struct Reply<T: Drop, R: Wait + Drop, N: Unwitnessed<T, TaskWaker> = Unruled
 pub fn reply_slot<T: Drop, R: Wait + Copy>(
     alloc: Global,
     rt: R,
-) -> Result<(Replier<T, R>, Reply<T, R>), Refusal>
+) -> Result<(Replier<T, R>, ReplyFuture<T, R>), Refusal>
     ensures of_one { IfOk result (λ sides. IsSomeAnd sides.1.cell (λ cell.
         arc_value cell ≡ arc_value sides.0.cell)) }
     ensures refused { FailsWithMemory result }
@@ -80,7 +80,7 @@ pub fn reply_slot<T: Drop, R: Wait + Copy>(
 pub fn reply_slot_of<P: Rule<T>, T: Drop, R: Wait + Copy>(
     alloc: Global,
     rt: R,
-) -> Result<(Replier<T, R, Ruled<P>>, Reply<T, R, Ruled<P>>), Refusal>
+) -> Result<(Replier<T, R, Ruled<P>>, ReplyFuture<T, R, Ruled<P>>), Refusal>
     ensures of_one { IfOk result (λ sides. IsSomeAnd sides.1.cell (λ cell.
         arc_value cell ≡ arc_value sides.0.cell)) }
     ensures refused { FailsWithMemory result }
@@ -93,7 +93,7 @@ pub fn reply_slot_of<P: Rule<T>, T: Drop, R: Wait + Copy>(
 fn sides<T: Drop, R: Wait + Copy, N: Unwitnessed<T, TaskWaker>>(
     alloc: Global,
     rt: R,
-) -> Result<(Replier<T, R, N>, Reply<T, R, N>), Refusal>
+) -> Result<(Replier<T, R, N>, ReplyFuture<T, R, N>), Refusal>
     ensures of_one { IfOk result (λ sides. IsSomeAnd sides.1.cell (λ cell.
         arc_value cell ≡ arc_value sides.0.cell)) }
     ensures refused { FailsWithMemory result }
@@ -102,7 +102,7 @@ fn sides<T: Drop, R: Wait + Copy, N: Unwitnessed<T, TaskWaker>>(
     let Ok(cell) = Arc::new(alloc, cell) else {
         return Err(Refusal::Memory);
     };
-    let reply = Reply {
+    let reply = ReplyFuture {
         cell: Some(Arc::try_clone(&cell)?),
         rt,
         place: Place::new(),
@@ -111,9 +111,9 @@ fn sides<T: Drop, R: Wait + Copy, N: Unwitnessed<T, TaskWaker>>(
 }
 
 impl<T: Drop, R: Wait + Drop, N: Unwitnessed<T, TaskWaker>> Replier<T, R, N> {
-    /// Sets the value, and wakes the task that waits for it. The value stays until the `Reply`
-    /// takes it or is dropped. If the `Reply` was already dropped, the value is returned in the
-    /// error.
+    /// Sets the value, and wakes the task that waits for it. The value stays until the
+    /// `ReplyFuture` takes it or is dropped. If the `ReplyFuture` was already dropped, the value is
+    /// returned in the error.
     ///
     /// ```rust
     /// let (replier, reply) = reply_slot(rt.alloc(), rt)?;
@@ -128,8 +128,8 @@ impl<T: Drop, R: Wait + Drop, N: Unwitnessed<T, TaskWaker>> Replier<T, R, N> {
         cell.core.set(value, &rt)
     }
 
-    /// Returns whether the `Reply` was dropped. If it was, `set` would return the value in the
-    /// error.
+    /// Returns whether the `ReplyFuture` was dropped. If it was, `set` would return the value in
+    /// the error.
     pub fn is_closed(&self) -> bool {
         self.cell.is_closed(&self.rt)
     }
@@ -143,7 +143,7 @@ impl<T: Drop, R: Wait + Drop, N: Unwitnessed<T, TaskWaker>> Drop for Replier<T, 
     }
 }
 
-impl<T: Drop, R: Wait + Drop, N: Unwitnessed<T, TaskWaker>> Reply<T, R, N> {
+impl<T: Drop, R: Wait + Drop, N: Unwitnessed<T, TaskWaker>> ReplyFuture<T, R, N> {
     /// Takes the value without waiting. `Ok(None)` says that it may still come. Fails with `Closed`
     /// if the `Replier` was dropped without a `set`, and after the value was taken.
     ///
@@ -185,12 +185,12 @@ impl<T: Drop, R: Wait + Drop, N: Unwitnessed<T, TaskWaker>> Reply<T, R, N> {
         ensures rule { IfSome result N.holds }
         ensures over { self.cell ≡ None → result ≡ None }
     {
-        let Reply { cell, rt, place: _ } = self;
+        let ReplyFuture { cell, rt, place: _ } = self;
         cell?.core.take_inner(&rt).unwrap_or(None)
     }
 }
 
-impl<T: Drop, R: Wait + Drop, N: Unwitnessed<T, TaskWaker>> Future for Reply<T, R, N> {
+impl<T: Drop, R: Wait + Drop, N: Unwitnessed<T, TaskWaker>> Future for ReplyFuture<T, R, N> {
     type Output = Result<T, Refusal>;
 
     ghost needs = { λ reply s. IsSomeAnd reply.cell (λ cell. s ≡ source_of (manually_drop_value cell.value)) };
@@ -224,9 +224,9 @@ impl<T: Drop, R: Wait + Drop, N: Unwitnessed<T, TaskWaker>> Future for Reply<T, 
 }
 
 /// Closes the slot, unless this future has already given its result. May wait for the lock.
-impl<T: Drop, R: Wait + Drop, N: Unwitnessed<T, TaskWaker>> Drop for Reply<T, R, N> {
+impl<T: Drop, R: Wait + Drop, N: Unwitnessed<T, TaskWaker>> Drop for ReplyFuture<T, R, N> {
     fn drop(self) {
-        let Reply { cell, rt, place: _ } = self;
+        let ReplyFuture { cell, rt, place: _ } = self;
         if let Some(cell) = cell {
             let _ = cell.core.end_owner(&rt);
         }

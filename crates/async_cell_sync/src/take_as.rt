@@ -14,7 +14,7 @@ use crate::async_cell::AsyncCell;
 use crate::owner::Owner;
 use crate::shared::Shared;
 use crate::weak::{Weak, WeakOwner};
-use async_cell_calls::{By, CloningAs, TakingAs};
+use async_cell_calls::{CloningAs, TakingAs, WithCaller};
 use async_cell_core::{Refusal, TaskWaker, Wakes};
 use async_cell_history::{Protocol, Witness};
 use async_cell_step::{At, Polled, Request, Takes, With};
@@ -72,7 +72,7 @@ impl<T: Drop, R: Wait + Drop, N: Protocol<T, TaskWaker>> Polled<R> for TakeAs<'_
     fn poll_at(&self, at: At<'_>, cx: &mut Context<'_>, rt: &R) -> Poll<Self::Output> {
         let Shared { cell, permit } = &self.owner.shared;
         let taking = TakingAs(self.seen.witness.again());
-        cell.poll(By::new(permit, taking), at, cx, rt)
+        cell.poll(WithCaller::new(permit, taking), at, cx, rt)
     }
 }
 
@@ -107,7 +107,8 @@ impl<T: Clone, R: Wait + Drop, N: Protocol<T, TaskWaker>> Polled<R> for GetAs<'_
     fn poll_at(&self, at: At<'_>, cx: &mut Context<'_>, rt: &R) -> Poll<Self::Output> {
         let Shared { cell, permit } = &self.owner.shared;
         self.seen.lawful();
-        cell.poll(By::new(permit, CloningAs(self.seen.again())), at, cx, rt)
+        let asked = WithCaller::new(permit, CloningAs(self.seen.again()));
+        cell.poll(asked, at, cx, rt)
     }
 }
 

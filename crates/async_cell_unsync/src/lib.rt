@@ -27,7 +27,7 @@ pub use cell_ref::CellRef as TakeRef; // Of a cell of one thread each value may 
 pub use get::Get;
 pub use guarded_cell::{Guard, GuardedCell};
 pub use owner::Owner;
-pub use reply::{Replier, Reply, reply_slot, reply_slot_of};
+pub use reply::{Replier, ReplyFuture, reply_slot, reply_slot_of};
 pub use shared::Shared;
 pub use take::Take;
 pub use weak::{GetWeak, TakeWeak, Values, Weak, WeakOwner, With};

@@ -19,24 +19,24 @@ use std::mem::ManuallyDrop;
 use std::rc::Rc;
 
 /// The side of a reply slot that replies, once, by `set`. If the `Replier` is dropped without a
-/// `set`, for example by `?` or an early `return`, the slot is closed, and the `Reply` is ready
-/// with `Closed`.
+/// `set`, for example by `?` or an early `return`, the slot is closed, and the `ReplyFuture` is
+/// ready with `Closed`.
 #[derive_where(Debug)]
 pub struct Replier<T: Drop, N: Unwitnessed<T, TaskWaker> = Unruled> {
     #[derive_where(skip)]
     cell: Rc<ManuallyDrop<AsyncCell<T, N>>>,
 }
 
-/// The side of a reply slot that waits: a future of the value. A `Reply` fails with `Closed` if the
-/// `Replier` was dropped without a `set`. After the `Reply` has given the value or `Closed`, each
-/// later poll fails with `Closed`. A `Reply` fails with `Memory` if there is no memory to register
-/// the waker, and may then be polled again.
+/// The side of a reply slot that waits: a future of the value. A `ReplyFuture` fails with `Closed`
+/// if the `Replier` was dropped without a `set`. After the `ReplyFuture` has given the value or
+/// `Closed`, each later poll fails with `Closed`. A `ReplyFuture` fails with `Memory` if there is
+/// no memory to register the waker, and may then be polled again.
 ///
-/// If the `Reply` is dropped before it was ready, the slot is closed. Then a value that was already
-/// set is dropped, and a later `set` returns its value in the error. This drop of the `Reply` wakes
-/// the task that polled it last.
+/// If the `ReplyFuture` is dropped before it was ready, the slot is closed. Then a value that was
+/// already set is dropped, and a later `set` returns its value in the error. This drop of the
+/// `ReplyFuture` wakes the task that polled it last.
 #[derive_where(Debug)]
-pub struct Reply<T: Drop, N: Unwitnessed<T, TaskWaker> = Unruled> {
+pub struct ReplyFuture<T: Drop, N: Unwitnessed<T, TaskWaker> = Unruled> {
     /// `None` once it was ready.
     #[derive_where(skip)]
     cell: Option<Rc<ManuallyDrop<AsyncCell<T, N>>>>,
@@ -52,7 +52,7 @@ pub struct Reply<T: Drop, N: Unwitnessed<T, TaskWaker> = Unruled> {
 /// let _ = replier.set(42);
 /// println!(rt; "the reply is {}", block_on(&rt, reply)??)?; // prints the reply is 42
 /// ```
-pub fn reply_slot<T: Drop>(alloc: Global) -> Result<(Replier<T>, Reply<T>), Refusal>
+pub fn reply_slot<T: Drop>(alloc: Global) -> Result<(Replier<T>, ReplyFuture<T>), Refusal>
     ensures of_one { IfOk result (λ sides. IsSomeAnd sides.1.cell (λ cell.
         rc_value cell ≡ rc_value sides.0.cell)) }
     ensures refused { FailsWithMemory result }
@@ -64,7 +64,7 @@ pub fn reply_slot<T: Drop>(alloc: Global) -> Result<(Replier<T>, Reply<T>), Refu
 /// reply ensures it. The file `even.rt` of `example_theorems` has one, of `async_cell_sync`.
 pub fn reply_slot_of<P: Rule<T>, T: Drop>(
     alloc: Global,
-) -> Result<(Replier<T, Ruled<P>>, Reply<T, Ruled<P>>), Refusal>
+) -> Result<(Replier<T, Ruled<P>>, ReplyFuture<T, Ruled<P>>), Refusal>
     ensures of_one { IfOk result (λ sides. IsSomeAnd sides.1.cell (λ cell.
         rc_value cell ≡ rc_value sides.0.cell)) }
     ensures refused { FailsWithMemory result }
@@ -76,7 +76,7 @@ pub fn reply_slot_of<P: Rule<T>, T: Drop>(
 #[inline(always)]
 fn sides<T: Drop, N: Unwitnessed<T, TaskWaker>>(
     alloc: Global,
-) -> Result<(Replier<T, N>, Reply<T, N>), Refusal>
+) -> Result<(Replier<T, N>, ReplyFuture<T, N>), Refusal>
     ensures of_one { IfOk result (λ sides. IsSomeAnd sides.1.cell (λ cell.
         rc_value cell ≡ rc_value sides.0.cell)) }
     ensures refused { FailsWithMemory result }
@@ -85,7 +85,7 @@ fn sides<T: Drop, N: Unwitnessed<T, TaskWaker>>(
     let Ok(cell) = Rc::new(alloc, cell) else {
         return Err(Refusal::Memory);
     };
-    let reply = Reply {
+    let reply = ReplyFuture {
         cell: Some(cell.clone()?),
         place: Place::new(),
     };
@@ -93,9 +93,9 @@ fn sides<T: Drop, N: Unwitnessed<T, TaskWaker>>(
 }
 
 impl<T: Drop, N: Unwitnessed<T, TaskWaker>> Replier<T, N> {
-    /// Sets the value, and wakes the task that waits for it. The value stays until the `Reply`
-    /// takes it or is dropped. If the `Reply` was already dropped, the value is returned in the
-    /// error.
+    /// Sets the value, and wakes the task that waits for it. The value stays until the
+    /// `ReplyFuture` takes it or is dropped. If the `ReplyFuture` was already dropped, the value is
+    /// returned in the error.
     pub fn set(self, value: T) -> Result<(), T>
         requires rule { N.holds value }
         ensures comes_back { IfErr result (λ back. back ≡ value) }
@@ -104,8 +104,8 @@ impl<T: Drop, N: Unwitnessed<T, TaskWaker>> Replier<T, N> {
         cell.core.set(value, &OneThread)
     }
 
-    /// Returns whether the `Reply` was dropped. If it was, `set` would return the value in the
-    /// error.
+    /// Returns whether the `ReplyFuture` was dropped. If it was, `set` would return the value in
+    /// the error.
     pub fn is_closed(&self) -> bool {
         self.cell.is_closed()
     }
@@ -119,7 +119,7 @@ impl<T: Drop, N: Unwitnessed<T, TaskWaker>> Drop for Replier<T, N> {
     }
 }
 
-impl<T: Drop, N: Unwitnessed<T, TaskWaker>> Reply<T, N> {
+impl<T: Drop, N: Unwitnessed<T, TaskWaker>> ReplyFuture<T, N> {
     /// Takes the value without waiting. `Ok(None)` says that it may still come. Fails with `Closed`
     /// if the `Replier` was dropped without a `set`, and after the value was taken.
     pub fn try_take(&mut self) -> Result<Option<T>, Refusal>
@@ -148,12 +148,12 @@ impl<T: Drop, N: Unwitnessed<T, TaskWaker>> Reply<T, N> {
         ensures rule { IfSome result N.holds }
         ensures over { self.cell ≡ None → result ≡ None }
     {
-        let Reply { cell, place: _ } = self;
+        let ReplyFuture { cell, place: _ } = self;
         cell?.core.take_inner(&OneThread).unwrap_or(None)
     }
 }
 
-impl<T: Drop, N: Unwitnessed<T, TaskWaker>> Future for Reply<T, N> {
+impl<T: Drop, N: Unwitnessed<T, TaskWaker>> Future for ReplyFuture<T, N> {
     type Output = Result<T, Refusal>;
 
     ghost needs = { λ reply s. IsSomeAnd reply.cell (λ cell. s ≡ source_of (manually_drop_value cell.value)) };
@@ -189,9 +189,9 @@ impl<T: Drop, N: Unwitnessed<T, TaskWaker>> Future for Reply<T, N> {
 }
 
 /// Closes the slot, unless this future has already given its result.
-impl<T: Drop, N: Unwitnessed<T, TaskWaker>> Drop for Reply<T, N> {
+impl<T: Drop, N: Unwitnessed<T, TaskWaker>> Drop for ReplyFuture<T, N> {
     fn drop(self) {
-        let Reply { cell, place: _ } = self;
+        let ReplyFuture { cell, place: _ } = self;
         if let Some(cell) = cell {
             let _ = cell.core.end_owner(&OneThread);
         }

@@ -151,9 +151,9 @@ module _ {M : Type 1} {𝓤 : Ura M} (𝓛 : Logic 𝓤) where
   abbrev pub Shown : Option ℕ → ℕ → Type 0
   Shown name n = IsSome name → 0 < n
 
-  pub shows : (name : Option ℕ) (n δ : ℕ) (q : Share) → ⟦ permit_owns name δ q ⟧ ∗ ⟦ count_owns name n ⟧ ⊢ guard 𝓤 (Shown name n) (⟦ permit_owns name δ q ⟧ ∗ ⟦ count_owns name n ⟧)
-  shows None n δ q = qed 𝓛 (‵ ftrue ∷ ‵ ftrue ∷ []) ∵ check ! (λ no. absurd (cc no)) $ done !
-  shows (Some γ) n δ q = qed 𝓛 (‵ (is_held γ δ q) ∷ ‵ (counts γ n) ∷ []) ∵ move ! (1 ∷ []) $ fpick ! (λ rows. fsplit ! $ move ! (1 ∷ []) $ fsplit ! $ move ! (1 ∷ []) $ fpick ! (λ is. drop ! $
+  pub proves_counted : (name : Option ℕ) (n δ : ℕ) (q : Share) → ⟦ permit_owns name δ q ⟧ ∗ ⟦ count_owns name n ⟧ ⊢ guard 𝓤 (Shown name n) (⟦ permit_owns name δ q ⟧ ∗ ⟦ count_owns name n ⟧)
+  proves_counted None n δ q = qed 𝓛 (‵ ftrue ∷ ‵ ftrue ∷ []) ∵ check ! (λ no. absurd (cc no)) $ done !
+  proves_counted (Some γ) n δ q = qed 𝓛 (‵ (is_held γ δ q) ∷ ‵ (counts γ n) ∷ []) ∵ move ! (1 ∷ []) $ fpick ! (λ rows. fsplit ! $ move ! (1 ∷ []) $ fsplit ! $ move ! (1 ∷ []) $ fpick ! (λ is. drop ! $
       move ! (2 ∷ []) $ fsplit ! $ fpick ! (λ before. move ! (3 ∷ 0 ∷ []) $
       use2 𝓛 (given (IsPrefix (before ++ δ ∷ []) (names rows)) (‵ (latest given_permits full_share γ (names rows)) ⊛ ‵ (was_given γ δ before)))
       (latest_bounds given_permits 𝓛 full_share γ (names rows) (before ++ δ ∷ [])) $

@@ -83,7 +83,7 @@ impl Count {
 
     /// Does nothing. Its contract states that at least one permit of the count's name is given out,
     /// since `permit` is such a permit.
-    pub fn shows(&mut self, permit: &Permit)
+    pub fn proves_counted(&mut self, permit: &Permit)
         requires of_this { permit.now.name ≡ self.old.name }
         ensures stays { self.new ≡ self.old }
         ensures out { IsSome self.old.name → 0 < self.old.out }

@@ -29,7 +29,7 @@ impl<T: Drop, W: Wakes, N: Protocol<T, W>> Op<T, W, N> for TryTake {
 
     type After = ();
 
-    type Few = ();
+    type FastAfter = ();
 
     ghost can = { λ _. N.may kept.TryTake };
 
@@ -55,7 +55,7 @@ impl<T: Clone, W: Wakes, N: Protocol<T, W>> Op<T, W, N> for TryGet {
 
     type After = ();
 
-    type Few = ();
+    type FastAfter = ();
 
     ghost call = { λ _ _ _. kept.TryGet };
 
@@ -83,7 +83,7 @@ impl<T: Drop, W: Wakes, N: Protocol<T, W>> Op<T, W, N> for IsSet {
 
     type After = ();
 
-    type Few = ();
+    type FastAfter = ();
 
     ghost call = { λ _ _ _. kept.IsSet };
 
@@ -116,7 +116,7 @@ impl<T: Drop, W: Wakes, N: Protocol<T, W>> Op<T, W, N> for PollTake<'_, W> {
 
     type After = ();
 
-    type Few = ();
+    type FastAfter = ();
 
     ghost can = { λ op. N.may (kept.PollTake op.0.now) };
 
@@ -142,7 +142,7 @@ impl<T: Clone, W: Wakes, N: Protocol<T, W>> Op<T, W, N> for PollGet<'_, W> {
 
     type After = ();
 
-    type Few = ();
+    type FastAfter = ();
 
     ghost call = { λ _ op _. kept.PollGet op.0.now };
 

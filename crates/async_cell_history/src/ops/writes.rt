@@ -18,7 +18,7 @@ impl<T: Drop, W: Wakes, N: Protocol<T, W>> Op<T, W, N> for Set<T> {
 
     type After = All<W, Option<T>>;
 
-    type Few = One<W, Option<T>>;
+    type FastAfter = One<W, Option<T>>;
 
     const IS_FAST: bool = true;
 
@@ -34,7 +34,7 @@ impl<T: Drop, W: Wakes, N: Protocol<T, W>> Op<T, W, N> for Set<T> {
     ghost leaves = { λ from _ after.
         is_closed from.cell ≡ false → after.dropped ≡ content from.cell };
 
-    ghost leaves_few = { λ from _ after. after.dropped ≡ content from.cell };
+    ghost leaves_fast = { λ from _ after. after.dropped ≡ content from.cell };
 
     #[inline(always)]
     fn make(self, core: &mut Core<T, W>) -> Deferred<Result<(), T>, All<W, Option<T>>> {
@@ -80,7 +80,7 @@ impl<T: Drop, W: Wakes, N: Protocol<T, W>> Op<T, W, N> for OrSet<T> {
 
     type After = All<W>;
 
-    type Few = ();
+    type FastAfter = ();
 
     ghost can = { λ op. N.may (kept.OrSet op.0) };
 
@@ -114,7 +114,7 @@ impl<T: Drop, W: Wakes, N: Protocol<T, W>> Op<T, W, N> for Replace<T> {
 
     type After = All<W>;
 
-    type Few = One<W>;
+    type FastAfter = One<W>;
 
     const IS_FAST: bool = true;
 
@@ -176,7 +176,7 @@ where
 
     type After = All<W, Option<F>>;
 
-    type Few = ();
+    type FastAfter = ();
 
     ghost can = { λ op. F.IsAlwaysCallable op.0
         × ((saw put : Option T) → IfSome saw N.holds → F.post op.0 saw put
@@ -222,7 +222,7 @@ where
 
     type After = All<W, Option<F>>;
 
-    type Few = ();
+    type FastAfter = ();
 
     ghost can = { λ op. F.IsAlwaysCallable op.0
         × ((old new : T) → N.holds old → F.post op.0 old new

@@ -38,7 +38,7 @@ impl<T, N: Protocol<T>> Model for LatestCore<T, N> {
 }
 
 impl<T: Drop, N: Protocol<T>> LatestCore<T, N> {
-    /// Makes a state with this value and one writer, and begins the list of the state's values.
+    /// Makes a state with this value and one owner, and begins the list of the state's values.
     pub(crate) fn begin(alloc: Global, value: T, blank: Blank<T>) -> Self
         requires named { Fits N.named blank }
         requires may { N.may [] value }
@@ -62,7 +62,7 @@ impl<T: Drop, N: Protocol<T>> LatestCore<T, N> {
     /// state is closed. The clause `of_state` says that the witness then sees the life of this
     /// state.
     #[inline(always)]
-    pub(crate) fn show_to(&self, witness: &mut Witness<T, N>)
+    pub(crate) fn teach(&self, witness: &mut Witness<T, N>)
         ensures whole { witness.new ≡ self.now.life }
         ensures goes_on { GoesOn witness.old self.now.life }
         ensures of_state { IsOf N.named N.holds self.now.state self.now.life }
@@ -176,13 +176,13 @@ impl<T: Drop, N: Protocol<T>> LatestCore<T, N> {
         }
     }
 
-    pub(crate) fn add_writer(&mut self) -> Deferred<Result<(), Refusal>>
+    pub(crate) fn add_owner(&mut self) -> Deferred<Result<(), Refusal>>
         ensures refused { IfErr result.answer IsOwnerRefusal }
     {
         Deferred::of(self.state.add_writer())
     }
 
-    pub(crate) fn end_writer(&mut self) -> Deferred<(), Option<Wakers<TaskWaker>>>
+    pub(crate) fn end_owner(&mut self) -> Deferred<(), Option<Wakers<TaskWaker>>>
         ensures hands_out_all { self.old.state.writers ≡ 1
             → result.woken ≡ Some self.old.state.waiting }
     {

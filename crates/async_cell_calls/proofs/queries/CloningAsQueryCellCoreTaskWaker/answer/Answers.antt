@@ -8,5 +8,5 @@ pub returns-clause-gives : goal.returns-clause-gives
 returns-clause-gives g c =
     let held = content c.args.core.now.inner.cell in let copied = c.make-copied.result.answer in let gives = c.make-copied.ensures.gives in
     let seen = c.see.ensures.sees c.args.self.0 c.args.core.now TryGet (get_reply held copied) _ c.catch_up.ensures.ready c.make-copied.ensures.made in
-    linearized_copy _ g.N.Protocol.named c.args.self.0 _ _ c.see.new.self held copied c.or_closed.result.answer c.beside.result.answer
-    gives.2 seen.0 seen.1 gives.1 c.or_closed.ensures.found c.beside.ensures.found
+    linearized_copy _ g.N.Protocol.named c.args.self.0 _ _ c.see.new.self held copied c.or_closed.result.answer c.paired_with.result.answer
+    gives.2 seen.0 seen.1 gives.1 c.or_closed.ensures.found c.paired_with.ensures.found

@@ -12,13 +12,13 @@ returns-clause-model g c =
 pub returns-clause-called : goal.returns-clause-called
 returns-clause-called g c =
     let view = c.self.view_is in
-    let Made = FnOnceReturnsAt g.F.FnOnce c.args.change c.args.self.now.value in
-    let made : Made c.change-value.result = (_, c.change-value.ensures, cc) in
-    on_ok_weaker c.write.result (λ same. subst Made (sym same) made) c.write.ensures.holds
+    let Returned = FnOnceReturnsAt g.F.FnOnce c.args.change c.args.self.now.value in
+    let made : Returned c.change-value.result = (_, c.change-value.ensures, cc) in
+    on_ok_weaker c.write.result (λ same. subst Returned (sym same) made) c.write.ensures.holds
 
 pub returns-clause-comes_back : goal.returns-clause-comes_back
 returns-clause-comes_back g c =
     let view = c.self.view_is in
-    let Made = FnOnceReturnsAt g.F.FnOnce c.args.change c.args.self.now.value in
-    let made : Made c.change-value.result = (_, c.change-value.ensures, cc) in
-    IfErr-weaker c.write.result _ Made (λ back same. subst Made (sym same) made) c.write.ensures.comes_back
+    let Returned = FnOnceReturnsAt g.F.FnOnce c.args.change c.args.self.now.value in
+    let made : Returned c.change-value.result = (_, c.change-value.ensures, cc) in
+    IfErr-weaker c.write.result _ Returned (λ back same. subst Returned (sym same) made) c.write.ensures.comes_back
