@@ -126,13 +126,15 @@ class Crate:
             path = os.path.relpath(it.file, f"{self.folder}/src")[:-3].split("/")
             if not it.is_public or it.is_hidden or path[0] not in ("lib", *self.modules):
                 continue
+            within = [it for it in path if it != "lib"]
             if it.kind == "use":
                 first, group, other = USE.match(it.head).groups()
                 named = [(first.split("::")[-1], other)] if not group else ALSO.findall(group)
                 for name, other in named:
-                    yield other or name, *self.find(first.split("::")[0], name)
+                    found = self.find(first.split("::")[0], name)
+                    yield "::".join([*within, other or name]), *found
             elif it.kind != "mod":
-                yield "::".join([it for it in path if it != "lib"] + [it.name]), self, it
+                yield "::".join([*within, it.name]), self, it
 
     def find(self, first, name):
         """Returns the crate that declares the name, and its item; a crate or a module has none."""

@@ -9,9 +9,8 @@ ghost use Rattle.async_cell_callers.specs.Waits.{IsNotForgotten};
 use crate::Host;
 use async_cell_core::Named;
 use async_cell_model::Kept;
-use async_cell_sync::{
-    Anyone, Blank, LockedCore, Poll, PollTake, Protocol, Set, Wakes, Witness, laws,
-};
+use async_cell_sync::ops::{Anyone, Poll, PollTake, Set};
+use async_cell_sync::{Blank, LockedCore, Protocol, Wakes, Witness, laws};
 use std::marker::Brand;
 use std::sync::Wait;
 

@@ -9,6 +9,7 @@ mod calls;
 mod calls_as;
 mod cell_ref;
 mod guard;
+pub mod ops;
 mod owner;
 mod reply;
 mod shared;
@@ -18,10 +19,9 @@ mod weak;
 
 pub use async_cell::{AsyncCell, LockedCore};
 pub use async_cell_calls::CellStore;
-pub use async_cell_core::{Core, Poll, Refusal, TaskWaker, Wakers, Wakes};
+pub use async_cell_core::{Core, Refusal, TaskWaker, Wakers, Wakes};
 pub use async_cell_history::{
-    Anyone, Author, Blank, Free, IsSet, Nobody, OrSet, PollGet, PollTake, Protocol, Replace, Set,
-    Takeable, TryGet, TryTake, Unruled, Unwitnessed, Update, UpdateSome, Witness, laws,
+    Author, Blank, Free, Protocol, Takeable, Unruled, Unwitnessed, Witness, laws,
 };
 pub use async_cell_model::{Entry, Kept, Reply};
 #[doc(hidden)]

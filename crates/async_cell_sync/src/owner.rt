@@ -118,6 +118,7 @@ impl<T: Drop, R: Wait + Copy, N: Protocol<T, TaskWaker>> Owner<T, R, N> {
             }
         }
     }
+
     /// Adds an owner. Use this in place of `clone`. Fails with `Memory` if the count of the cell's
     /// `Arc` is full, and with `OwnersFull` if the cell has 4,294,967,295 owners already. `Closed`
     /// is in the contract, but cannot happen while this owner lives.
