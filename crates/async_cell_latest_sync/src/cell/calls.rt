@@ -71,6 +71,7 @@ impl<T: Drop, N: Protocol<T>> LatestCore<T, N> {
         witness.learn(&self.values, self.state.version());
     }
 
+    /// Returns the version, and lends the value.
     #[inline(always)]
     pub(crate) fn read(&self) -> (u64, &T)
         ensures version { result.0 ≡ self.now.state.version }
@@ -89,6 +90,7 @@ impl<T: Drop, N: Protocol<T>> LatestCore<T, N> {
         look(self.state.read().1)
     }
 
+    /// Returns whether the state is closed: its last owner has ended.
     #[inline(always)]
     pub(crate) fn is_closed(&self) -> bool
         ensures { result ≡ is_closed self.now.state }
@@ -96,6 +98,7 @@ impl<T: Drop, N: Protocol<T>> LatestCore<T, N> {
         self.state.is_closed()
     }
 
+    /// Returns the version, and a clone of the value. Fails with `Memory` if the clone fails.
     #[inline(always)]
     pub(crate) fn get(&self) -> Deferred<Result<(u64, T), Refusal>>
     where
@@ -109,6 +112,8 @@ impl<T: Drop, N: Protocol<T>> LatestCore<T, N> {
         Deferred::of(self.state.get())
     }
 
+    /// Writes the value, if the state takes it and at most one follower waits. Holds the old value,
+    /// and the waker to wake. Otherwise holds `value` in the error.
     #[inline(always)]
     pub(crate) fn write_first(
         &mut self,
@@ -128,6 +133,9 @@ impl<T: Drop, N: Protocol<T>> LatestCore<T, N> {
         }
     }
 
+    /// Lets the closure change the value, which is then the next value of the state. Holds what the
+    /// closure returned, and the wakers to wake. Fails with `Closed` if the state takes no further
+    /// value, and does not call the closure then.
     pub(crate) fn modify<A, F: FnOnce(&mut T) -> A + Drop>(
         &mut self,
         change: F,
@@ -150,8 +158,9 @@ impl<T: Drop, N: Protocol<T>> LatestCore<T, N> {
         }
     }
 
-    /// May be called only on a state without a name, because a closure that returned `false` may
-    /// have changed the value.
+    /// As `modify`, but the value counts as a further one, and wakes who waits, only if the closure
+    /// returns `true`. May be called only on a state without a name, because a closure that returned
+    /// `false` may have changed the value.
     pub(crate) fn modify_if<F: FnOnce(&mut T) -> bool + Drop>(
         &mut self,
         change: F,
@@ -176,12 +185,15 @@ impl<T: Drop, N: Protocol<T>> LatestCore<T, N> {
         }
     }
 
+    /// Adds an owner. Fails with `OwnersFull` if there are 4,294,967,295 owners, and with `Closed`
+    /// if the state is closed.
     pub(crate) fn add_owner(&mut self) -> Deferred<Result<(), Refusal>>
         ensures refused { IfErr result.answer IsOwnerRefusal }
     {
         Deferred::of(self.state.add_writer())
     }
 
+    /// Ends an owner. The end of the last one closes the state, and holds the wakers to wake.
     pub(crate) fn end_owner(&mut self) -> Deferred<(), Option<Wakers<TaskWaker>>>
         ensures hands_out_all { self.old.state.writers ≡ 1
             → result.woken ≡ Some self.old.state.waiting }
