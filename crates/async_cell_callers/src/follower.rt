@@ -36,7 +36,7 @@ where
     Some((first, second))
 }
 
-/// The last writer writes this value and ends, and others make any calls. A follower that polls
+/// The last owner writes this value and ends, and others make any calls. A follower that polls
 /// then is shown the value, and told the end when it polls again. Returns both, unless the state
 /// takes no further write.
 pub fn last_state_and_end<F>(
@@ -52,14 +52,14 @@ where
     requires calls { (s t : State ℕ Named) → FnOnceReturnsAtMut F.FnOnce others s tt t
         → AreCalls s t }
     requires seen_before { seen ≤ latest.old.version }
-    requires last_writer { latest.old.writers ≡ 1 }
+    requires last_owner { latest.old.owners ≡ 1 }
     ensures linearized { is_writable latest.old ≡ true → IsSome result }
     ensures last { IfSome result (λ told. told.0 ≡ value) }
     ensures end { IfSome result (λ told. told.1 ≡ Poll.Ready None) }
 {
     let (_, woken) = latest.write(value).ok()?;
     woken.wake_all();
-    latest.end_writer().ok()?.wake_all();
+    latest.end_owner().ok()?.wake_all();
     after_the_end(latest, others);
     let version = shown(latest.poll_changed(seen, name))?;
     let (_, last) = latest.read();

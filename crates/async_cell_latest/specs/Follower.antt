@@ -54,7 +54,7 @@ module _ {T W : Type 0} where
   pending_waker _ _ = None
 
 module _ {T W : Type 0} (will_wake : W → W → Bool) where
-  -- whether some entry ends all waiting: a write that succeeds, or the end of the last writer
+  -- whether some entry ends all waiting: a write that succeeds, or the end of the last owner
   abbrev pub has_end : State T W → History T W → Bool
   has_end s [] = false
   has_end s (e ∷ h) = ends_waiting s e.call || has_end (then_state will_wake s e) h

@@ -55,12 +55,12 @@ module _ {T W : Type 0} where
   wait_answer (Ok _) = replies Pending
   wait_answer (Err _) = replies (Refused why.Memory None)
 
-  -- the answer of `add_writer`
+  -- the answer of `add_owner`
   abbrev pub add_answer : {A : Type 0} → Result A Refusal → Answer T W
   add_answer (Ok _) = replies Done
   add_answer (Err why) = replies (Refused why None)
 
-  -- the answer of `end_writer`
+  -- the answer of `end_owner`
   abbrev pub end_answer : Result (List W) Refusal → Answer T W
   end_answer (Ok woken) = record { reply = Done; woken = woken }
   end_answer (Err why) = replies (Refused why None)

@@ -6,9 +6,9 @@ ghost use Rattle.async_cell_latest.specs.Step.{Write, Read, Shown};
 ghost use Rattle.async_cell_latest.specs.IsStep.{IsStep, replies, write_answer};
 
 mod changes;
+mod owners;
 mod places;
 mod polls;
-mod writers;
 
 use async_cell_model::Refusal;
 use async_cell_wakers::{WaitList, Wakers, Wakes};
@@ -16,52 +16,52 @@ use std::alloc::{AllocError, Global};
 use std::marker::Model;
 use std::{fmt, mem};
 
-/// A value that is always there, with its version and counted writers. Its wait list holds the
+/// A value that is always there, with its version and counted owners. Its wait list holds the
 /// wakers of followers that have seen this version.
 pub struct Latest<T, W: Wakes> {
     value: T,
     /// Begins with 1 and grows by 1 with each write.
     version: u64,
     /// 0 once the state is closed.
-    writers: u32,
+    owners: u32,
     waiting: WaitList<W>,
 }
 
-/// Contracts see the state: the value, its version, the number of writers, the wait list in order,
+/// Contracts see the state: the value, its version, the number of owners, the wait list in order,
 /// and the room for more wakers.
 impl<T, W: Wakes> Model for Latest<T, W> {
     ghost use Rattle.async_cell_latest.specs.State.{State, IsSound, state_of};
 
     ghost Value = { State T W };
 
-    ghost view = { λ s. state_of s.value s.version s.writers s.waiting };
+    ghost view = { λ s. state_of s.value s.version s.owners s.waiting };
 
     ghost invariant = { λ s. IsSound W.will_wake
-        (state_of s.value s.version s.writers s.waiting) };
+        (state_of s.value s.version s.owners s.waiting) };
 }
 
 impl<T: Drop, W: Wakes> Latest<T, W> {
-    /// Creates an open state that holds `value`, with one writer. Its version is 1. A follower that
+    /// Creates an open state that holds `value`, with one owner. Its version is 1. A follower that
     /// has seen no version yet passes 0 to polls.
     pub fn new(alloc: Global, value: T) -> Self
         ensures { result ≡ record
-            { value = value; version = 1; writers = 1; waiting = []; room = 0 } }
+            { value = value; version = 1; owners = 1; waiting = []; room = 0 } }
     {
         Latest::from_parts(alloc, value, 1, 1)
     }
 
-    /// Creates an open state that holds `value`, with this version and this number of writers. Both
+    /// Creates an open state that holds `value`, with this version and this number of owners. Both
     /// must be at least 1.
-    pub fn from_parts(alloc: Global, value: T, version: u64, writers: u32) -> Self
+    pub fn from_parts(alloc: Global, value: T, version: u64, owners: u32) -> Self
         requires versioned { 1 ≤ version }
-        requires counted { 1 ≤ writers }
+        requires counted { 1 ≤ owners }
         ensures { result ≡ record
-            { value = value; version = version; writers = writers; waiting = []; room = 0 } }
+            { value = value; version = version; owners = owners; waiting = []; room = 0 } }
     {
         Latest {
             value,
             version,
-            writers,
+            owners,
             waiting: WaitList::new(alloc),
         }
     }
@@ -134,12 +134,12 @@ impl<T: Drop, W: Wakes> Latest<T, W> {
         self.version
     }
 
-    /// Returns whether the state is closed: its last writer has ended, and no write will come.
+    /// Returns whether the state is closed: its last owner has ended, and no write will come.
     pub fn is_closed(&self) -> bool
         ensures closed { result ≡ is_closed self.now }
         ensures sound { IsSound W.will_wake self.now }
     {
-        self.writers == 0
+        self.owners == 0
     }
 
     /// Returns the number of waiting wakers.
@@ -180,7 +180,7 @@ impl<T: Clone, W: Wakes> Latest<T, W> {
 /// closed.
 impl<T: fmt::Debug, W: Wakes> fmt::Debug for Latest<T, W> {
     fn fmt<F: fmt::Write>(&self, f: &mut fmt::Formatter<F>) -> fmt::Result {
-        match self.writers {
+        match self.owners {
             0 => write!(f, "Latest::Closed({:?})", self.value),
             _ => write!(f, "Latest({:?})", self.value),
         }

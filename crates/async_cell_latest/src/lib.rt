@@ -1,6 +1,6 @@
 //! A state that any number of followers follow, implemented as a pure state machine. Each write
 //! replaces the value, adds 1 to the version, and returns the wakers of the followers that wait.
-//! When the last writer ends, the state keeps its value and its version. Items marked `doc(hidden)`
+//! When the last owner ends, the state keeps its value and its version. Items marked `doc(hidden)`
 //! are internal, and may change without notice.
 #![tactic(auto)]
 

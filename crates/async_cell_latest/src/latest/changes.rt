@@ -93,7 +93,7 @@ impl<T: Drop, W: Wakes> Latest<T, W> {
         ensures writable { IsSome result ↔ (is_writable self.now ≡ true) }
         ensures counted { IfSome result (λ version. version ≡ self.now.version + 1) }
     {
-        if self.writers == 0 {
+        if self.owners == 0 {
             return None;
         }
         self.version.checked_add(1)

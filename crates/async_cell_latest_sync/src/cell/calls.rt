@@ -190,15 +190,15 @@ impl<T: Drop, N: Protocol<T>> LatestCore<T, N> {
     pub(crate) fn add_owner(&mut self) -> Deferred<Result<(), Refusal>>
         ensures refused { IfErr result.answer IsOwnerRefusal }
     {
-        Deferred::of(self.state.add_writer())
+        Deferred::of(self.state.add_owner())
     }
 
     /// Ends an owner. The end of the last one closes the state, and holds the wakers to wake.
     pub(crate) fn end_owner(&mut self) -> Deferred<(), Option<Wakers<TaskWaker>>>
-        ensures hands_out_all { self.old.state.writers ≡ 1
+        ensures hands_out_all { self.old.state.owners ≡ 1
             → result.woken ≡ Some self.old.state.waiting }
     {
-        let ended = self.state.end_writer();
+        let ended = self.state.end_owner();
         if self.state.is_closed() {
             self.values.close();
         }
