@@ -1,6 +1,6 @@
 //! A watcher of a state never goes back: what it is shown later was written later.
-ghost use Rattle.std.specs.Prelude.{◌≡◌, ◌<◌, ◌≤◌, ℕ, List, Some, IfOk, IfSome};
-ghost use Rattle.async_cell_latest_sync.specs.Life.{Agree};
+ghost use Rattle.std.specs.Prelude.{◌≡◌, ◌<◌, ◌≤◌, ◌⊎◌, ℕ, List, Some, IfOk, IfSome};
+ghost use Rattle.async_cell_latest_sync.specs.Life.{Agree, GoesOn};
 ghost use Rattle.async_cell_callers.specs.InOrder.{AreInOrder, NeverFalls};
 
 use crate::Host;
@@ -99,4 +99,11 @@ pub fn watch_rise<R: Host, N: Protocol<u64>>(
     let (first, next, later) = watch(rt, follower, seen)?;
     later.lawful();
     Ok((first, next.unwrap_or(first)))
+}
+
+/// Of two watchers of a state, one has seen all that the other has.
+pub fn two_watchers<T, N: Protocol<T>>(one: &Witness<T, N>, other: &Witness<T, N>)
+    ensures one_of_both { GoesOn one.now other.now ⊎ GoesOn other.now one.now }
+{
+    one.agrees(other);
 }
