@@ -263,8 +263,9 @@ decide
 lay_out to "$target" "${names[@]}"
 for it in "${names[@]}"; do
     if grep -q "^$it:" "$work/to.txt"; then continue; fi
-    [[ " $copied " != *" $it "* ]] || said="take it out of $version, or go --to another release"
-    [ "$said" ] || said="there are $(names_of "$work/to.txt" | paste -sd ' ')"
+    said="there are $(names_of "$work/to.txt" | paste -sd ' ')"
+    [[ " $copied " != *" $it "* ]] ||
+        said="see $top/CHANGELOG.md; take it out of $version, or go --to another release"
     refuse "no crate $it in $(name_of "$target"): $said"
 done
 if [ "$option" = --program ]; then
