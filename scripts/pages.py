@@ -48,7 +48,7 @@ WITH_FIGURES = ("bench/README.md", "docs/DECISIONS.md", "CHANGELOG.md")
 COSTS = re.compile(r"(?i)instruction|\d (?:cycles|[nµu]s)\b")
 # What stands around the libraries, and the sources of these: their lines are printed.
 AROUND = re.compile(r"(?:tests|scripts|bench|misuse|crates/bench_\w+)/")
-SOURCES = re.compile(r"crates/(?:async_cell(?!\w*_callers/)\w*|cellrun|ghost_(?:log|count))/src/")
+SOURCES = re.compile(r"crates/(?:async_cell(?!\w*_callers/)\w*|cellrun|ghost_tokens)/src/")
 # How many functions the toolchain advises for a crate at most: crates with more are printed.
 ADVISED = 100
 FUNCTION = re.compile(r"^ *(?:pub(?:\([a-z]+\))? )?(?:const )?(?:unsafe )?fn [a-z]", re.M)

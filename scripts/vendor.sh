@@ -180,8 +180,11 @@ settle() {
         echo '# .gitignore has to have: out/'
     git show HEAD:crates.txt $(awk '{ print $2 ":crates.txt" }' "$work/releases") 2>/dev/null |
         names_of - "$work"/*.txt | grep -vxFf <(names_of "$work/crates.txt") >"$work/gone" || true
-    sed 's/^#.*//' "$work/crates.txt" | grep -nowFf "$work/gone" |
-        sed 's/:/ names /; s/.*/# crates.txt: line &, which the copy has not/' || true
+    sed 's/^#.*//' "$work/crates.txt" | grep -nowFf "$work/gone" | while IFS=: read -r words it; do
+        words="# crates.txt: line $words names $it, which the copy has not"
+        grep -q "^$it:" "$work/to.txt" || words+=": its CHANGELOG says what became of it"
+        echo "$words"
+    done || true
 }
 
 # Prints where a copy moved, and if a release, or that before a commit, is withdrawn or not for rt.
@@ -260,8 +263,9 @@ decide
 lay_out to "$target" "${names[@]}"
 for it in "${names[@]}"; do
     if grep -q "^$it:" "$work/to.txt"; then continue; fi
-    [[ " $copied " != *" $it "* ]] || said="take it out of $version, or go --to another release"
-    [ "$said" ] || said="there are $(names_of "$work/to.txt" | paste -sd ' ')"
+    said="there are $(names_of "$work/to.txt" | paste -sd ' ')"
+    [[ " $copied " != *" $it "* ]] ||
+        said="see $top/CHANGELOG.md; take it out of $version, or go --to another release"
     refuse "no crate $it in $(name_of "$target"): $said"
 done
 if [ "$option" = --program ]; then

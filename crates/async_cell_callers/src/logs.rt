@@ -2,7 +2,7 @@
 ghost use Rattle.std.specs.Prelude.{◌≡◌, [], ◌∷◌};
 ghost use mathlib.Core.List.{IsPrefix};
 
-use ghost_log::{Log, Makes, Seen};
+use ghost_tokens::{Log, Makes, Seen};
 use std::snapshot::Snapshot;
 
 /// The entry is the number itself.

@@ -1,8 +1,14 @@
 -- What one more call makes of a past that leads to a core: its owners, its values, its history.
-use Rattle.async_cell_history.proofs.Words.{◌≡◌, Bool, false, IfSome, rules, arith, ◌<◌, List, [], ◌∷◌, ◌++◌, sym, subst, Cell, Entry, Kept, content, next, State, Does, is_closed, owners_of}
+use Rattle.async_cell_history.proofs.Words.{◌≡◌, ℕ, Bool, false, Option, IfSome, rules, arith, ◌<◌, List, [], ◌∷◌, ◌++◌, map, map-append, ap, ◌∙◌, sym, subst, Cell, Entry, Kept, content, next, State}
+use Rattle.async_cell_history.proofs.Words.{Does, is_closed, owners_of}
 use Rattle.async_cell_history.proofs.Words.{IsAllowed, Puts, is_of_owners, Past, Leads, IsLawful, OnlyMakes, History, IsLegal, Runs, wakes_after, model_of, All, All-append, All-cons, All-nil}
 use Rattle.async_cell_history.proofs.Words.{All-weaker}
 use Rattle.async_cell_model.proofs.LegalHistories.{Runs-join}
+use Rattle.async_cell_history.specs.declared.number.Signed.{Signed}
+
+-- one more element
+pub map_more : {A B : Type 0} (f : A → B) (xs ys : List A) (x : A) → ys ≡ xs ++ x ∷ [] → map f ys ≡ map f xs ++ f x ∷ []
+map_more f xs ys x is = ap (map f) is ∙ map-append f xs (x ∷ [])
 
 module _ {T W : Type 0} (P : T → Type 0) where
   pub step_holds : (c : Cell T) (e : Entry T W) → IfSome (content c) P → Puts P e.call → IfSome (content (next c e)) P
@@ -53,3 +59,29 @@ module _ {T W : Type 0} (may : Kept T W → Type 0) where
   -- where only such changes may be made, all are such
   pub all_such : (Such : Kept T W → Type 0) → OnlyMakes may Such → (h : History T W) → All (λ e. IsAllowed may e.call) h → All (λ e. IsAllowed Such e.call) h
   all_such Such only h all = All-weaker (λ (e : Entry T W). IsAllowed may e.call) (λ (e : Entry T W). IsAllowed Such e.call) (λ e allowed change. only e.call (allowed change) change) h all
+
+-- what contracts see of a past: of the count and the state it began with, and of its log
+abbrev pub past_of : {T W : Type 0} → Option ℕ → State T W → ℕ → ℕ → List (Signed T W) → Past T W
+past_of permits start out name log = record {
+  begun = record { name = name; permits = permits; start = start };
+  calls = map (λ s. s.entry) log;
+  authors = map (λ s. s.who) log;
+  out = out;
+}
+
+module _ {T W : Type 0} (will_wake : W → W → Bool) (sure : Bool) (may : Kept T W → Type 0) (permits : Option ℕ) (start : State T W) (out : ℕ) where
+  -- a past that leads to a core leads to the core after an allowed call, once its log has the entry
+  pub entered : (holds : T → Type 0) → ((call : Kept T W) → may call → Puts holds call) → (name name' : ℕ) (log log' : List (Signed T W)) (s : Signed T W) (past : Past T W) (from to : State T W)
+      (woken : List W) → past_of permits start out name log ≡ past → name' ≡ name → log' ≡ log ++ s ∷ []
+      → Leads will_wake sure holds past from → Does will_wake sure from s.entry woken to → IsAllowed may s.entry.call → Leads will_wake sure holds (past_of permits start out name' log') to
+  entered holds keeps name name' log log' s past from to woken view same pushed led does allowed =
+      leads_more will_wake sure holds past (past_of permits start out name' log') from to s.entry woken led does (allowed_puts may holds keeps s.entry.call allowed)
+      (ap (λ n. record { name = n; permits = permits; start = start }) same ∙ ap (λ p. p.begun) view)
+      (map_more (λ s. s.entry) log log' s pushed ∙ ap (λ p. p.calls ++ s.entry ∷ []) view)
+
+  -- and its calls are lawful
+  pub entered_lawful : (log log' : List (Signed T W)) (s : Signed T W) → log' ≡ log ++ s ∷ [] → IsLegal will_wake sure start (map (λ s. s.entry) log')
+      → IsAllowed may s.entry.call → IsLawful will_wake sure may start (map (λ s. s.entry) log) → IsLawful will_wake sure may start (map (λ s. s.entry) log')
+  entered_lawful log log' s pushed legal allowed lawful =
+      let is = map_more (λ s. s.entry) log log' s pushed in
+      subst (IsLawful will_wake sure may start) (sym is) (lawful_more may will_wake sure start (map (λ s. s.entry) log) s.entry lawful (subst (IsLegal will_wake sure start) is legal) allowed)

@@ -9,10 +9,6 @@ module _ {A B : Type 0} (f : A → B) where
   pub begins_map : (xs ys : List A) (us vs : List B) → map f xs ≡ us → map f ys ≡ vs → IsPrefix xs ys → IsPrefix us vs
   begins_map xs ys us vs first second (rest, is) = (map f rest, ap (λ l. l ++ map f rest) (sym first) ∙ sym (map-append f xs rest) ∙ ap (map f) is ∙ second)
 
-  -- one more element
-  pub map_more : (xs ys : List A) (x : A) → ys ≡ xs ++ x ∷ [] → map f ys ≡ map f xs ++ f x ∷ []
-  map_more xs ys x is = ap (map f) is ∙ map-append f xs (x ∷ [])
-
 module _ {T W : Type 0} (will_wake : W → W → Bool) (sure : Bool) where
   -- the second part of legal calls is legal after the first
   pub second : (b : State T W) (g xs ys : History T W) → IsLegalAfterBy Exactly will_wake sure b g (xs ++ ys) → IsLegalAfterBy Exactly will_wake sure b (g ++ xs) ys

@@ -6,7 +6,7 @@ use Rattle.async_cell_history.proofs.Words.{NoClone, legal_of_exact, WakerRules,
 use Rattle.async_cell_model.specs.Taken.{IsSubsequence, has_update, is_update, put_by, put_in, taken_by, taken_out}
 use Rattle.async_cell_model.proofs.Once.{IsSubsequence-same, IsSubsequence-nil, IsSubsequence-trans, IsSubsequence-append, pairs_of_subsequence, given_in_order}
 use Rattle.async_cell_history.proofs.Leading.{all_such}
-use Rattle.ghost_log.proofs.Steps.{shorter_begins}
+use Rattle.ghost_tokens.proofs.LogSteps.{shorter_begins}
 use base.Growing.{prefix_refl, prefix_trans, prefix_anti}
 
 module _ {A : Type 0} where

@@ -79,11 +79,6 @@ module _ {T W : Type 0} where
   abbrev pub entry_of : Kept T W → Answer T W → Entry T W
   entry_of call answer = record { call = call; reply = answer.reply }
 
-  -- the answer of a `set`, made of what `replace` returned
-  abbrev pub set_answer : Result (Option T × List W) T → Answer T W
-  set_answer (Ok (old, woken)) = record { reply = reply.Done; woken = woken }
-  set_answer (Err back) = record { reply = reply.Refused why.Closed (Some back); woken = [] }
-
   -- whether the call may change the content: the writes and the takes do
   abbrev pub is_change : Kept T W → Bool
   is_change call = (facts call).changes

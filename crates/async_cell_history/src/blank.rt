@@ -5,8 +5,7 @@ ghost use Rattle.async_cell_model.specs.Machine.{owners_of};
 
 use crate::Signed;
 use async_cell_core::{Core, Wakes};
-use ghost_count::{Count, Permit};
-use ghost_log::{Log, Makes};
+use ghost_tokens::{Count, Log, Makes, Permit};
 use std::alloc::Global;
 use std::marker::Model;
 

@@ -4,7 +4,7 @@ ghost use Rattle.std.specs.Prelude.{◌≡◌, ◌+◌, ℕ};
 ghost use Rattle.async_cell_history.specs.History.{first_number};
 
 use async_cell_model::Entry;
-use ghost_log::{Log, Makes, Seen};
+use ghost_tokens::{Log, Makes, Seen};
 use std::marker::PhantomData;
 
 /// A number that calls are signed with. Only contracts read it. 0 stands for nobody.

@@ -8,8 +8,7 @@ ghost use Rattle.async_cell_history.specs.History.{IsAllowed, Leads, entry_of, i
 use crate::entries::Waits;
 use crate::{Nobody, Protocol, Signed, Signs, Start};
 use async_cell_core::{Core, Wakes};
-use ghost_count::Count;
-use ghost_log::{Log, Makes};
+use ghost_tokens::{Count, Log, Makes};
 use std::marker::{Model, PhantomData};
 use std::snapshot::Snapshot;
 

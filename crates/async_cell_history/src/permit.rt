@@ -7,8 +7,7 @@ ghost use Rattle.async_cell_history.specs.History.{permits_of};
 use crate::{CellCore, Past, Protocol};
 use async_cell_core::Wakes;
 use async_cell_step::{Opens, StoredCore, Stores};
-use ghost_count::Permit;
-use ghost_log::Log;
+use ghost_tokens::{Log, Permit};
 use std::marker::{Model, PhantomData};
 
 /// The permit of one owner of a cell. A permit cannot be dropped: the call that ends its owner

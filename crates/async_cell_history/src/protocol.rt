@@ -21,6 +21,9 @@ pub trait Protocol<T, W> {
     ghost keeps: { (call : Kept T W) → may call → Puts holds call };
 }
 
+// Three traits, since a protocol may allow takes but not each write (`Takeable` alone), or name its
+// cell (`Takeable` and `Free`). `Unruled` and `Ruled` have all three.
+
 /// The protocol of a cell whose values may be taken.
 pub trait Takeable<T, W>: Protocol<T, W> {
     /// Every take may be made.

@@ -4,7 +4,7 @@ ghost use Rattle.async_cell_history.specs.History.{IsLawful, permits_of, start_o
 
 use crate::{Author, Nobody, Number, Past, Protocol, Signed, number_after, number_of};
 use async_cell_core::Wakes;
-use ghost_log::Seen;
+use ghost_tokens::Seen;
 use std::marker::{Model, PhantomData};
 
 /// What one thread has seen of the history of the cell that `N` names. A witness also has the

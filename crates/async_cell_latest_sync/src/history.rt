@@ -5,7 +5,7 @@ ghost use Rattle.async_cell_latest_sync.specs.Life.{Fits, GoesOn, IsLawful, Life
 
 use async_cell_latest::{Latest, TaskWaker};
 use async_cell_step::{Rule, Ruled};
-use ghost_log::{Log, Makes, Seen};
+use ghost_tokens::{Log, Makes, Seen};
 use std::marker::{Brand, Model, PhantomData};
 
 /// Names a state, and says which values may be written to the state, and what is known of each

@@ -11,10 +11,9 @@ ghost use Rattle.async_cell_step.specs.Rule.{IsCloneOfOne};
 ghost use Rattle.async_cell_step.specs.Upgrade.{FailsToUpgrade};
 
 use crate::{AsyncCell, Get, Owner, Shared, Take};
-use async_cell_calls::Taking;
 use async_cell_core::{Refusal, TaskWaker};
 use async_cell_history::{Free, Unruled};
-use async_cell_step::{At, OneThread, Polled, Request, Takes, Upgrade, poll, weakly};
+use async_cell_step::{At, OneThread, Polled, Request, Takes, Upgrade, weakly};
 use futures::future::Future;
 use futures::task::{Context, Poll};
 use std::alloc::AllocError;
@@ -223,7 +222,7 @@ impl<T: Drop, N: Free<T, TaskWaker>> Polled<OneThread> for TakeWeak<T, N> {
 
     fn poll_at(&self, at: At<'_>, cx: &mut Context<'_>, rt: &OneThread) -> Poll<Self::Output> {
         match self.0.cell() {
-            Ok(cell) => weakly(poll(&cell.core.store, &cell.source, Taking, at, cx, rt)),
+            Ok(cell) => weakly(Take(cell).poll_at(at, cx, rt)),
             Err(why) => Poll::Ready(Err(why)),
         }
     }

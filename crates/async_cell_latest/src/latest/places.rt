@@ -10,17 +10,14 @@ use async_cell_wakers::{Place, TaskWaker, Wakes};
 use futures::task::Waker;
 
 impl<T: Drop> Latest<T, TaskWaker> {
-    /// Returns whether the list must grow for the future that `place` belongs to. This is so if the
-    /// future holds no place in the list, and no place is free.
+    /// As `WaitList::is_new`.
     #[doc(hidden)]
     #[inline(always)]
     pub fn is_new(&self, place: &Place) -> bool {
         self.waiting.is_new(place)
     }
 
-    /// Stores a waker at the end of the list, by value, for a poll that has to wait. `place` is the
-    /// waker's position from then on. The state must be open. If there is no memory to grow the
-    /// list, the waker is returned in the error.
+    /// As `WaitList::store_new`. The state must be open.
     #[doc(hidden)]
     #[inline(always)]
     #[tactic(auto, using(async_cell_model::proofs::OneMoreWaker::keep_added, async_cell_model::proofs::OneMoreWaker::never_skipped, crate::proofs::JoinedHistories::added))]
@@ -40,9 +37,7 @@ impl<T: Drop> Latest<T, TaskWaker> {
         self.waiting.store_new(place, waker)
     }
 
-    /// Takes the waker out of this place. If the future holds no place in the list, takes over a
-    /// free place, and takes out the waker that is there. That waker may be another task's. Returns
-    /// `None` if no place is free.
+    /// As `WaitList::take_back`.
     #[doc(hidden)]
     #[inline(always)]
     pub fn take_back(&mut self, place: &mut Place) -> Option<Waker>
@@ -51,10 +46,7 @@ impl<T: Drop> Latest<T, TaskWaker> {
         self.waiting.take_back(place)
     }
 
-    /// Stores a waker in this place. If the future holds no place in the list, takes over a free
-    /// place. If no place is free, adds one at the end of the list. The state must be open. Returns
-    /// the waker that was there, if any. Dropping the returned waker wakes its task. If there is no
-    /// memory to grow the list, the new waker is returned in the error.
+    /// As `WaitList::store`. The state must be open.
     #[doc(hidden)]
     #[inline(always)]
     #[tactic(auto, using(async_cell_model::proofs::OneMoreWaker::keep_added, async_cell_model::proofs::OneMoreWaker::never_skipped, crate::proofs::JoinedHistories::added))]
@@ -80,9 +72,7 @@ impl<T: Drop> Latest<T, TaskWaker> {
         self.waiting.store(place, waker)
     }
 
-    /// Gives up the place, which is free from then on. The waker stays in the place, because
-    /// dropping the waker would wake the task. Returns the index of the place, or `None` if the
-    /// place was already given up.
+    /// As `WaitList::vacate`.
     #[doc(hidden)]
     pub fn vacate(&mut self, place: Place) -> Option<usize>
         ensures unchanged { self.new ≡ self.old }
@@ -90,8 +80,7 @@ impl<T: Drop> Latest<T, TaskWaker> {
         self.waiting.vacate(place)
     }
 
-    /// Takes out the waker that was left in the place at `index`. Returns `None` if a future holds
-    /// this place.
+    /// As `WaitList::take_left`.
     #[doc(hidden)]
     pub fn take_left(&mut self, index: usize) -> Option<Waker>
         ensures unchanged { self.new ≡ self.old }
