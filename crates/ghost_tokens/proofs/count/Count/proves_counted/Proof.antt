@@ -1,18 +1,4 @@
-<<<<<<<< HEAD:crates/ghost_count/proofs/permits/Count/proves_counted/Proof.antt
 -- `proves_counted` compares a permit with the count.
-use Rattle.ghost_count.proofs.Words.{◌≡◌, ℕ, List, [], ◌∷◌, refl, sym, named, Val, vunit, vptr, SProp, Fml, ftrue, fsep, flft, fhide, fshr_bor, shr_bor-open, obor_close, ‵, ◌⊛◌, given, ◌$◌, ◌∵◌, ! }
-use Rattle.ghost_count.proofs.Words.{qed, by, move, keep, drop, split, fsplit, fsplit3, fjoin, fjoin3, learn, use1, use2, rewrite, feq_i, unit_lit, of_opd, returns, enter, alloc_all, pass_all}
-use Rattle.ghost_count.proofs.Words.{free_all, look_at, sets, tables, tells, tells_last, yes, RattleType, owns, types_at, plain, RefOf, unit, mut_vals, mut_Tells, shr_vals, shr_Tells, hidden_shr}
-use Rattle.ghost_count.proofs.Words.{unhide, nothing, opens, closes, lent_out, Stays, stay_dropped, stay_ref, walk_of, Goes-dropped, Goes-ref, proved, Token, ends, Option, count_owns, permit_owns}
-use Rattle.core.specs.contracts.marker.PhantomData as marker
-use Rattle.ghost_count.specs.contracts.permits.Count as Count
-use Rattle.ghost_count.specs.contracts.permits.Permit as Permit
-use Rattle.ghost_count.proofs.Steps as steps
-use Rattle.ghost_count.specs.contracts.permits.Count.proves_counted.{ended, clauses, Key.name as #self}
-use Rattle.ghost_count.proofs.permits.Count.proves_counted.Statement.{statement}
-use Rattle.ghost_count.proofs.permits.Count.proves_counted.Code as code
-========
--- `shows` compares a permit with the count.
 use Rattle.ghost_tokens.proofs.Words.{◌≡◌, ℕ, List, [], ◌∷◌, refl, sym, named, Val, vunit, vptr, SProp, Fml, ftrue, fsep, flft, fhide, fshr_bor, shr_bor-open, obor_close, ‵, ◌⊛◌, given, ◌$◌, ◌∵◌, ! }
 use Rattle.ghost_tokens.proofs.Words.{qed, by, move, keep, drop, split, fsplit, fsplit3, fjoin, fjoin3, learn, use1, use2, rewrite, feq_i, unit_lit, of_opd, returns, enter, alloc_all, pass_all}
 use Rattle.ghost_tokens.proofs.Words.{free_all, look_at, sets, tables, tells, tells_last, yes, RattleType, owns, types_at, plain, RefOf, unit, mut_vals, mut_Tells, shr_vals, shr_Tells, hidden_shr}
@@ -21,10 +7,9 @@ use Rattle.core.specs.contracts.marker.PhantomData as marker
 use Rattle.ghost_tokens.specs.contracts.count.Count as Count
 use Rattle.ghost_tokens.specs.contracts.count.Permit as Permit
 use Rattle.ghost_tokens.proofs.CountSteps as steps
-use Rattle.ghost_tokens.specs.contracts.count.Count.shows.{ended, clauses, Key.name as #self}
-use Rattle.ghost_tokens.proofs.count.Count.shows.Statement.{statement}
-use Rattle.ghost_tokens.proofs.count.Count.shows.Code as code
->>>>>>>> twice:crates/ghost_tokens/proofs/count/Count/shows/Proof.antt
+use Rattle.ghost_tokens.specs.contracts.count.Count.proves_counted.{ended, clauses, Key.name as #self}
+use Rattle.ghost_tokens.proofs.count.Count.proves_counted.Statement.{statement}
+use Rattle.ghost_tokens.proofs.count.Count.proves_counted.Code as code
 
 pub proves_counted_spec : {M : Type 1} → statement M
 proves_counted_spec 𝓤 𝓛 𝓜 𝓡 wired =
