@@ -100,17 +100,46 @@ fn add_at<C: Room, G: Step<Core = C>>(
         return end(step, Deferred::of(Err(Refusal::Memory)));
     };
     let stored = step.lend().store_new(place, TaskWaker::of(waker));
+    place.note(cx.task());
     match end(step, stored) {
         Ok(()) => Ok(()),
         Err(_unused) => Err(Refusal::Memory),
     }
 }
 
+/// Registers the task with the waker in the place, in this step, if the waker there is one of the
+/// same task, so that registering drops none. Else as `renew_moved`.
+#[inline(never)]
+fn renew<'a, C: Room, M: Stores<Core = C>, Q: Query<C>, R: Opens<'a, M>>(
+    store: &'a StoredCore<M>,
+    mut step: R::Open,
+    source: &Source,
+    query: Q,
+    place: &mut Place,
+    cx: &mut Context<'_>,
+    rt: &R,
+) -> Poll<Result<Q::Answer, Refusal>>
+    requires asks { Q.asks query }
+    ensures gives { IfReady result (λ answer. IfOk answer (λ given. Q.gives query given)) }
+    ensures closed { IfReady result (λ answer. IfErr answer (λ why. why ≡ Refusal.Closed
+        → (core : C) × Q.closed core)) }
+    ensures armed { OnPending result (IsArmed cx.new) }
+    ensures heard { OnPending result (Hears cx.new source.now.id) }
+    ensures kept { Keeps cx.old cx.new }
+    ensures refused { IfReady result FailsWithMemoryOrClosed }
+{
+    if step.lend().renew(&*place, source, cx) {
+        end(step, Deferred::of(()));
+        return Poll::Pending;
+    }
+    renew_moved(store, step, source, query, place, cx, rt)
+}
+
 /// Takes the waker out of the place, registers the task with it, and stores it again. If the waker
 /// was another task's, registering drops it, which wakes that task. So the task is registered
 /// between two steps.
 #[inline(never)]
-fn renew<'a, C: Room, M: Stores<Core = C>, Q: Query<C>, R: Opens<'a, M>>(
+fn renew_moved<'a, C: Room, M: Stores<Core = C>, Q: Query<C>, R: Opens<'a, M>>(
     store: &'a StoredCore<M>,
     mut step: R::Open,
     source: &Source,
@@ -146,7 +175,10 @@ fn renew<'a, C: Room, M: Stores<Core = C>, Q: Query<C>, R: Opens<'a, M>>(
     }
     let stored = waker.store_in(step.lend(), place);
     match end(step, stored) {
-        Ok(_before) => Poll::Pending,
+        Ok(_before) => {
+            place.note(cx.task());
+            Poll::Pending
+        }
         Err(_unused) => Poll::Ready(Err(Refusal::Memory)),
     }
 }

@@ -1,12 +1,13 @@
 //! What a poll needs from a core (`Room`), and what the poll asks of the core (`Query`).
 ghost use Rattle.std.specs.Prelude.{◌≡◌, ◌<◌, ◌≤◌, ◌-◌, ⊤, ℕ, false, List, [], ◌∷◌, ◌++◌, IsTrue, IsOk, IfOk, IfErr, OnOk, OnErr, MatchOption};
+ghost use Rattle.futures.specs.Task.{Hears, IsArmed, Keeps};
 ghost use Rattle.async_cell_model.specs.Refusal.{FailsWithMemoryOrClosed};
 ghost use Rattle.async_cell_wakers.specs.declared.task_waker.TaskWaker.{TaskWaker};
 
 use crate::ended::Deferred;
 use async_cell_model::Refusal;
 use async_cell_wakers::{Place, TaskWaker};
-use futures::task::Waker;
+use futures::task::{Context, Source, Waker};
 
 /// The calls of a core for futures that wait. Dropping a waker wakes its task, so a waker that is
 /// not stored is held until the step ends.
@@ -42,6 +43,14 @@ pub trait Room {
         ensures room_suffices { 0 < room self.old → IsOk result.answer }
         ensures place_stays { OnErr result.answer (place.new ≡ place.old) }
         ensures unchanged { OnErr result.answer (self.new ≡ self.old) };
+
+    /// Registers the task with the waker in this place, if the future holds the place, and the waker
+    /// there is one of the same task. Returns whether it did.
+    fn renew(&mut self, place: &Place, source: &Source, cx: &mut Context<'_>) -> bool
+        ensures armed { IsTrue result → IsArmed cx.new }
+        ensures heard { IsTrue result → Hears cx.new source.now.id }
+        ensures kept { Keeps cx.old cx.new }
+        ensures unchanged { self.new ≡ self.old };
 
     /// Takes the waker out of this place. If the future holds no place in the list, takes over a
     /// free place, and takes out the waker that is there. That waker may be another task's. The

@@ -1,13 +1,14 @@
 //! The places of waiting futures, and wakers that are never skipped.
-ghost use Rattle.std.specs.Prelude.{◌≡◌, ◌<◌, ◌≤◌, ◌-◌, [], ◌∷◌, ◌++◌, true, false, IsOk, IfOk, IfNone, IfErr, OnOk, OnErr, MatchOption};
+ghost use Rattle.std.specs.Prelude.{◌≡◌, ◌<◌, ◌≤◌, ◌-◌, [], ◌∷◌, ◌++◌, true, false, IsTrue, IsOk, IfOk, IfNone, IfErr, OnOk, OnErr, MatchOption};
 ghost use Rattle.async_cell_model.specs.Machine.{is_vacant};
+ghost use Rattle.futures.specs.Task.{Hears, IsArmed, Keeps};
 ghost use Rattle.async_cell_wakers.specs.Place.{displaced};
 ghost use Rattle.async_cell_core.specs.IsStep.{IsStep, wait_answer};
 
 use super::Core;
 use async_cell_model::Kept;
 use async_cell_wakers::{Place, TaskWaker, Wakes};
-use futures::task::Waker;
+use futures::task::{Context, Source, Waker};
 
 impl<T: Drop, W: Wakes> Core<T, W> {
     /// Adds a waker at the end of the list, by value, for a poll that has to wait. The cell must be
@@ -58,6 +59,18 @@ impl<T: Drop> Core<T, TaskWaker> {
         ensures unchanged { OnErr result (self.new ≡ self.old) }
     {
         self.waiting.store_new(place, waker)
+    }
+
+    /// As `WaitList::renew`.
+    #[doc(hidden)]
+    #[inline(always)]
+    pub fn renew(&mut self, place: &Place, source: &Source, cx: &mut Context<'_>) -> bool
+        ensures armed { IsTrue result → IsArmed cx.new }
+        ensures heard { IsTrue result → Hears cx.new source.now.id }
+        ensures kept { Keeps cx.old cx.new }
+        ensures unchanged { self.new ≡ self.old }
+    {
+        self.waiting.renew(place, source, cx)
     }
 
     /// As `WaitList::take_back`.

@@ -2,13 +2,14 @@
 //! its waker out of its place, and then stores the waker again. A future that is dropped leaves its
 //! place free, with the waker in it. The free places form a list: each has, beside its waker, the
 //! number of the next free place, counted from 1.
-ghost use Rattle.std.specs.Prelude.{◌≡◌, ◌<◌, ◌≤◌, ◌-◌, ◌↔◌, [], ◌∷◌, ◌++◌, length, false, IsSome, IsOk, IfSome, IfOk, OnSome, OnOk, OnErr, IfNone, MatchOption};
+ghost use Rattle.std.specs.Prelude.{◌≡◌, ◌<◌, ◌≤◌, ◌-◌, ◌↔◌, [], ◌∷◌, ◌++◌, length, false, IsTrue, IsSome, IsOk, IfSome, IfOk, OnSome, OnOk, OnErr, IfNone, MatchOption};
+ghost use Rattle.futures.specs.Task.{Hears, IsArmed, Keeps};
 ghost use Rattle.async_cell_wakers.specs.Place.{Holds};
 
 use super::WaitList;
 use crate::place::Place;
 use crate::task_waker::TaskWaker;
-use futures::task::Waker;
+use futures::task::{Context, Source, Waker};
 use std::mem;
 
 impl WaitList<TaskWaker> {
@@ -38,8 +39,28 @@ impl WaitList<TaskWaker> {
         let index = self.len();
         self.add(waker)?;
         let round = self.round;
-        *place = Place { round, index };
+        place.put(round, index);
         Ok(())
+    }
+
+    /// Registers the task with the waker in this place, if the future holds the place, and the waker
+    /// there is one of the same task. Returns whether it did.
+    #[inline(always)]
+    pub fn renew(&mut self, place: &Place, source: &Source, cx: &mut Context<'_>) -> bool
+        ensures armed { IsTrue result → IsArmed cx.new }
+        ensures heard { IsTrue result → Hears cx.new source.now.id }
+        ensures kept { Keeps cx.old cx.new }
+        ensures unchanged { self.new ≡ self.old }
+    {
+        if place.round != self.round || !place.is_of(cx.task()) {
+            return false;
+        }
+        match (place.index.checked_sub(1), &mut self.first) {
+            (None, Some(first)) => first.renew(source, cx),
+            (Some(index), _) if index < self.rest.len() => self.rest[index].renew(source, cx),
+            _ => return false,
+        }
+        true
     }
 
     /// Takes the waker out of this place. If the future holds no place in the list, takes over a
@@ -126,7 +147,7 @@ impl WaitList<TaskWaker> {
         let index = self.free.get().checked_sub(1)?;
         self.free.set(self.at(index)?.hold());
         let round = self.round;
-        *place = Place { round, index };
+        place.put(round, index);
         Some(index)
     }
 
