@@ -1,7 +1,8 @@
 //! Polls, generic over the store of the core. A poll gives an answer, or registers the task and
 //! adds the task's waker to the wait list. If the polled future has a place in the wait list, the
 //! waker goes to that place. This module also has the functions that give up a future's place when
-//! the future ends. Dropping a waker wakes its task, so no waker is dropped during a step.
+//! the future ends. Dropping a waker wakes its task, so no waker is dropped during a step, but for
+//! the one that `renew` tells of.
 ghost use Rattle.std.specs.Prelude.{◌≡◌, Err, IfErr, IfOk};
 ghost use Rattle.futures.specs.Poll.{IfReady, OnPending};
 ghost use Rattle.futures.specs.Task.{Hears, IsArmed, Keeps};
@@ -107,8 +108,12 @@ fn add_at<C: Room, G: Step<Core = C>>(
     }
 }
 
-/// Registers the task with the waker in the place, in this step, if the waker there is one of the
-/// same task, so that registering drops none. Else as `renew_moved`.
+/// Registers the task in this step, with the waker where it lies in the place, if the future stored
+/// there the waker of a task with the same number. Registering drops no waker that is this task's.
+/// But numbers are counted by each queue of tasks, and the kit does not tell which queue a waker is
+/// of. So if the future has moved to a task of another queue with the same number, its old waker is
+/// dropped during the step, which wakes the old task. That runs no code but the kit's. Else as
+/// `renew_moved`.
 #[inline(never)]
 fn renew<'a, C: Room, M: Stores<Core = C>, Q: Query<C>, R: Opens<'a, M>>(
     store: &'a StoredCore<M>,

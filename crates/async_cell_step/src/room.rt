@@ -44,8 +44,9 @@ pub trait Room {
         ensures place_stays { OnErr result.answer (place.new ≡ place.old) }
         ensures unchanged { OnErr result.answer (self.new ≡ self.old) };
 
-    /// Registers the task with the waker in this place, if the future holds the place, and the waker
-    /// there is one of the same task. Returns whether it did.
+    /// Registers the task with the waker in this place, where the waker lies. Does so only if the
+    /// future holds the place, and stored the waker of a task with the same number. Returns whether
+    /// it did.
     fn renew(&mut self, place: &Place, source: &Source, cx: &mut Context<'_>) -> bool
         ensures armed { IsTrue result → IsArmed cx.new }
         ensures heard { IsTrue result → Hears cx.new source.now.id }

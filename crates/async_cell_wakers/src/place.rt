@@ -24,7 +24,7 @@ impl Place {
         }
     }
 
-    /// Sets the position in the list.
+    /// Sets the position in the list. The number of the task stays.
     #[inline(always)]
     pub(crate) fn put(&mut self, round: u64, index: usize)
         ensures { (self.new.round ≡ round) × (self.new.index ≡ index) }
@@ -33,7 +33,8 @@ impl Place {
         self.index = index;
     }
 
-    /// Notes the number of the task whose waker the future has stored.
+    /// Notes the number of the task whose waker the future has stored, as `Context::task` gives it.
+    /// The position stays.
     #[inline(always)]
     pub fn note(&mut self, task: usize)
         ensures { (self.new.round ≡ self.old.round) × (self.new.index ≡ self.old.index) }
@@ -41,8 +42,8 @@ impl Place {
         self.task = task;
     }
 
-    /// Returns whether the future stored a waker of this task last. It may be that of another
-    /// queue, which has the same number.
+    /// Returns whether the future stored the waker of a task with this number last. That may be a
+    /// task of another queue, as each queue of tasks counts its own.
     #[inline(always)]
     pub(crate) fn is_of(&self, task: usize) -> bool {
         self.task == task

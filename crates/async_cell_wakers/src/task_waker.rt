@@ -58,7 +58,8 @@ impl TaskWaker {
         self.link.get() == HELD
     }
 
-    /// Registers the task with this waker, which is one of the task's.
+    /// Registers the task with this waker. If the waker is another task's, it is replaced, and its
+    /// task is woken.
     #[inline(always)]
     pub(crate) fn renew(&mut self, source: &Source, cx: &mut Context<'_>)
         ensures armed { IsArmed cx.new }

@@ -1,4 +1,5 @@
-//! The places of futures in a wait list. A future that is polled again and still has to wait takes
+//! The places of futures in a wait list. A future that is polled again and still has to wait renews
+//! its waker in its place, if the task has the same number as at its last poll. If not, it takes
 //! its waker out of its place, and then stores the waker again. A future that is dropped leaves its
 //! place free, with the waker in it. The free places form a list: each has, beside its waker, the
 //! number of the next free place, counted from 1.
@@ -43,8 +44,12 @@ impl WaitList<TaskWaker> {
         Ok(())
     }
 
-    /// Registers the task with the waker in this place, if the future holds the place, and the waker
-    /// there is one of the same task. Returns whether it did.
+    /// Registers the task with the waker in this place, where the waker lies. Does so only if the
+    /// future holds the place, and stored the waker of a task with the same number. Returns whether
+    /// it did.
+    ///
+    /// A task of another queue can have the same number. Then the waker in the place is replaced, and
+    /// the task of the old one is woken.
     #[inline(always)]
     pub fn renew(&mut self, place: &Place, source: &Source, cx: &mut Context<'_>) -> bool
         ensures armed { IsTrue result → IsArmed cx.new }
