@@ -75,8 +75,8 @@ fn add<C: Room, G: Step<Core = C>>(
     let Some(waker) = new else {
         return end(step, Deferred::of(Err(Refusal::Memory)));
     };
-    let added = step.lend().add(TaskWaker::of(waker));
-    match end(step, added) {
+    let stored = step.lend().store_new(&mut Place::new(), TaskWaker::of(waker));
+    match end(step, stored) {
         Ok(()) => Ok(()),
         Err(_unused) => Err(Refusal::Memory),
     }

@@ -21,19 +21,12 @@ pub trait Room {
     /// How many more can be added without memory.
     ghost room: { Self → ℕ };
 
-    /// Adds a waker at the end of the list. If there is no memory to grow the list, the waker comes
-    /// back.
-    fn add(&mut self, waker: TaskWaker) -> Deferred<Result<(), TaskWaker>>
-        requires { vacant self.old }
-        ensures first_waits { waiting self.old ≡ [] → IsOk result.answer }
-        ensures room_suffices { 0 < room self.old → IsOk result.answer }
-        ensures unchanged { OnErr result.answer (self.new ≡ self.old) };
-
     /// Returns whether the list must grow for the future that `place` belongs to. This is so if the
     /// future holds no place in the list, and no place is free.
     fn is_new(&self, place: &Place) -> bool;
 
-    /// As `add`. `place` is the waker's position from then on.
+    /// Adds a waker at the end of the list. `place` is the waker's position from then on. If there is
+    /// no memory to grow the list, the waker comes back.
     fn store_new(&mut self, place: &mut Place, waker: TaskWaker) -> Deferred<Result<(), TaskWaker>>
         requires { vacant self.old }
         ensures stored { OnOk result.answer

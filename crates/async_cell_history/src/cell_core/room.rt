@@ -18,16 +18,6 @@ impl<T: Drop, N: Protocol<T, TaskWaker>> Room for CellCore<T, TaskWaker, N> {
     ghost room = { λ cell. cell.inner.room };
 
     #[inline(always)]
-    fn add(&mut self, waker: TaskWaker) -> Deferred<Result<(), TaskWaker>> {
-        let before = Before::of(&self.inner, &waker);
-        let added = self.inner.add(waker);
-        if added.is_ok() {
-            before.enter(&mut self.past, &Waits, &(), &self.inner, &Nobody);
-        }
-        Deferred::of(added)
-    }
-
-    #[inline(always)]
     fn is_new(&self, place: &Place) -> bool {
         self.inner.is_new(place)
     }

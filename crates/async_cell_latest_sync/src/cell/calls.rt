@@ -234,11 +234,6 @@ impl<T: Drop, N: Protocol<T>> Room for LatestCore<T, N> {
     ghost room = { λ core. core.state.room };
 
     #[inline(always)]
-    fn add(&mut self, waker: TaskWaker) -> Deferred<Result<(), TaskWaker>> {
-        self.store_new(&mut Place::new(), waker)
-    }
-
-    #[inline(always)]
     fn is_new(&self, place: &Place) -> bool {
         self.state.is_new(place)
     }
