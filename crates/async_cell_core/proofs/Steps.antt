@@ -25,16 +25,10 @@ module _ {T W : Type 0} (is_clone : T → T → Type 0) (will_wake : W → W →
       → DoesUpTo will_wake sure is_clone b (record { call = TryGet; reply = (get_answer {W = W} result).reply }) (get_answer {W = W} result).woken b
   get_refused b result sound full is = (Refused why.Memory None, grind arith, grind arith)
 
--- A poll that waits gives its waker by value. It is added, or comes back where there is no memory.
+-- A poll that waits gives its waker by value, and may find a place. If it does, the waker is not
+-- added. Else it is added, or comes back where there is no memory.
 module _ {T W : Type 0} (will_wake : W → W → Bool) (sure : Bool) (never : (a b : W) → will_wake a b ≡ false) (value : Option T) (owners : ℕ) (old new : ListState W) (w : W) (call : Kept T W)
     (poll : (call ≡ PollTake w) ⊎ (call ≡ PollGet w)) (sound : IsSound will_wake (state_of value owners old)) (vacant : is_vacant (cell_of value owners) ≡ true) where
-  pub added : (result : Result (Unit {0}) W) → OnOk result (new.wakers ≡ old.wakers ++ w ∷ [])
-      → OnOk result (old.room - 1 ≤ new.room) → OnErr result (new ≡ old) → (old.wakers ≡ [] → IsOk result) → (0 < old.room → IsOk result)
-      → Does will_wake sure (state_of value owners old) (record { call = call; reply = (wait_answer {T = T} {W = W} result).reply })
-      (wait_answer {T = T} {W = W} result).woken (state_of value owners new)
-  added result waiting room same first more = grind (arith, nat_tests, length-append, never_skipped, may_lack_memory sure old.wakers old.room)
-
-  -- the same of one that may find a place: if it does, it is not added
   pub stored : (result : Result (Option W) W) → IfOk result (λ before. MatchOption before (new.wakers ≡ old.wakers ++ w ∷ []) (λ _. (new ≡ old) × (old.wakers ≡ [] → ⊥)))
       → OnOk result (old.room - 1 ≤ new.room) → OnErr result (new ≡ old) → (old.wakers ≡ [] → IsOk result) → (0 < old.room → IsOk result)
       → IfNone (displaced result) (Does will_wake sure (state_of value owners old) (record { call = call; reply = (wait_answer {T = T} {W = W} result).reply })

@@ -1,7 +1,8 @@
 //! Polls, generic over the store of the core. A poll gives an answer, or registers the task and
 //! adds the task's waker to the wait list. If the polled future has a place in the wait list, the
 //! waker goes to that place. This module also has the functions that give up a future's place when
-//! the future ends. Dropping a waker wakes its task, so no waker is dropped during a step.
+//! the future ends. Dropping a waker wakes its task, so no waker is dropped during a step, but for
+//! the one that `renew` tells of.
 ghost use Rattle.std.specs.Prelude.{◌≡◌, Err, IfErr, IfOk};
 ghost use Rattle.futures.specs.Poll.{IfReady, OnPending};
 ghost use Rattle.futures.specs.Task.{Hears, IsArmed, Keeps};
@@ -74,8 +75,8 @@ fn add<C: Room, G: Step<Core = C>>(
     let Some(waker) = new else {
         return end(step, Deferred::of(Err(Refusal::Memory)));
     };
-    let added = step.lend().add(TaskWaker::of(waker));
-    match end(step, added) {
+    let stored = step.lend().store_new(&mut Place::new(), TaskWaker::of(waker));
+    match end(step, stored) {
         Ok(()) => Ok(()),
         Err(_unused) => Err(Refusal::Memory),
     }
@@ -100,17 +101,50 @@ fn add_at<C: Room, G: Step<Core = C>>(
         return end(step, Deferred::of(Err(Refusal::Memory)));
     };
     let stored = step.lend().store_new(place, TaskWaker::of(waker));
+    place.note(cx.task());
     match end(step, stored) {
         Ok(()) => Ok(()),
         Err(_unused) => Err(Refusal::Memory),
     }
 }
 
+/// Registers the task in this step, with the waker where it lies in the place, if the future stored
+/// there the waker of a task with the same number. Registering drops no waker that is this task's.
+/// But numbers are counted by each queue of tasks, and the kit does not tell which queue a waker is
+/// of. So if the future has moved to a task of another queue with the same number, its old waker is
+/// dropped during the step, which wakes the old task. That runs no code but the kit's. Else as
+/// `renew_moved`.
+#[inline(never)]
+fn renew<'a, C: Room, M: Stores<Core = C>, Q: Query<C>, R: Opens<'a, M>>(
+    store: &'a StoredCore<M>,
+    mut step: R::Open,
+    source: &Source,
+    query: Q,
+    place: &mut Place,
+    cx: &mut Context<'_>,
+    rt: &R,
+) -> Poll<Result<Q::Answer, Refusal>>
+    requires asks { Q.asks query }
+    ensures gives { IfReady result (λ answer. IfOk answer (λ given. Q.gives query given)) }
+    ensures closed { IfReady result (λ answer. IfErr answer (λ why. why ≡ Refusal.Closed
+        → (core : C) × Q.closed core)) }
+    ensures armed { OnPending result (IsArmed cx.new) }
+    ensures heard { OnPending result (Hears cx.new source.now.id) }
+    ensures kept { Keeps cx.old cx.new }
+    ensures refused { IfReady result FailsWithMemoryOrClosed }
+{
+    if step.lend().renew(&*place, source, cx) {
+        end(step, Deferred::of(()));
+        return Poll::Pending;
+    }
+    renew_moved(store, step, source, query, place, cx, rt)
+}
+
 /// Takes the waker out of the place, registers the task with it, and stores it again. If the waker
 /// was another task's, registering drops it, which wakes that task. So the task is registered
 /// between two steps.
 #[inline(never)]
-fn renew<'a, C: Room, M: Stores<Core = C>, Q: Query<C>, R: Opens<'a, M>>(
+fn renew_moved<'a, C: Room, M: Stores<Core = C>, Q: Query<C>, R: Opens<'a, M>>(
     store: &'a StoredCore<M>,
     mut step: R::Open,
     source: &Source,
@@ -146,7 +180,10 @@ fn renew<'a, C: Room, M: Stores<Core = C>, Q: Query<C>, R: Opens<'a, M>>(
     }
     let stored = waker.store_in(step.lend(), place);
     match end(step, stored) {
-        Ok(_before) => Poll::Pending,
+        Ok(_before) => {
+            place.note(cx.task());
+            Poll::Pending
+        }
         Err(_unused) => Poll::Ready(Err(Refusal::Memory)),
     }
 }

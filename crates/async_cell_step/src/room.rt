@@ -1,12 +1,13 @@
 //! What a poll needs from a core (`Room`), and what the poll asks of the core (`Query`).
 ghost use Rattle.std.specs.Prelude.{◌≡◌, ◌<◌, ◌≤◌, ◌-◌, ⊤, ℕ, false, List, [], ◌∷◌, ◌++◌, IsTrue, IsOk, IfOk, IfErr, OnOk, OnErr, MatchOption};
+ghost use Rattle.futures.specs.Task.{Hears, IsArmed, Keeps};
 ghost use Rattle.async_cell_model.specs.Refusal.{FailsWithMemoryOrClosed};
 ghost use Rattle.async_cell_wakers.specs.declared.task_waker.TaskWaker.{TaskWaker};
 
 use crate::ended::Deferred;
 use async_cell_model::Refusal;
 use async_cell_wakers::{Place, TaskWaker};
-use futures::task::Waker;
+use futures::task::{Context, Source, Waker};
 
 /// The calls of a core for futures that wait. Dropping a waker wakes its task, so a waker that is
 /// not stored is held until the step ends.
@@ -20,19 +21,12 @@ pub trait Room {
     /// How many more can be added without memory.
     ghost room: { Self → ℕ };
 
-    /// Adds a waker at the end of the list. If there is no memory to grow the list, the waker comes
-    /// back.
-    fn add(&mut self, waker: TaskWaker) -> Deferred<Result<(), TaskWaker>>
-        requires { vacant self.old }
-        ensures first_waits { waiting self.old ≡ [] → IsOk result.answer }
-        ensures room_suffices { 0 < room self.old → IsOk result.answer }
-        ensures unchanged { OnErr result.answer (self.new ≡ self.old) };
-
     /// Returns whether the list must grow for the future that `place` belongs to. This is so if the
     /// future holds no place in the list, and no place is free.
     fn is_new(&self, place: &Place) -> bool;
 
-    /// As `add`. `place` is the waker's position from then on.
+    /// Adds a waker at the end of the list. `place` is the waker's position from then on. If there is
+    /// no memory to grow the list, the waker comes back.
     fn store_new(&mut self, place: &mut Place, waker: TaskWaker) -> Deferred<Result<(), TaskWaker>>
         requires { vacant self.old }
         ensures stored { OnOk result.answer
@@ -42,6 +36,15 @@ pub trait Room {
         ensures room_suffices { 0 < room self.old → IsOk result.answer }
         ensures place_stays { OnErr result.answer (place.new ≡ place.old) }
         ensures unchanged { OnErr result.answer (self.new ≡ self.old) };
+
+    /// Registers the task with the waker in this place, where the waker lies. Does so only if the
+    /// future holds the place, and stored the waker of a task with the same number. Returns whether
+    /// it did.
+    fn renew(&mut self, place: &Place, source: &Source, cx: &mut Context<'_>) -> bool
+        ensures armed { IsTrue result → IsArmed cx.new }
+        ensures heard { IsTrue result → Hears cx.new source.now.id }
+        ensures kept { Keeps cx.old cx.new }
+        ensures unchanged { self.new ≡ self.old };
 
     /// Takes the waker out of this place. If the future holds no place in the list, takes over a
     /// free place, and takes out the waker that is there. That waker may be another task's. The

@@ -8,6 +8,8 @@ pub struct Place {
     pub(crate) round: u64,
     /// The index of the place in the list.
     pub(crate) index: usize,
+    /// The number of the task whose waker the future stored there last.
+    task: usize,
 }
 
 impl Place {
@@ -15,7 +17,36 @@ impl Place {
     pub fn new() -> Place
         ensures { result.round ≡ 0 }
     {
-        Place { round: 0, index: 0 }
+        Place {
+            round: 0,
+            index: 0,
+            task: 0,
+        }
+    }
+
+    /// Sets the position in the list. The number of the task stays.
+    #[inline(always)]
+    pub(crate) fn put(&mut self, round: u64, index: usize)
+        ensures { (self.new.round ≡ round) × (self.new.index ≡ index) }
+    {
+        self.round = round;
+        self.index = index;
+    }
+
+    /// Notes the number of the task whose waker the future has stored, as `Context::task` gives it.
+    /// The position stays.
+    #[inline(always)]
+    pub fn note(&mut self, task: usize)
+        ensures { (self.new.round ≡ self.old.round) × (self.new.index ≡ self.old.index) }
+    {
+        self.task = task;
+    }
+
+    /// Returns whether the future stored the waker of a task with this number last. That may be a
+    /// task of another queue, as each queue of tasks counts its own.
+    #[inline(always)]
+    pub(crate) fn is_of(&self, task: usize) -> bool {
+        self.task == task
     }
 
     /// Gives up the place. This is for use after the list has handed out its wakers, so the list

@@ -1,8 +1,9 @@
 ghost use Rattle.std.specs.Prelude.{◌≡◌, false};
 ghost use Rattle.std.proofs.Common.{rules};
+ghost use Rattle.futures.specs.Task.{Hears, IsArmed, Keeps};
 
 use crate::wakes::Wakes;
-use futures::task::Waker;
+use futures::task::{Context, Source, Waker};
 use std::alloc::AllocError;
 use std::cell::Cell;
 use std::marker::Model;
@@ -55,6 +56,18 @@ impl TaskWaker {
     /// Returns whether the place of this waker is held.
     pub(crate) fn is_held(&self) -> bool {
         self.link.get() == HELD
+    }
+
+    /// Registers the task with this waker. If the waker is another task's, it is replaced, and its
+    /// task is woken.
+    #[inline(always)]
+    pub(crate) fn renew(&mut self, source: &Source, cx: &mut Context<'_>)
+        ensures armed { IsArmed cx.new }
+        ensures heard { Hears cx.new source.now.id }
+        ensures kept { Keeps cx.old cx.new }
+        ensures unchanged { self.new ≡ self.old }
+    {
+        let _ = cx.register::<()>(source, &mut self.waker);
     }
 
     /// Takes the waker out of its place, which then holds `None`.

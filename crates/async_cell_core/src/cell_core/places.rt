@@ -1,34 +1,14 @@
 //! The places of waiting futures, and wakers that are never skipped.
-ghost use Rattle.std.specs.Prelude.{◌≡◌, ◌<◌, ◌≤◌, ◌-◌, [], ◌∷◌, ◌++◌, true, false, IsOk, IfOk, IfNone, IfErr, OnOk, OnErr, MatchOption};
+ghost use Rattle.std.specs.Prelude.{◌≡◌, ◌<◌, ◌≤◌, ◌-◌, [], ◌∷◌, ◌++◌, true, false, IsTrue, IsOk, IfOk, IfNone, OnOk, OnErr, MatchOption};
 ghost use Rattle.async_cell_model.specs.Machine.{is_vacant};
+ghost use Rattle.futures.specs.Task.{Hears, IsArmed, Keeps};
 ghost use Rattle.async_cell_wakers.specs.Place.{displaced};
 ghost use Rattle.async_cell_core.specs.IsStep.{IsStep, wait_answer};
 
 use super::Core;
 use async_cell_model::Kept;
 use async_cell_wakers::{Place, TaskWaker, Wakes};
-use futures::task::Waker;
-
-impl<T: Drop, W: Wakes> Core<T, W> {
-    /// Adds a waker at the end of the list, by value, for a poll that has to wait. The cell must be
-    /// vacant. `will_wake` must be `false` for any two wakers of this type, so the new waker is
-    /// never skipped. If there is no memory to grow the list, the waker is returned in the error.
-    #[doc(hidden)]
-    #[tactic(auto, using(async_cell_model::proofs::OneMoreWaker::keep_added, async_cell_model::proofs::OneMoreWaker::never_skipped))]
-    pub fn add(&mut self, waker: W) -> Result<(), W>
-        requires vacant { is_vacant self.old.cell ≡ true }
-        requires none_alike { (a b : W) → W.will_wake a b ≡ false }
-        ensures take { IsStep W.Wakes self.old (Kept.PollTake waker) (wait_answer result) self.new }
-        ensures get { IsStep W.Wakes self.old (Kept.PollGet waker) (wait_answer result) self.new }
-
-        ensures unchanged { OnErr result (self.new ≡ self.old) }
-        ensures comes_back { IfErr result (λ back. back ≡ waker) }
-        ensures first_waits { self.old.waiting ≡ [] → IsOk result }
-        ensures room_suffices { 0 < self.old.room → IsOk result }
-    {
-        self.waiting.add(waker)
-    }
-}
+use futures::task::{Context, Source, Waker};
 
 impl<T: Drop> Core<T, TaskWaker> {
     /// As `WaitList::is_new`.
@@ -38,7 +18,9 @@ impl<T: Drop> Core<T, TaskWaker> {
         self.waiting.is_new(place)
     }
 
-    /// As `add`. `place` is the waker's position from then on.
+    /// Adds a waker at the end of the list, by value, for a poll that has to wait. The cell must be
+    /// vacant. `place` is the waker's position from then on. If there is no memory to grow the list,
+    /// the waker is returned in the error.
     #[doc(hidden)]
     #[inline(always)]
     #[tactic(auto, using(async_cell_model::proofs::OneMoreWaker::keep_added, async_cell_model::proofs::OneMoreWaker::never_skipped))]
@@ -58,6 +40,18 @@ impl<T: Drop> Core<T, TaskWaker> {
         ensures unchanged { OnErr result (self.new ≡ self.old) }
     {
         self.waiting.store_new(place, waker)
+    }
+
+    /// As `WaitList::renew`.
+    #[doc(hidden)]
+    #[inline(always)]
+    pub fn renew(&mut self, place: &Place, source: &Source, cx: &mut Context<'_>) -> bool
+        ensures armed { IsTrue result → IsArmed cx.new }
+        ensures heard { IsTrue result → Hears cx.new source.now.id }
+        ensures kept { Keeps cx.old cx.new }
+        ensures unchanged { self.new ≡ self.old }
+    {
+        self.waiting.renew(place, source, cx)
     }
 
     /// As `WaitList::take_back`.

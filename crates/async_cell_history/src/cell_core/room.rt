@@ -5,7 +5,7 @@ use crate::entries::Waits;
 use crate::{Before, Nobody, Protocol};
 use async_cell_core::{Place, TaskWaker};
 use async_cell_step::{Deferred, Room};
-use futures::task::Waker;
+use futures::task::{Context, Source, Waker};
 
 impl<T: Drop, N: Protocol<T, TaskWaker>> Room for CellCore<T, TaskWaker, N> {
     ghost use Rattle.std.specs.Prelude.{◌≡◌, true};
@@ -16,16 +16,6 @@ impl<T: Drop, N: Protocol<T, TaskWaker>> Room for CellCore<T, TaskWaker, N> {
     ghost waiting = { λ cell. cell.inner.waiting };
 
     ghost room = { λ cell. cell.inner.room };
-
-    #[inline(always)]
-    fn add(&mut self, waker: TaskWaker) -> Deferred<Result<(), TaskWaker>> {
-        let before = Before::of(&self.inner, &waker);
-        let added = self.inner.add(waker);
-        if added.is_ok() {
-            before.enter(&mut self.past, &Waits, &(), &self.inner, &Nobody);
-        }
-        Deferred::of(added)
-    }
 
     #[inline(always)]
     fn is_new(&self, place: &Place) -> bool {
@@ -44,6 +34,11 @@ impl<T: Drop, N: Protocol<T, TaskWaker>> Room for CellCore<T, TaskWaker, N> {
             before.enter(&mut self.past, &Waits, &(), &self.inner, &Nobody);
         }
         Deferred::of(stored)
+    }
+
+    #[inline(always)]
+    fn renew(&mut self, place: &Place, source: &Source, cx: &mut Context<'_>) -> bool {
+        self.inner.renew(place, source, cx)
     }
 
     #[inline(always)]

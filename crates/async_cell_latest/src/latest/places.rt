@@ -1,5 +1,6 @@
 //! The places that waiting futures have in the wait list.
-ghost use Rattle.std.specs.Prelude.{◌≡◌, ◌<◌, ◌≤◌, ◌-◌, [], ◌∷◌, ◌++◌, true, false, IsOk, IfOk, IfNone, OnOk, OnErr, MatchOption};
+ghost use Rattle.std.specs.Prelude.{◌≡◌, ◌<◌, ◌≤◌, ◌-◌, [], ◌∷◌, ◌++◌, true, false, IsTrue, IsOk, IfOk, IfNone, OnOk, OnErr, MatchOption};
+ghost use Rattle.futures.specs.Task.{Hears, IsArmed, Keeps};
 ghost use Rattle.async_cell_wakers.specs.Place.{displaced};
 ghost use Rattle.async_cell_latest.specs.State.{Stays, is_closed};
 ghost use Rattle.async_cell_latest.specs.Step.{PollChanged};
@@ -7,7 +8,7 @@ ghost use Rattle.async_cell_latest.specs.IsStep.{IsStep, wait_answer};
 
 use super::Latest;
 use async_cell_wakers::{Place, TaskWaker, Wakes};
-use futures::task::Waker;
+use futures::task::{Context, Source, Waker};
 
 impl<T: Drop> Latest<T, TaskWaker> {
     /// As `WaitList::is_new`.
@@ -35,6 +36,18 @@ impl<T: Drop> Latest<T, TaskWaker> {
         ensures unchanged { OnErr result (self.new ≡ self.old) }
     {
         self.waiting.store_new(place, waker)
+    }
+
+    /// As `WaitList::renew`.
+    #[doc(hidden)]
+    #[inline(always)]
+    pub fn renew(&mut self, place: &Place, source: &Source, cx: &mut Context<'_>) -> bool
+        ensures armed { IsTrue result → IsArmed cx.new }
+        ensures heard { IsTrue result → Hears cx.new source.now.id }
+        ensures kept { Keeps cx.old cx.new }
+        ensures unchanged { self.new ≡ self.old }
+    {
+        self.waiting.renew(place, source, cx)
     }
 
     /// As `WaitList::take_back`.

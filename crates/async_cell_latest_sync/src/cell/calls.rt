@@ -14,7 +14,7 @@ use crate::history::Values;
 use crate::{Blank, Protocol, Refusal, TaskWaker, Unruled, Witness};
 use async_cell_latest::{Latest, Place, Wakers};
 use async_cell_step::{Deferred, Query, Room, Writes};
-use futures::task::Waker;
+use futures::task::{Context, Source, Waker};
 use std::alloc::Global;
 use std::marker::Model;
 
@@ -246,11 +246,6 @@ impl<T: Drop, N: Protocol<T>> Room for LatestCore<T, N> {
     ghost room = { λ core. core.state.room };
 
     #[inline(always)]
-    fn add(&mut self, waker: TaskWaker) -> Deferred<Result<(), TaskWaker>> {
-        self.store_new(&mut Place::new(), waker)
-    }
-
-    #[inline(always)]
     fn is_new(&self, place: &Place) -> bool {
         self.state.is_new(place)
     }
@@ -262,6 +257,11 @@ impl<T: Drop, N: Protocol<T>> Room for LatestCore<T, N> {
         waker: TaskWaker,
     ) -> Deferred<Result<(), TaskWaker>> {
         Deferred::of(self.state.store_new(place, waker))
+    }
+
+    #[inline(always)]
+    fn renew(&mut self, place: &Place, source: &Source, cx: &mut Context<'_>) -> bool {
+        self.state.renew(place, source, cx)
     }
 
     #[inline(always)]

@@ -1,14 +1,16 @@
-//! The places of futures in a wait list. A future that is polled again and still has to wait takes
+//! The places of futures in a wait list. A future that is polled again and still has to wait renews
+//! its waker in its place, if the task has the same number as at its last poll. If not, it takes
 //! its waker out of its place, and then stores the waker again. A future that is dropped leaves its
 //! place free, with the waker in it. The free places form a list: each has, beside its waker, the
 //! number of the next free place, counted from 1.
-ghost use Rattle.std.specs.Prelude.{◌≡◌, ◌<◌, ◌≤◌, ◌-◌, ◌↔◌, [], ◌∷◌, ◌++◌, length, false, IsSome, IsOk, IfSome, IfOk, OnSome, OnOk, OnErr, IfNone, MatchOption};
+ghost use Rattle.std.specs.Prelude.{◌≡◌, ◌<◌, ◌≤◌, ◌-◌, ◌↔◌, [], ◌∷◌, ◌++◌, length, false, IsTrue, IsSome, IsOk, IfSome, IfOk, OnSome, OnOk, OnErr, IfNone, MatchOption};
+ghost use Rattle.futures.specs.Task.{Hears, IsArmed, Keeps};
 ghost use Rattle.async_cell_wakers.specs.Place.{Holds};
 
 use super::WaitList;
 use crate::place::Place;
 use crate::task_waker::TaskWaker;
-use futures::task::Waker;
+use futures::task::{Context, Source, Waker};
 use std::mem;
 
 impl WaitList<TaskWaker> {
@@ -38,8 +40,32 @@ impl WaitList<TaskWaker> {
         let index = self.len();
         self.add(waker)?;
         let round = self.round;
-        *place = Place { round, index };
+        place.put(round, index);
         Ok(())
+    }
+
+    /// Registers the task with the waker in this place, where the waker lies. Does so only if the
+    /// future holds the place, and stored the waker of a task with the same number. Returns whether
+    /// it did.
+    ///
+    /// A task of another queue can have the same number. Then the waker in the place is replaced, and
+    /// the task of the old one is woken.
+    #[inline(always)]
+    pub fn renew(&mut self, place: &Place, source: &Source, cx: &mut Context<'_>) -> bool
+        ensures armed { IsTrue result → IsArmed cx.new }
+        ensures heard { IsTrue result → Hears cx.new source.now.id }
+        ensures kept { Keeps cx.old cx.new }
+        ensures unchanged { self.new ≡ self.old }
+    {
+        if place.round != self.round || !place.is_of(cx.task()) {
+            return false;
+        }
+        match (place.index.checked_sub(1), &mut self.first) {
+            (None, Some(first)) => first.renew(source, cx),
+            (Some(index), _) if index < self.rest.len() => self.rest[index].renew(source, cx),
+            _ => return false,
+        }
+        true
     }
 
     /// Takes the waker out of this place. If the future holds no place in the list, takes over a
@@ -126,7 +152,7 @@ impl WaitList<TaskWaker> {
         let index = self.free.get().checked_sub(1)?;
         self.free.set(self.at(index)?.hold());
         let round = self.round;
-        *place = Place { round, index };
+        place.put(round, index);
         Some(index)
     }
 
