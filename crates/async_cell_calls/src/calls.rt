@@ -151,6 +151,18 @@ impl<M: Stores<Core = CellCore<T, W, N>>, T: Drop, W: Wakes, N: Protocol<T, W>> 
         Some(end(step, content))
     }
 
+    /// Takes the content. Nobody else has the cell, so this needs no right to make a step.
+    #[doc(hidden)]
+    #[inline(always)]
+    pub fn take_alone(&mut self) -> Option<T>
+        requires may { N.may Kept.TryTake }
+        ensures rule { IfSome result N.holds }
+    {
+        let mut step = self.store.alone();
+        let content = step.lend().make(TryTake, &Nobody);
+        end(step, content)
+    }
+
     /// Takes the value. If there is none, adds a clone of the waker (see `WaitList::skips`), and
     /// returns `Pending`. Returns `Ready(None)` on a closed cell. Fails with `Memory` if the clone
     /// fails or the list cannot grow.

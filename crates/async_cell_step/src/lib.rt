@@ -18,5 +18,5 @@ pub use ended::{
 pub use polls::poll;
 pub use room::{Query, Room};
 pub use rule::{Rule, Ruled};
-pub use store::{Lender, Lent, Lock, Locked, OneThread, Opens, Step, StoredCore, Stores};
+pub use store::{Alone, Lender, Lent, Lock, Locked, OneThread, Opens, Step, StoredCore, Stores};
 pub use with::{At, Places, Polled, Request, Takes, Upgrade, Values, With, weakly};

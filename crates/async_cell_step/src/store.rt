@@ -18,6 +18,9 @@ pub trait Stores: From<Self::Core> {
 
     /// Returns the core, without waiting for any step to end.
     fn into_core(self) -> Self::Core;
+
+    /// Returns the core of the only one who has the store.
+    fn core_mut(&mut self) -> &mut Self::Core;
 }
 
 impl<M: Stores> StoredCore<M> {
@@ -29,6 +32,14 @@ impl<M: Stores> StoredCore<M> {
     /// Returns the core, without waiting for any step to end.
     pub fn into_stored(self) -> M::Core {
         self.store.into_core()
+    }
+
+    /// Lends the core to the only one who has the store, without waiting for any step to end.
+    #[inline(always)]
+    pub fn alone(&mut self) -> Alone<'_, M::Core> {
+        Alone {
+            core: self.store.core_mut(),
+        }
     }
 }
 
@@ -91,6 +102,33 @@ pub trait Step {
     fn release(self);
 }
 
+/// A core that is lent to the only one who has its store. No lock and no borrow protects it. It
+/// cannot be dropped: a function that ends the step must consume it.
+pub struct Alone<'a, C> {
+    core: &'a mut C,
+}
+
+impl<C> Step for Alone<'_, C> {
+    type Core = C;
+
+    ghost shows = { λ alone. alone.core.now };
+
+    #[inline(always)]
+    fn shown(&self) -> &C {
+        &*self.core
+    }
+
+    #[inline(always)]
+    fn lend(&mut self) -> &mut C {
+        &mut *self.core
+    }
+
+    #[inline(always)]
+    fn release(self) {
+        let Alone { core: _ } = self;
+    }
+}
+
 /// The right to make a step on a store that only one thread uses.
 #[derive(Clone, Copy, Drop)]
 pub struct OneThread;
@@ -108,6 +146,11 @@ impl<C> Stores for RefCell<C> {
 
     fn into_core(self) -> C {
         self.into_inner()
+    }
+
+    #[inline(always)]
+    fn core_mut(&mut self) -> &mut C {
+        self.get_mut()
     }
 }
 
@@ -181,6 +224,11 @@ impl<C> Stores for Mutex<C> {
 
     fn into_core(self) -> C {
         self.into_inner()
+    }
+
+    #[inline(always)]
+    fn core_mut(&mut self) -> &mut C {
+        self.get_mut()
     }
 }
 
