@@ -111,10 +111,10 @@ pub struct Alone<'a, C> {
 impl<C> Step for Alone<'_, C> {
     type Core = C;
 
-    ghost shows = { λ alone. alone.core.now };
+    ghost core_of = { λ alone. alone.core.now };
 
     #[inline(always)]
-    fn shown(&self) -> &C {
+    fn core(&self) -> &C {
         &*self.core
     }
 
