@@ -75,7 +75,9 @@ fn add<C: Room, G: Step<Core = C>>(
     let Some(waker) = new else {
         return end(step, Deferred::of(Err(Refusal::Memory)));
     };
-    let stored = step.lend().store_new(&mut Place::new(), TaskWaker::of(waker));
+    let stored = step
+        .lend()
+        .store_new(&mut Place::new(), TaskWaker::of(waker));
     match end(step, stored) {
         Ok(()) => Ok(()),
         Err(_unused) => Err(Refusal::Memory),
