@@ -20,11 +20,11 @@ from lay_out import read, write
 from try_kit import program_of
 
 # The rows: the program of each, its word for it, and the operations that it has.
-ALL = ("reply", "watch", "fan", "again", "stream")
+ALL = ("reply", "watch", "fan", "tasks", "again", "stream")
 ROWS = {
-    "unsync": ("cells unsync", ALL[:4]),
+    "unsync": ("cells unsync", ALL[:5]),
     "unsync Owner": ("cells unsync_owner", ALL),
-    "sync": ("cells sync", ALL[:4]),
+    "sync": ("cells sync", ALL[:5]),
     "sync Owner": ("cells sync_owner", ALL),
     "unsync pair": ("pair unsync_pair", ALL[:1]),
     "sync pair": ("pair sync_pair", ALL[:1]),
@@ -36,6 +36,7 @@ ROWS = {
 # The columns: title, operation, and how many wait at once.
 COLUMNS = [("reply slot", "reply", 1), ("watcher", "watch", 1)]
 COLUMNS += [(f"fan-out {it:,}", "fan", it) for it in (1, 8, 64, 1024, 100_000)]
+COLUMNS += [(f"{it:,} tasks", "tasks", it) for it in (8, 64, 1024)]
 COLUMNS += [("poll again", "again", 1), ("stream", "stream", 1)]
 POLLS = 4096
 
@@ -58,7 +59,9 @@ def instructions(programs, row, operation, waiters):
     name, word = ROWS[row][0].split()
     once, twice = (
         collected(programs[name], (word, operation), it * few, waiters) for it in (1, 2))
-    return round((twice - once) / few / waiters)
+    # (that a poll of a task begins and ends is no part of what it polls)
+    alone = instructions(programs, row, "alone", waiters) if operation == "tasks" else 0
+    return round((twice - once) / few / waiters) - alone
 
 
 def counted():

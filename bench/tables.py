@@ -19,13 +19,13 @@ TABLE = re.compile(
 # since of 13 one more is already 8 per cent.
 FAILS, LEAST = 5, 2
 # What the picture has: a panel a column, and in it the rows of ours and of others.
-PANELS = ["reply slot", "watcher", "fan-out 64"]
+PANELS = ["reply slot", "watcher", "64 tasks"]
 OURS = ["unsync pair", "sync pair", "unsync Owner", "sync Owner", "latest_sync"]
 THEIRS = ["Rust unsync by `Rc`", "Rust unsync", "Rust sync by `Arc`", "Rust sync",
           "oneshot of the kit", "oneshot of tokio", "watch of tokio"]
 # The rows of others in the table, which were counted once: what count.py finds is not of them.
 OTHERS = [*THEIRS[:4], *THEIRS[5:], "oneshot of futures", "Notify of tokio + Mutex",
-          "event-listener + Mutex", "Mutex + Vec of wakers"]
+          "event-listener + Mutex", "Mutex + Vec of wakers", "by hand, of the kit's parts"]
 
 
 def table_of(page):
@@ -65,7 +65,7 @@ def compared(before, now):
     return told, faults
 
 
-WHAT = "Instructions for an operation, in a fan-out for each waiter; less is better"
+WHAT = "Instructions for an operation, or for each of 64 waiting tasks; less is better"
 WIDTH, BAR, STEP, LABELS, TOP = 310, 12, 18, 150, 40
 STYLE = ("<style>text { font: 12px sans-serif; fill: #1f2328 } .title { font-weight: bold }"
          " .label { text-anchor: end } .paper { fill: #ffffff } .ours { fill: #0969da }"
@@ -89,7 +89,7 @@ def bars_of(column, table):
 
 def panel(column, bars, left):
     """Returns what draws a panel."""
-    said = text(left + LABELS + 4, TOP + 14, column.replace("out ", "out to "), "title")
+    said = text(left + LABELS + 4, TOP + 14, column, "title")
     for at, (figure, row, whose) in enumerate(bars):
         y = TOP + 26 + at * STEP
         width = max(round(figure * (WIDTH - LABELS - 52) / bars[-1][0]), 1)

@@ -1,5 +1,5 @@
 #!/usr/bin/env python3
-"""Makes the API reference: a page of HTML for each library, and one that lists them.
+"""Makes the API reference: a page of Markdown for each library, and README.md, which lists them.
 
     python3 scripts/api.py FOLDER     writes the pages there
     python3 scripts/api.py --check    writes nothing
@@ -13,7 +13,6 @@ docstring, export that is not found, and item of a form that is not known here. 
 """
 import functools
 import glob
-import html
 import os
 import re
 import sys
@@ -50,20 +49,6 @@ OTHER = re.compile(r"(?m)^(?! *--|(?:pub )?(?:use|mod) ).*\S")
 WORD = re.compile(r"\b\w+\b")
 USE = re.compile(r"pub use ([\w:]+?)(?:::\{(.*)\})?(?: as (\w+))?$", re.S)
 ALSO = re.compile(r"(\w+)(?: as (\w+))?")
-FRAME = """<!doctype html>
-<html lang="en"><meta charset="utf-8"><meta name="viewport" content="width=device-width">
-<title>{0}</title><style>
-:root {{ color-scheme: light dark }}
-body {{ margin: 0; display: flex; font: 16px/1.5 system-ui, sans-serif }}
-pre, code, h4 {{ font: 14px/1.5 ui-monospace, monospace; background: #8882; overflow: auto }}
-nav {{ position: sticky; top: 0; height: 100vh; width: 250px; flex: none; overflow: auto }}
-nav a {{ display: block }} nav, main {{ padding: 1em }} main {{ max-width: 58em; min-width: 0 }}
-section section {{ padding-left: 1em; border-left: 3px solid #8884 }}
-@media (width < 50em) {{ body {{ display: block }}
-nav {{ position: static; height: 9em; width: auto }} }}
-</style><nav><p><a href="index.html"><strong>The libraries</strong></a></p>{1}</nav>
-<main><h1>{0}</h1>{2}</main></html>
-"""
 
 
 class Item:
@@ -173,7 +158,7 @@ def functions(home, item):
 
 
 def code(text):
-    return f"<pre>{html.escape(text)}</pre>"
+    return f"```rust\n{text}\n```"
 
 
 @functools.cache
@@ -200,13 +185,11 @@ def imported(file):
 
 
 def linked_code(text, home_of):
-    """Returns code in which a word links to its definition in the crate that `home_of` gives."""
-    def link(word):
-        home = home_of(word[0])
-        if home not in definitions().get(word[0], {}):
-            return word[0]
-        return f'<a href="definitions.html#{home}.{word[0]}">{word[0]}</a>'
-    return f"<pre>{WORD.sub(link, html.escape(text))}</pre>"
+    """Returns code, and links to what its words are in the crates that `home_of` gives."""
+    homes = {it: home_of(it) for it in WORD.findall(text)}
+    links = [f"[`{it}`](definitions.md#{of}.{it})" for it, of in homes.items()
+             if of in definitions().get(it, {})]
+    return f"{code(text)}\n\n{', '.join(links)}"
 
 
 def definition(of, name, file, text):
@@ -214,25 +197,11 @@ def definition(of, name, file, text):
     def home_of(word):
         home = of if of in definitions().get(word, {}) else imported(file).get(word)
         return home if word != name and not (word.isalpha() and word.islower()) else None
-    full = f"{of}.{name}"
-    return f'<section id="{full}"><h4>{full}</h4>{linked_code(text, home_of)}</section>'
-
-
-def prose(docs):
-    """Returns a docstring as HTML: paragraphs, lists, code, and bold words."""
-    parts = []
-    for block, text in re.findall(r"(?s)```\w*\n(.*?)\n```|((?:(?!\n\n|```).)+)", docs):
-        parts += [code(block)] * bool(block)
-        said = re.sub(r"(?s)`(.+?)`", r"<code>\1</code>", html.escape(text))
-        said = re.sub(r"(?s)\*\*(.+?)\*\*", r"<strong>\1</strong>", said)
-        said = re.sub(r"(?m)^- ", "<li>", said)
-        said = f"<ul>{said}</ul>" if "<li>" in said else f"<p>{said}</p>"
-        parts += [said] * bool(text.strip())
-    return "".join(parts)
+    return f'## <a id="{of}.{name}"></a>{of}.{name}\n\n{linked_code(text, home_of)}'
 
 
 def folded(label, text):
-    return f"<details><summary>{label}</summary>{text}</details>" * bool(text)
+    return f"<details><summary>{label}</summary>\n\n{text}\n\n</details>" * bool(text)
 
 
 def one(item):
@@ -241,67 +210,56 @@ def one(item):
     label = ": ".join(["Contract", ", ".join(dict.fromkeys(labels))]).rstrip(": ")
     said = linked_code(item.contract, imported(item.file).get) * bool(item.contract)
     is_law = re.search(r"/laws(?:/|\.rt$)", item.file)
-    return prose(item.docs) + (said if is_law else folded(label, said))
+    return f"{item.docs}\n\n{said if is_law else folded(label, said)}"
 
 
 def section(of, name, home, item):
-    """Returns the section of an export; its functions are folded away if it is from below."""
+    """Yields the section of an export; its functions are folded away if it is from below."""
+    below = f" (of {home.name})" * (home != of)
+    yield f'## <a id="{name}"></a>{name}{below}'
     if not item:
-        link, names = linked(home)
-        return f'<section id="{name}"><h2>{name}</h2><p>All of {link}:</p>{names}</section>'
-    inner, last = "", item
+        yield f"All of {links_to(home)}"
+        return
+    yield from (code(item.declaration), one(item))
+    inner, last = [], item
     for impl, it in functions(home, item):
-        inner += f"<h4>{html.escape(impl.head)}</h4>" * (impl not in (last, item))
-        inner += f'<section id="{name}.{it.name}">{code(it.head)}{one(it)}</section>'
+        inner += [f"`{impl.head}`"] * (impl not in (last, item))
+        inner += [f'### <a id="{name}.{it.name}"></a>{it.name}', code(it.head), one(it)]
         last = impl
     for it in home.impls(item):
-        inner += f"<h4>{html.escape(it.head)}</h4>{one(it)}" * it.is_of_trait
-    below = f" <small>of {home.name}</small>" * (home != of)
-    if below:
-        inner = folded(", ".join(it.name for _, it in functions(home, item)) or "traits", inner)
-    return (f'<section id="{name}"><h2>{name}{below}</h2>{code(item.declaration)}{one(item)}'
-            f"{inner}</section>")
+        inner += [code(it.head), one(it)] * it.is_of_trait
+    named = ", ".join(it.name for _, it in functions(home, item)) or "traits"
+    yield folded(named, "\n\n".join(inner)) if below else "\n\n".join(inner)
 
 
-def page(of):
-    """Returns the page of a crate. What GUIDE names first comes first."""
-    guide = read(f"{TOP}/docs/GUIDE.md")
-    exports = sorted(of.exports(), key=lambda it: (
-        it[1] != of, "::" in it[0], len(re.split(rf"\b{it[0]}\b", guide, maxsplit=1)[0])))
-    listed = ""
-    for name, home, item in exports:
-        own = functions(home, item) if item and home == of else []
-        links = "".join(f'<a href="#{name}.{it.name}">- {it.name}</a>' for _, it in own)
-        listed += f'<a href="#{name}">{name}</a>{links}'
-    body = "".join(section(of, *it) for it in exports)
-    return FRAME.format(of.name, listed, prose(of.docs) + body)
-
-
-def linked(of):
+def links_to(of):
     """Returns the name of a crate, and those of its exports, as links to its page."""
-    names = ["", *(f"#{name}" for name, _, _ in of.exports())]
-    links = [f'<a href="{of.name}.html{it}">{it[1:] or of.name}</a>' for it in names]
-    return links[0], f"<p><small>{', '.join(links[1:])}</small></p>"
+    names = [f"[{it}]({of.name}.md#{it})" for it, _, _ in of.exports()]
+    return f"[{of.name}]({of.name}.md): {', '.join(names)}"
+
+
+def page(folder, name, *parts):
+    write(f"{folder}/{name}.md", "\n\n".join([*filter(None, parts), ""]))
 
 
 def make(folder):
-    """Writes the pages, and the one that lists them under the comments of crates.txt."""
-    jobs = re.findall(r"\[([^]]+)\]\((crates/example_\w+/src/main\.rt)\)", read(f"{TOP}/README.md"))
-    shown = [folded(" ".join(it.strip("`").split()), code(read(f"{TOP}/{at}"))) for it, at in jobs]
-    body = f"<h2>Example programs</h2>{''.join(shown)}"
-    title, listed = "", '<a href="definitions.html">Definitions</a>'
+    """Writes the pages, and the one that lists them under the comments of crates.txt. What GUIDE
+    names first comes first."""
+    guide, title = read(f"{TOP}/docs/GUIDE.md"), ""
+    body = ["# The libraries", "[All definitions](definitions.md)"]
     for comment, name in LISTED.findall(read(f"{TOP}/crates.txt")):
         title = comment.split(". ")[-1].rstrip(".") or title
         if name:
-            write(f"{folder}/{name}.html", page(crate(name)))
-            link, names = linked(crate(name))
-            body += f"<h2>{title}</h2>" * bool(title)
-            body += f"<h3>{link}</h3>{prose(crate(name).docs)}{names}"
-            title, listed = "", listed + link
-    write(f"{folder}/index.html", FRAME.format("The libraries", listed, body))
-    defined = sorted(definitions().items())
-    body = "".join(definition(of, name, *it[of]) for name, it in defined for of in it)
-    write(f"{folder}/definitions.html", FRAME.format("The definitions", listed, body))
+            of = crate(name)
+            exports = sorted(of.exports(), key=lambda it: (
+                it[1] != of, "::" in it[0], len(re.split(rf"\b{it[0]}\b", guide, maxsplit=1)[0])))
+            sections = (it for export in exports for it in section(of, *export))
+            page(folder, name, f"# {name}", of.docs, *sections)
+            body += [f"## {title}" * bool(title), links_to(of), of.docs]
+            title = ""
+    page(folder, "README", *body)
+    parts = (definition(of, name, *homes[of]) for name, homes in sorted(definitions().items()) for of in homes)
+    page(folder, "definitions", "# The definitions", *parts)
 
 
 def public_items(found):

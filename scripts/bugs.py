@@ -4,8 +4,8 @@ of crates/NAME/must-fail/).
 
     bugs.py [--record] [--all|CRATE..]   those of all crates, or of these; without, those that are
                         not in the record, a tenth of those that are, another after each commit, and
-                        DRAWN of the others, by the commit's hash. With `--record` also writes the
-                        record.
+                        12 of the others, by the commit's hash: four of each of three checks. With
+                        `--record` also writes the record.
     bugs.py --list      whether each can be applied, and how those in the record were refused
 
 A bug is a line 'FILE: what it does', with the file below src/, and after it pairs of lines '- OLD'
@@ -42,8 +42,9 @@ from try_kit import KIT
 
 RECORD = "scripts/bugs.lock"
 ABOUT = "The deliberate bugs that were refused: `python3 scripts/bugs.py --record`."
-# The record's bugs are tried anew in so many turns, one after each commit, with so many drawn.
-TURNS, DRAWN = 10, 12
+# The record's bugs are tried anew in so many turns, one after each commit. Drawn with them are bugs
+# of so many checks, of each so many: a check costs far more than a bug does in it.
+TURNS, CHECKS, DRAWN = 10, 3, 4
 HEAD = ("rev-parse HEAD", "rev-list --count HEAD")
 FILE = re.compile(r"^file (\d+)\n((?:\d.*\n)*)", re.M)
 
@@ -119,8 +120,12 @@ def due(bugs):
     commit, count = (said_by("git", *it.split()).strip() for it in HEAD)
     turn = int(count) % TURNS
     again = [it for at, it in enumerate(kept) if at * TURNS // len(kept) == turn]
-    rest = [it for it in kept if it not in again]
-    again += random.Random(commit).sample(rest, min(DRAWN, len(rest)))
+    chance = random.Random(commit)
+    for _ in range(CHECKS):
+        # (each bug is as likely as any other)
+        rest = groups_of(it for it in kept if it not in again)
+        for group in chance.sample(rest, min(1, len(rest)), counts=[*map(len, rest)]):
+            again += chance.sample(group, min(DRAWN, len(group)))
     print(f"{len(kept)} bugs are in the record, of which {len(again)} are tried again", flush=True)
     return [it for it in bugs if it not in kept or it in again]
 

@@ -18,6 +18,9 @@ pub fn run<K: Kind<R>, R: Wait + RandomSource + AllocGlobal>(
 ) -> io::Result<u64> {
     let (alloc, rounds, task) = (rt.alloc(), asked.rounds, MockTask::new(rt)?);
     let hidden = Hidden::make(alloc)?;
+    if matches!(asked.workload.as_str(), "tasks" | "alone") {
+        return tasks::<K, R>(asked, hidden, rt);
+    }
     Ok(task.enter(|cx| run_in::<K, R>(asked, (alloc, rounds, cx, hidden, rt))))
 }
 
@@ -101,6 +104,44 @@ fn fan_out<K: Kind<R>, R: Wait>(cell: &K, waiters: u64, given: Given<'_, '_, R>)
         cell.settle(&mut getters, cx, rt);
     }
     pending
+}
+
+/// As a fan-out, but each future is polled by a task of its own. Of tasks alone, each is entered as
+/// often, and nothing else happens.
+#[inline(never)]
+fn tasks<K: Kind<R>, R: Wait + RandomSource + AllocGlobal>(
+    asked: &Asked,
+    hidden: &Hidden,
+    rt: &R,
+) -> io::Result<u64> {
+    let (alloc, mut pending, mut all) = (rt.alloc(), 0u64, Vec::new(rt.alloc()));
+    for _ in 0..asked.waiters {
+        all.push(MockTask::new(rt)?)?;
+    }
+    let (Some(cell), is_alone) = (K::make(alloc, rt), asked.workload.as_str() == "alone") else {
+        return Ok(pending);
+    };
+    let Some(mut getters) = getters(alloc, &cell, asked.waiters, rt) else {
+        return Ok(pending);
+    };
+    for i in 0..asked.rounds {
+        for (task, getter) in all.iter().zip(&mut getters) {
+            if task.enter(|cx| is_alone || cell.get(getter, cx, rt).is_none()) {
+                pending = pending.wrapping_add(1);
+            }
+        }
+        if !is_alone {
+            cell.set(hidden.number(i), rt);
+        }
+        if let Some(task) = all.first() {
+            task.enter(|cx| {
+                if !is_alone {
+                    cell.settle(&mut getters, cx, rt);
+                }
+            });
+        }
+    }
+    Ok(pending)
 }
 
 /// Makes so many futures.
