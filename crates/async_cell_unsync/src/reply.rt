@@ -151,17 +151,11 @@ impl<T: Drop, N: Unwitnessed<T, TaskWaker>> ReplyFuture<T, N> {
         let ReplyFuture { cell, place: _ } = self;
         cell?.core.take_inner(&OneThread).unwrap_or(None)
     }
-}
 
-impl<T: Drop, N: Unwitnessed<T, TaskWaker>> Future for ReplyFuture<T, N> {
-    type Output = Result<T, Refusal>;
-
-    ghost needs = { λ reply s. IsSomeAnd reply.cell (λ cell. s ≡ source_of (manually_drop_value cell.value)) };
-
-    ghost gives = { λ reply given. IfOk given N.holds × FailsWithMemoryOrClosed given
-        × (reply.cell ≡ None → given ≡ Err Closed) };
-
-    fn poll(&mut self, cx: &mut Context<'_>) -> Poll<Self::Output>
+    /// As `poll`, but borrows the `RefCell` even if the `Replier` is gone. It is never inlined, so
+    /// that `poll` can be.
+    #[inline(never)]
+    fn poll_waiting(&mut self, cx: &mut Context<'_>) -> Poll<Result<T, Refusal>>
         ensures rule { IfReady result (λ given. IfOk given N.holds) }
         ensures closed { self.old.cell ≡ None → result ≡ Poll.Ready (Err Refusal.Closed) }
         ensures over { IfReady result (λ given.
@@ -185,6 +179,53 @@ impl<T: Drop, N: Unwitnessed<T, TaskWaker>> Future for ReplyFuture<T, N> {
             Poll::Ready(_) => self.cell = None,
         }
         polled
+    }
+}
+
+/// Takes the content of a slot whose `Replier` is gone. There is none if the `Replier` closed the
+/// slot. Returns `None` while there is a `Replier`. Nobody else has the slot, so this borrows no
+/// `RefCell`.
+#[inline(always)]
+fn take_if_alone<T: Drop, N: Unwitnessed<T, TaskWaker>>(
+    cell: &mut Rc<ManuallyDrop<AsyncCell<T, N>>>,
+) -> Option<Option<T>>
+    ensures rule { IfSome result (λ content. IfSome content N.holds) }
+    ensures stays { result ≡ None → cell.new ≡ cell.old }
+{
+    let alone = Rc::get_mut(cell)?;
+    Some(alone.core.take_alone())
+}
+
+impl<T: Drop, N: Unwitnessed<T, TaskWaker>> Future for ReplyFuture<T, N> {
+    type Output = Result<T, Refusal>;
+
+    ghost needs = { λ reply s. IsSomeAnd reply.cell (λ cell. s ≡ source_of (manually_drop_value cell.value)) };
+
+    ghost gives = { λ reply given. IfOk given N.holds × FailsWithMemoryOrClosed given
+        × (reply.cell ≡ None → given ≡ Err Closed) };
+
+    #[inline]
+    fn poll(&mut self, cx: &mut Context<'_>) -> Poll<Self::Output>
+        ensures rule { IfReady result (λ given. IfOk given N.holds) }
+        ensures closed { self.old.cell ≡ None → result ≡ Poll.Ready (Err Refusal.Closed) }
+        ensures over { IfReady result (λ given.
+            ¬ (given ≡ Err Refusal.Memory) → self.new.cell ≡ None) }
+        ensures stays { OnPending result (self.new.cell ≡ self.old.cell) }
+        ensures stays_for_memory { result ≡ Poll.Ready (Err Refusal.Memory)
+            → self.new.cell ≡ self.old.cell }
+        ensures registered { OnPending result (Covers cx.new (λ s. IsSomeAnd self.new.cell (λ cell.
+            s ≡ source_of (manually_drop_value cell.value)))) }
+        ensures kept { Keeps cx.old cx.new }
+        ensures refused { IfReady result FailsWithMemoryOrClosed }
+    {
+        let Some(cell) = &mut self.cell else {
+            return Poll::Ready(Err(Refusal::Closed));
+        };
+        if let Some(content) = take_if_alone(cell) {
+            self.cell = None;
+            return Poll::Ready(content.ok_or(Refusal::Closed));
+        }
+        self.poll_waiting(cx)
     }
 }
 
