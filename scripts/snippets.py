@@ -28,6 +28,7 @@ SNIPPET = re.compile(
 EXAMPLE = re.compile(r"^ */// ```rust\n((?: *///.*\n)+?) */// ```$", re.M)
 # What the examples in docstrings name, where it is from.
 IMPORTS = {"next": "futures::StreamExt", "block_on": "futures::executor::block_on"}
+IMPORTS |= {"left_future": "futures::FutureExt"}
 IMPORTS |= {it: f"futures::future::{it}" for it in ("pending", "ready")}
 IMPORTS |= {"thread": "std::thread", "Duration": "std::time::Duration"}
 # What `rt` may do in a module, where HostRuntime has no rights of its own.
