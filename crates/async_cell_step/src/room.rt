@@ -25,8 +25,8 @@ pub trait Room {
     /// future holds no place in the list, and no place is free.
     fn is_new(&self, place: &Place) -> bool;
 
-    /// Adds a waker at the end of the list. `place` is the waker's position from then on. If there is
-    /// no memory to grow the list, the waker comes back.
+    /// Adds a waker at the end of the list. `place` is the waker's position from then on. If there
+    /// is no memory to grow the list, the waker comes back.
     fn store_new(&mut self, place: &mut Place, waker: TaskWaker) -> Deferred<Result<(), TaskWaker>>
         requires { vacant self.old }
         ensures stored { OnOk result.answer

@@ -48,8 +48,8 @@ impl WaitList<TaskWaker> {
     /// future holds the place, and stored the waker of a task with the same number. Returns whether
     /// it did.
     ///
-    /// A task of another queue can have the same number. Then the waker in the place is replaced, and
-    /// the task of the old one is woken.
+    /// A task of another queue can have the same number. Then the waker in the place is replaced,
+    /// and the task of the old one is woken.
     #[inline(always)]
     pub fn renew(&mut self, place: &Place, source: &Source, cx: &mut Context<'_>) -> bool
         ensures armed { IsTrue result → IsArmed cx.new }
