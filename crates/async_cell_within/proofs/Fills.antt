@@ -1,9 +1,21 @@
 -- How the outputs of futures fill up, poll by poll.
-use Rattle.std.proofs.Common.{◌≡◌, ℕ, ◌<◌, All, List, length, Option, Some, None, IfNone, IfSome, get_or, set, replicate, refl, sym, ◌∙◌, subst, length-set, get_or-set_same, get_or-set_other, ⊎_elim}
+use Rattle.std.proofs.Common.{◌≡◌, ℕ, suc, ◌<◌, All, List, length, Option, Some, None, IfNone, IfSome, IsSome, get_or, set, replicate, refl, sym, ◌∙◌, subst, length-set, get_or-set_same, get_or-set_other, ⊎_elim, arith}
 use Rattle.std.proofs.lemmas.Bool.{cases_eq, cases_lt}
 use Rattle.std.proofs.lemmas.List.{get_or_default, get_or_past, get_or-replicate, length-replicate}
 use Rattle.futures.specs.Outputs.{EachResumes}
 use Rattle.async_cell_within.specs.Each.{EachGiven, EachLate, EachLateGives, EachFills, Fills}
+
+-- each of the first n futures has an output
+abbrev pub ReadyTo : {A : Type 0} → ℕ → List (Option A) → Type 0
+ReadyTo n ys = (k : ℕ) (d : _) → k < n → IsSome (get_or ys k d)
+
+-- the next one has an output as well
+pub ready_to_next : {A : Type 0} (ys : List (Option A)) (at : ℕ) (z : Option A)
+    → at < length ys → ReadyTo at ys → IsSome z → ReadyTo (suc at) (set ys at z)
+ready_to_next ys at z within earlier here k d inside = ⊎_elim
+    (λ same. subst (λ (n : ℕ). IsSome (get_or (set ys at z) n d)) (sym same) (subst (λ (y : Option _). IsSome y) (sym (get_or-set_same ys at z d within)) here))
+    (λ differs. rw (get_or-set_other ys at k z d differs) (earlier k d (omega arith)))
+    (cases_eq k at)
 
 module _ {F A : Type 0} (can : F → Type 0) (gives : F → A → Type 0) where
   stays : (f : F) (a : Option A) → IfNone a (can f) → Fills can gives f a f a

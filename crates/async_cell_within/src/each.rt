@@ -1,6 +1,6 @@
 //! The poll of many futures, and their outputs by place.
-ghost use Rattle.std.specs.Prelude.{◌≡◌, All, IfNone, IfOk, IsFalse, None, length, replicate};
-ghost use Rattle.futures.specs.Poll.{OnPending};
+ghost use Rattle.std.specs.Prelude.{◌≡◌, All, IfNone, IfOk, IsFalse, IsSome, None, length, replicate};
+ghost use Rattle.futures.specs.Poll.{IfReady, OnPending};
 ghost use Rattle.futures.specs.Task.{IsArmed, Keeps};
 ghost use Rattle.async_cell_within.specs.Each.{EachFills, EachLate, Fills};
 
@@ -34,6 +34,7 @@ fn poll_one<F: Future<Output: Drop>>(
     cx: &mut Context<'_>,
 ) -> Poll<()>
     requires { IfNone output.old (F.can_poll future.old) }
+    ensures ready { IfReady result (λ _. IsSome output.new) }
     ensures fills { Fills F.can_poll F.gives future.old output.old future.new output.new }
     ensures armed { OnPending result (IsArmed cx.new) }
     ensures kept { Keeps cx.old cx.new }
@@ -45,7 +46,7 @@ fn poll_one<F: Future<Output: Drop>>(
 }
 
 /// Polls each future that has no output. It is ready if each future has an output then.
-#[tactic(auto, using(crate::proofs::Fills::each_stays, crate::proofs::Fills::each_late, crate::proofs::Fills::each_set))]
+#[tactic(auto, using(crate::proofs::Fills::each_stays, crate::proofs::Fills::each_late, crate::proofs::Fills::each_set, crate::proofs::Fills::ready_to_next))]
 pub fn poll_each<F: Future<Output: Drop>>(
     futures: &mut [F],
     outputs: &mut Vec<Option<F::Output>>,
@@ -53,6 +54,7 @@ pub fn poll_each<F: Future<Output: Drop>>(
 ) -> Poll<()>
     requires length { length outputs.old.items ≡ length futures.old }
     requires late { EachLate F.can_poll futures.old outputs.old.items }
+    ensures ready { IfReady result (λ _. All IsSome outputs.new.items) }
     ensures fills { EachFills F.can_poll F.gives
         futures.old outputs.old.items futures.new outputs.new.items }
     ensures armed { OnPending result (IsArmed cx.new) }

@@ -1,7 +1,7 @@
 //! A task whose thread naps until the task is woken, up to a time limit.
 ghost use Rattle.std.specs.Duration.{as_nanos};
 ghost use Rattle.futures.specs.Poll.{IfReady, OnPending};
-ghost use Rattle.std.specs.Prelude.{max, min, length, ◌/◌, ◌≡◌};
+ghost use Rattle.std.specs.Prelude.{All, IsSome, max, min, length, ◌/◌, ◌≡◌};
 ghost use Rattle.async_cell_within.specs.Each.{EachFills, EachLate};
 
 use crate::each::poll_each;
@@ -67,7 +67,8 @@ impl Napper {
     ) -> Poll<()>
         requires length { length outputs.old.items ≡ length futures.old }
         requires late { EachLate F.can_poll futures.old outputs.old.items }
-        ensures { EachFills F.can_poll F.gives
+        ensures ready { IfReady result (λ _. All IsSome outputs.new.items) }
+        ensures fills { EachFills F.can_poll F.gives
             futures.old outputs.old.items futures.new outputs.new.items }
     {
         let mut cx = self.task.begin();
