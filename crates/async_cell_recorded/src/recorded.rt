@@ -85,8 +85,8 @@ impl<T: Copy, M: Pick<T>> Recorded<T, M> {
         Ok(self.journal.into_inner().close(shares))
     }
 
-    /// Makes a call under the lock.
-    fn call<E: Edit<T> + Drop>(
+    /// Makes a call that is a value of the type `Call`. Each method below makes one of these calls.
+    pub fn call<E: Edit<T> + Drop>(
         &self,
         share: &mut Share<M>,
         call: Call<T, Named, E>,
