@@ -2,7 +2,7 @@
 -- that follows the one before it.
 use Rattle.async_cell_history.proofs.Words.{rules, ◌≡◌, ◌⊎◌, ◌++◌, Bool, List, [], ◌∷◌, Contains, Option, Some, None, refl, sym, subst, ◌∙◌, inl, inr, append_assoc, arith, ⊤, All, All-head, All-tail}
 use Rattle.async_cell_history.proofs.Words.{All-weaker, All-contains, All-contains_itself, Contains-append_left, Contains-append_right, Contains-append_cases, Contains-push, IsPrefix, Cell, Closed}
-use Rattle.async_cell_history.proofs.Words.{Open, Entry, Kept, TryGet, Reply, Value, State, Exactly, UpToClones, FitsUpdate, content, next, History, cell_after, after, IsExact, IsLegalAfterBy}
+use Rattle.async_cell_history.proofs.Words.{Open, Entry, Kept, TryGet, Update, Reply, Value, Done, State, Exactly, UpToClones, FitsUpdate, content, next, History, cell_after, after, IsExact, IsLegalAfterBy}
 use Rattle.async_cell_history.proofs.Words.{MayFollowBy, cell_after-append, WakerRules, Begun, GoesOn, HasEntry, IsAllowed, IsLawful, IsOrSet, IsLinearized, IsLinearizedUpTo, OnlyMakes, start_of}
 use Rattle.async_cell_history.proofs.Leading.{all_such}
 use Rattle.async_cell_history.proofs.Linearizing.{second}
@@ -104,20 +104,41 @@ module _ {T W : Type 0} (rules : WakerRules W) (may : Kept T W → Type 0) (name
       let e : Entry T W = record { call = call; reply = answer } in
       record { there = subst (λ (h : History T W). Contains h e) (sym told.ends) (Contains-push told.before e) }
 
+  -- what is got later follows what the cell held before
+  later_get : (Follows : T → T → Type 0) (on : (a b c : T) → Follows a b → Follows b c → Follows a c) (first later now : History T W) (v w : T)
+      → OnlyMakes may (GoesOn Follows) → IsLawful rules.will_wake rules.SURE_CLONE may (start_of named) now
+      → Later Follows v (cell_after (start_of named).cell first) → IsPrefix first later → IsLinearized rules named later TryGet (Value (Some w)) now → Follows v w
+  later_get Follows on first later now v w only lawful held leads told =
+      let start : State T W = start_of named in
+      let rest : History T W = leads.0 ++ (told.goes_on.0 ++ got w ∷ []) in
+      let whole : now ≡ first ++ rest =
+      told.ends ∙ (rw (sym told.goes_on.1, sym leads.1) (search (append_assoc))) in
+      let legal = second rules.will_wake rules.SURE_CLONE start [] first rest (subst (λ (h : History T W). IsLegalAfterBy Exactly rules.will_wake rules.SURE_CLONE start [] h) whole lawful.legal) in
+      let all : All (λ e. IsAllowed may e.call) rest = All-second (λ (e : Entry T W). IsAllowed may e.call) first rest
+      (subst (λ (h : History T W). All (λ e. IsAllowed may e.call) h) whole lawful.allowed) in
+      got_later Follows on rules.will_wake rules.SURE_CLONE start v w first rest held legal
+      (all_such may (GoesOn Follows) only rest all)
+      (Contains-append_right leads.0 (told.goes_on.0 ++ got w ∷ []) (got w) (Contains-push told.goes_on.0 (got w)))
+
+  -- after a get that found this value the cell holds it
+  holds_got : (seen first : History T W) (v : T) → IsLinearized rules named seen TryGet (Value (Some v)) first → content (cell_after (start_of named).cell first) ≡ Some v
+  holds_got seen first v told = grind (arith, told.does.replied, told.does.cell_is)
+
+  -- after an update that put this value in the cell holds it
+  holds_put : (seen first : History T W) (saw : Option T) (v : T) → IsLinearized rules named seen (Update saw (Some v)) Done first → content (cell_after (start_of named).cell first) ≡ Some v
+  holds_put seen first saw v told = grind (arith, told.does.replied, told.does.cell_is)
+
   -- what is got never goes back
   pub never_back : (Follows : T → T → Type 0) (itself : (a : T) → Follows a a) (on : (a b c : T) → Follows a b → Follows b c → Follows a c) (seen first later now : History T W) (v w : T)
       → OnlyMakes may (GoesOn Follows) → IsLawful rules.will_wake rules.SURE_CLONE may (start_of named) now
       → IsLinearized rules named seen TryGet (Value (Some v)) first → IsPrefix first later → IsLinearized rules named later TryGet (Value (Some w)) now → Follows v w
-  never_back Follows itself on seen first later now v w only lawful before leads told =
-      let start : State T W = start_of named in
-      let begins : History T W = before.before in
-      let rest : History T W = (got v ∷ leads.0) ++ (told.goes_on.0 ++ got w ∷ []) in
-      let whole : now ≡ begins ++ rest =
-      told.ends ∙ (rw (sym told.goes_on.1, sym leads.1, before.ends) (search (append_assoc))) in
-      let legal = second rules.will_wake rules.SURE_CLONE start [] begins rest (subst (λ (h : History T W). IsLegalAfterBy Exactly rules.will_wake rules.SURE_CLONE start [] h) whole lawful.legal) in
-      let all : All (λ e. IsAllowed may e.call) rest = All-second (λ (e : Entry T W). IsAllowed may e.call) begins rest
-      (subst (λ (h : History T W). All (λ e. IsAllowed may e.call) h) whole lawful.allowed) in
-      let here : content (cell_after start.cell begins) ≡ Some v = grind (arith, before.does.replied) in
-      got_later Follows on rules.will_wake rules.SURE_CLONE start v w begins rest (later_here Follows v (cell_after start.cell begins) (itself v) here) legal
-      (all_such may (GoesOn Follows) only rest all)
-      (Contains-append_right (got v ∷ leads.0) (told.goes_on.0 ++ got w ∷ []) (got w) (Contains-push told.goes_on.0 (got w)))
+  never_back Follows itself on seen first later now v w only lawful before =
+      later_get Follows on first later now v w only lawful (later_here Follows v (cell_after (start_of named).cell first) (itself v) (holds_got seen first v before))
+
+  -- what is got follows what was put in
+  pub follows_put : (Follows : T → T → Type 0) (itself : (a : T) → Follows a a) (on : (a b c : T) → Follows a b → Follows b c → Follows a c)
+      (seen first later now : History T W) (saw : Option T) (v w : T)
+      → OnlyMakes may (GoesOn Follows) → IsLawful rules.will_wake rules.SURE_CLONE may (start_of named) now
+      → IsLinearized rules named seen (Update saw (Some v)) Done first → IsPrefix first later → IsLinearized rules named later TryGet (Value (Some w)) now → Follows v w
+  follows_put Follows itself on seen first later now saw v w only lawful before =
+      later_get Follows on first later now v w only lawful (later_here Follows v (cell_after (start_of named).cell first) (itself v) (holds_put seen first saw v before))

@@ -202,6 +202,11 @@ module _ {T : Type 0} where
   take_reply (Ok value) = reply.Value value
   take_reply (Err back) = reply.Refused back.0 None
 
+  -- of `try_into_inner_as`, which fails only if there are other owners
+  abbrev pub inner_reply : {P : Type 0} → Result (Option T) P → Reply T
+  inner_reply (Ok value) = reply.Value value
+  inner_reply (Err back) = reply.Refused why.StillShared None
+
   -- of a get: the machine's own reply, where the cell held this content
   abbrev pub get_reply : {A : Type 0} → Option T → Result A Refusal → Reply T
   get_reply held (Ok _) = reply.Value held

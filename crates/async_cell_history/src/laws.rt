@@ -1,14 +1,14 @@
 //! Laws of the history of a cell. Each is the contract of a function that does nothing.
-ghost use Rattle.std.specs.Prelude.{◌≡◌, ◌≢◌, ◌+◌, ◌⊎◌, ◌++◌, ◌∷◌, [], ℕ, Bool, true, false, length, Some, IfSome, option_to_list};
-ghost use Rattle.std.specs.List.{count_by};
+ghost use Rattle.std.specs.Prelude.{◌≡◌, ◌≢◌, ◌+◌, ◌⊎◌, ◌++◌, ◌∷◌, [], ℕ, Bool, true, false, length, Option, Some, IfSome, option_to_list};
+ghost use Rattle.std.specs.List.{All, count_by};
 ghost use mathlib.Core.List.{IsPrefix};
 ghost use Rattle.async_cell_model.specs.declared.reply.Reply.{Reply as Replied};
 ghost use Rattle.async_cell_model.specs.declared.entry.Kept.{Kept as Called};
-ghost use Rattle.async_cell_model.specs.Machine.{content, ends_waiting};
+ghost use Rattle.async_cell_model.specs.Machine.{content, ends_waiting, is_closed};
 ghost use Rattle.async_cell_model.specs.Legal.{IsExact};
 ghost use Rattle.async_cell_model.specs.History.{History, IsCovered, cell_after};
 ghost use Rattle.async_cell_history.specs.History.{GoesOn, HasEntry, IsLawful, IsNoSet, IsOrSet, IsSigned, IsTake, IsLinearized, IsLinearizedUpTo};
-ghost use Rattle.async_cell_history.specs.History.{OnlyMakes, Seen, StillWaits, Took, come_out, dropped, gone_in, start_of};
+ghost use Rattle.async_cell_history.specs.History.{OnlyMakes, Seen, StillWaits, Took, come_out, comes_out, dropped, goes_in, gone_in, start_of};
 
 use crate::Protocol;
 use async_cell_core::Wakes;
@@ -79,6 +79,20 @@ pub fn what_is_got_never_goes_back<T, W: Wakes, N: Protocol<T, W>>()
         → follows v w ≡ true }
 {}
 
+/// As `what_is_got_never_goes_back`, for a value that an update put in: the value that a later
+/// `try_get` finds follows it.
+pub fn what_is_got_follows_what_was_put<T, W: Wakes, N: Protocol<T, W>>()
+    ensures { (follows : T → T → Bool) (seen first later now : History T W) (saw : Option T) (v w : T)
+        → ((a : T) → follows a a ≡ true)
+        → ((a b c : T) → follows a b ≡ true → follows b c ≡ true → follows a c ≡ true)
+        → OnlyMakes N.may (GoesOn (λ a b. follows a b ≡ true))
+        → IsLawful W.will_wake W.SURE_CLONE N.may (start_of N.named) now
+        → IsLinearized W.Wakes N.named seen (Kept.Update saw (Some v)) Reply.Done first
+        → IsPrefix first later
+        → IsLinearized W.Wakes N.named later Kept.TryGet (Reply.Value (Some w)) now
+        → follows v w ≡ true }
+{}
+
 /// If a take was made with a witness, the witness's author signed the take. Every longer history
 /// that begins with the seen calls still shows this signature.
 #[tactic(auto, using(crate::proofs::TwoTakers::took, crate::proofs::TwoTakers::still_took))]
@@ -113,4 +127,24 @@ pub fn as_many_come_out_or_are_left_as_went_in<T, W: Wakes, N: Protocol<T, W>>()
     ensures none_dropped { OnlyMakes N.may IsNoSet → (now : History T W)
         → IsLawful W.will_wake W.SURE_CLONE N.may (start_of N.named) now
         → dropped (start_of N.named).cell now ≡ [] }
+{}
+
+/// After a close nothing is left in the cell: what went in has come out, or a `set` dropped it. The
+/// cell stays closed, and a later call gives back what is passed to it, and nothing else. So who
+/// has seen the close knows every change that was ever made.
+pub fn after_a_close_nothing_is_left<T, W: Wakes, N: Protocol<T, W>>()
+    ensures as_many { (is_counted : T → Bool) (now : History T W)
+        → IsLawful W.will_wake W.SURE_CLONE N.may (start_of N.named) now
+        → is_closed (cell_after (start_of N.named).cell now) ≡ true
+        → count_by is_counted (come_out now)
+        + count_by is_counted (dropped (start_of N.named).cell now)
+        ≡ count_by is_counted (option_to_list (content (start_of N.named).cell))
+        + count_by is_counted (gone_in now) }
+    ensures stays { (now later : History T W)
+        → is_closed (cell_after (start_of N.named).cell now) ≡ true
+        → is_closed (cell_after (start_of N.named).cell (now ++ later)) ≡ true }
+    ensures comes_back { (now later : History T W)
+        → IsLawful W.will_wake W.SURE_CLONE N.may (start_of N.named) (now ++ later)
+        → is_closed (cell_after (start_of N.named).cell now) ≡ true
+        → All (λ e. comes_out e.call e.reply ≡ goes_in e.call) later }
 {}

@@ -91,20 +91,22 @@ impl<T: Drop, W: Wakes, N: Protocol<T, W>> CellCore<T, W, N> {
     /// Closes the cell, if it has one owner. Otherwise fails with `Closed` or `StillShared`, and
     /// returns the permit.
     #[inline(always)]
-    pub fn take_inner(
+    pub fn take_inner<B: Signs>(
         &mut self,
         permit: OwnerPermit<T, W, N>,
+        by: &B,
     ) -> Deferred<Result<Option<T>, (Refusal, OwnerPermit<T, W, N>)>, Option<Wakers<W>>>
         requires may { N.may Kept.TakeInner }
         ensures rule { IfOk result.answer (λ content. IfSome content N.holds) }
         ensures refused { IfErr result.answer (λ back.
             (back.0 ≡ Refusal.Closed) ⊎ (back.0 ≡ Refusal.StillShared)) }
         ensures made { Made W.will_wake W.SURE_CLONE self.old
-            Kept.TakeInner (take_reply result.answer) (all_of result.woken) 0 self.new }
+            Kept.TakeInner (take_reply result.answer) (all_of result.woken)
+            (B.number by.now) self.new }
     {
         let before = Before::of(&self.inner, &());
         let taken = self.inner.take_inner();
-        before.enter(&mut self.past, &TakesInner, &taken, &self.inner, &Nobody);
+        before.enter(&mut self.past, &TakesInner, &taken, &self.inner, by);
         match taken {
             Ok((content, woken)) => {
                 self.past.take(permit);

@@ -6,6 +6,7 @@ ghost use Rattle.async_cell_model.specs.Machine.{UpToClones, content, is_full};
 ghost use Rattle.async_cell_model.specs.Refusal.{FailsWithMemory};
 ghost use Rattle.async_cell_core.specs.Polled.{IsCloneOf, poll_reply};
 ghost use Rattle.async_cell_step.specs.Rule.{IsCloneOfOne};
+ghost use Rattle.futures.specs.Poll.{IfReady};
 ghost use Rattle.async_cell_history.specs.History.{get_reply, own_poll};
 
 use crate::{Op, Protocol};
@@ -124,7 +125,8 @@ impl<T: Drop, W: Wakes, N: Protocol<T, W>> Op<T, W, N> for PollTake<'_, W> {
 
     ghost reply = { λ _ polled. poll_reply polled };
 
-    ghost gives = { λ _ _ polled _. FailsWithMemory polled };
+    ghost gives = { λ _ _ polled _. FailsWithMemory polled
+        × IfOk polled (λ answer. IfReady answer (λ taken. IfSome taken N.holds)) };
 
     #[inline(always)]
     fn make(self, core: &mut Core<T, W>) -> Deferred<Result<Poll<Option<T>>, Refusal>> {
@@ -151,7 +153,9 @@ impl<T: Clone, W: Wakes, N: Protocol<T, W>> Op<T, W, N> for PollGet<'_, W> {
     ghost gives = { λ from op polled _. FailsWithMemory polled
         × UpToClones T.is_clone (kept.PollGet op.0.now)
         (own_poll (content from.cell) polled) (poll_reply polled)
-        × (is_full from.cell ≡ true → ((value : T) → T.is_infallible value) → IsOk polled) };
+        × (is_full from.cell ≡ true → ((value : T) → T.is_infallible value) → IsOk polled)
+        × IfOk polled (λ answer. IfReady answer (λ found.
+        IfSome found (IsCloneOfOne T.is_clone N.holds))) };
 
     #[inline(always)]
     fn make(self, core: &mut Core<T, W>) -> Deferred<Result<Poll<Option<T>>, Refusal>> {
