@@ -4,6 +4,7 @@ ghost use Rattle.std.specs.Fn.{FnOnceReturnsAt};
 ghost use Rattle.async_cell_model.specs.Machine.{IsSound};
 ghost use Rattle.async_cell_model.specs.Refusal.{FailsWithClosed, FailsWithMemory};
 ghost use Rattle.async_cell_step.specs.Rule.{IsCloneOfOne};
+ghost use Rattle.futures.specs.Poll.{IfReady};
 
 use crate::cell_store::CellStore;
 use async_cell_core::{Poll, Refusal, Wakes};
@@ -172,6 +173,7 @@ impl<M: Stores<Core = CellCore<T, W, N>>, T: Drop, W: Wakes, N: Protocol<T, W>> 
         rt: &R,
     ) -> Result<Poll<Option<T>>, Refusal>
         requires may { N.may (Kept.PollTake waker.now) }
+        ensures rule { IfOk result (λ polled. IfReady polled (λ taken. IfSome taken N.holds)) }
         ensures refused { FailsWithMemory result }
     {
         self.make(PollTake(waker), &Anyone, &mut Nobody, rt)
@@ -186,6 +188,8 @@ impl<M: Stores<Core = CellCore<T, W, N>>, T: Drop, W: Wakes, N: Protocol<T, W>> 
     ) -> Result<Poll<Option<T>>, Refusal>
     where
         T: Clone,
+        ensures rule { IfOk result (λ polled. IfReady polled (λ found.
+            IfSome found (IsCloneOfOne T.is_clone N.holds))) }
         ensures refused { FailsWithMemory result }
     {
         self.make(PollGet(waker), &Anyone, &mut Nobody, rt)

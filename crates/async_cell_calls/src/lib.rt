@@ -11,4 +11,4 @@ mod queries;
 
 pub use cancel::Cancel;
 pub use cell_store::CellStore;
-pub use queries::{Cloning, CloningAs, Taking, TakingAs, WithCaller};
+pub use queries::{Cloning, CloningAs, Closing, Taking, TakingAs, WithCaller};

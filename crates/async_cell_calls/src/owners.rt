@@ -1,8 +1,8 @@
 //! The calls that add and end owners. `add_counted` returns the permit of the new owner, and a call
 //! that ends an owner with a permit takes that permit.
-ghost use Rattle.std.specs.Prelude.{◌≡◌, ◌⊎◌, None, IfErr, IfOk, IfSome, IsTrue};
+ghost use Rattle.std.specs.Prelude.{◌≡◌, ◌⊎◌, None, IfErr, IfOk, IfSome, IsSome, IsTrue};
 ghost use Rattle.async_cell_model.specs.Refusal.{FailsWithClosed};
-ghost use Rattle.async_cell_history.specs.History.{done_reply};
+ghost use Rattle.async_cell_history.specs.History.{done_reply, permits_of, take_reply};
 
 use crate::cell_store::CellStore;
 use async_cell_core::{Refusal, Wakes};
@@ -46,7 +46,7 @@ impl<M: Stores<Core = CellCore<T, W, N>>, T: Drop, W: Wakes, N: Protocol<T, W>> 
         ensures refused { IfErr result (λ why.
             (why ≡ Refusal.Closed) ⊎ (why ≡ Refusal.StillShared)) }
     {
-        match self.take_counted(OwnerPermit::blind(), rt) {
+        match self.take_counted(OwnerPermit::blind(), &mut Nobody, rt) {
             Ok(content) => Ok(content),
             Err((why, permit)) => {
                 permit.let_go();
@@ -104,22 +104,33 @@ impl<M: Stores<Core = CellCore<T, W, N>>, T: Drop, W: Wakes, N: Protocol<T, W>> 
         }
     }
 
-    /// As `take_inner`, for the owner with this permit. The permit comes back in the error.
-    pub fn take_counted<'a, R: Opens<'a, M>>(
+    /// As `take_inner`, for the owner with this permit. Shows the call to `seen`. The permit comes
+    /// back in the error. If owners are counted, the error is `StillShared`: the permit shows that
+    /// the cell is open.
+    pub fn take_counted<'a, S: Sees<T, W, N>, R: Opens<'a, M>>(
         &'a self,
         permit: OwnerPermit<T, W, N>,
+        seen: &mut S,
         rt: &R,
     ) -> Result<Option<T>, (Refusal, OwnerPermit<T, W, N>)>
         requires may { N.may Kept.TakeInner }
         ensures rule { IfOk result (λ content. IfSome content N.holds) }
         ensures refused { IfErr result (λ back.
             (back.0 ≡ Refusal.Closed) ⊎ (back.0 ≡ Refusal.StillShared)) }
+        ensures open { IsTrue R.always → IsSome (permits_of N.named)
+            → IfErr result (λ back. back.0 ≡ Refusal.StillShared) }
+        ensures sees { IsTrue R.always
+            → S.sees seen.old Kept.TakeInner (take_reply result) seen.new }
     {
         let Some(mut step) = rt.open(&self.store) else {
             return Err((Refusal::Closed, permit));
         };
-        let closed = step.lend().take_inner(permit);
-        end_and_wake(step, closed)
+        let core = step.lend();
+        permit.proves_open(core);
+        seen.catch_up(core);
+        let taken = core.take_inner(permit, &*seen);
+        seen.see(core);
+        end_and_wake(step, taken)
     }
 }
 

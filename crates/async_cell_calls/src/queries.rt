@@ -62,6 +62,29 @@ impl<T: Clone, N: Protocol<T, TaskWaker>> Query<CellCore<T, TaskWaker, N>> for C
     }
 }
 
+/// Waits while the cell is open and empty, and changes nothing. So if nobody but the caller can fill
+/// the cell, it has an answer once the cell is closed.
+#[derive(Clone, Copy, Drop)]
+pub struct Closing;
+
+impl<T: Drop, N: Protocol<T, TaskWaker>> Query<CellCore<T, TaskWaker, N>> for Closing {
+    type Answer = ();
+
+    ghost ready = { λ core. is_vacant core.inner.cell ≡ false };
+
+    ghost closed = { λ _. ⊥ };
+
+    #[inline(always)]
+    fn must_wait(&self, core: &CellCore<T, TaskWaker, N>) -> bool {
+        core.is_vacant()
+    }
+
+    #[inline(always)]
+    fn answer(self, _: &mut CellCore<T, TaskWaker, N>) -> Deferred<Result<(), Refusal>> {
+        Deferred::of(Ok(()))
+    }
+}
+
 /// A query and its caller. A caller that is an owner never gets `Closed`.
 #[derive(Drop)]
 pub struct WithCaller<'a, K, Q> {
