@@ -40,10 +40,16 @@ pub type LockedCore<T, W, N = Unruled> = CellStore<Mutex<CellCore<T, W, N>>>;
 /// these futures together need no more places than the largest number of them alive at one time.
 /// Each `poll_shared` that waits adds one waker, which stays until the next write or close. `N` is
 /// as for an `Owner`.
+///
+/// `{:?}` prints `AsyncCell { .. }`. For the content call `debug_text`, which takes the lock.
+#[derive_where(Debug)]
 pub struct AsyncCell<T, N: Protocol<T, TaskWaker> = Unruled> {
+    #[derive_where(skip)]
     pub(crate) core: LockedCore<T, TaskWaker, N>,
     /// The source that waiting tasks register with.
+    #[derive_where(skip)]
     pub(crate) source: Source,
+    #[derive_where(skip)]
     pub(crate) alloc: Global,
 }
 

@@ -1,6 +1,8 @@
-ghost use Rattle.std.specs.Prelude.{◌≡◌, [], Some, IfOk, IfErr, IfSome};
-ghost use Rattle.async_cell_model.specs.Machine.{content};
+ghost use Rattle.std.specs.Prelude.{◌≡◌, [], true, Some, IfOk, IfErr, IfSome, OnOk};
+ghost use Rattle.async_cell_model.specs.Machine.{content, is_closed};
+ghost use Rattle.async_cell_model.specs.History.{cell_after};
 ghost use Rattle.async_cell_model.specs.Refusal.{FailsWithMemory, IsOwnerRefusal};
+ghost use Rattle.async_cell_history.specs.History.{IsLinearized, IsSigned, inner_reply, start_of};
 ghost use Rattle.async_cell_sync.specs.Names.{NamesAtMost};
 ghost use Rattle.async_cell_sync.specs.Owned.{cell_owned};
 ghost use Rattle.async_cell_sync.specs.Source.{source_of};
@@ -11,7 +13,7 @@ use crate::guard::{Guard, GuardedCell};
 use crate::shared::Shared;
 use crate::take::{Get, GetWeak, Take, TakeWeak};
 use crate::weak::WeakOwner;
-use async_cell_core::{Refusal, TaskWaker};
+use async_cell_core::{Refusal, TaskWaker, Wakes};
 use async_cell_history::{Anyone, Blank, Nobody, Protocol, Takeable, Unruled, Witness};
 use async_cell_model::Kept;
 use async_cell_step::{Rule, Ruled, With};
@@ -149,6 +151,31 @@ impl<T: Drop, R: Wait + Copy, N: Protocol<T, TaskWaker>> Owner<T, R, N> {
         let Owner { shared, rt } = self;
         let ended = shared.try_into_inner(&rt);
         ended.map_err(|shared| Owner { shared, rt })
+    }
+
+    /// As `try_into_inner`, but extends the witness. After an `Ok` the witness has seen the close,
+    /// so it has seen every change that was ever made to the cell: all later calls find the cell
+    /// closed.
+    pub fn try_into_inner_as(self, seen: &mut Witness<T, TaskWaker, N>) -> Result<Option<T>, Self>
+        requires may { N.may Kept.TakeInner }
+        ensures linearized { IsLinearized ⟦<TaskWaker as Wakes>⟧ N.named seen.old.calls
+            Kept.TakeInner (inner_reply result) seen.new.calls }
+        ensures signed { IsSigned seen.old seen.new }
+        ensures closed { OnOk result
+            (is_closed (cell_after (start_of N.named).cell seen.new.calls) ≡ true) }
+        ensures rule { IfOk result (λ content. IfSome content N.holds) }
+        ensures comes_back { IfErr result (λ back. back ≡ self) }
+    {
+        seen.lawful();
+        let Owner { shared, rt } = self;
+        let Shared { cell, permit } = shared;
+        match cell.core.take_counted(permit, seen, &rt) {
+            Ok(content) => Ok(content),
+            Err((_, permit)) => {
+                let shared = Shared { cell, permit };
+                Err(Owner { shared, rt })
+            }
+        }
     }
 
     /// Returns a future that takes the value (`try_take` takes it at once). The future borrows this

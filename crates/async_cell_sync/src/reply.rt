@@ -25,9 +25,9 @@ use std::sync::{Arc, Wait};
 #[derive_where(Debug)]
 pub struct Replier<T: Drop, R: Wait + Drop, N: Unwitnessed<T, TaskWaker> = Unruled> {
     #[derive_where(skip)]
-    cell: Arc<ManuallyDrop<AsyncCell<T, N>>>,
+    pub(crate) cell: Arc<ManuallyDrop<AsyncCell<T, N>>>,
     #[derive_where(skip)]
-    rt: R,
+    pub(crate) rt: R,
 }
 
 /// The side of a reply slot that waits: a future of the value. It fails with `Closed` if the

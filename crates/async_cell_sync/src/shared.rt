@@ -158,7 +158,7 @@ impl<T: Drop, N: Protocol<T, TaskWaker>> Shared<T, N> {
         ensures comes_back { IfErr result (λ back. back ≡ self) }
     {
         let Shared { cell, permit } = self;
-        match cell.core.take_counted(permit, rt) {
+        match cell.core.take_counted(permit, &mut Nobody, rt) {
             Ok(content) => Ok(content),
             Err((Refusal::StillShared, permit)) => Err(Shared { cell, permit }),
             Err((_, permit)) => {

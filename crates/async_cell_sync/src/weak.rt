@@ -90,6 +90,15 @@ impl<T: Drop, N: Protocol<T, TaskWaker>> Weak<T, N> {
         Ok(self.cell()?.is_closed(rt))
     }
 
+    /// Returns whether the cell holds a value. A closed cell holds none. Fails with `Memory` if
+    /// this weak pointer could not be counted when it was made.
+    pub fn is_set<R: Wait>(&self, rt: &R) -> Result<bool, Refusal>
+        ensures lost { IsLost self.now → result ≡ Err Refusal.Memory }
+        ensures refused { FailsWithMemory result }
+    {
+        Ok(self.cell()?.is_set(rt))
+    }
+
     /// Makes an owner. Fails with `Memory` if the count of the cell's `Arc` is full, or if this
     /// weak pointer could not be counted when it was made. These two causes are checked first.
     /// Returns `None` if the cell is closed. Fails with `OwnersFull` at 4,294,967,295 owners.
@@ -159,6 +168,14 @@ impl<T: Drop, R: Wait + Copy, N: Protocol<T, TaskWaker>> WeakOwner<T, R, N> {
         ensures refused { FailsWithMemory result }
     {
         self.weak.is_closed(&self.rt)
+    }
+
+    /// As `Weak::is_set`.
+    pub fn is_set(&self) -> Result<bool, Refusal>
+        ensures lost { IsLost self.now.weak → result ≡ Err Refusal.Memory }
+        ensures refused { FailsWithMemory result }
+    {
+        self.weak.is_set(&self.rt)
     }
 
     /// As `Owner::take_weak`. The future also fails with `Memory` if this weak owner could not be

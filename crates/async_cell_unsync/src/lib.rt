@@ -6,6 +6,7 @@
 
 mod async_cell;
 mod cell_ref;
+mod closed;
 mod get;
 mod guarded_cell;
 mod owner;
@@ -24,6 +25,7 @@ pub use async_cell_step::{Rule, Ruled};
 pub use cell_ref::CellRef;
 #[doc(hidden)]
 pub use cell_ref::CellRef as TakeRef; // Of a cell of one thread each value may be taken.
+pub use closed::UntilClosed;
 pub use get::Get;
 pub use guarded_cell::{Guard, GuardedCell};
 pub use owner::Owner;

@@ -24,7 +24,7 @@ use std::rc::Rc;
 #[derive_where(Debug)]
 pub struct Replier<T: Drop, N: Unwitnessed<T, TaskWaker> = Unruled> {
     #[derive_where(skip)]
-    cell: Rc<ManuallyDrop<AsyncCell<T, N>>>,
+    pub(crate) cell: Rc<ManuallyDrop<AsyncCell<T, N>>>,
 }
 
 /// The side of a reply slot that waits: a future of the value. A `ReplyFuture` fails with `Closed`

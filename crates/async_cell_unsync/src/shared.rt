@@ -141,7 +141,7 @@ impl<T: Drop, N: Free<T, TaskWaker>> Shared<T, N> {
         ensures comes_back { IfErr result (λ back. back ≡ self) }
     {
         let Shared { cell, permit } = self;
-        match cell.core.take_counted(permit, &OneThread) {
+        match cell.core.take_counted(permit, &mut Nobody, &OneThread) {
             Ok(content) => Ok(content),
             Err((Refusal::StillShared, permit)) => Err(Shared { cell, permit }),
             Err((_, permit)) => {

@@ -81,6 +81,15 @@ impl<T: Drop, N: Free<T, TaskWaker>> Weak<T, N> {
         Ok(self.cell()?.is_closed())
     }
 
+    /// Returns whether the cell holds a value. A closed cell holds none. Fails with `Memory` if
+    /// this weak pointer could not be counted when it was made.
+    pub fn is_set(&self) -> Result<bool, Refusal>
+        ensures lost { IsLost self.now → result ≡ Err Refusal.Memory }
+        ensures refused { FailsWithMemory result }
+    {
+        Ok(self.cell()?.is_set())
+    }
+
     /// Makes an owner. Fails with `Memory` if the count of the cell's `Rc` is full, or if this weak
     /// pointer could not be counted when it was made. These two causes are checked first. Returns
     /// `None` if the cell is closed. Fails with `OwnersFull` at 4,294,967,295 owners.
@@ -135,6 +144,14 @@ impl<T: Drop, N: Free<T, TaskWaker>> WeakOwner<T, N> {
         ensures refused { FailsWithMemory result }
     {
         self.weak.is_closed()
+    }
+
+    /// As `Weak::is_set`.
+    pub fn is_set(&self) -> Result<bool, Refusal>
+        ensures lost { IsLost self.now.weak → result ≡ Err Refusal.Memory }
+        ensures refused { FailsWithMemory result }
+    {
+        self.weak.is_set()
     }
 
     /// Returns a future that takes the value and is no owner. The future gives `None` once the last
