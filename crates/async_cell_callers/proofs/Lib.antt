@@ -1,4 +1,4 @@
 mod Audited
-pub mod InOrder
 mod NotForgotten
 mod TwoPolls
+pub mod InOrder

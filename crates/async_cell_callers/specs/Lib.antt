@@ -1,4 +1,3 @@
 pub mod Calls
-pub mod InOrder
 pub mod Taken
 pub mod Waits

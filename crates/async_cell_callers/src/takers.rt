@@ -89,6 +89,7 @@ fn all_named<N: Protocol<u64, TaskWaker>, R: Host>(
     let _ = block_on(&rt, owner.get())??;
     let weak = owner.downgrade();
     let _ = weak.is_closed()?;
+    let _ = weak.is_set()?;
     let _ = block_on(&rt, weak.get_as(one.again()))??;
     let mut values = weak.take_as(one).values();
     let _ = block_on(&rt, values.next())?;

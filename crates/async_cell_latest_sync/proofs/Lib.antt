@@ -1,3 +1,4 @@
+pub mod InOrder
 pub mod Lives
 pub mod Polled
 pub mod Words

@@ -5,5 +5,6 @@ pub use Rattle.async_cell_latest_sync.specs.Life.{Life, GoesOn, IsLawful, IsOf, 
 pub use Rattle.async_cell_model.specs.declared.refusal.Refusal.{Refusal}
 pub use Rattle.ghost_tokens.proofs.LogSteps.{shorter_begins}
 pub use Rattle.std.proofs.Common.{◌≤◌, ◌≡◌, ◌≢◌, ℕ, Bool, true, false, List, [], ◌∷◌, ◌++◌, length, Option, Some, None, IsSome, IfErr, Result, Ok, Err, refl, ap, sym, subst, arith, length-append}
+pub use Rattle.std.proofs.Common.{◌∙◌, ◌⊎◌, inl, inr, append_assoc, append-nil}
 pub use Rattle.std.specs.{Borrow.Bor, Fn.Mut, Fn.CalledAt, Fn.FnOnceReturnsAt}
 pub use mathlib.Core.List.{IsPrefix}

@@ -1,3 +1,4 @@
 pub mod Found
+pub mod InOrder
 pub mod Life
 pub mod Names

@@ -103,11 +103,6 @@ module _ {T : Type 0} where
     IsNext seen (Some copy) now = IsShownNext seen copy now
     IsNext seen None now = GoesOn seen now × (now.values ≡ seen.values) × (now.closed ≡ true)
 
-  -- both rules are one
-  abbrev pub Agree : (List T → T → Type 0) → (List T → T → Type 0) → Type 0
-  Agree may also = (before : List T) → (value : T)
-      → (may before value → also before value) × (also before value → may before value)
-
   -- the rule allows to write this value now, whatever was written since this was seen
   abbrev pub MayWrite : (List T → T → Type 0) → Life T → T → Type 0
   MayWrite may seen value =

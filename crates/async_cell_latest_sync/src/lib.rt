@@ -5,6 +5,7 @@ mod awaited;
 mod cell;
 mod follower;
 mod history;
+pub mod laws;
 mod owner;
 
 pub use async_cell_latest::{Refusal, TaskWaker};

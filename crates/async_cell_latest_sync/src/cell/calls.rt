@@ -159,8 +159,8 @@ impl<T: Drop, N: Protocol<T>> LatestCore<T, N> {
     }
 
     /// As `modify`, but the value counts as a further one, and wakes who waits, only if the closure
-    /// returns `true`. May be called only on a state without a name, because a closure that returned
-    /// `false` may have changed the value.
+    /// returns `true`. May be called only on a state without a name, because a closure that
+    /// returned `false` may have changed the value.
     pub(crate) fn modify_if<F: FnOnce(&mut T) -> bool + Drop>(
         &mut self,
         change: F,
