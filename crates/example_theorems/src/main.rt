@@ -1,20 +1,29 @@
-//! Programs of two threads that share a cell. The contracts of each have a theorem.
+//! Programs of two threads that share a cell, or a state. The contracts of each have a theorem.
 //!
 //! - `even`, `square` and `fact`: what the value of a reply satisfies.
-//! - `job`, `shutdown`, `startup` and `watcher`: what the two threads return on every schedule, or
-//!   whom a call of one wakes.
+//! - `reply` and `writer`: that a reply is the value that was set, and that who alone writes a cell
+//!   finds what he wrote last. Their values bring tokens of `ghost_tokens` along.
+//! - `job`, `shutdown`, `startup`, `versions` and `watcher`: what the two threads return on every
+//!   schedule, or whom a call of one wakes.
+//! - `account`: at the end, that all which went into the cell has come out.
 //!
-//! In all but `even` and `fact`, a type names the cell or its rule. Calls are made at `Brand`, and
-//! the `Invariants.antt` of the caller picks what it stands for.
+//! In all but `even` and `fact`, a type names the cell, the state or the rule. Calls are made at
+//! `Brand`, and the `Invariants.antt` of the caller picks what it stands for.
 #![tactic(auto)]
 
+mod account;
 mod even;
 mod fact;
 mod job;
+mod reply;
 mod shutdown;
+mod signed;
 mod square;
+mod stamped;
 mod startup;
+mod versions;
 mod watcher;
+mod writer;
 
 use anyhow::Result;
 use std::alloc::AllocGlobal;
@@ -31,6 +40,8 @@ fn main(rt: HostRuntime) -> Result<()> {
     println!(rt; "an even reply: {}", even::ask(rt)?)?;
     println!(rt; "the square of 7 is {}", square::square(rt, 7)?)?;
     println!(rt; "half of the reply is {}", fact::ask(rt, 21)?)?;
+    let (given, set) = reply::ask(rt)?;
+    println!(rt; "the reply is what was set: {}", given == set)?;
     let (first, second) = startup::start(rt)?;
     println!(rt; "two threads got one start-up value: {}", first? == second?)?;
     let (first, second) = job::share(rt)?;
@@ -38,6 +49,11 @@ fn main(rt: HostRuntime) -> Result<()> {
     println!(rt; "threads that got the job: {takers}")?;
     let (low, high) = watcher::watch(rt)??;
     println!(rt; "the level fell: {}", low > high)?;
+    let (first, second) = writer::write_twice(rt)??;
+    println!(rt; "the writer found {first}, and then {second}")?;
+    let (older, newer) = versions::follow(rt)?;
+    println!(rt; "the version fell: {}", older > newer)?;
     println!(rt; "the server has stopped: {}", shutdown::run(rt)?.1.is_ok())?;
+    println!(rt; "the account is closed: {}", account::close(rt).is_ok())?;
     Ok(())
 }
