@@ -16,7 +16,7 @@ import sys
 from concurrent.futures import ThreadPoolExecutor
 
 import tables
-from lay_out import read, write
+from lay_out import read, said_by, write
 from try_kit import program_of
 
 # The rows: the program of each, its word for it, and the operations that it has.
@@ -78,8 +78,7 @@ def counted():
 
 def conditions():
     """Returns what the figures depend on: the kit, and the C library's way to allocate."""
-    kit = subprocess.run(["rt", "version"], capture_output=True, text=True, check=True).stdout
-    return f"{kit.split()[0]}, {' '.join(platform.libc_ver())}"
+    return f"{said_by('rt', 'version').split()[0]}, {' '.join(platform.libc_ver())}"
 
 
 def main(words):

@@ -3,9 +3,9 @@
 of crates/NAME/must-fail/).
 
     bugs.py [--record] [--all|CRATE..]   those of all crates, or of these; without, those that are
-                        not in the record, a tenth of those that are, another after each commit, and
-                        12 of the others, by the commit's hash: four of each of three checks. With
-                        `--record` also writes the record.
+                        not in the record, 25 of those that are, the next ones after each commit,
+                        and 12 of the others, by the commit's hash: four of each of three checks.
+                        With `--record` also writes the record.
     bugs.py --list      whether each can be applied, and how those in the record were refused
 
 A bug is a line 'FILE: what it does', with the file below src/, and after it pairs of lines '- OLD'
@@ -16,13 +16,15 @@ what a call requires. `= returns` is a contract of one clause, `= loop` the inva
 words of that proof may not fit any other body. How bugs are tried: bug_trial.py.
 
 A bug is refused by values, by a clause, or `lost`: a search met its limits, which says less of the
-contract. A bug that is lost fails, unless the record has it.
+contract. A bug that is lost fails, unless the record has it. If its text is not the recorded one,
+as after a rename, but a bug of its file and name is recorded, it has changed: it is tried, and may
+be lost only if it was.
 
 The record, scripts/bugs.lock, has a line for each crate: a sum of what it rests on that its bugs
 are refused (`rt version`, the code of the scripts that try them, the texts of the crate and of
-those below it), and a sum for each bug that was refused, marked with ? if it was lost. No comment,
-docstring or layout is in a sum. Prints a line for each check and each bug, how many were refused in
-which way, and last 'N passed, M failed'.
+those below it), and for each bug that was refused a sum of its text and one of its file and name,
+marked with ? if it was lost. No comment, docstring or layout is in a sum. Prints a line for each
+check and each bug, how many were refused in which way, and last 'N passed, M failed'.
 """
 import ast
 import functools
@@ -31,26 +33,22 @@ import hashlib
 import os
 import random
 import re
-import subprocess
 import sys
 from collections import Counter
 
 from bug import WAYS, bugs_of, groups_of, with_bugs
 from bug_trial import PARTS, lines_of, try_all, with_below
-from lay_out import READ, TOP, read, write
+from lay_out import TOP, read, said_by, write
 from try_kit import KIT
 
 RECORD = "scripts/bugs.lock"
 ABOUT = "The deliberate bugs that were refused: `python3 scripts/bugs.py --record`."
-# The record's bugs are tried anew in so many turns, one after each commit. Drawn with them are bugs
-# of so many checks, of each so many: a check costs far more than a bug does in it.
-TURNS, CHECKS, DRAWN = 10, 3, 4
+# So many of the record's bugs are tried anew after each commit, of one crate after the other. Drawn
+# with them are bugs of so many checks, of each so many: a check costs far more than a bug in it.
+TURN, CHECKS, DRAWN = 25, 3, 4
 HEAD = ("rev-parse HEAD", "rev-list --count HEAD")
+SUMS = re.compile(r"(\w{8})\.(\w{8})(\??)")
 FILE = re.compile(r"^file (\d+)\n((?:\d.*\n)*)", re.M)
-
-
-def said_by(*command):
-    return subprocess.run(command, check=True, **READ).stdout
 
 
 @functools.cache
@@ -80,26 +78,45 @@ def sum_of(crate):
     texts += [code_of(f"scripts/{it}.py") for it in ("bug", "bug_trial")]
     of = tuple(f"crates/{it}/" for it in below)
     texts += [f"{it}\n{tokens()[it]}" for it in sorted(tokens()) if it.startswith(of)]
-    return hashlib.sha256("\0".join(texts).encode()).hexdigest()[:16]
+    return sum_of_text("\0".join(texts))[:16]
+
+
+def sum_of_text(text):
+    return hashlib.sha256(text.encode()).hexdigest()
+
+
+def name_sum(bug):
+    """Returns the sum of a bug's file and name, which stay if a name in its text changes."""
+    return sum_of_text(f"{bug.file}\0{bug.name}")[:8]
 
 
 @functools.cache
 def lines_of_record():
-    """Returns by crate the sum, and the sums of bugs with a mark of those that were lost."""
+    """Returns by crate the sum, and of each bug the sums of its text and of its name, and a mark if
+    it was lost."""
     lines = read(RECORD).split("\n")[1:-1] if os.path.isfile(RECORD) else []
-    return {crate: (of, bugs) for crate, of, *bugs in map(str.split, lines)}
+    parts = {crate: (of, map(SUMS.fullmatch, bugs)) for crate, of, *bugs in map(str.split, lines)}
+    return {crate: (of, [it.groups() for it in bugs if it]) for crate, (of, bugs) in parts.items()}
+
+
+def recorded(bug):
+    """Returns what the record has of its text, or else of its file and name, or None."""
+    _, bugs = lines_of_record().get(bug.crate, ("", []))
+    of_text = (it for it in bugs if it[0] == bug.sum)
+    return next(of_text, None) or next((it for it in bugs if it[1] == name_sum(bug)), None)
 
 
 def way_recorded(bug):
-    """Returns how a bug was refused when it was recorded, now or before: lost, or else."""
-    _, bugs = lines_of_record().get(bug.crate, ("", []))
-    return "lost" if f"{bug.sum}?" in bugs else "refuted" if bug.sum in bugs else None
+    """Returns how a bug was refused when it was recorded, now or before: lost, or else. If it has
+    changed since, it was lost, or is as if it were new."""
+    text, _, mark = recorded(bug) or (None, None, None)
+    return "lost" if mark else "refuted" if text == bug.sum else None
 
 
 def is_recorded(bug):
     """Returns whether it was refused as the texts are now."""
     of, _ = lines_of_record().get(bug.crate, ("", []))
-    return of == sum_of(bug.crate) and way_recorded(bug) is not None
+    return of == sum_of(bug.crate) and (recorded(bug) or [None])[0] == bug.sum
 
 
 def record(bugs, tried):
@@ -108,25 +125,28 @@ def record(bugs, tried):
     for it in bugs:
         was = "?" * (way_recorded(it) == "lost") if is_recorded(it) else None
         mark = "?" * (it.how == "lost") if it.how else None if it in tried else was
-        lines.setdefault(it.crate, []).extend([] if mark is None else [f"{it.sum}{mark}"])
+        told = [] if mark is None else [f"{it.sum}.{name_sum(it)}{mark}"]
+        lines.setdefault(it.crate, []).extend(told)
     told = [f"{crate} {sum_of(crate)} {' '.join(lines[crate])}" for crate in sorted(lines)]
     write(RECORD, "\n".join([f"# {ABOUT}", *told, ""]))
 
 
 def due(bugs):
-    """Returns the bugs that are not in the record, a tenth of those that are, and some more."""
-    # (those that share a check stand together)
-    kept = [it for group in groups_of(bugs) for it in group if is_recorded(it)]
+    """Returns the bugs that are not in the record, a part of those that are, and some more."""
+    # (those that share a check stand together, and those of a crate)
+    groups = sorted(groups_of(bugs), key=lambda it: it[0].crate)
+    kept = [it for group in groups for it in group if is_recorded(it)]
     commit, count = (said_by("git", *it.split()).strip() for it in HEAD)
-    turn = int(count) % TURNS
-    again = [it for at, it in enumerate(kept) if at * TURNS // len(kept) == turn]
+    turns = -(-len(kept) // TURN) or 1
+    again = [it for at, it in enumerate(kept) if at * turns // len(kept) == int(count) % turns]
     chance = random.Random(commit)
     for _ in range(CHECKS):
         # (each bug is as likely as any other)
         rest = groups_of(it for it in kept if it not in again)
         for group in chance.sample(rest, min(1, len(rest)), counts=[*map(len, rest)]):
             again += chance.sample(group, min(DRAWN, len(group)))
-    print(f"{len(kept)} bugs are in the record, of which {len(again)} are tried again", flush=True)
+    said = f"of which {len(again)} are tried again; {turns} commits in a row try all"
+    print(f"{len(kept)} bugs are in the record, {said}", flush=True)
     return [it for it in bugs if it not in kept or it in again]
 
 
@@ -143,7 +163,9 @@ def main(words):
     faults = sum(bad for it, _, bad in of_crates if is_asked(it))
     if is_list:
         ways = Counter(map(way_recorded, bugs))
-        print(f"in the record {ways['refuted']} are refuted, and {ways['lost']} lost")
+        changed = sum((recorded(it) or [it.sum])[0] != it.sum for it in bugs)
+        said = f"are refuted, {ways['lost']} lost, and {changed} have changed since"
+        print(f"in the record {ways['refuted']} {said}")
         print(f"{len(bugs) + faults} deliberate bugs, {faults} of which cannot be applied")
         return 1 if faults or not bugs else 0
     tried = [it for it in bugs if is_asked(it.crate)] if asked else due(bugs)

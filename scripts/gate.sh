@@ -79,12 +79,6 @@ step() {
     finish 1
 }
 
-# Passes a step over, and says why: NAME WHY
-pass_over() {
-    ran+="$1|"
-    echo "gate: $1 is passed over: $2" >>"$work/shown"
-}
-
 # Runs the kit's own gate on what is here, and says of how many must-fail edits its line tells that
 # they are refuted, by values or by a clause, of how many that a search met its limits, and of how
 # many neither (the kit cuts these lines).
@@ -126,7 +120,8 @@ step misuse misuse
 step vendor bash scripts/vendor_check.sh "$@"
 step snippets python3 scripts/snippets.py
 if [ "${WITHOUT_VALGRIND:-}" = yes ] && ! command -v valgrind >/dev/null; then
-    pass_over count 'there is no valgrind'
+    ran+='count|'
+    echo 'gate: count is passed over: there is no valgrind' >>"$work/shown"
 else
     step count python3 bench/count.py
 fi

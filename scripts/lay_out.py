@@ -34,6 +34,11 @@ def write(path, text):
         file.write(text)
 
 
+def said_by(*command):
+    """Returns what a program says, which has to end with status 0."""
+    return subprocess.run(command, check=True, **READ).stdout
+
+
 def uses_of(project):
     """Returns what each crate of a project uses, by its name, as crates.txt says."""
     rows = re.findall(r"^(\w+)[^:#\n]*:(.*)", read(f"{project}/crates.txt"), re.M)

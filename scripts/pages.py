@@ -19,7 +19,7 @@ import subprocess
 import sys
 from collections import Counter
 
-from lay_out import TOP, read
+from lay_out import READ, TOP, read, said_by
 
 # The end of a link, whose words may begin on the line above; and links of other forms.
 LINK = re.compile(r"\]\(<?([^)\s>]+)")
@@ -44,8 +44,9 @@ NAMED = re.compile(r"docs/(?:PROMISES|DEFINITIONS|EXPLICIT)\.md|crates/\w+/CALLI
 NAME = re.compile(r"(?<![\w./-])[A-Za-z_]\w{2,}(?![\w/-]|\.\w)")
 # Pages that may have figures: the table's own, and what each choice saved when it was made.
 WITH_FIGURES = ("bench/README.md", "docs/DECISIONS.md", "CHANGELOG.md")
-# What a section speaks of that may have no other figures than round ones.
+# What a section speaks of that may have no figures over 99, but round ones and a size.
 COSTS = re.compile(r"(?i)instruction|\d (?:cycles|[nµu]s)\b")
+FIGURE = re.compile(r"(?<![\w.-])(?<!\d,)(?!1,?024\b(?!,\d))\d[\d,]*\d\d(?<!00)(?![\w-]|,\d)")
 # What stands around the libraries, and the sources of these: their lines are printed.
 AROUND = re.compile(r"(?:tests|scripts|bench|misuse|crates/bench_\w+)/")
 SOURCES = re.compile(r"crates/(?:async_cell(?!\w*_callers/)\w*|cellrun|ghost_tokens)/src/")
@@ -141,8 +142,7 @@ def names_of_nothing(page, lines):
 @functools.cache
 def tools():
     """Returns the texts of all scripts, and what `rt` prints of itself."""
-    how = {"stdout": subprocess.PIPE, "stderr": subprocess.STDOUT, "text": True}
-    said = [subprocess.run(["rt", it], check=False, **how).stdout for it in ("version", "help")]
+    said = [subprocess.run(["rt", it], check=False, **READ).stdout for it in ("version", "help")]
     return "\n".join([*said, *map(read, git_files("*.py", "*.sh"))])
 
 
@@ -169,18 +169,11 @@ def unknown_names(page, lines):
 
 
 def typed_figures(page, lines):
-    """Yields numbers in the sections that speak of instructions, but for round ones and sizes."""
-    if page in WITH_FIGURES:
-        return
     heads = [at for at, line in enumerate(lines) if line.startswith("#")]
     for start, end in zip([0, *heads], [*heads, len(lines)]):
-        if not COSTS.search(" ".join(lines[start:end])):
-            continue
-        for at in range(start, end):
-            for figure in re.findall(r"(?<![\w.-])\d[\d,]*\d(?![\w-])", lines[at]):
-                number = int(figure.replace(",", ""))
-                if number > 99 and number % 100 and number != 1024:
-                    yield at, f"{figure}: figures stand in the table of bench/README.md alone"
+        if page not in WITH_FIGURES and COSTS.search(" ".join(lines[start:end])):
+            found = ((at, it) for at in range(start, end) for it in FIGURE.findall(lines[at]))
+            yield from ((at, f"{it}: figures stand in bench/README.md alone") for at, it in found)
 
 
 def line_of(found):
@@ -188,9 +181,7 @@ def line_of(found):
 
 
 def git_files(*patterns):
-    words = ["git", "ls-files", *patterns]
-    said = subprocess.run(words, stdout=subprocess.PIPE, text=True, check=True).stdout
-    return [it for it in said.split() if os.path.isfile(it)]
+    return [it for it in said_by("git", "ls-files", *patterns).split() if os.path.isfile(it)]
 
 
 def sizes(pages):

@@ -66,7 +66,8 @@ class Owners(Maker):
         weak, name, how = self.some(self.weak), self.name("u"), self.some(["take", "get", "clone"])
         of = self.some([weak, *(it for it, (_, _, kind) in self.made.items() if kind == "weak")])
         if self.random.random() < 0.2:
-            return self.line(f"is_closed {weak}", self.cell.look("is_closed"))
+            word = self.some(["is_closed", "is_set"])
+            return self.line(f"{word} {weak}", self.cell.look(word))
         if self.random.random() < 0.3 and how == "clone":
             self.weak.append(name)
             return self.line(f"clone {weak} {name}")
@@ -132,7 +133,7 @@ class Slots(Maker):
 
     def __init__(self, seed):
         super().__init__(seed)
-        self.owners, self.sides = [], []
+        self.owners, self.sides, self.waits = [], [], {}
 
     def begin(self):
         self.cell.owners, self.reply, self.is_over = 1, [True, None], False
@@ -151,11 +152,31 @@ class Slots(Maker):
         word, value = self.some(["set", "drop", "is_closed"]), self.value()
         if word == "is_closed":
             return self.line("is_closed it", self.cell.look(word))
+        for name in [*self.waits]:
+            self.end_wait(name)
         if word == "drop":
             self.end("it")
             return self.line("drop it")
         self.sides.remove("it")
         return self.line(f"set {value}", self.cell.set(value) if self.cell.owners else f"back {value}")
+
+    def ask_wait(self):
+        """Polls a future of `it` that waits for the close, maybe a new one, or ends it."""
+        name, task = self.some(["", *self.waits]), self.some(TASKS)
+        if name and self.random.random() < 0.5:
+            return self.end_wait(name)
+        call = f"poll {name}"
+        if not name:
+            name = self.name("c")
+            self.waits[name], call = [True, None], f"closed {name}"
+        reply = self.cell.poll(self.waits[name], task)
+        return self.line(f"{call} by {task}", reply.replace("closed", "ready"))
+
+    def end_wait(self, name):
+        """Ends such a future, which borrows `it`."""
+        word = self.some(["cancel", "drop"])
+        self.cell.leave(word, self.waits.pop(name)[1])
+        self.line(f"{word} {name}")
 
     def ask_reply(self):
         """Polls the side that waits, has it look, or ends it."""
@@ -178,8 +199,8 @@ class Slots(Maker):
     def step(self):
         if not self.sides:
             self.begin()
-        elif self.sides[0] == "it" and self.random.random() < 0.4:
-            self.ask_it()
+        elif self.sides[0] == "it" and self.random.random() < 0.6:
+            self.some([self.ask_it, self.ask_wait])()
         elif self.sides[-1] != "it":
             self.ask_reply()
 

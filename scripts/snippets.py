@@ -29,7 +29,7 @@ EXAMPLE = re.compile(r"^ */// ```rust\n((?: *///.*\n)+?) */// ```$", re.M)
 # What the examples in docstrings name, where it is from.
 IMPORTS = {"next": "futures::StreamExt", "block_on": "futures::executor::block_on"}
 IMPORTS |= {"left_future": "futures::FutureExt"}
-IMPORTS |= {it: f"futures::future::{it}" for it in ("pending", "ready")}
+IMPORTS |= {it: f"futures::future::{it}" for it in ("pending", "ready", "select", "Either")}
 IMPORTS |= {"thread": "std::thread", "Duration": "std::time::Duration"}
 # What `rt` may do in a module, where HostRuntime has no rights of its own.
 RIGHTS = (
@@ -92,7 +92,8 @@ def unread(paths, snippets):
 
 def examples_of(crate):
     """Yields the examples in the docstrings of a crate."""
-    names = {**IMPORTS, **{name: f"{crate.name}::{name}" for name, _, _ in crate.exports()}}
+    names = {name.split("::")[-1]: f"{crate.name}::{name}" for name, _, _ in crate.exports()}
+    names = {**IMPORTS, **names}
     for file in sorted({it.file for it in crate.items}):
         for it in EXAMPLE.finditer(read(file)):
             text = re.sub(r"(?m)^ */// ?", "", it[1])

@@ -36,38 +36,52 @@ lines_of() {
     sed -nE "/^(${all// /|}):/p" "$1" | sort
 }
 
-# Links of a folder's pages that lead elsewhere than to those of the copy become plain words.
+# Links of folders' pages that lead elsewhere than to those of the copy become plain words.
 link() {
-    find "$1" -maxdepth 1 -name '*.md' -exec sed -zEi "
+    find "$@" -maxdepth 1 -name '*.md' -exec sed -zEi "
         s,\]\((\.\./(\.\./)?)?(docs/)?(($pages)\.md),](../railyarrow/\4,g
         s,\[([^]]*)\]\((\.\./[^r]|[A-Z])[^)]*\),\1,g" {} +
 }
 
+# Lays out a tree of git, or these paths of it: FOLDER TREE [PATH..]
+lay() {
+    local why
+    mkdir -p "$1"
+    why=$({ git archive "${@:2}" | tar -x -C "$1"; } 2>&1) || refuse "$work: ${why%%$'\n'*}"
+}
+
+# Says in a crate of a copy of which tree it is: FOLDER CRATE TREE
+mark() {
+    [ "$pages" = "$old" ] || printf '# %s of tree %s\n* -text\n' "${@:2}" >"$1/.gitattributes"
+}
+
 # Lays out in $work a crate of a copy: NAME CRATE TREE
 lay_crate() {
-    local why to=$work/$1/$2
-    mkdir -p "$to"
-    why=$({ git archive "$3" | tar -x -C "$to"; } 2>&1) || refuse "$work: ${why%%$'\n'*}"
+    local to=$work/$1/$2
+    lay "$to" "$3"
     rm -rf "$to"/{bugs*,must-fail}
-    [ "$pages" = "$old" ] || printf '# %s of tree %s\n* -text\n' "${@:2}" >"$to/.gitattributes"
+    mark "$to" "${@:2}"
     link "$to"
 }
 
 # Lays out in $work what a copy of these crates has: NAME COMMIT CRATE..
 lay_out() {
-    local it to=$work/$1
+    local it tree to=$work/$1
     mkdir -p "$to/railyarrow"
     git show "$2:crates.txt" >"$to.txt"
     lines_of "$to.txt" "${@:3}" >"$to.lines"
-    while IFS=: read -r it _; do
-        lay_crate "$1" "$it" "$(git rev-parse "$2:crates/$it")"
-    done <"$to.lines"
+    [ ! -s "$to.lines" ] || lay "$to" "$2:crates" $(names_of "$to.lines")
+    rm -rf "$to"/*/{bugs*,must-fail}
+    git ls-tree "$2:crates" >"$to.trees"
+    while read -r _ _ tree it; do
+        [ ! -d "$to/$it" ] || mark "$to/$it" "$it" "$tree"
+    done <"$to.trees"
     for it in LICENSE NOTICE CHANGELOG.md docs/{GUIDE,DEFINITIONS,PROMISES}.md; do
         [[ $it != *.md || ${it%.md} =~ ($pages)$ ]] || continue
         ! git cat-file -e "$2:$it" 2>/dev/null || git show "$2:$it" >"$to/railyarrow/${it#docs/}"
     done
     [ "$pages" = "$old" ] || echo '* -text' >"$to/railyarrow/.gitattributes"
-    link "$to/railyarrow"
+    link "$to"/*/
     it=$(sed -En "s/^[^ ]+ $2 ([^ ]+).*/, for \1/p" "$work/releases")
     printf 'version %s\ncommit %s\ncrates %s\n' "$(name_of "$2")$it" "$2" "${*:3}" \
         >"$to/railyarrow/VERSION"
