@@ -30,7 +30,8 @@ into_owner MADE ON?; weak MADE ON?; clone NAME MADE; upgrade NAME MADE; values M
 next NAME BY; guard MADE VALUE ON?; guarded VALUE HOW MORE? ON?; release NAME;
 into_guard MADE VALUE ON?; reserve VALUE; owners; add_owner; end_owner; take_inner; read NAME?;
 peek NAME?; follow MADE ON?; states MADE ON; changed MADE? ON BY?; wait_for VALUE MADE ON BY?;
-has_changed NAME; mark_changed NAME; mark_unchanged NAME; read_and_update NAME; peek_and_update NAME
+has_changed NAME; mark_changed NAME; mark_unchanged NAME; read_and_update NAME; peek_and_update NAME;
+closed MADE ON? BY?
 """
 CALLS = {it.split()[0]: it.strip() for it in CALLS.split(";")}
 FORMS = {
