@@ -1,5 +1,5 @@
 ghost use Rattle.std.specs.Prelude.{◌≡◌, [], Option};
-ghost use Rattle.async_cell_core.specs.Polled.{poll_reply};
+ghost use Rattle.async_cell_core.specs.{IsStep.{done_answer, end_answer, replace_answer}, Polled.poll_reply};
 
 use crate::{Poll, Refusal, Reply, Wakers};
 
@@ -117,6 +117,36 @@ impl<T, W> Answer<T, W> {
         match polled {
             Ok(Poll::Ready(content)) => Answer::replied(Reply::Ready(content)),
             Ok(Poll::Pending) => Answer::replied(Reply::Pending),
+            Err(why) => Answer::refused(why, None),
+        }
+    }
+
+    /// The answer of an `or_set` or a `replace` with this result.
+    pub(crate) fn replaced(replaced: Result<(Option<T>, Wakers<W>), T>) -> Self
+        ensures { result ≡ replace_answer replaced }
+    {
+        match replaced {
+            Ok((old, woken)) => Answer::new(Reply::Value(old), woken),
+            Err(back) => Answer::refused(Refusal::Closed, Some(back)),
+        }
+    }
+
+    /// The answer of an `end_owner` or a `take_inner` with this result.
+    pub(crate) fn ended(ended: Result<(Option<T>, Wakers<W>), Refusal>) -> Self
+        ensures { result ≡ end_answer ended }
+    {
+        match ended {
+            Ok((last, woken)) => Answer::new(Reply::Value(last), woken),
+            Err(why) => Answer::refused(why, None),
+        }
+    }
+
+    /// The answer of an `update_some` or an `add_owner` with this result.
+    pub(crate) fn done(done: Result<(), Refusal>) -> Self
+        ensures { result ≡ done_answer done }
+    {
+        match done {
+            Ok(()) => Answer::replied(Reply::Done),
             Err(why) => Answer::refused(why, None),
         }
     }

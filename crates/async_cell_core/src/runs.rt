@@ -25,37 +25,19 @@ fn step_no_get<T: Drop, W: Wakes, E: Edit<T> + Drop>(
             Ok(woken) => Answer::new(Reply::Done, woken),
             Err(back) => Answer::refused(Refusal::Closed, Some(back)),
         },
-        Call::OrSet(value) => match core.or_set(value) {
-            Ok((unused, woken)) => Answer::new(Reply::Value(unused), woken),
-            Err(back) => Answer::refused(Refusal::Closed, Some(back)),
-        },
-        Call::Replace(value) => match core.replace(value) {
-            Ok((old, woken)) => Answer::new(Reply::Value(old), woken),
-            Err(back) => Answer::refused(Refusal::Closed, Some(back)),
-        },
+        Call::OrSet(value) => Answer::replaced(core.or_set(value)),
+        Call::Replace(value) => Answer::replaced(core.replace(value)),
         Call::Update(edit) => match core.update(|content| edit.edit(content)) {
             Ok(woken) => Answer::new(Reply::Done, woken),
             Err(why) => Answer::refused(why, None),
         },
-        Call::UpdateSome(edit) => match core.update_some(|value| edit.edit_some(value)) {
-            Ok(()) => Answer::replied(Reply::Done),
-            Err(why) => Answer::refused(why, None),
-        },
+        Call::UpdateSome(edit) => Answer::done(core.update_some(|value| edit.edit_some(value))),
         Call::TryTake => Answer::replied(Reply::Value(core.try_take())),
         Call::IsSet => Answer::replied(Reply::Is(core.is_set())),
         Call::PollTake(waker) => Answer::polled(core.poll_take(&waker)),
-        Call::AddOwner => match core.add_owner() {
-            Ok(()) => Answer::replied(Reply::Done),
-            Err(why) => Answer::refused(why, None),
-        },
-        Call::EndOwner => match core.end_owner() {
-            Ok((last, woken)) => Answer::new(Reply::Value(last), woken),
-            Err(why) => Answer::refused(why, None),
-        },
-        Call::TakeInner => match core.take_inner() {
-            Ok((inner, woken)) => Answer::new(Reply::Value(inner), woken),
-            Err(why) => Answer::refused(why, None),
-        },
+        Call::AddOwner => Answer::done(core.add_owner()),
+        Call::EndOwner => Answer::ended(core.end_owner()),
+        Call::TakeInner => Answer::ended(core.take_inner()),
         Call::TryGet | Call::PollGet(_) => unreachable!(),
     }
 }
@@ -73,9 +55,11 @@ pub fn step<T: Clone, W: Wakes, E: Edit<T> + Drop>(
     ensures up_to_clones { IsStepUpTo T.is_clone W.Wakes
         core.old (kept_call E.edit E.edit_some core.old.cell call) result core.new }
     ensures if_no_get { is_get call ≡ false
-        → IsStep W.Wakes core.old (kept_call E.edit E.edit_some core.old.cell call) result core.new }
+        → IsStep W.Wakes
+        core.old (kept_call E.edit E.edit_some core.old.cell call) result core.new }
     ensures if_exact { IsExact T.is_clone
-        → IsStep W.Wakes core.old (kept_call E.edit E.edit_some core.old.cell call) result core.new }
+        → IsStep W.Wakes
+        core.old (kept_call E.edit E.edit_some core.old.cell call) result core.new }
     ensures copies { is_get call ≡ true → IfSome (content core.old.cell) (λ value.
         IsCopied T.is_clone T.is_infallible value result.reply) }
     ensures unchanged { is_poll call ≡ false → is_refused result.reply ≡ true

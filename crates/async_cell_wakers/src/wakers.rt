@@ -1,8 +1,9 @@
-ghost use Rattle.std.specs.Prelude.{◌≡◌, List, [], ◌∷◌, length, MatchOption, IsTrue, IsNone, IfSome, IfNone, ◌↔◌};
+ghost use Rattle.std.specs.Prelude.{◌≡◌, List, [], ◌∷◌, ◌++◌, length, MatchOption, IsTrue, IsNone, IfSome, IfNone, ◌↔◌};
 ghost use Rattle.std.specs.{Iterator.at_most, Vec.Iter.into_iter_items};
 ghost use Rattle.async_cell_wakers.specs.WaitList.{first_then, items_left};
 
 use crate::wakes::Wakes;
+use std::iter::FusedIterator;
 use std::marker::Model;
 use std::{fmt, vec};
 
@@ -33,8 +34,16 @@ impl<W> Wakers<W> {
         }
     }
 
-    /// Returns the number of wakers that are left, in constant time.
-    pub fn len(&self) -> usize
+    /// Returns whether no waker is left.
+    pub fn is_empty(&self) -> bool
+        ensures { IsTrue result ↔ (self.now ≡ []) }
+    {
+        self.left() == 0
+    }
+
+    /// Returns the number of wakers that are left. It is what `len` returns, also where `W` is not
+    /// `Drop`.
+    fn left(&self) -> usize
         ensures { result ≡ length self.now }
     {
         let rest = self.rest.as_ref().map_or(0, |rest| rest.len());
@@ -42,13 +51,6 @@ impl<W> Wakers<W> {
             Some(_) => 1 + rest,
             None => rest,
         }
-    }
-
-    /// Returns whether no waker is left.
-    pub fn is_empty(&self) -> bool
-        ensures { IsTrue result ↔ (self.now ≡ []) }
-    {
-        self.len() == 0
     }
 }
 
@@ -82,7 +84,39 @@ impl<W: Drop> Iterator for Wakers<W> {
     fn next(&mut self) -> Option<W> {
         Wakers::next(self)
     }
+
+    fn size_hint(&self) -> (usize, Option<usize>) {
+        let len = self.len();
+        (len, Some(len))
+    }
 }
+
+/// Also iterates from the back: removes and returns the waker that was registered last.
+impl<W: Drop> DoubleEndedIterator for Wakers<W> {
+    ghost next_back_gives = { λ s r t.
+        MatchOption r ((s ≡ []) × (t ≡ [])) (λ waker. s ≡ t ++ waker ∷ []) };
+
+    fn next_back(&mut self) -> Option<W> {
+        let last = match &mut self.rest {
+            Some(rest) => rest.next_back(),
+            None => None,
+        };
+        match last {
+            Some(waker) => Some(waker),
+            None => self.first.take(),
+        }
+    }
+}
+
+/// `len` returns the number of wakers that are left, in constant time.
+impl<W: Drop> ExactSizeIterator for Wakers<W> {
+    fn len(&self) -> usize {
+        Wakers::left(self)
+    }
+}
+
+/// After the last waker, `next` and `next_back` return `None` each time.
+impl<W: Drop> FusedIterator for Wakers<W> {}
 
 impl<W: Wakes> Wakers<W> {
     /// Wakes all wakers that are left, in order.
@@ -110,6 +144,6 @@ fn wake_rest<W: Wakes>(rest: vec::IntoIter<W>) {
 /// Prints how many wakers are left.
 impl<W> fmt::Debug for Wakers<W> {
     fn fmt<F: fmt::Write>(&self, f: &mut fmt::Formatter<F>) -> fmt::Result {
-        write!(f, "Wakers({})", self.len())
+        write!(f, "Wakers({})", self.left())
     }
 }
