@@ -1,4 +1,5 @@
 mod Audited
 mod NotForgotten
+mod StillWaits
 mod TwoPolls
 pub mod InOrder

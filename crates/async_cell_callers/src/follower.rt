@@ -1,14 +1,17 @@
 //! What is promised of a follower of a `Latest` follows from the laws, whatever calls others make
 //! in between.
-ghost use Rattle.std.specs.Prelude.{◌≡◌, ◌≢◌, ◌≤◌, ◌<◌, ℕ, None, Some, Ok, true, IfSome, IsSome};
+ghost use Rattle.std.specs.Prelude.{◌≡◌, ◌≢◌, ◌≤◌, ◌<◌, ℕ, None, Some, Ok, true, false, IfNone, IfOk, IfSome, IsSome};
 ghost use Rattle.std.specs.Fn.{FnOnceReturnsAtMut};
-ghost use Rattle.async_cell_latest.specs.State.{State, Stays, is_closed, is_writable};
+ghost use Rattle.async_cell_latest.specs.State.{State, Stays, is_closed, is_waited_for, is_writable, versions_limit};
+ghost use Rattle.async_cell_model.specs.History.{IsCovered};
+ghost use Rattle.async_cell_wakers.specs.Named.{same_name};
 ghost use Rattle.async_cell_callers.specs.Calls.{AreCalls};
 
 use async_cell_latest::laws::{
-    the_last_state_stays, the_versions_of_a_follower_rise, two_histories_are_one,
+    no_waiting_follower_is_forgotten, the_last_state_stays, the_versions_of_a_follower_rise,
+    two_histories_are_one,
 };
-use async_cell_latest::{Latest, Named, Poll, Refusal};
+use async_cell_latest::{Latest, Named, Poll, Refusal, Wakers};
 use std::alloc::Global;
 
 /// A follower that has seen the version `seen` polls, others make any calls, and it polls again.
@@ -68,6 +71,51 @@ where
     Some((last, then))
 }
 
+/// A follower that has seen the version `seen` polls, others make any calls, and then this value is
+/// written. Returns the wakers that the write hands out: the follower's is one of them, or one that
+/// would wake it. Writes nothing, and returns `None`, where the follower does not wait by then: its
+/// next poll is ready. So the follower never sleeps beside a version that it has not seen.
+pub fn write_after_others<F>(
+    latest: &mut Latest<u64, Named>,
+    seen: u64,
+    name: &Named,
+    value: u64,
+    others: F,
+) -> Result<Option<Wakers<Named>>, Refusal>
+where
+    F: FnOnce(&mut Latest<u64, Named>) + Drop,
+    requires callable { F.IsAlwaysCallable others }
+    requires calls { (s t : State ℕ Named) → FnOnceReturnsAtMut F.FnOnce others s tt t
+        → AreCalls s t }
+    requires below { seen < versions_limit }
+    ensures woken { IfOk result (λ given. IfSome given (λ woken.
+        IsCovered same_name woken name.now)) }
+    ensures ready { IfOk result (λ given. IfNone given
+        (is_waited_for latest.new seen ≡ false)) }
+{
+    // For the proof: the poll and the others' calls are one history, in which no waiting ends.
+    two_histories_are_one::<u64, Named>();
+    no_waiting_follower_is_forgotten::<u64, Named>();
+    if latest.poll_changed(seen, name)?.is_ready() {
+        return Ok(None);
+    }
+    others(latest);
+    if latest.changed_since(seen).is_ready() {
+        return Ok(None);
+    }
+    match latest.write(value) {
+        Ok((_, woken)) => Ok(Some(woken)),
+        Err(_) => Ok(None),
+    }
+}
+
+/// Adds an owner: a call that others may make in between, which ends no waiting.
+pub fn add_owner(latest: &mut Latest<u64, Named>)
+    ensures calls { AreCalls latest.old latest.new }
+{
+    let _ = latest.add_owner();
+}
+
 /// Writes the value, and wakes all that wait: a call that others may make in between.
 pub fn write(latest: &mut Latest<u64, Named>, value: u64)
     ensures calls { AreCalls latest.old latest.new }
@@ -100,6 +148,15 @@ fn shown(polled: Result<Poll<Option<u64>>, Refusal>) -> Option<u64>
         Ok(Poll::Ready(version)) => version,
         _ => None,
     }
+}
+
+/// Waits for a write around a call of others, and wakes all that the write hands out.
+pub fn around_a_new_owner(alloc: Global) -> Result<(), Refusal> {
+    let mut latest = Latest::new(alloc, 0);
+    if let Some(woken) = write_after_others(&mut latest, 1, &Named(7), 8, add_owner)? {
+        woken.wake_all();
+    }
+    Ok(())
 }
 
 /// What both tell of a new state, around a write of others.

@@ -1,5 +1,6 @@
 //! A watcher of a state never goes back: what it is shown later was written later.
-ghost use Rattle.std.specs.Prelude.{◌≡◌, ◌<◌, ◌≤◌, ◌⊎◌, ℕ, List, Some, true, IfOk, IfSome};
+ghost use Rattle.std.specs.Prelude.{◌≡◌, ◌<◌, ◌≤◌, ◌⊎◌, ℕ, List, Some, true, false, length, IfOk, IfSome};
+ghost use Rattle.async_cell_latest.specs.State.{versions_limit};
 ghost use Rattle.async_cell_latest_sync.specs.Life.{GoesOn};
 ghost use Rattle.async_cell_latest_sync.specs.InOrder.{AllFollowing, AreInOrder, IsLast, OnlyFollowing};
 
@@ -111,12 +112,15 @@ fn one_more(value: &u64) -> u64
     value.saturating_add(1)
 }
 
-/// Raises a gauge that never falls, whoever else writes it. Returns whether it took the value.
+/// Raises a gauge that never falls, whoever else writes it. Returns whether it took the value. It
+/// does not only at its highest version: other owners may end, but this one keeps it open.
 pub fn raise<R: Host, N: Protocol<u64>>(
     owner: &Owner<u64, R, N>,
     seen: &mut Witness<u64, N>,
 ) -> bool
     requires all { AllFollowing N.may (λ old new. old ≤ new) }
+    ensures open { seen.new.closed ≡ false }
+    ensures full { result ≡ false → versions_limit ≤ length seen.new.values }
 {
     laws::what_follows_may_be_written::<u64, Rises, N>();
     owner.update_as(seen, one_more).is_ok()

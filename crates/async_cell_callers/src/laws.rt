@@ -53,6 +53,5 @@ pub fn of_lists() {
 pub fn of_latest_states() {
     async_cell_latest::laws::a_poll_shows_the_last_state::<Uncloned, u64>();
     async_cell_latest::laws::a_version_names_one_value::<Uncloned, u64>();
-    async_cell_latest::laws::no_waiting_follower_is_forgotten::<Uncloned, u64>();
     async_cell_latest::laws::a_history_ends_in_a_sound_state::<Uncloned, u64>();
 }

@@ -1,7 +1,8 @@
 -- What one more write, or the close, makes of a life, what follows from a beginning of it, and what
 -- is shown after what was seen.
-use Rattle.async_cell_latest_sync.proofs.Words.{State, Life, GoesOn, IsLawful, IsOf, IsShownNext, values_of, closed_of, life_of, ◌≡◌, ◌≢◌, ◌≤◌, ℕ, true, false, List}
+use Rattle.async_cell_latest_sync.proofs.Words.{State, Begun, Life, GoesOn, IsLawful, IsOf, IsShownNext, values_of, closed_of, life_of, ◌≡◌, ◌≢◌, ◌≤◌, true, false, List}
 use Rattle.async_cell_latest_sync.proofs.Words.{[], ◌∷◌, ◌++◌, length, Option, Some, None, IsSome, refl, ap, sym, subst, arith, length-append, shorter_begins}
+use Rattle.async_cell_latest_sync.proofs.Words.{◌<◌, is_closed}
 
 module _ {T : Type 0} where
   -- one more write adds its value
@@ -42,7 +43,11 @@ module _ {T : Type 0} where
   lawful_more may writes value is_open lawful it =
       subst (λ (l : Life T). IsLawful may l.values) (sym (life_written writes value is_open)) (record { each = each_append may (values_of writes) value lawful.each it })
 
-module _ {T W : Type 0} (named : Option ℕ) (holds : T → Type 0) (state : State T W) (seen now : Life T) where
+-- a state with an owner is open
+pub open_if_owned : {T W : Type 0} (s : State T W) → 0 < s.owners → is_closed s ≡ false
+open_if_owned s owned = grind arith
+
+module _ {T W : Type 0} (named : Option Begun) (holds : T → Type 0) (state : State T W) (seen now : Life T) where
   -- a state of another version shows a value that was not seen
   pub shown_next : (is_clone : T → T → Type 0) (copy : T) → IsSome named → IsOf named holds state now → GoesOn seen now → length seen.values ≢ state.version → is_clone state.value copy
       → IsShownNext is_clone seen copy now

@@ -14,10 +14,21 @@ pub record Desk (T W : Type 0) : Type 0 where
   pub state : State T W
   pub life : Life T
 
+-- how a named state began: the name of the list of its values, and that of the count of its owners,
+-- if they are counted
+pub record Begun : Type 0 where
+  pub name : ℕ
+  pub permits : Option ℕ
+
 -- a state without a name can have any list
-abbrev pub Fits : Option ℕ → ℕ → Type 0
+abbrev pub Fits : Option Begun → ℕ → Type 0
 Fits None name = ⊤
-Fits (Some named) name = name ≡ named
+Fits (Some named) name = name ≡ named.name
+
+-- the name of the count of a state's owners
+abbrev pub permits_of : Option Begun → Option ℕ
+permits_of None = None
+permits_of (Some named) = named.permits
 
 module _ {T : Type 0} where
   -- the values of a list of writes, up to the close, which is `None`
@@ -47,7 +58,7 @@ module _ {T : Type 0} where
 
   -- the life of a state, as it is now: its version counts its values, of which its own is the last
   -- (a state without a name may have changed its value without a write). The value keeps the rule.
-  pub record IsOf {W : Type 0} (named : Option ℕ) (holds : T → Type 0) (state : State T W)
+  pub record IsOf {W : Type 0} (named : Option Begun) (holds : T → Type 0) (state : State T W)
       (life : Life T) : Type 0 where
     pub counted : length life.values ≡ state.version
     pub closed : life.closed ≡ is_closed state

@@ -1,11 +1,11 @@
 //! The list of the values that a state has had, and what is known of them. The list exists only in
 //! proofs.
 ghost use Rattle.std.specs.Prelude.{◌≡◌, ◌⊎◌, ⊤, ℕ, List, [], ◌∷◌, ◌++◌, length, true, false, Option, Some, None, IsSome};
-ghost use Rattle.async_cell_latest_sync.specs.Life.{Fits, GoesOn, IsLawful, Life, life_of, values_of};
+ghost use Rattle.async_cell_latest_sync.specs.Life.{Begun, Fits, GoesOn, IsLawful, Life, life_of, permits_of, values_of};
 
 use async_cell_latest::{Latest, TaskWaker};
 use async_cell_step::{Rule, Ruled};
-use ghost_tokens::{Log, Makes, Seen};
+use ghost_tokens::{Count, Log, Makes, Permit, Seen};
 use std::marker::{Brand, Model, PhantomData};
 
 /// Names a state, and says which values may be written to the state, and what is known of each
@@ -13,7 +13,7 @@ use std::marker::{Brand, Model, PhantomData};
 pub trait Protocol<T> {
     /// The name of the list of its values. If it is `None`, the list has no name, and no witness
     /// sees it.
-    ghost named: { Option ℕ };
+    ghost named: { Option Begun };
 
     /// Whether this value may be written after these.
     ghost may: { List T → T → Type 0 };
@@ -65,24 +65,60 @@ impl<T> Protocol<T> for Brand {
 /// The empty list of values of a state that is not made yet. A protocol can name this list. To get
 /// a protocol that names this list, write a function that is generic over the protocol, and call
 /// the function with `std::marker::Brand`. A `Blank` is zero-sized.
-#[derive(Drop)]
 pub struct Blank<T> {
     log: Log<Option<T>>,
+    count: Count,
+    permit: Permit,
 }
 
-/// Contracts see the name of the list.
+/// Contracts see the name of the list, and that of the count of the state's owners.
 impl<T> Model for Blank<T> {
-    ghost Value = { ℕ };
+    ghost use Rattle.std.specs.Prelude.{◌≡◌, [], IsSome};
+    ghost use Rattle.async_cell_latest_sync.specs.Life.{Begun};
 
-    ghost view = { λ b. b.log.name };
+    ghost Value = { Begun };
 
-    ghost invariant = { λ b. b.log.list ≡ [] };
+    ghost view = { λ b. record { name = b.log.name; permits = b.count.name } };
+
+    ghost invariant = { λ b. (b.log.list ≡ []) × (b.permit.name ≡ b.count.name)
+        × IsSome b.count.name × (b.count.out ≡ 1) };
 }
 
 impl<T> Blank<T> {
-    /// Begins the list of values of a state that is not made yet, and gives the list a new name.
+    /// Begins the list of values of a state that is not made yet, and gives the list a new name. The
+    /// count of the state's owners, which begins with one, gets a name, too.
     pub fn new() -> Self {
-        Blank { log: Log::open() }
+        let mut count = Count::open();
+        let permit = count.give();
+        Blank {
+            log: Log::open(),
+            count,
+            permit,
+        }
+    }
+
+    /// Returns the list, the count of the owners, and the permit of the first owner.
+    pub(crate) fn into_parts(self) -> (Log<Option<T>>, Count, Permit)
+        ensures list { result.0.name ≡ self.name }
+        ensures empty { result.0.list ≡ [] }
+        ensures count { result.1.name ≡ self.permits }
+        ensures counted { IsSome self.permits }
+        ensures one { result.1.out ≡ 1 }
+        ensures permit { result.2.name ≡ self.permits }
+    {
+        let Blank { log, count, permit } = self;
+        (log, count, permit)
+    }
+}
+
+impl<T> Drop for Blank<T> {
+    fn drop(self) {
+        let Blank {
+            log: _,
+            count: _,
+            permit,
+        } = self;
+        permit.lose();
     }
 }
 
@@ -106,13 +142,13 @@ impl<T, N: Protocol<T>> Model for Values<T, N> {
 impl<T: Drop, N: Protocol<T>> Values<T, N> {
     /// Begins the list of values of a new state.
     #[tactic(auto, using(crate::proofs::Lives::first_lawful))]
-    pub(crate) fn begin(blank: Blank<T>, state: &Latest<T, TaskWaker>) -> Self
-        requires named { Fits N.named blank }
+    pub(crate) fn begin(mut log: Log<Option<T>>, state: &Latest<T, TaskWaker>) -> Self
+        requires named { Fits N.named log.name }
+        requires empty { log.list ≡ [] }
         requires may { N.may [] state.now.value }
         ensures begun { result ≡ record { values = state.now.value ∷ []; closed = false } }
         ensures rule { N.holds state.now.value }
     {
-        let Blank { mut log } = blank;
         log.push::<_, Entry>(state);
         Values {
             log,
@@ -171,7 +207,8 @@ impl<T, N: Protocol<T>> Model for Witness<T, N> {
 
     ghost view = { λ w. life_of w.seen.list };
 
-    ghost invariant = { λ w. (N.named ≡ Some w.seen.name)
+    ghost invariant = { λ w.
+        (N.named ≡ Some (record { name = w.seen.name; permits = permits_of N.named }))
         × IsLawful N.may (values_of w.seen.list)
         × (w.version ≡ length (values_of w.seen.list)) };
 }

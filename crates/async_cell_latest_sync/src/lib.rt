@@ -7,6 +7,7 @@ mod follower;
 mod history;
 pub mod laws;
 mod owner;
+mod permit;
 
 pub use async_cell_latest::{Refusal, TaskWaker};
 pub use async_cell_step::{Rule, Ruled, With};

@@ -1,11 +1,13 @@
-ghost use Rattle.std.specs.Prelude.{◌≡◌, [], ◌∷◌, ◌++◌, Bool, List, None, Some, false, IsOk, IfOk, IfErr, OnOk, OnErr};
+ghost use Rattle.std.specs.Prelude.{◌≡◌, ◌≤◌, [], ◌∷◌, ◌++◌, length, Bool, List, None, Some, false, IsOk, IfOk, IfErr, IsSome, OnOk, OnErr};
 ghost use Rattle.std.specs.Fn.{FnOnceReturnsAt, FnOnceReturnsAtMut};
 ghost use Rattle.async_cell_model.specs.Refusal.{FailsWithClosed, FailsWithMemory, IsOwnerRefusal};
 ghost use Rattle.async_cell_step.specs.Rule.{IsCloneOfOne};
-ghost use Rattle.async_cell_latest_sync.specs.Life.{GoesOn, IsUpdated, IsWritten, MayUpdate, MayWrite, TakesNoMore};
+ghost use Rattle.async_cell_latest.specs.State.{versions_limit};
+ghost use Rattle.async_cell_latest_sync.specs.Life.{GoesOn, IsUpdated, IsWritten, MayUpdate, MayWrite};
 ghost use Rattle.async_cell_latest_sync.specs.Names.{cell_followed, cell_owned};
 
 use crate::cell::{LatestCell, LatestCore};
+use crate::permit::OwnerPermit;
 use crate::{Blank, Follower, Protocol, Refusal, Rule, Ruled, Unruled, Witness};
 use async_cell_step::{Lock, Opens, Step, Writes, end, end_and_wake, end_and_wake_one, put_held};
 use futures::task::Source;
@@ -33,6 +35,8 @@ pub struct Owner<T: Drop, R: Wait + Drop, N: Protocol<T> = Unruled> {
     #[derive_where(skip)]
     pub(crate) cell: Arc<LatestCell<T, N>>,
     #[derive_where(skip)]
+    pub(crate) permit: OwnerPermit<T, N>,
+    #[derive_where(skip)]
     pub(crate) rt: R,
 }
 
@@ -48,7 +52,8 @@ impl<T: Drop, R: Wait + Copy> Owner<T, R> {
     pub fn new(alloc: Global, value: T, rt: R) -> Result<Self, Refusal>
         ensures refused { FailsWithMemory result }
     {
-        Owner::of(alloc, LatestCore::begin(alloc, value, Blank::new()), rt)
+        let (core, permit) = LatestCore::unnamed(alloc, value);
+        Owner::of(alloc, core, permit, rt)
     }
 }
 
@@ -60,7 +65,8 @@ impl<T: Drop, R: Wait + Copy, P: Rule<T>> Owner<T, R, Ruled<P>> {
         requires rule { P.holds value }
         ensures refused { FailsWithMemory result }
     {
-        Owner::of(alloc, LatestCore::begin(alloc, value, Blank::new()), rt)
+        let (core, permit) = LatestCore::unnamed(alloc, value);
+        Owner::of(alloc, core, permit, rt)
     }
 }
 
@@ -80,14 +86,19 @@ impl<T: Drop, R: Wait + Copy, N: Protocol<T>> Owner<T, R, N> {
             made.1 ≡ record { values = value ∷ []; closed = false }) }
         ensures refused { FailsWithMemory result }
     {
-        let core = LatestCore::<T, N>::begin(alloc, value, blank);
+        let (core, permit) = LatestCore::<T, N>::begin(alloc, value, blank);
         let seen = core.witness();
-        Ok((Owner::of(alloc, core, rt)?, seen))
+        Ok((Owner::of(alloc, core, permit, rt)?, seen))
     }
 
     /// Makes the first owner of this state. Fails with `Memory` if there is no memory for the
     /// state.
-    fn of(alloc: Global, core: LatestCore<T, N>, rt: R) -> Result<Self, Refusal>
+    fn of(
+        alloc: Global,
+        core: LatestCore<T, N>,
+        permit: OwnerPermit<T, N>,
+        rt: R,
+    ) -> Result<Self, Refusal>
         ensures refused { FailsWithMemory result }
     {
         let cell = LatestCell {
@@ -95,8 +106,11 @@ impl<T: Drop, R: Wait + Copy, N: Protocol<T>> Owner<T, R, N> {
             source: Source::new(),
         };
         match Arc::new(alloc, cell) {
-            Ok(cell) => Ok(Owner { cell, rt }),
-            Err(AllocFailed { value: _ }) => Err(Refusal::Memory),
+            Ok(cell) => Ok(Owner { cell, permit, rt }),
+            Err(AllocFailed { value: _ }) => {
+                permit.into_permit().lose();
+                Err(Refusal::Memory)
+            }
         }
     }
 
@@ -119,17 +133,24 @@ impl<T: Drop, R: Wait + Copy, N: Protocol<T>> Owner<T, R, N> {
     }
 
     /// Adds an owner. Use this in place of a clone. Fails with `Memory` if the count of the state's
-    /// `Arc` is full, and with `OwnersFull` if the state has 4,294,967,295 owners already. The
-    /// contract also allows `Closed`, which cannot happen while this owner lives.
+    /// `Arc` is full, and with `OwnersFull` if the state has 4,294,967,295 owners already. `Closed`
+    /// cannot happen while this owner lives. If the state has no witness, the contract allows it.
     pub fn another(&self) -> Result<Self, Refusal>
         ensures of_this { IfOk result (λ owner. cell_owned owner ≡ cell_owned self.now) }
+        ensures open { IsSome N.named → IfErr result (λ why. ¬ (why ≡ Refusal.Closed)) }
         ensures refused { IfErr result IsOwnerRefusal }
     {
         let cell = Arc::try_clone(&self.cell)?;
         let mut step = cell.core.lock(&self.rt);
-        let added = step.lend().add_owner();
-        end(step, added)?;
-        Ok(Owner { cell, rt: self.rt })
+        let core = step.lend();
+        core.proves_open(&self.permit);
+        let added = core.add_owner();
+        let permit = end(step, added)?;
+        Ok(Owner {
+            cell,
+            permit,
+            rt: self.rt,
+        })
     }
 }
 
@@ -267,13 +288,15 @@ impl<T: Drop, R: Wait + Drop, N: Protocol<T>> Owner<T, R, N> {
         self.cell.core.places(&self.rt)
     }
 
-    /// As `set`, but shows the write to the witness. If the state takes no further write, the value
-    /// is returned in the error.
+    /// As `set`, but shows the write to the witness. Fails only if the state has had
+    /// 18,446,744,073,709,551,615 values, since this owner keeps it open. The value is then returned
+    /// in the error.
     pub fn set_as(&self, seen: &mut Witness<T, N>, value: T) -> Result<(), T>
         requires may { MayWrite N.may seen.old value }
         ensures linearized { OnOk result (IsWritten seen.old value seen.new) }
         ensures goes_on { GoesOn seen.old seen.new }
-        ensures full { OnErr result (TakesNoMore seen.new) }
+        ensures open { seen.new.closed ≡ false }
+        ensures full { OnErr result (versions_limit ≤ length seen.new.values) }
         ensures comes_back { IfErr result (λ back. back ≡ value) }
     {
         self.replace_as(seen, value).map(drop)
@@ -287,11 +310,13 @@ impl<T: Drop, R: Wait + Drop, N: Protocol<T>> Owner<T, R, N> {
             × (seen.new.values ≡ before ++ old ∷ value ∷ [])) }
         ensures rule { IfOk result N.holds }
         ensures goes_on { GoesOn seen.old seen.new }
-        ensures full { OnErr result (TakesNoMore seen.new) }
+        ensures open { seen.new.closed ≡ false }
+        ensures full { OnErr result (versions_limit ≤ length seen.new.values) }
         ensures comes_back { IfErr result (λ back. back ≡ value) }
     {
         let mut step = self.cell.core.lock(&self.rt);
         let core = step.lend();
+        core.proves_open(&self.permit);
         core.teach(seen);
         seen.lawful();
         let replaced = core.write(value);
@@ -299,8 +324,8 @@ impl<T: Drop, R: Wait + Drop, N: Protocol<T>> Owner<T, R, N> {
         end_and_wake(step, replaced)
     }
 
-    /// As `update`, but shows the write to the witness. If the state takes no further write, the
-    /// new value is returned in the error.
+    /// As `update`, but shows the write to the witness. Fails as `set_as` does. The new value is
+    /// then returned in the error.
     pub fn update_as<F: FnOnce(&T) -> T>(
         &self,
         seen: &mut Witness<T, N>,
@@ -311,12 +336,14 @@ impl<T: Drop, R: Wait + Drop, N: Protocol<T>> Owner<T, R, N> {
         ensures linearized { OnOk result (IsUpdated seen.old (FnOnceReturnsAt F.FnOnce change)
             seen.new) }
         ensures goes_on { GoesOn seen.old seen.new }
-        ensures full { OnErr result (TakesNoMore seen.new) }
+        ensures open { seen.new.closed ≡ false }
+        ensures full { OnErr result (versions_limit ≤ length seen.new.values) }
         ensures comes_back { IfErr result (λ back. (last : T)
             × FnOnceReturnsAt F.FnOnce change last back) }
     {
         let mut step = self.cell.core.lock(&self.rt);
         let core = step.lend();
+        core.proves_open(&self.permit);
         core.teach(seen);
         seen.lawful();
         let value = core.look(change);
@@ -335,9 +362,9 @@ impl<T: Drop, R: Wait + Drop, N: Protocol<T>> Owner<T, R, N> {
         ensures linearized { GoesOn seen.old seen.new }
         ensures closed { result ≡ seen.new.closed }
     {
-        let Owner { cell, rt } = self;
+        let Owner { cell, permit, rt } = self;
         let mut step = cell.core.lock(&rt);
-        let ended = step.lend().end_owner();
+        let ended = step.lend().end_owner(permit);
         step.core().teach(seen);
         let is_closed = step.core().is_closed();
         end_and_wake(step, ended);
@@ -348,9 +375,9 @@ impl<T: Drop, R: Wait + Drop, N: Protocol<T>> Owner<T, R, N> {
 /// Ends the owner. May wait for the lock.
 impl<T: Drop, R: Wait + Drop, N: Protocol<T>> Drop for Owner<T, R, N> {
     fn drop(self) {
-        let Owner { cell, rt } = self;
+        let Owner { cell, permit, rt } = self;
         let mut step = cell.core.lock(&rt);
-        let ended = step.lend().end_owner();
+        let ended = step.lend().end_owner(permit);
         end_and_wake(step, ended);
     }
 }

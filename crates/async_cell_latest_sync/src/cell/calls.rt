@@ -8,13 +8,15 @@ ghost use Rattle.async_cell_step.specs.Rule.{IsCloneOfOne};
 ghost use Rattle.async_cell_latest.specs.State.{is_closed};
 ghost use Rattle.async_cell_wakers.specs.WaitList.{first_then};
 ghost use Rattle.async_cell_wakers.specs.declared.task_waker.TaskWaker.{TaskWaker};
-ghost use Rattle.async_cell_latest_sync.specs.Life.{Desk, Fits, GoesOn, IsNext, IsOf, TakesNoMore};
+ghost use Rattle.async_cell_latest_sync.specs.Life.{Desk, GoesOn, IsNext, IsOf, TakesNoMore, permits_of};
 
 use crate::history::Values;
+use crate::permit::OwnerPermit;
 use crate::{Blank, Protocol, Refusal, TaskWaker, Unruled, Witness};
 use async_cell_latest::{Latest, Place, Wakers};
 use async_cell_step::{Deferred, Query, Room, Writes};
 use futures::task::{Context, Source, Waker};
+use ghost_tokens::{Count, Log, Permit};
 use std::alloc::Global;
 use std::marker::Model;
 
@@ -26,27 +28,64 @@ use std::marker::Model;
 pub struct LatestCore<T, N: Protocol<T> = Unruled> {
     state: Latest<T, TaskWaker>,
     values: Values<T, N>,
+    count: Count,
 }
 
-/// Contracts see the state, and its history (`Life`). The value of the state satisfies the rule.
+/// Contracts see the state, and its history (`Life`). The value of the state satisfies the rule. As
+/// many permits are given out as the state has owners.
 impl<T, N: Protocol<T>> Model for LatestCore<T, N> {
     ghost Value = { Desk T TaskWaker };
 
     ghost view = { λ c. record { state = c.state; life = c.values } };
 
-    ghost invariant = { λ c. IsOf N.named N.holds c.state c.values };
+    ghost invariant = { λ c. IsOf N.named N.holds c.state c.values
+        × (c.count.out ≡ c.state.owners) × (c.count.name ≡ permits_of N.named)
+        × (IsSome N.named → IsSome (permits_of N.named)) };
 }
 
 impl<T: Drop, N: Protocol<T>> LatestCore<T, N> {
-    /// Makes a state with this value and one owner, and begins the list of the state's values.
-    pub(crate) fn begin(alloc: Global, value: T, blank: Blank<T>) -> Self
-        requires named { Fits N.named blank }
+    /// Makes the state that `N` names, with this value and one owner, and begins the list of the
+    /// state's values. Gives the permit of the owner.
+    pub(crate) fn begin(alloc: Global, value: T, blank: Blank<T>) -> (Self, OwnerPermit<T, N>)
+        requires named { N.named ≡ Some blank }
         requires may { N.may [] value }
-        ensures { result.life ≡ record { values = value ∷ []; closed = false } }
+        ensures life { result.0.life ≡ record { values = value ∷ []; closed = false } }
     {
         let state = Latest::new(alloc, value);
-        let values = Values::begin(blank, &state);
-        LatestCore { state, values }
+        let (log, count, permit) = blank.into_parts();
+        let values = Values::begin(log, &state);
+        let core = LatestCore {
+            state,
+            values,
+            count,
+        };
+        (core, OwnerPermit::of(permit))
+    }
+
+    /// As `begin`, for a state without a name: its owners' permits prove nothing.
+    pub(crate) fn unnamed(alloc: Global, value: T) -> (Self, OwnerPermit<T, N>)
+        requires unnamed { N.named ≡ None }
+        requires may { N.may [] value }
+    {
+        let state = Latest::new(alloc, value);
+        let values = Values::begin(Log::open(), &state);
+        let core = LatestCore {
+            state,
+            values,
+            count: Count::blind(1),
+        };
+        (core, OwnerPermit::of(Permit::blind()))
+    }
+
+    /// Does nothing. Its contract states that the state is open, because `permit` belongs to an
+    /// owner.
+    #[inline(always)]
+    #[tactic(auto, using(crate::proofs::Lives::open_if_owned))]
+    pub(crate) fn proves_open(&mut self, permit: &OwnerPermit<T, N>)
+        ensures stays { self.new ≡ self.old }
+        ensures open { IsSome N.named → is_closed self.old.state ≡ false }
+    {
+        self.count.proves_counted(permit.permit());
     }
 
     /// Makes a witness that has seen the whole life of the state: the state's values so far, and
@@ -185,20 +224,30 @@ impl<T: Drop, N: Protocol<T>> LatestCore<T, N> {
         }
     }
 
-    /// Adds an owner. Fails with `OwnersFull` if there are 4,294,967,295 owners, and with `Closed`
-    /// if the state is closed.
-    pub(crate) fn add_owner(&mut self) -> Deferred<Result<(), Refusal>>
+    /// Adds an owner, and gives its permit. Fails with `OwnersFull` if there are 4,294,967,295
+    /// owners, and with `Closed` if the state is closed.
+    pub(crate) fn add_owner(&mut self) -> Deferred<Result<OwnerPermit<T, N>, Refusal>>
         ensures refused { IfErr result.answer IsOwnerRefusal }
+        ensures open { is_closed self.old.state ≡ false
+            → IfErr result.answer (λ why. ¬ (why ≡ Refusal.Closed)) }
     {
-        Deferred::of(self.state.add_owner())
+        match self.state.add_owner() {
+            Ok(()) => Deferred::of(Ok(OwnerPermit::of(self.count.give()))),
+            Err(why) => Deferred::of(Err(why)),
+        }
     }
 
-    /// Ends an owner. The end of the last one closes the state, and holds the wakers to wake.
-    pub(crate) fn end_owner(&mut self) -> Deferred<(), Option<Wakers<TaskWaker>>>
+    /// Ends the owner with this permit. The end of the last one closes the state, and holds the
+    /// wakers to wake.
+    pub(crate) fn end_owner(
+        &mut self,
+        permit: OwnerPermit<T, N>,
+    ) -> Deferred<(), Option<Wakers<TaskWaker>>>
         ensures hands_out_all { self.old.state.owners ≡ 1
             → result.woken ≡ Some self.old.state.waiting }
     {
         let ended = self.state.end_owner();
+        self.count.take(permit.into_permit());
         if self.state.is_closed() {
             self.values.close();
         }

@@ -8,6 +8,7 @@ returns-then-is_unseen-clause-gives g c =
     let on : GoesOn c.args.self.0 c.core.inside.values = rw c.again-now.ensures at c.learn.ensures.goes_on in
     let other : length c.args.self.0.values ≢ state.version = rw c.version-2.ensures at (c.is_unseen.ensures.0 c.if-is_unseen.true) in
     let next =
-    shown_next g.N.Protocol.named g.N.Protocol.holds state c.args.self.0 c.core.inside.values g.T.Clone.is_clone c.in-Ok.shown.1 c.learn.ensures.named c.core.invariant on other c.in-Ok.ensures.clones
+    shown_next g.N.Protocol.named g.N.Protocol.holds state c.args.self.0 c.core.inside.values g.T.Clone.is_clone c.in-Ok.shown.1 c.learn.ensures.named
+    c.core.invariant.0 on other c.in-Ok.ensures.clones
     in
     rw (c.of-then-is_unseen.ensures, c.learn.ensures.whole) next
