@@ -62,8 +62,8 @@ impl<T: Clone, N: Protocol<T, TaskWaker>> Query<CellCore<T, TaskWaker, N>> for C
     }
 }
 
-/// Waits while the cell is open and empty, and changes nothing. So if nobody but the caller can fill
-/// the cell, it has an answer once the cell is closed.
+/// Waits while the cell is open and empty, and changes nothing. So if nobody but the caller can
+/// fill the cell, it has an answer once the cell is closed.
 #[derive(Clone, Copy, Drop)]
 pub struct Closing;
 

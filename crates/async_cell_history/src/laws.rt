@@ -82,7 +82,8 @@ pub fn what_is_got_never_goes_back<T, W: Wakes, N: Protocol<T, W>>()
 /// As `what_is_got_never_goes_back`, for a value that an update put in: the value that a later
 /// `try_get` finds follows it.
 pub fn what_is_got_follows_what_was_put<T, W: Wakes, N: Protocol<T, W>>()
-    ensures { (follows : T → T → Bool) (seen first later now : History T W) (saw : Option T) (v w : T)
+    ensures { (follows : T → T → Bool) (seen first later now : History T W)
+        (saw : Option T) (v w : T)
         → ((a : T) → follows a a ≡ true)
         → ((a b c : T) → follows a b ≡ true → follows b c ≡ true → follows a c ≡ true)
         → OnlyMakes N.may (GoesOn (λ a b. follows a b ≡ true))

@@ -32,7 +32,8 @@ impl<T: Drop, R: Wait + Drop, N: Unwitnessed<T, TaskWaker>> Request<R>
 impl<T: Drop, R: Wait + Drop, N: Unwitnessed<T, TaskWaker>> Polled<R> for UntilClosed<'_, T, R, N> {
     type Output = Result<(), Refusal>;
 
-    ghost waits_for = { λ asked s. s ≡ source_of (manually_drop_value asked.replier.now.cell.value) };
+    ghost waits_for = { λ asked s.
+        s ≡ source_of (manually_drop_value asked.replier.now.cell.value) };
 
     ghost may_give = { λ _ given. FailsWithMemory given };
 
@@ -44,10 +45,11 @@ impl<T: Drop, R: Wait + Drop, N: Unwitnessed<T, TaskWaker>> Polled<R> for UntilC
 
 impl<T: Drop, R: Wait + Copy, N: Unwitnessed<T, TaskWaker>> Replier<T, R, N> {
     /// Returns a future that waits until the `ReplyFuture` is closed or dropped. So with `select`,
-    /// work for the reply can end when nobody waits for the reply. To set the value, drop the future
-    /// first: it borrows the `Replier`. Then a `ReplyFuture` that is dropped just before the `set`
-    /// is seen only by the `set`. The future fails with `Memory` if there is no memory to register
-    /// the waker, and may then be polled again. Its poll and its drop may wait for the lock.
+    /// work for the reply can end when nobody waits for the reply. To set the value, drop the
+    /// future first: it borrows the `Replier`. Then a `ReplyFuture` that is dropped just before the
+    /// `set` is seen only by the `set`. The future fails with `Memory` if there is no memory to
+    /// register the waker, and may then be polled again. Its poll and its drop may wait for the
+    /// lock.
     ///
     /// ```rust
     /// let (replier, reply) = reply_slot(rt.alloc(), rt)?;

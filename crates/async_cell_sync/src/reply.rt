@@ -234,7 +234,8 @@ fn take_if_alone<T: Drop, N: Unwitnessed<T, TaskWaker>>(
 impl<T: Drop, R: Wait + Drop, N: Unwitnessed<T, TaskWaker>> Future for ReplyFuture<T, R, N> {
     type Output = Result<T, Refusal>;
 
-    ghost needs = { λ reply s. IsSomeAnd reply.cell (λ cell. s ≡ source_of (manually_drop_value cell.value)) };
+    ghost needs = { λ reply s.
+        IsSomeAnd reply.cell (λ cell. s ≡ source_of (manually_drop_value cell.value)) };
 
     ghost gives = { λ reply given. IfOk given N.holds × FailsWithMemoryOrClosed given
         × (reply.cell ≡ None → given ≡ Err Closed) };

@@ -29,7 +29,8 @@ impl<T: Drop, N: Unwitnessed<T, TaskWaker>> Request<OneThread> for UntilClosed<'
 impl<T: Drop, N: Unwitnessed<T, TaskWaker>> Polled<OneThread> for UntilClosed<'_, T, N> {
     type Output = Result<(), Refusal>;
 
-    ghost waits_for = { λ asked s. s ≡ source_of (manually_drop_value asked.replier.now.cell.value) };
+    ghost waits_for = { λ asked s.
+        s ≡ source_of (manually_drop_value asked.replier.now.cell.value) };
 
     ghost may_give = { λ _ given. FailsWithMemory given };
 
@@ -42,9 +43,9 @@ impl<T: Drop, N: Unwitnessed<T, TaskWaker>> Polled<OneThread> for UntilClosed<'_
 
 impl<T: Drop, N: Unwitnessed<T, TaskWaker>> Replier<T, N> {
     /// Returns a future that waits until the `ReplyFuture` is closed or dropped. So with `select`,
-    /// work for the reply can end when nobody waits for the reply. To set the value, drop the future
-    /// first: it borrows the `Replier`. The future fails with `Memory` if there is no memory to
-    /// register the waker, and may then be polled again. In `async_cell_sync` it has an example.
+    /// work for the reply can end when nobody waits for the reply. To set the value, drop the
+    /// future first: it borrows the `Replier`. The future fails with `Memory` if there is no memory
+    /// to register the waker, and may then be polled again. In `async_cell_sync` it has an example.
     pub fn closed(&self) -> With<UntilClosed<'_, T, N>>
         ensures of_this { result.polled.replier.now ≡ self.now }
     {

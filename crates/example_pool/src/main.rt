@@ -41,7 +41,7 @@ fn work<R: Wait + Drop + Copy>(rt: R, inbox: &Receiver<Request<R>>) -> u64 {
     let mut answered = 0u64;
     for Request { number, replier } in inbox.iter(&rt) {
         if let Some(square) = number.checked_mul(number) {
-            let _ = replier.set(Answer { number, square }); // nobody waits any more, if it is an `Err`
+            let _ = replier.set(Answer { number, square }); // If it is an `Err`, nobody waits.
             answered = answered.wrapping_add(1);
         }
     }

@@ -35,7 +35,8 @@ fn ask_named<P: Rule<Signed> + Send + Sync, R: Host>(rt: R, set: Log<u64>) -> Re
             ensures { IfOk result P.holds }
         { Ok(block_on(&rt, reply)??) }, // `Closed`, if the replier was dropped
         move || -> (u64, Log<u64>)
-            requires { (set.list ≡ []) × ((it : SignedValue) → it.set.name ≡ set.name → P.holds it) }
+            requires { (set.list ≡ [])
+                × ((it : SignedValue) → it.set.name ≡ set.name → P.holds it) }
             ensures { (result.1.list ≡ result.0 ∷ []) × (result.1.name ≡ set.name) }
         { answer(replier, set) },
     );

@@ -1,5 +1,5 @@
-//! A setting with versions. One thread publishes new versions, and the other looks at them twice: it
-//! never sees an older version after a newer one.
+//! A setting with versions. One thread publishes new versions, and the other looks at them twice:
+//! it never sees an older version after a newer one.
 ghost use Rattle.std.specs.Prelude.{◌≡◌, ◌≤◌, Some, IfOk};
 ghost use Rattle.async_cell_latest_sync.specs.InOrder.{AllFollowing, OnlyFollowing};
 
@@ -66,7 +66,7 @@ fn next(version: &u64) -> u64
     version.saturating_add(1)
 }
 
-/// Publishes the next version, unless the state takes no further one.
+/// Publishes the next version. Only at its highest version the state does not take it.
 fn publish<N: Protocol<u64>, R: Host>(owner: &Owner<u64, R, N>, seen: &mut Witness<u64, N>)
     requires all { AllFollowing N.may (λ old new. old ≤ new) }
 {
