@@ -18,7 +18,7 @@ import re
 import sys
 import textwrap
 
-from lay_out import TOP, read, write
+from lay_out import TOP, line_of, read, write
 from try_kit import KIT
 
 # The comments of crates.txt, and the libraries that it lists.
@@ -57,7 +57,7 @@ class Item:
     def __init__(self, file, found, pad):
         marks, head, self.is_public, self.kind, self.name, body = found.groups("")
         head += f"{{{body}}}" if self.kind == "use" and body else ""
-        self.file, self.line = file, found.string.count("\n", 0, found.start(2)) + 1
+        self.file, self.line = file, line_of(found, 2)
         marks = [it.strip() for it in marks.split("\n")]
         self.docs = "\n".join(it[4:] for it in marks if it.startswith("///"))
         self.is_hidden = "#[doc(hidden)]" in marks or self.docs.startswith("Internal")
@@ -193,11 +193,13 @@ def linked_code(text, home_of):
 
 
 def definition(of, name, file, text):
-    """Returns the section of a definition. Its words link to definitions, too."""
+    """Returns the section of a definition: the line that imports it, and its text, with links."""
     def home_of(word):
         home = of if of in definitions().get(word, {}) else imported(file).get(word)
         return home if word != name and not (word.isalpha() and word.islower()) else None
-    return f'## <a id="{of}.{name}"></a>{of}.{name}\n\n{linked_code(text, home_of)}'
+    path = os.path.relpath(file[: -len(".antt")], f"{TOP}/crates").replace("/", ".")
+    use = code(f"ghost use Rattle.{path}.{{{name}}};")
+    return f'## <a id="{of}.{name}"></a>{of}.{name}\n\n{use}\n\n{linked_code(text, home_of)}'
 
 
 def folded(label, text):
@@ -279,9 +281,8 @@ def main(folder):
         faults += [f"{it.file}:{it.line}: {it.name}, or a part, has no docstring" for it in public
                    if not it.docs or it.is_type and BARE.search(it.declaration)]
         faults += [f"{of.folder}/src/lib.rt: the crate has no docstring"] * (not of.docs)
-        for file, it in of.unknown:
-            line = it.string.count("\n", 0, it.start()) + 1
-            faults += [f"{file}:{line}: no item of a form that is known: {it[0].strip()}"]
+        faults += [f"{file}:{line_of(it)}: no item of a form that is known: {it[0].strip()}"
+                   for file, it in of.unknown]
         faults += [f"{of.folder}/src/lib.rt: {it} is not found" for it, home, item in of.exports()
                    if not home or not item and home not in libraries()]
     print("".join(f"{os.path.relpath(it, TOP)}\n" for it in faults), end="")

@@ -53,6 +53,10 @@ def with_files(folder):
     return {os.path.basename(at) for at, _, files in os.walk(f"{folder}/proofs") if files}
 
 
+def sum_of(*texts):
+    return hashlib.sha256("\0".join(texts).encode()).hexdigest()
+
+
 class Bug:
     """A bug: its changes, in which functions' bodies they are (None: in no body), the clause that is
     to refuse it, if that matters, and, once it is refused, how: one of WAYS."""
@@ -70,7 +74,8 @@ class Bug:
             elif times != 1:
                 self.fault = f"'{old}' stands in {self.file} {times} times, and not once"
         parts = [self.file, *(it for _, *pair in self.changes for it in pair), clause or ""]
-        self.sum = hashlib.sha256("\0".join(parts).encode()).hexdigest()[:8]
+        # (the sum of its file and name stays if a name in its text changes)
+        self.sum, self.name_sum = sum_of(*parts)[:8], sum_of(self.file, name)[:8]
 
     def path(self):
         return f"crates/{self.crate}/{self.file}"

@@ -5,9 +5,10 @@ bugs, from nothing, over the libraries that were built there. A bug changes the 
 and no contract, so bugs of many functions share a check: the first of each function the first, the
 second of each the second. Other functions are passed over there, but those that they call and that
 have proof files. A bug is refused if the prover complains of its function, at a line of it or in a
-file of its proof. One of which a check says nothing is tried in a check of its own. If that says
-nothing, or if the bug changes more than a body, it is tried alone: the whole crate is checked, and
-any complaint is about it. Prints a line for each check and each bug.
+file of its proof. One of which a check says nothing is tried in a check of its own, which reads all
+that its function calls. If that comes to no verdict, or if the bug changes more than a body, it is
+tried alone: the whole crate is checked, and any complaint is about it. Prints a line for each check
+and each bug.
 """
 import glob
 import os
@@ -19,7 +20,7 @@ from collections import Counter
 from concurrent.futures import ThreadPoolExecutor
 
 from bug import FN, above_of, groups_of, with_files
-from lay_out import READ, read, uses_of, write
+from lay_out import READ, lay, reached, read, uses_of, write
 from try_kit import KIT
 
 PARTS = ("src", "specs", "proofs")
@@ -52,25 +53,8 @@ def proved_in(folder, bugs):
 
 def with_below(names):
     """Returns crates and those of the repository that they stand on."""
-    uses, found, left = uses_of("."), set(), {*names}
-    while left:
-        found |= left
-        left = {it for name in left for it in uses[name] if it in uses} - found
-    return found
-
-
-def lines_of(crates):
-    """Returns the lines of crates.txt for these crates."""
-    return [it for it in read("crates.txt").split("\n") if re.split("[ :]", it)[0] in crates]
-
-
-def lay(room, crates):
-    """Lays crates out in a folder, without what was built of them and without must-fail edits."""
-    for it in crates:
-        ignored = shutil.ignore_patterns("out", "must-fail")
-        shutil.copytree(f"crates/{it}", f"{room}/crates/{it}", ignore=ignored)
-    write(f"{room}/crates.txt", "\n".join(lines_of(crates)) + "\n")
-    shutil.copy("HANDLES", room)
+    uses = uses_of(".")
+    return reached(names, lambda name: [it for it in uses[name] if it in uses])
 
 
 def run(folder, *command):
@@ -146,16 +130,17 @@ def only(proved, bugs):
     return [word for it in dict.fromkeys(asked) for word in ("--only", it)]
 
 
-def checked(proved, bugs, is_alone, is_put_in=True):
-    """Checks a crate with these bugs, or without. Returns whether it is proved too, what is told of
-    functions (nothing if it came to no verdict), and what cannot be read."""
-    crate = bugs[0].crate
+def checked(proved, bugs, kept="files", is_put_in=True):
+    """Checks a crate with these bugs, or without. What is read beside their functions is what these
+    call and has "files", all "calls", or the whole "crate". Returns whether it is proved too, what
+    is told of functions (nothing if it came to no verdict), and what cannot be read."""
+    crate, is_alone = bugs[0].crate, kept == "crate"
     with tempfile.TemporaryDirectory(dir=os.path.dirname(proved)) as room:
         for it in (it for it in PARTS if os.path.isdir(f"crates/{crate}/{it}")):
             shutil.copytree(f"crates/{crate}/{it}", f"{room}/{it}")
         for it in bugs if is_put_in else ():
             it.apply(f"{room}/{it.file}", f"{room}/{it.file}")
-        if not is_alone:
+        if kept == "files":
             pass_over_others(room, bugs)
         words = [] if is_alone else only(proved, bugs)
         status, said, seconds = run(room, *command(proved, crate), *words)
@@ -163,7 +148,7 @@ def checked(proved, bugs, is_alone, is_put_in=True):
             # (it knows no function of such a name: then it checks all)
             print(f"{crate}: {said.strip()[-300:]}\n", end="", flush=True)
             status, said, seconds = run(room, *command(proved, crate))
-    of = f"`{bugs[0].name}` alone" if is_alone else f"{len(bugs)} bugs"
+    of = f"`{bugs[0].name}` and its {kept}" if kept != "files" else f"{len(bugs)} bugs"
     print(f"{crate}: a check of {of} took {seconds:.0f} s of processors\n", end="", flush=True)
     # (a function that is passed over may leave something undetermined)
     unread = [it for it in UNREAD.finditer(said) if is_alone or any(bug.is_at(it) for bug in bugs)]
@@ -176,7 +161,7 @@ def checked(proved, bugs, is_alone, is_put_in=True):
 
 def try_alone(proved, bug):
     """Tries a bug alone."""
-    is_proved, told, unread = checked(proved, [bug], True)
+    is_proved, told, unread = checked(proved, [bug], "crate")
     why = "the crate is still proved with it" if is_proved else None
     why = why or unread and f"it does not compile: {unread[0][0]}"
     why = why or not told and "the check came to no complaint about a contract"
@@ -184,26 +169,25 @@ def try_alone(proved, bug):
     bug.judge(why or not told and f"no complaint was of the clause `{bug.clause}`", told)
 
 
-def try_group(proved, bugs):
-    """Tries bugs in one check, and those of which it says nothing in checks of their own, and last
-    alone."""
+def try_group(proved, bugs, kept="files"):
+    """Tries bugs in one check, and those that cannot be read there, or of which it says nothing, in
+    checks of their own, and last alone."""
     if None in bugs[0].functions:
         # (it is beside no other)
         return try_alone(proved, bugs[0])
-    _, told, unread = checked(proved, bugs, False)
-    bad = [it for it in bugs if any(map(it.is_at, unread))]
-    for it in bad:
-        try_alone(proved, it)
-    if bad:
-        rest = [it for it in bugs if it not in bad]
-        return rest and try_group(proved, rest)
-    for bug, lines in told_of(bugs, told):
-        if lines:
-            bug.judge(None, lines)
-        elif len(bugs) == 1:
-            try_alone(proved, bug)
+    is_proved, told, unread = checked(proved, bugs, kept)
+    left = [it for it in bugs if any(map(it.is_at, unread))]
+    if left and len(left) < len(bugs):
+        try_group(proved, [it for it in bugs if it not in left], kept)
+    for bug, lines in () if left else [*told_of(bugs, told)]:
+        bug.judge(None, lines) if lines else left.append(bug)
+    for it in left:
+        if kept == "files":
+            try_group(proved, [it], "calls")
+        elif is_proved:
+            it.judge("its function is still proved with it")
         else:
-            try_group(proved, [bug])
+            try_alone(proved, it)
 
 
 def told_of(bugs, told):
@@ -216,7 +200,7 @@ def told_of(bugs, told):
 
 def is_told_without(proved, bugs):
     """Returns whether a check complains of the function of one of these bugs without any bug."""
-    told = checked(proved, bugs, False, False)[1]
+    told = checked(proved, bugs, is_put_in=False)[1]
     found = [bug for bug, lines in told_of(bugs, told) if lines]
     for it in found:
         it.judge("its function is complained of without it, too")

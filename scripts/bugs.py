@@ -3,7 +3,7 @@
 of crates/NAME/must-fail/).
 
     bugs.py [--record] [--all|CRATE..]   those of all crates, or of these; without, those that are
-                        not in the record, 25 of those that are, the next ones after each commit,
+                        not in the record, a tenth of those that are, the next after each commit,
                         and 12 of the others, by the commit's hash: four of each of three checks.
                         With `--record` also writes the record.
     bugs.py --list      whether each can be applied, and how those in the record were refused
@@ -29,23 +29,22 @@ check and each bug, how many were refused in which way, and last 'N passed, M fa
 import ast
 import functools
 import glob
-import hashlib
 import os
 import random
 import re
 import sys
 from collections import Counter
 
-from bug import WAYS, bugs_of, groups_of, with_bugs
-from bug_trial import PARTS, lines_of, try_all, with_below
-from lay_out import TOP, read, said_by, write
+from bug import WAYS, bugs_of, groups_of, sum_of, with_bugs
+from bug_trial import PARTS, try_all, with_below
+from lay_out import TOP, lines_of, read, said_by, write
 from try_kit import KIT
 
 RECORD = "scripts/bugs.lock"
 ABOUT = "The deliberate bugs that were refused: `python3 scripts/bugs.py --record`."
-# So many of the record's bugs are tried anew after each commit, of one crate after the other. Drawn
-# with them are bugs of so many checks, of each so many: a check costs far more than a bug in it.
-TURN, CHECKS, DRAWN = 25, 3, 4
+# After so many commits in a row all of the record's bugs were tried anew, one crate after the other.
+# Drawn with them are bugs of so many checks, of each so many: a check costs far more than a bug.
+TURNS, CHECKS, DRAWN = 10, 3, 4
 HEAD = ("rev-parse HEAD", "rev-list --count HEAD")
 SUMS = re.compile(r"(\w{8})\.(\w{8})(\??)")
 FILE = re.compile(r"^file (\d+)\n((?:\d.*\n)*)", re.M)
@@ -71,23 +70,14 @@ def code_of(script):
 
 
 @functools.cache
-def sum_of(crate):
+def sum_of_crate(crate):
     """Returns the sum of what it rests on that the bugs of a crate are refused."""
     below = sorted(with_below([crate]))
     texts = [said_by("rt", "version"), *lines_of(below)]
     texts += [code_of(f"scripts/{it}.py") for it in ("bug", "bug_trial")]
     of = tuple(f"crates/{it}/" for it in below)
     texts += [f"{it}\n{tokens()[it]}" for it in sorted(tokens()) if it.startswith(of)]
-    return sum_of_text("\0".join(texts))[:16]
-
-
-def sum_of_text(text):
-    return hashlib.sha256(text.encode()).hexdigest()
-
-
-def name_sum(bug):
-    """Returns the sum of a bug's file and name, which stay if a name in its text changes."""
-    return sum_of_text(f"{bug.file}\0{bug.name}")[:8]
+    return sum_of(*texts)[:16]
 
 
 @functools.cache
@@ -103,7 +93,7 @@ def recorded(bug):
     """Returns what the record has of its text, or else of its file and name, or None."""
     _, bugs = lines_of_record().get(bug.crate, ("", []))
     of_text = (it for it in bugs if it[0] == bug.sum)
-    return next(of_text, None) or next((it for it in bugs if it[1] == name_sum(bug)), None)
+    return next(of_text, None) or next((it for it in bugs if it[1] == bug.name_sum), None)
 
 
 def way_recorded(bug):
@@ -116,7 +106,7 @@ def way_recorded(bug):
 def is_recorded(bug):
     """Returns whether it was refused as the texts are now."""
     of, _ = lines_of_record().get(bug.crate, ("", []))
-    return of == sum_of(bug.crate) and (recorded(bug) or [None])[0] == bug.sum
+    return of == sum_of_crate(bug.crate) and (recorded(bug) or [None])[0] == bug.sum
 
 
 def record(bugs, tried):
@@ -125,9 +115,9 @@ def record(bugs, tried):
     for it in bugs:
         was = "?" * (way_recorded(it) == "lost") if is_recorded(it) else None
         mark = "?" * (it.how == "lost") if it.how else None if it in tried else was
-        told = [] if mark is None else [f"{it.sum}.{name_sum(it)}{mark}"]
+        told = [] if mark is None else [f"{it.sum}.{it.name_sum}{mark}"]
         lines.setdefault(it.crate, []).extend(told)
-    told = [f"{crate} {sum_of(crate)} {' '.join(lines[crate])}" for crate in sorted(lines)]
+    told = [f"{crate} {sum_of_crate(crate)} {' '.join(lines[crate])}" for crate in sorted(lines)]
     write(RECORD, "\n".join([f"# {ABOUT}", *told, ""]))
 
 
@@ -137,15 +127,14 @@ def due(bugs):
     groups = sorted(groups_of(bugs), key=lambda it: it[0].crate)
     kept = [it for group in groups for it in group if is_recorded(it)]
     commit, count = (said_by("git", *it.split()).strip() for it in HEAD)
-    turns = -(-len(kept) // TURN) or 1
-    again = [it for at, it in enumerate(kept) if at * turns // len(kept) == int(count) % turns]
+    again = [it for at, it in enumerate(kept) if at * TURNS // len(kept) == int(count) % TURNS]
     chance = random.Random(commit)
     for _ in range(CHECKS):
         # (each bug is as likely as any other)
         rest = groups_of(it for it in kept if it not in again)
-        for group in chance.sample(rest, min(1, len(rest)), counts=[*map(len, rest)]):
+        for group in rest and chance.choices(rest, [max(len(it), DRAWN) for it in rest]):
             again += chance.sample(group, min(DRAWN, len(group)))
-    said = f"of which {len(again)} are tried again; {turns} commits in a row try all"
+    said = f"of which {len(again)} are tried again; {TURNS} commits in a row try all"
     print(f"{len(kept)} bugs are in the record, {said}", flush=True)
     return [it for it in bugs if it not in kept or it in again]
 

@@ -18,8 +18,7 @@ import tempfile
 import random_cases
 import read_cases
 import try_kit
-from lay_out import READ, TOP, lay_crate, read, texts_below, write
-from one_thread import without_lock
+from lay_out import READ, TOP, lay_crate, read, said_by, texts_below, without_lock, write
 
 PLAYER = f"{TOP}/tests/player"
 # How long the player may run, which takes a minute of a processor.
@@ -63,17 +62,12 @@ def play(project, inputs, random_text):
     return [[*map(int, it)] for it in re.findall(r"(?m)^(\d+) passed, (\d+) failed$", said)]
 
 
-def of_commit():
-    """Returns the first seed of the last commit: 0 where there is none."""
-    asked = ["git", "-C", TOP, "rev-parse", "HEAD"]
-    ran = subprocess.run(asked, capture_output=True, text=True, check=False)
-    return int(ran.stdout[:6], 16) if ran.returncode == 0 else 0
-
-
-def main(words):
+def run(words):
+    """Plays the cases that these words choose. Returns how many passed and failed."""
+    commit = said_by("git", "-C", TOP, "rev-parse", "HEAD")
     reader = argparse.ArgumentParser(description=__doc__.split("\n\n", maxsplit=1)[0])
     reader.add_argument("--random", type=int, default=60, help="how many of each sort")
-    reader.add_argument("--seed", type=int, default=of_commit(), help="the first seed")
+    reader.add_argument("--seed", type=int, default=int(commit[:6], 16), help="the first seed")
     reader.add_argument("files", nargs="*", help="files of tests/cases")
     asked = reader.parse_args(words)
     by_hand, faults = cases(asked.files)
@@ -89,7 +83,11 @@ def main(words):
         write(f"{folder}/inputs/refusing", f"refuse\n{refusing}")
         counts = play(f"{folder}/project", f"{folder}/inputs", made)
     passed, failed = (sum(it) for it in zip((0, len(faults + wrong)), *counts))
-    failed += abs(2 - len(counts)) + sum(not any(it) for it in counts)
+    return passed, failed + abs(2 - len(counts)) + sum(not any(it) for it in counts)
+
+
+def main(words):
+    passed, failed = run(words)
     print(f"{passed} passed, {failed} failed")
     return 1 if failed or not passed else 0
 

@@ -16,6 +16,7 @@ import sys
 import tempfile
 
 import api
+from lay_out import reached
 
 HERE = api.TOP
 ITEM = re.compile(r"\w+::\w+")
@@ -90,10 +91,8 @@ def all_facts(top):
               for file in pathlib.Path(top).glob(files)
               for of, it, rest in re.findall(pattern, api.read(file))}
     parts = [*named_by([it for it in needs if "async" in it and it not in taken])]
-    named, before = set(NAMES(" ".join(found))), 0
-    while len(named) > before:
-        before = len(named)
-        named |= set(NAMES(" ".join(it for name, it in parts if name in named)))
+    facts_of = {name: " ".join(it for of, it in parts if of == name) for name, _ in parts}
+    named = reached(NAMES(" ".join(found)), lambda name: NAMES(facts_of.get(name, "")))
     return found | {it for name, it in parts if name in named}
 
 

@@ -23,13 +23,13 @@ tick() {
             "$(tail -n 1 "$work/log" | cut -c 1-160)"
     done
 }
-tick &
-ticker=$!
-trap 'kill "$ticker"; rm -rf "$work"' EXIT
+tick & ticker=$!
+trap 'kill "$ticker" 2>/dev/null; rm -rf "$work"' EXIT
 trap 'exit 1' INT TERM
 
 # Ends the gate, with what each step has shown, how large all is, and the time that it took.
 finish() {
+    kill "$ticker" && wait "$ticker"
     echo
     [ ! -e "$work/shown" ] || cat "$work/shown"
     git grep -cI '' | awk -F : '{ n += $NF } END { print "gate: " n " lines in " NR " files" }'

@@ -19,7 +19,7 @@ import subprocess
 import sys
 from collections import Counter
 
-from lay_out import READ, TOP, read, said_by
+from lay_out import READ, TOP, line_of, read, said_by
 
 # The end of a link, whose words may begin on the line above; and links of other forms.
 LINK = re.compile(r"\]\(<?([^)\s>]+)")
@@ -174,10 +174,6 @@ def typed_figures(page, lines):
         if page not in WITH_FIGURES and COSTS.search(" ".join(lines[start:end])):
             found = ((at, it) for at in range(start, end) for it in FIGURE.findall(lines[at]))
             yield from ((at, f"{it}: figures stand in bench/README.md alone") for at, it in found)
-
-
-def line_of(found):
-    return found.string.count("\n", 0, found.start()) + 1
 
 
 def git_files(*patterns):

@@ -133,7 +133,7 @@ class Slots(Maker):
 
     def __init__(self, seed):
         super().__init__(seed)
-        self.owners, self.sides, self.waits = [], [], {}
+        self.owners, self.sides = [], []
 
     def begin(self):
         self.cell.owners, self.reply, self.is_over = 1, [True, None], False
@@ -141,7 +141,7 @@ class Slots(Maker):
         self.line("new")
         self.line(f"take {self.sides[1]}")
 
-    def end(self, side):
+    def end_side(self, side):
         """Closes the slot."""
         self.sides.remove(side)
         if self.cell.owners and not self.is_over:
@@ -152,31 +152,22 @@ class Slots(Maker):
         word, value = self.some(["set", "drop", "is_closed"]), self.value()
         if word == "is_closed":
             return self.line("is_closed it", self.cell.look(word))
-        for name in [*self.waits]:
-            self.end_wait(name)
+        for name in [*self.made]:  # (these borrow `it`)
+            self.end(name)
         if word == "drop":
-            self.end("it")
+            self.end_side("it")
             return self.line("drop it")
         self.sides.remove("it")
         return self.line(f"set {value}", self.cell.set(value) if self.cell.owners else f"back {value}")
 
     def ask_wait(self):
         """Polls a future of `it` that waits for the close, maybe a new one, or ends it."""
-        name, task = self.some(["", *self.waits]), self.some(TASKS)
-        if name and self.random.random() < 0.5:
-            return self.end_wait(name)
-        call = f"poll {name}"
+        name = self.some(["", *self.made])
         if not name:
             name = self.name("c")
-            self.waits[name], call = [True, None], f"closed {name}"
-        reply = self.cell.poll(self.waits[name], task)
-        return self.line(f"{call} by {task}", reply.replace("closed", "ready"))
-
-    def end_wait(self, name):
-        """Ends such a future, which borrows `it`."""
-        word = self.some(["cancel", "drop"])
-        self.cell.leave(word, self.waits.pop(name)[1])
-        self.line(f"{word} {name}")
+            self.made[name] = [True, None, "close"]
+            return self.poll(name, "closed")
+        return self.end(name) if self.random.random() < 0.5 else self.poll(name)
 
     def ask_reply(self):
         """Polls the side that waits, has it look, or ends it."""
@@ -193,7 +184,7 @@ class Slots(Maker):
         reply = "ok"
         if word == "into_inner":
             reply = "none" if self.is_over else self.cell.taken("inner")
-        self.end(name)
+        self.end_side(name)
         return self.line(f"{word} {name}", reply)
 
     def step(self):

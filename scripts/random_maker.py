@@ -66,13 +66,13 @@ class Maker:
         word = self.some(LOOKS)
         self.line(f"{word} {name}".strip(), self.cell.look(word))
 
-    def poll(self, name):
+    def poll(self, name, call="poll"):
+        """Polls a future or a stream, by this call if it is a future."""
         future, task = self.made[name], self.some(TASKS)
-        if future[2] == "stream":
-            reply = self.cell.poll(future, task, "item").replace("closed", "end")
-            self.line(f"next {name} by {task}", reply)
-        else:
-            self.line(f"poll {name} by {task}", self.cell.poll(future, task))
+        kind = future[2]
+        reply = self.cell.poll(future, task, "item" if kind == "stream" else "ready")
+        reply = reply.replace("closed", {"stream": "end", "close": "ready"}.get(kind, "closed"))
+        self.line(f"{'next' if kind == 'stream' else call} {name} by {task}", reply)
 
     def end(self, name):
         """Drops or cancels a future or a stream."""

@@ -12,14 +12,13 @@ The last line is 'N passed, M failed'; the status is 0 if none failed.
 """
 import os
 import re
-import shutil
 import subprocess
 import sys
 import tempfile
 
 from api import libraries
-from lay_out import TOP, read, write
-from pages import git_files, line_of
+from lay_out import TOP, lay, line_of, read, uses_of, write
+from pages import git_files
 
 SNIPPET = re.compile(
     r"(?s)(?:<!-- snippet of (\S+) -->\n)?```rust\n(.*?)\n```\n"
@@ -114,26 +113,24 @@ def lay_out(work, snippets):
     for name, text in files.items():
         write(f"{work}/crates/snippets/src/{name}.rt", text + "\n")
     used = set(re.findall(r"^use (\w+)", "\n".join(files.values()), re.M)) - {"std"} | {"anyhow"}
-    known = read(f"{TOP}/crates.txt")
-    write(f"{work}/crates.txt", f"{known}snippets: {' '.join(sorted(used))}\n")
+    lay(work, uses_of(TOP), f"snippets: {' '.join(sorted(used))}\n")
 
 
-def run(work, snippets):
+def run(snippets):
     """Builds and runs them as one program, and once more without those that do not compile."""
-    while snippets:
-        shutil.rmtree(f"{work}/crates/snippets", ignore_errors=True)
+    if not snippets:
+        return
+    print(f"{len(snippets)} snippets in one program ..", flush=True)
+    with tempfile.TemporaryDirectory() as work:
         lay_out(work, snippets)
-        print(f"{len(snippets)} snippets in one program ..", flush=True)
         asked = ["rt", "try", "--steps", "1"]
         ran = subprocess.run(asked, cwd=f"{work}/crates/snippets", stdin=subprocess.DEVNULL,
                              capture_output=True, text=True)
-        for it in snippets:
-            if errors := re.findall(rf"^src/{it.name}\.rt:.*error.*", ran.stderr, re.M):
-                it.failure = "\n".join(errors)
-        if not any(it.failure for it in snippets):
-            break
-        snippets = [it for it in snippets if not it.failure]
-    else:
+    for it in snippets:
+        it.failure = "\n".join(re.findall(rf"(?m)^src/{it.name}\.rt:.*error.*", ran.stderr))
+    left = [it for it in snippets if not it.failure]
+    if len(left) < len(snippets):
+        run(left)
         return
     parts = re.split(r"^== (\w+)\n", ran.stdout, flags=re.M)
     printed = dict(zip(parts[1::2], parts[2::2]))
@@ -152,11 +149,7 @@ def main(pages):
     for it in snippets:
         if it.copied:
             it.compare_with_file()
-    with tempfile.TemporaryDirectory() as work:
-        subprocess.run(["git", "init", "-q", work], check=True)
-        ignored = shutil.ignore_patterns("out", "must-fail", "bugs*")
-        shutil.copytree(f"{TOP}/crates", f"{work}/crates", ignore=ignored)
-        run(work, [it for it in snippets if not it.copied])
+    run([it for it in snippets if not it.copied])
     failed = [f"{it.where}: {it.failure}" for it in snippets if it.failure]
     passed = len(snippets) - len(failed)
     sources = [] if pages else git_files("crates/*.rt")

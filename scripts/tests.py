@@ -17,8 +17,8 @@ import tempfile
 import time
 from concurrent.futures import ThreadPoolExecutor
 
+import cases
 import lay_out
-import one_thread
 import try_kit
 from lay_out import TOP
 
@@ -33,7 +33,7 @@ SMALL_STACK = 64 * 1024
 SECONDS_OF_PROCESSORS = 60
 LOOKS_ASLEEP = 60
 # A test that can show nothing.
-EMPTY = re.compile(r"#\[test\]\s*fn (\w+)\([^)]*\)[^{;]*\{\s*(?:Ok\(\(\)\))?\s*\}")
+EMPTY = re.compile(r"#\[test\]\s*fn (\w+)\([^)]*\)[^{;]*\{(?:\s|//.*)*(?:Ok\(\(\)\))?\s*\}")
 
 
 class Tally:
@@ -117,7 +117,7 @@ def build(told, room, words):
     words by which the program is called, or None, and what the compiler said."""
     modules = {word.split("::")[0].removesuffix("_unsync") for word in words}
     named = [it for it in modules if lay_out.texts_of(it)]
-    one_thread.lay_both(f"{room}/project", [*named, "checks"] if named else None)
+    lay_out.lay_out(f"{room}/project", [*named, "checks"] if named else None)
     told.say("compiling, about a minute")
     refuses = try_kit.compiled(f"{TOP}/scripts/refuse.c", f"{room}/refuse.o")
     return try_kit.built(f"{room}/project", "tests", [refuses], f"{room}/built")
@@ -157,22 +157,16 @@ def run(program, runs, told):
             told.say(f"{group}: {told.passed - passed} passed, {told.failed - failed} failed")
 
 
-def read_cases(played, told):
-    """Waits until the cases are played, counts them, and prints what did not come out right."""
-    said = played.communicate()[0]
-    found = re.search(r"^(\d+) passed, (\d+) failed\n\Z", said, re.M)
-    passed, failed = (int(it) for it in found.groups()) if found else (0, 1)
-    failed = max(failed, int(played.returncode != 0))
+def add_cases(played, told):
+    """Waits until the cases are played, which say what did not come out right, and counts them."""
+    passed, failed = played.result()
     told.passed, told.failed = told.passed + passed, told.failed + failed
     told.say(f"cases: {passed} passed, {failed} failed")
-    if failed:
-        print(said, flush=True)
 
 
 def main(words):
-    told = Tally()
-    cases = [sys.executable, f"{TOP}/scripts/cases.py"]
-    played = None if words else subprocess.Popen(cases, **lay_out.READ)
+    told, beside = Tally(), ThreadPoolExecutor(1)
+    played = None if words else beside.submit(cases.run, [])
     for it in [] if words else lay_out.formatted():
         told.count(f"tests/{it}", "not as `python3 scripts/lay_out.py --format` writes it")
     with tempfile.TemporaryDirectory(prefix="tests-") as room:
@@ -187,7 +181,7 @@ def main(words):
         else:
             told.count("the tests", f"{said}\nnot each test ran in each way")
     if played:
-        read_cases(played, told)
+        add_cases(played, told)
     print(f"{told.passed} passed, {told.failed} failed")
     return 1 if told.failed else 0
 

@@ -1,7 +1,7 @@
 #!/usr/bin/env bash
-# Plays cases of vendor.sh, which are lines of vendor_cases.txt: those of the gate, with every fifth
-# cut. Then it runs README's first commands as they stand, and with --all those of examples/tokio,
-# without a proof.
+# Plays cases of vendor.sh, which are lines of vendor_cases.txt: those of the gate, cut off before
+# every tenth command: other ones after each commit, so ten in a row try all. Then it runs README's
+# first commands as they stand, and with --all those of examples/tokio, without a proof.
 #
 #     bash scripts/vendor_check.sh [--all [WORD]]   as root all, or those whose line holds the word
 #
@@ -15,10 +15,11 @@ trap 'umount "$room"/* 2>/dev/null || true; rm -rf "$work"' EXIT
 mkdir -m 1777 "$work/tmp" && chmod 755 "$work"
 export TMPDIR=$work/tmp GIT_AUTHOR_DATE='@1 +0000' GIT_COMMITTER_DATE='@1 +0000' moves
 two='async_cell_sync async_cell_within' few='async_cell_core async_cell_within'
-need='async_cell_within: futures' lib=async_cell_core/src/lib.rt passed=0 failed=0 every=5
+need='async_cell_within: futures' lib=async_cell_core/src/lib.rt passed=0 failed=0 every=10
 nobody='setpriv --reuid=65534 --regid=65534 --clear-groups env HOME=/none'
 kit=$(rt version | sed 's/ .*//')
-[ "${1:-}" != --all ] || every=1 all=yes
+begin=$(($(git -C "$top" rev-list --count HEAD) % every))
+[ "${1:-}" != --all ] || every=1 begin=0 all=yes
 
 vendor() { ${as:-} bash "$clone/scripts/vendor.sh" "$@"; }
 commit() {
@@ -58,14 +59,14 @@ is_whole() (
 ends() {
     local at first=$clone
     cp -r . "$room/start"
-    for ((at = 0; ; at += every)); do
+    for ((at = begin; ; at += every)); do
         find . -mindepth 1 -delete && cp -r "$room/start/." . && clone=$first
         ! "$1" "$at" "${@:3}" &>/dev/null || break
         clone=$work/$2
         vendor "${@:3}" || return
         is_whole || { [ "$3" != --update ] && is_whole HEAD~3; } || return
     done
-    [ "$at" != 0 ]
+    [ "$at" != "$begin" ]
 }
 # Ends it before one of these commands in the project, once so many were made: NUMBER CALL..
 cut() (
@@ -109,7 +110,7 @@ for it in 1 2; do cp -r "$clone" "$work/$it" && clone=$work/$it && release "0.$(
 mkdir "$work/old" && (cd "$work/old" && clone=$work/0 vendor $two crates)
 
 while read -r line; do
-    [[ $line != \#* && ( $every = 1 || $line = \** ) && $line = *"${2:-}"* ]] || continue
+    [[ $line != \#* && ( ${all:-} || $line = \** ) && $line = *"${2:-}"* ]] || continue
     mapfile -t field < <(sed 's/^\* //; s/ :: /\n/g' <<<"$line")
     eval "values=(${field[1]})"
     for it in "${values[@]}"; do
