@@ -42,8 +42,8 @@ from try_kit import KIT
 
 RECORD = "scripts/bugs.lock"
 ABOUT = "The deliberate bugs that were refused: `python3 scripts/bugs.py --record`."
-# After so many commits in a row all of the record's bugs were tried anew, one crate after the other.
-# Drawn with them are bugs of so many checks, of each so many: a check costs far more than a bug.
+# So many commits in a row try all of the record's bugs anew, one crate after the other. Drawn with
+# them are bugs of so many checks, of each so many: a check costs far more than a bug in it.
 TURNS, CHECKS, DRAWN = 10, 3, 4
 HEAD = ("rev-parse HEAD", "rev-list --count HEAD")
 SUMS = re.compile(r"(\w{8})\.(\w{8})(\??)")

@@ -18,7 +18,7 @@ import tempfile
 import random_cases
 import read_cases
 import try_kit
-from lay_out import READ, TOP, lay_crate, read, said_by, texts_below, without_lock, write
+from lay_out import READ, TOP, lay_crate, read, texts_below, without_lock, write
 
 PLAYER = f"{TOP}/tests/player"
 # How long the player may run, which takes a minute of a processor.
@@ -62,12 +62,18 @@ def play(project, inputs, random_text):
     return [[*map(int, it)] for it in re.findall(r"(?m)^(\d+) passed, (\d+) failed$", said)]
 
 
+def of_commit():
+    """Returns the first seed of the last commit: 0 where there is none."""
+    asked = ["git", "-C", TOP, "rev-parse", "HEAD"]
+    ran = subprocess.run(asked, capture_output=True, text=True, check=False)
+    return int(ran.stdout[:6], 16) if ran.returncode == 0 else 0
+
+
 def run(words):
     """Plays the cases that these words choose. Returns how many passed and failed."""
-    commit = said_by("git", "-C", TOP, "rev-parse", "HEAD")
     reader = argparse.ArgumentParser(description=__doc__.split("\n\n", maxsplit=1)[0])
     reader.add_argument("--random", type=int, default=60, help="how many of each sort")
-    reader.add_argument("--seed", type=int, default=int(commit[:6], 16), help="the first seed")
+    reader.add_argument("--seed", type=int, default=of_commit(), help="the first seed")
     reader.add_argument("files", nargs="*", help="files of tests/cases")
     asked = reader.parse_args(words)
     by_hand, faults = cases(asked.files)
