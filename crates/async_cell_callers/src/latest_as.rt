@@ -112,8 +112,8 @@ fn one_more(value: &u64) -> u64
     value.saturating_add(1)
 }
 
-/// Raises a gauge that never falls, whoever else writes it. Returns whether it took the value. It
-/// does not only at its highest version: other owners may end, but this one keeps it open.
+/// Raises a gauge that never falls, whoever else writes it. Returns whether it took the value: it
+/// did, unless the gauge has had as many values as a state can have. This owner keeps it open.
 pub fn raise<R: Host, N: Protocol<u64>>(
     owner: &Owner<u64, R, N>,
     seen: &mut Witness<u64, N>,

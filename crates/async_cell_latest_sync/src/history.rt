@@ -85,8 +85,8 @@ impl<T> Model for Blank<T> {
 }
 
 impl<T> Blank<T> {
-    /// Begins the list of values of a state that is not made yet, and gives the list a new name. The
-    /// count of the state's owners, which begins with one, gets a name, too.
+    /// Begins the list of values of a state that is not made yet, and the count of the state's
+    /// owners, which begins with one. Gives both a new name.
     pub fn new() -> Self {
         let mut count = Count::open();
         let permit = count.give();

@@ -289,8 +289,8 @@ impl<T: Drop, R: Wait + Drop, N: Protocol<T>> Owner<T, R, N> {
     }
 
     /// As `set`, but shows the write to the witness. Fails only if the state has had
-    /// 18,446,744,073,709,551,615 values, since this owner keeps it open. The value is then returned
-    /// in the error.
+    /// 18,446,744,073,709,551,615 values, since this owner keeps it open. The error then has the
+    /// value.
     pub fn set_as(&self, seen: &mut Witness<T, N>, value: T) -> Result<(), T>
         requires may { MayWrite N.may seen.old value }
         ensures linearized { OnOk result (IsWritten seen.old value seen.new) }

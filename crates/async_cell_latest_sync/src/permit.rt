@@ -1,5 +1,4 @@
-//! The permits of a state's owners. The number of permits given out equals the number of owners that
-//! the state counts.
+//! The permits of a state's owners. As many permits are given out as the state counts owners.
 ghost use Rattle.std.specs.Prelude.{◌≡◌};
 ghost use Rattle.async_cell_latest_sync.specs.Life.{permits_of};
 
