@@ -3,7 +3,30 @@ use Rattle.ghost_tokens.proofs.Words.{Ura, length-map, Gv, Coded, Least, latest,
 use Rattle.ghost_tokens.proofs.Words.{latest_cut, latest_glue, at_least_dup, at_least_join, prefix_out, prefix_in, if◌then◌else◌, nat_lt, nat_tests, lists, log_owns, seen_owns, ◌≡◌, ℕ, ◌≤◌, Bool, true}
 use Rattle.ghost_tokens.proofs.Words.{false, List, [], ◌∷◌, ◌++◌, map, length, refl, inl, inr, arith, Lft, Share, Fml, fbor, full_share, SProp, ent, sep, ex, guard, emp, via, Lends, IsPrefix, ◌⊎◌, ‵}
 use Rattle.ghost_tokens.proofs.Words.{◌⊛◌, some, given, ◌$◌, ◌∵◌, !, qed, by, keep, split, pick, learn, check, done, use2, rewrite, updating, now, raw, Logic, sem, lfts, bor_fracture}
+use Rattle.ghost_tokens.proofs.Words.{sym, Option, Some, nat_eq, growing, own_sum, not-OpDef-full_share, ◌≢◌}
+use Rattle.std.specs.List.{last_or}
+use mathlib.Core.Path.{subst}
+use mathlib.Core.Option.{some as opt_some}
 use base.Share
+
+-- an entry that is added is the last one
+pub last_added : {A : Type 0} (o : Option A) (xs : List A) (x : A) → last_or o (xs ++ x ∷ []) ≡ Some x
+last_added o [] x = refl
+last_added o (y ∷ ys) x = last_added (Some y) ys x
+
+-- a beginning that is as long as the whole is the whole
+pub whole_if_long : {A : Type 0} (xs ys : List A) → IsPrefix xs ys → length ys ≤ length xs → xs ≡ ys
+whole_if_long [] [] p le = refl
+whole_if_long [] (y ∷ ys) p le = absurd (omega arith)
+whole_if_long (x ∷ xs) [] p le = absurd (cc (p.1))
+whole_if_long (x ∷ xs) (y ∷ ys) p le = let heads : x ≡ y = cc (p.1) in let rest = whole_if_long xs ys (p.0, cc (p.1)) (omega arith) in cc (heads, rest)
+
+-- of two beginnings that are equally long neither is the longer one
+pub as_long : {A : Type 0} (xs ys zs : List A) → (zs ≡ xs) ⊎ (zs ≡ ys) → IsPrefix xs zs → IsPrefix ys zs → length xs ≡ length ys → xs ≡ ys
+as_long xs ys zs one p q same = elim one [
+  | inl is ↦ sym (whole_if_long ys xs (subst (IsPrefix ys) is q) (omega (arith, same)))
+  | inr is ↦ whole_if_long xs ys (subst (IsPrefix xs) is p) (omega (arith, same))
+]
 
 -- of two beginnings of one list the shorter begins the longer
 pub shorter_begins : {A : Type 0} (xs ys zs : List A) → IsPrefix xs zs → IsPrefix ys zs → length xs ≤ length ys → IsPrefix xs ys
@@ -58,6 +81,21 @@ module _ {M : Type 1} {𝓤 : Ura M} (𝓛 : Logic 𝓤) {E : Type 0} (cv : Code
 
   pub shows : (γ : ℕ) (xs : List E) (q : Share) → ⟦ log γ xs q ⟧ ⊢ ⟦ log γ xs q ⟧ ∗ ⟦ seen γ xs ⟧
   shows γ xs q = latest_shows lists 𝓛 q γ (map cv.code xs) (map cv.code xs) (lists.same (map cv.code xs))
+
+  -- nothing is beside the whole right to a list
+  alone : (γ : ℕ) (xs ys : List E) (q : Share) (Z : Pr) → ⟦ log γ xs full_share ⟧ ∗ ⟦ log γ ys q ⟧ ⊢ Z
+  unfolding latest
+  alone γ xs ys q Z = own_sum 𝓛 (growing lists) γ (opt_some full_share, map cv.code xs) (opt_some q, map cv.code ys) Z (λ c m. absurd (not-OpDef-full_share q (m.0.1.0.0)))
+
+  -- so two of them are of two lists
+  apart_if : (γ δ : ℕ) (xs ys : List E) (q : Share) (same : Bool) → nat_eq γ δ ≡ same
+      → ⟦ log γ xs full_share ⟧ ∗ ⟦ log δ ys q ⟧ ⊢ guard 𝓤 (γ ≢ δ) (⟦ log γ xs full_share ⟧ ∗ ⟦ log δ ys q ⟧)
+  apart_if γ δ xs ys q false e = qed 𝓛 (‵ (log γ xs full_share) ∷ ‵ (log δ ys q) ∷ []) ∵ check ! (λ is. absurd (grind (arith, nat_tests, e, is))) $ done !
+  apart_if γ δ xs ys q true e = subst (λ ε. ⟦ log γ xs full_share ⟧ ∗ ⟦ log ε ys q ⟧ ⊢ guard 𝓤 (γ ≢ ε) (⟦ log γ xs full_share ⟧ ∗ ⟦ log ε ys q ⟧)) (grind (arith, nat_tests, e))
+      (alone γ xs ys q (guard 𝓤 (γ ≢ γ) (⟦ log γ xs full_share ⟧ ∗ ⟦ log γ ys q ⟧)))
+
+  pub apart : (γ δ : ℕ) (xs ys : List E) (q : Share) → ⟦ log γ xs full_share ⟧ ∗ ⟦ log δ ys q ⟧ ⊢ guard 𝓤 (γ ≢ δ) (⟦ log γ xs full_share ⟧ ∗ ⟦ log δ ys q ⟧)
+  apart γ δ xs ys q = apart_if γ δ xs ys q (nat_eq γ δ) refl
 
   bounds : (γ : ℕ) (xs ys : List E) (q : Share) → ⟦ log γ xs q ⟧ ∗ ⟦ seen γ ys ⟧ ⊢ guard 𝓤 (IsPrefix ys xs) (⟦ log γ xs q ⟧ ∗ ⟦ seen γ ys ⟧)
   bounds γ xs ys q = qed 𝓛 (‵ (log γ xs q) ∷ ‵ (seen γ ys) ∷ []) ∵ use2 𝓛 (given (IsPrefix (map cv.code ys) (map cv.code xs)) (‵ (log γ xs q) ⊛ ‵ (seen γ ys)))

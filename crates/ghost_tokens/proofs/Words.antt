@@ -4,10 +4,10 @@ pub use Rattle.core.proofs.ledger.Walks.{tells, tells_last}
 pub use Rattle.ghost_tokens.specs.Owned.{back, count_owns, counted, counts, given_permits, held, is_held, lists, log_owns, names, outs, permit_owns, right, seen_owns, table, was_given}
 pub use Rattle.logbook.proofs.Fields.{Token, ends, lends_twice, token, token_made, token_told}
 pub use Rattle.logbook.proofs.Roster.{prefix_in, prefix_out}
-pub use Rattle.std.proofs.Common.{Bool, List, [], arith, false, inl, inr, length, map, refl, suc, sym, true, ℕ, ◌++◌, ◌+◌, ◌-◌, ◌<◌, ◌∷◌, ◌≡◌, ◌≤◌}
+pub use Rattle.std.proofs.Common.{Bool, List, [], arith, false, inl, inr, length, map, refl, suc, sym, true, ℕ, ◌++◌, ◌+◌, ◌-◌, ◌<◌, ◌∷◌, ◌≡◌, ◌≢◌, ◌≤◌}
 pub use Rattle.std.proofs.lemmas.Bool.Decides.{nat_tests}
-pub use Rattle.std.proofs.lemmas.List.{length-map}
-pub use Rattle.std.specs.Prelude.{IsSome, None, Option, Some, if◌then◌else◌, nat_lt}
+pub use Rattle.std.proofs.lemmas.List.{length-append, length-map}
+pub use Rattle.std.specs.Prelude.{IsSome, None, Option, Some, if◌then◌else◌, nat_eq, nat_lt}
 pub use base.{Before.before, Fraction.full_share, FractionLaws.not-OpDef-full_share, Growing.Least, Growing.prefix_anti, Growing.prefix_refl, Shift.Keyless, Stored.Coded, Stored.Gv}
 pub use base.Fml.{Fml, Lft, Share, fbor, fhide, flft, fsep, fshr_bor, ftrue}
 unfoldable pub use base.Growing.{at_least, growing, latest, numbers}

@@ -1,5 +1,6 @@
 //! The tokens of a list that only grows.
-ghost use Rattle.std.specs.Prelude.{◌≡◌, ℕ, List, [], ◌∷◌, ◌++◌, ◌⊎◌};
+ghost use Rattle.std.specs.Prelude.{◌≡◌, ◌≢◌, ◌≤◌, ◌+◌, ℕ, List, [], ◌∷◌, ◌++◌, ◌⊎◌, length, None, Some};
+ghost use Rattle.std.specs.List.{last_or};
 ghost use mathlib.Core.List.{IsPrefix};
 ghost use base.Stored.{coded_list};
 ghost use base.Fraction.{full_share};
@@ -61,6 +62,8 @@ impl<E> Log<E> {
     pub fn push<X, M: Makes<X, E>>(&mut self, about: &X)
         ensures of_this { self.new.name ≡ self.old.name }
         ensures pushed { self.new.list ≡ self.old.list ++ M.entry about.now ∷ [] }
+        ensures last { last_or None self.new.list ≡ Some (M.entry about.now) }
+        ensures counted { length self.new.list ≡ length self.old.list + 1 }
     {}
 
     /// Returns a `Seen` of the whole list, as it is now.
@@ -72,17 +75,35 @@ impl<E> Log<E> {
             marker: PhantomData,
         }
     }
+
+    /// Does nothing. Its contract states that two `Log`s, at one time, are of two lists. So whoever
+    /// has the `Log` of a list is alone.
+    pub fn proves_alone(&mut self, other: &Log<E>)
+        ensures stays { self.new ≡ self.old }
+        ensures apart { self.old.name ≢ other.now.name }
+    {}
 }
 
 impl<E> Seen<E> {
     /// Makes this `Seen` know the whole list, as the list is now. What this `Seen` knew before is a
-    /// prefix of the list.
+    /// prefix of the list, and the whole list if it is as long.
     pub fn learn(&mut self, log: &Log<E>)
         requires of_this { self.old.name ≡ log.now.name }
         ensures of_this { self.new.name ≡ self.old.name }
         ensures whole { self.new.list ≡ log.now.list }
         ensures begins { IsPrefix self.old.list log.now.list }
+        ensures same { length log.now.list ≤ length self.old.list → self.old.list ≡ log.now.list }
     {}
+
+    /// Does nothing. Its contract states that two prefixes of one list are the same if they are
+    /// equally long.
+    pub fn agrees(&self, other: &Seen<E>)
+        requires of_this { other.now.name ≡ self.now.name }
+        ensures same { length self.now.list ≡ length other.now.list
+            → self.now.list ≡ other.now.list }
+    {
+        let _longer = self.longer(other);
+    }
 
     /// Returns a copy.
     pub fn again(&self) -> Seen<E>

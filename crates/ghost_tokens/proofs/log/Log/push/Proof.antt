@@ -2,7 +2,7 @@
 use Rattle.ghost_tokens.proofs.Words.{proved, tells, tells_last, log_owns, ends, List, [], ◌∷◌, ◌++◌, refl, Fml, ftrue, fsep, flft, full_share, SProp, tables, RefOf, yes, param, bounded}
 use Rattle.ghost_tokens.proofs.Words.{RattleType, owns, mut_vals, mut_Tells, shr_vals, shr_Tells, types_at, plain, nothing, opens, closes, Stays, stay_dropped, stay_ref, walk_of, Goes-dropped}
 use Rattle.ghost_tokens.proofs.Words.{Goes-ref, inst_fn, a_type, dcons, dnil, named, Val, vunit, vptr, alloc_all, pass_all, free_all, look_at, sets, ‵, raw, ◌⊛◌, later, ◌$◌, ◌∵◌, ! }
-use Rattle.ghost_tokens.proofs.Words.{qed, by, move, keep, split, fsplit, fsplit3, fjoin, fjoin3, use1, await, feq_i, unit_lit, of_opd, returns, enter}
+use Rattle.ghost_tokens.proofs.Words.{qed, by, move, keep, split, fsplit, fsplit3, fjoin, fjoin3, use1, await, feq_i, unit_lit, of_opd, returns, enter, length-append, None}
 use Rattle.ghost_tokens.specs.contracts.log.Log as Log
 use Rattle.ghost_tokens.specs.contracts.log.Seen as Seen
 use Rattle.ghost_tokens.proofs.LogSteps as steps
@@ -30,4 +30,6 @@ push_spec 𝓤 𝓛 𝓜 𝓡 wired E X N _ _ _ gn dn _ =
     await ! tt $
     move ! (1 ∷ 0 ∷ []) $ fjoin ! $ move ! (1 ∷ 0 ∷ 2 ∷ 3 ∷ 4 ∷ []) $ closes ! tt Lg me' vs b o $ sets ! (of_opd ! (unit_lit !)) refl (tt, tt) $ feq_i ! (List Val) (vunit ∷ []) (vunit ∷ []) refl $
     move ! (3 ∷ 4 ∷ []) $ fjoin ! $ nothing ! $ nothing ! $ fjoin ! $ feq_i ! (List Val) (vptr b o ∷ []) (vptr b o ∷ []) refl $ move ! (0 ∷ 4 ∷ 5 ∷ []) $ fjoin3 ! $ fjoin ! $
-    returns ! (look_at ! 0 refl) $ free_all ! refl $ keep ! (1 ∷ 0 ∷ 2 ∷ []) $ by ! (ends 𝓛 En hs c y vunit tt (me', (tt, tt)) (tt, (tt, tt)) (qed 𝓛 [] ∵ tells ! refl $ tells_last ! refl)))))
+    returns ! (look_at ! 0 refl) $ free_all ! refl $ keep ! (1 ∷ 0 ∷ 2 ∷ []) $
+    by ! (ends 𝓛 En hs c y vunit tt (me', (tt, tt)) (tt, (tt, tt))
+    (qed 𝓛 [] ∵ tells ! refl $ tells ! refl $ tells ! (steps.last_added None me.list e) $ tells_last ! (length-append me.list (e ∷ [])))))))

@@ -39,4 +39,4 @@ learn_spec 𝓤 𝓛 𝓜 𝓡 wired E _ =
     feq_i ! (List Val) (vunit ∷ []) (vunit ∷ []) refl $ move ! (4 ∷ 5 ∷ []) $ fjoin ! $ move ! (4 ∷ 0 ∷ []) $ fjoin ! $
     nothing ! $ nothing ! $ fjoin ! $ feq_i ! (List Val) (vptr b o ∷ []) (vptr b o ∷ []) refl $ move ! (0 ∷ 4 ∷ 5 ∷ []) $ fjoin3 ! $ fjoin ! $
     returns ! (look_at ! 0 refl) $ free_all ! refl $ keep ! (1 ∷ 0 ∷ 2 ∷ []) $
-    by ! (ends 𝓛 En hs c y vunit tt (me', (tt, tt)) (tt, (tt, tt)) (qed 𝓛 [] ∵ tells ! refl $ tells ! refl $ tells_last ! so))))))))
+    by ! (ends 𝓛 En hs c y vunit tt (me', (tt, tt)) (tt, (tt, tt)) (qed 𝓛 [] ∵ tells ! refl $ tells ! refl $ tells ! so $ tells_last ! (steps.whole_if_long me.list whole.list so)))))))))
