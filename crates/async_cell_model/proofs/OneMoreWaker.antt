@@ -1,6 +1,6 @@
 -- What one more waker makes of a wait list, and the wait lists of longer lists.
-use Rattle.async_cell_model.proofs.Words.{◌≡◌, ◌≤◌, ◌<◌, inl, inr, ℕ, Bool, true, false, not, ◌&&◌, ◌||◌, List, [], ◌∷◌, ◌++◌, length, get_or, refl, ap, ◌∙◌, arith, le_refl}
-use Rattle.async_cell_model.proofs.Words.{le_trans, length-append, nat_lt, if◌then◌else◌, filter, fold, AllPairs, nat_tests, fold-append, list_any-append, list_any_at}
+use Rattle.async_cell_model.proofs.Words.{◌≡◌, ◌≤◌, ◌<◌, inl, inr, ℕ, Bool, true, false, not, ◌&&◌, ◌||◌, List, [], ◌∷◌, ◌++◌, length, get_or, refl, ap, sym, ◌∙◌, arith, le_refl}
+use Rattle.async_cell_model.proofs.Words.{le_trans, append-nil, append_assoc, length-append, nat_lt, if◌then◌else◌, filter, fold, AllPairs, nat_tests, fold-append, list_any-append, list_any_at}
 use Rattle.async_cell_model.proofs.Words.{Contains-append_left, Contains-push, all_pairs_push, is_empty, wait_list, skips, with_one_more, IsCovered}
 use Rattle.std.specs.Prelude.{◌≢◌}
 
@@ -25,6 +25,14 @@ module _ {W : Type 0} (will_wake : W → W → Bool) where
   pub never_skipped : (l : List W) (w : W) → ((a b : W) → will_wake a b ≡ false) → skips will_wake l w ≡ false
   never_skipped [] w never = refl
   never_skipped (x ∷ xs) w never = rw (never x w) (never_skipped xs w never)
+
+  adds_all : (m xs : List W) → ((a b : W) → will_wake a b ≡ false) → fold (with_one_more will_wake) m xs ≡ m ++ xs
+  adds_all m [] never = sym (append-nil m)
+  adds_all m (x ∷ xs) never = rw (never_skipped m x never) (adds_all (m ++ x ∷ []) xs never ∙ append_assoc m (x ∷ []) xs)
+
+  -- and so all wait
+  pub all_wait : (l : List W) → ((a b : W) → will_wake a b ≡ false) → wait_list will_wake l ≡ l
+  all_wait l never = adds_all [] l never
 
   -- and not added, where it is
   pub keep_skipped : (l : List W) (w : W) → wait_list will_wake l ≡ l → skips will_wake l w ≡ true → wait_list will_wake (l ++ w ∷ []) ≡ l

@@ -1,5 +1,4 @@
-//! The model of a cell: the definitions that every contract of this repository refers to, and their
-//! laws.
+//! The model of a cell: the definitions that the contracts of cells refer to, and their laws.
 #![tactic(auto)]
 
 mod cell;

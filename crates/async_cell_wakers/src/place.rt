@@ -9,7 +9,7 @@ pub struct Place {
     /// The index of the place in the list.
     pub(crate) index: usize,
     /// The number of the task whose waker the future stored there last.
-    task: usize,
+    pub(crate) task: usize,
 }
 
 impl Place {
@@ -22,15 +22,6 @@ impl Place {
             index: 0,
             task: 0,
         }
-    }
-
-    /// Sets the position in the list. The number of the task stays.
-    #[inline(always)]
-    pub(crate) fn put(&mut self, round: u64, index: usize)
-        ensures { (self.new.round ≡ round) × (self.new.index ≡ index) }
-    {
-        self.round = round;
-        self.index = index;
     }
 
     /// Notes the number of the task whose waker the future has stored, as `Context::task` gives it.

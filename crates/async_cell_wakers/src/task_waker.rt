@@ -1,6 +1,7 @@
-ghost use Rattle.std.specs.Prelude.{◌≡◌, false};
+ghost use Rattle.std.specs.Prelude.{◌≡◌, Some, None, false};
 ghost use Rattle.std.proofs.Common.{rules};
 ghost use Rattle.futures.specs.Task.{Hears, IsArmed, Keeps};
+ghost use Rattle.async_cell_wakers.specs.Place.{IsOfTask};
 
 use crate::wakes::Wakes;
 use futures::task::{Context, Source, Waker};
@@ -25,16 +26,21 @@ pub struct TaskWaker {
     link: Cell<usize>,
 }
 
-/// Contracts see a value without parts.
+/// Contracts see the waker of `futures`, which names its task.
 impl Model for TaskWaker {
-    ghost Value = { Unit {0} };
+    ghost use Rattle.std.specs.Prelude.{Option};
+    ghost use Rattle.futures.specs.declared.task.waker.Waker.{Waker};
 
-    ghost view = { λ _. tt };
+    ghost Value = { Option Waker };
+
+    ghost view = { λ s. s.waker };
 }
 
 impl TaskWaker {
     /// Wraps the waker of a future, so that a place of the wait list can store the waker.
-    pub fn of(waker: Waker) -> TaskWaker {
+    pub fn of(waker: Waker) -> TaskWaker
+        ensures { result ≡ Some waker }
+    {
         TaskWaker {
             waker: Some(waker),
             link: Cell::new(HELD),
@@ -65,14 +71,15 @@ impl TaskWaker {
         ensures armed { IsArmed cx.new }
         ensures heard { Hears cx.new source.now.id }
         ensures kept { Keeps cx.old cx.new }
-        ensures unchanged { self.new ≡ self.old }
+        ensures of_task { IsOfTask cx.old cx.new self.new }
     {
         let _ = cx.register::<()>(source, &mut self.waker);
     }
 
     /// Takes the waker out of its place, which then holds `None`.
     pub(crate) fn take(&mut self) -> Option<Waker>
-        ensures unchanged { self.new ≡ self.old }
+        ensures taken { result ≡ self.old }
+        ensures empty { self.new ≡ None }
     {
         self.waker.take()
     }

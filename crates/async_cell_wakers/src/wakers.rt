@@ -46,7 +46,10 @@ impl<W> Wakers<W> {
     fn left(&self) -> usize
         ensures { result ≡ length self.now }
     {
-        let rest = self.rest.as_ref().map_or(0, |rest| rest.len());
+        let rest = match &self.rest {
+            Some(rest) => rest.len(),
+            None => 0,
+        };
         match &self.first {
             Some(_) => 1 + rest,
             None => rest,

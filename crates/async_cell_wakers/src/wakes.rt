@@ -10,7 +10,7 @@ pub trait Wakes: Clone {
     /// `SURE_CLONE`, as contracts name it.
     ghost SURE_CLONE: { Bool };
 
-    /// Whether the clone of a waker of this type never fails.
+    /// If it is `true`, no clone of a waker of this type fails.
     const SURE_CLONE: bool;
 
     /// Returns whether waking `self` also wakes what `other` would wake.

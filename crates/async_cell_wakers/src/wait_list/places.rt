@@ -3,9 +3,9 @@
 //! its waker out of its place, and then stores the waker again. A future that is dropped leaves its
 //! place free, with the waker in it. The free places form a list: each has, beside its waker, the
 //! number of the next free place, counted from 1.
-ghost use Rattle.std.specs.Prelude.{◌≡◌, ◌<◌, ◌≤◌, ◌-◌, ◌↔◌, [], ◌∷◌, ◌++◌, length, false, IsTrue, IsSome, IsOk, IfSome, IfOk, OnSome, OnOk, OnErr, IfNone, MatchOption};
+ghost use Rattle.std.specs.Prelude.{◌≡◌, ◌<◌, ◌≤◌, ◌-◌, ◌↔◌, [], ◌∷◌, ◌++◌, length, slice_get, Some, None, false, IsTrue, IsSome, IsOk, IfSome, IfOk, OnSome, OnOk, OnErr, IfNone, MatchOption};
 ghost use Rattle.futures.specs.Task.{Hears, IsArmed, Keeps};
-ghost use Rattle.async_cell_wakers.specs.Place.{Holds};
+ghost use Rattle.async_cell_wakers.specs.Place.{Holds, Renews, Swaps, displaced};
 
 use super::WaitList;
 use crate::place::Place;
@@ -23,13 +23,21 @@ impl WaitList<TaskWaker> {
         place.round != self.round && self.free.get() == 0
     }
 
-    /// Stores a waker at the end of the list, and sets `place` to the position of the waker. If
-    /// there is no memory to grow the list, the waker is returned in the error.
+    /// Stores the waker of the task with this number at the end of the list, and sets `place` to
+    /// the position of the waker. If there is no memory to grow the list, the waker is returned in
+    /// the error.
     #[inline(always)]
-    pub fn store_new(&mut self, place: &mut Place, waker: TaskWaker) -> Result<(), TaskWaker>
+    #[tactic(auto, using(crate::proofs::Places::at_last))]
+    pub fn store_new(
+        &mut self,
+        place: &mut Place,
+        task: usize,
+        waker: TaskWaker,
+    ) -> Result<(), TaskWaker>
         ensures stored { OnOk result (self.new.wakers ≡ self.old.wakers ++ waker ∷ []) }
         ensures held { OnOk result (Holds self.new place.new) }
         ensures last { OnOk result (place.new.index ≡ length self.old.wakers) }
+        ensures seated { OnOk result (slice_get self.new.wakers place.new.index ≡ Some waker) }
         ensures takes_room { OnOk result (self.old.room - 1 ≤ self.new.room) }
         ensures first_is_added { self.old.wakers ≡ [] → IsOk result }
         ensures room_suffices { 0 < self.old.room → IsOk result }
@@ -40,7 +48,7 @@ impl WaitList<TaskWaker> {
         let index = self.len();
         self.add(waker)?;
         let round = self.round;
-        place.put(round, index);
+        *place = Place { round, index, task };
         Ok(())
     }
 
@@ -55,7 +63,10 @@ impl WaitList<TaskWaker> {
         ensures armed { IsTrue result → IsArmed cx.new }
         ensures heard { IsTrue result → Hears cx.new source.now.id }
         ensures kept { Keeps cx.old cx.new }
-        ensures unchanged { self.new ≡ self.old }
+        ensures renewed { IsTrue result
+            → Renews self.old.wakers place.now.index cx.old cx.new self.new.wakers }
+        ensures unchanged { result ≡ false → (self.new ≡ self.old) × (cx.new ≡ cx.old) }
+        ensures rest_stays { (self.new.room ≡ self.old.room) × (self.new.round ≡ self.old.round) }
     {
         if place.round != self.round || !place.is_of(cx.task()) {
             return false;
@@ -75,7 +86,10 @@ impl WaitList<TaskWaker> {
     pub fn take_back(&mut self, place: &mut Place) -> Option<Waker>
         ensures held { OnSome result (Holds self.new place.new) }
         ensures kept { Holds self.old place.old → place.new ≡ place.old }
-        ensures unchanged { self.new ≡ self.old }
+        ensures taken { IfSome result (λ waker.
+            Swaps self.old.wakers place.new.index (Some waker) None self.new.wakers) }
+        ensures unchanged { IfNone result (self.new ≡ self.old) }
+        ensures rest_stays { (self.new.room ≡ self.old.room) × (self.new.round ≡ self.old.round) }
     {
         let index = self.claim(place)?;
         self.take_out(index)
@@ -86,6 +100,7 @@ impl WaitList<TaskWaker> {
     /// there, if any. Dropping the returned waker wakes its task. If there is no memory to grow the
     /// list, the new waker is returned in the error.
     #[inline(always)]
+    #[tactic(auto, using(crate::proofs::Places::at_swapped))]
     pub fn store(
         &mut self,
         place: &mut Place,
@@ -93,7 +108,9 @@ impl WaitList<TaskWaker> {
     ) -> Result<Option<TaskWaker>, TaskWaker>
         ensures stored { IfOk result (λ before. MatchOption before
             (self.new.wakers ≡ self.old.wakers ++ waker ∷ [])
-            (λ _. (self.new ≡ self.old) × (self.old.wakers ≡ [] → ⊥))) }
+            (λ there. Swaps self.old.wakers place.new.index there waker self.new.wakers)) }
+        ensures seated { OnOk result (slice_get self.new.wakers place.new.index ≡ Some waker) }
+        ensures room_stays { IsSome (displaced result) → self.new.room ≡ self.old.room }
         ensures held { OnOk result (Holds self.new place.new) }
         ensures kept { Holds self.old place.old → IsOk result × (place.new ≡ place.old) }
         ensures takes_room { OnOk result (self.old.room - 1 ≤ self.new.room) }
@@ -105,7 +122,10 @@ impl WaitList<TaskWaker> {
     {
         match self.claim(place) {
             Some(index) => self.exchange(index, waker).map(Some),
-            None => self.store_new(place, waker).map(|()| None),
+            None => {
+                let task = place.task; // It stays: the waker may be another task's.
+                self.store_new(place, task, waker).map(|()| None)
+            }
         }
     }
 
@@ -129,7 +149,10 @@ impl WaitList<TaskWaker> {
     /// this place.
     pub fn take_left(&mut self, index: usize) -> Option<Waker>
         ensures in_the_list { OnSome result (index < length self.old.wakers) }
-        ensures unchanged { self.new ≡ self.old }
+        ensures taken { IfSome result (λ waker.
+            Swaps self.old.wakers index (Some waker) None self.new.wakers) }
+        ensures unchanged { IfNone result (self.new ≡ self.old) }
+        ensures rest_stays { (self.new.room ≡ self.old.room) × (self.new.round ≡ self.old.round) }
     {
         if self.at(index)?.is_held() {
             return None;
@@ -147,19 +170,23 @@ impl WaitList<TaskWaker> {
         ensures unchanged { IfNone result (place.new ≡ place.old) }
     {
         if place.round == self.round {
-            return self.at(place.index).map(|_| place.index);
+            self.at(place.index)?;
+            return Some(place.index);
         }
         let index = self.free.get().checked_sub(1)?;
         self.free.set(self.at(index)?.hold());
-        let round = self.round;
-        place.put(round, index);
+        place.round = self.round;
+        place.index = index;
         Some(index)
     }
 
     /// Takes the waker at `index` out, if it is not taken out already.
     fn take_out(&mut self, index: usize) -> Option<Waker>
         ensures in_the_list { OnSome result (index < length self.old.wakers) }
-        ensures unchanged { self.new ≡ self.old }
+        ensures taken { IfSome result (λ waker.
+            Swaps self.old.wakers index (Some waker) None self.new.wakers) }
+        ensures unchanged { IfNone result (self.new ≡ self.old) }
+        ensures rest_stays { (self.new.room ≡ self.old.room) × (self.new.round ≡ self.old.round) }
     {
         match (index.checked_sub(1), &mut self.first) {
             (None, Some(first)) => first.take(),
@@ -182,7 +209,10 @@ impl WaitList<TaskWaker> {
     /// the waker in the error.
     fn exchange(&mut self, index: usize, waker: TaskWaker) -> Result<TaskWaker, TaskWaker>
         ensures in_the_list { IsOk result ↔ (index < length self.old.wakers) }
-        ensures unchanged { self.new ≡ self.old }
+        ensures swapped { IfOk result (λ before.
+            Swaps self.old.wakers index before waker self.new.wakers) }
+        ensures unchanged { OnErr result (self.new ≡ self.old) }
+        ensures rest_stays { (self.new.room ≡ self.old.room) × (self.new.round ≡ self.old.round) }
     {
         match (index.checked_sub(1), &mut self.first) {
             (None, Some(first)) => Ok(mem::replace(first, waker)),
