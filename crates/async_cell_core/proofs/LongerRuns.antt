@@ -1,7 +1,7 @@
 -- Runs that are longer: by another run, and by one call.
 use Rattle.async_cell_model.proofs.Words.{◌≡◌, Bool, true, false, List, [], ◌∷◌, ◌++◌, length, Option, refl, ap, sym, subst, ◌∙◌, arith, list_any, list_any-append}
-use Rattle.async_cell_model.proofs.Words.{content, next, State, Does, DoesUpTo, Exactly, UpToClones, is_copy, copies, History, cell_after, Runs, RunsUpTo, RunsBy}
-use Rattle.async_cell_model.proofs.{LegalHistories.Runs-join-by, Machine.{model_of, model_up_to}}
+use Rattle.async_cell_model.proofs.Words.{content, next, State, Does, DoesUpTo, Exactly, UpToClones, is_copy, copies, History, cell_after, IsSound, Runs, RunsUpTo, RunsBy}
+use Rattle.async_cell_model.proofs.{JoinedHistory.after_none, LegalHistories.Runs-join-by, Machine.{model_of, model_up_to}}
 use Rattle.std.specs.Prelude.{IfSome, map}
 use Rattle.std.proofs.lemmas.List.{length-map, map-append}
 use Rattle.async_cell_model.specs.declared.{cell.Cell.Cell, entry.Entry.Entry, entry.Kept.Kept, reply.Reply.Reply}
@@ -37,6 +37,10 @@ module _ {T W E : Type 0} (edit : E → Option T → Option T) (edit_some : E �
       pub exact : list_any is_get calls ≡ false → Runs will_wake sure from (history_of edit edit_some from.cell calls (map (λ a. a.reply) answers)) (map (λ a. a.woken) answers) to
       pub copied : GetsAreCopied is_clone is_infallible from.cell (history_of edit edit_some from.cell calls (map (λ a. a.reply) answers))
 
+    -- no call
+    pub told_none : (from : State T W) (answers : List (Answer T W)) → answers ≡ [] → IsSound will_wake from → Told from [] answers from
+    told_none from answers none sound = rw none (record { model = grind (arith, after_none); exact = λ _. grind (arith, after_none); copied = tt })
+
     copy_is : (c : Cell T) (call : Call T W E) → is_copy (kept_call edit edit_some c call) ≡ is_get call
     copy_is c call = grind arith
 
@@ -47,17 +51,18 @@ module _ {T W E : Type 0} (edit : E → Option T → Option T) (edit_some : E �
     gets_more c (x ∷ g) e all one = (all.0, gets_more (next c x) g e all.1 one)
 
     -- one call more
-    pub told_more : (from at to : State T W) (calls : List (Call T W E)) (answers : List (Answer T W)) (call : Call T W E) (a : Answer T W) → length answers ≡ length calls → Told from calls answers at
+    pub told_more : (from at to : State T W) (calls : List (Call T W E)) (answers longer : List (Answer T W)) (call : Call T W E) (a : Answer T W)
+        → length answers ≡ length calls → longer ≡ answers ++ a ∷ [] → Told from calls answers at
         → DoesUpTo will_wake sure is_clone at (record { call = kept_call edit edit_some at.cell call; reply = a.reply }) a.woken to
         → (is_get call ≡ false → Does will_wake sure at (record { call = kept_call edit edit_some at.cell call; reply = a.reply }) a.woken to)
-        → (is_get call ≡ true → IfSome (content at.cell) (λ v. IsCopied is_clone is_infallible v a.reply)) → Told from (calls ++ call ∷ []) (answers ++ a ∷ []) to
-    told_more from at to calls answers call a same told does exactly copied =
+        → (is_get call ≡ true → IfSome (content at.cell) (λ v. IsCopied is_clone is_infallible v a.reply)) → Told from (calls ++ call ∷ []) longer to
+    told_more from at to calls answers longer call a same is_longer told does exactly copied =
         let replied = length-map answers (λ a. a.reply) ∙ same in
         let replies = map-append (λ a. a.reply) answers (a ∷ []) in
         let woken = map-append (λ a. a.woken) answers (a ∷ []) in
-        let copies_it = subst (λ (c : Cell T). is_get call ≡ true → IfSome (content c) (λ v. IsCopied is_clone is_infallible v a.reply)) told.model.cell_is copied in record {
+        let copies_it = subst (λ (c : Cell T). is_get call ≡ true → IfSome (content c) (λ v. IsCopied is_clone is_infallible v a.reply)) told.model.cell_is copied in rw is_longer (record {
           model = rw (replies, woken) (two_runs (UpToClones is_clone) will_wake sure from at to calls _ _ _ _ _ replied told.model (model_up_to is_clone will_wake sure at to _ _ _ does));
           exact = λ none. rw (replies, woken) (two_runs Exactly will_wake sure from at to calls _ _ _ _ _ replied
               (told.exact (grind (arith, list_any-append))) (model_of will_wake sure at to _ _ _ (exactly (grind (arith, list_any-append)))));
           copied = rw (replies, history_of-append from.cell calls (call ∷ []) _ _ replied) (gets_more from.cell _ _ told.copied (λ is. copies_it (sym (copy_is _ call) ∙ is)));
-        }
+        })

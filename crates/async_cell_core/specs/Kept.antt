@@ -15,8 +15,8 @@ is_get TryGet = true
 is_get (PollGet w) = true
 is_get _ = false
 
--- Whether the call may wait: it is a poll. Any other call is none: one that is refused leaves the core
--- as it was, which is proved of it.
+-- Whether the call may wait: it is a poll. Any other call is none. If one of those is refused, the
+-- core stays as it was, which is proved.
 abbrev pub is_poll : {T W E : Type 0} → Call T W E → Bool
 is_poll (PollTake w) = true
 is_poll (PollGet w) = true

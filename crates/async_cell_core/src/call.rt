@@ -1,5 +1,5 @@
 ghost use Rattle.std.specs.Prelude.{◌≡◌, [], Option};
-ghost use Rattle.async_cell_core.specs.{IsStep.{done_answer, end_answer, replace_answer}, Polled.poll_reply};
+ghost use Rattle.async_cell_core.specs.{IsStep.{done_answer, end_answer, get_answer, replace_answer, set_answer, update_answer}, Polled.poll_reply};
 
 use crate::{Poll, Refusal, Reply, Wakers};
 
@@ -117,6 +117,36 @@ impl<T, W> Answer<T, W> {
         match polled {
             Ok(Poll::Ready(content)) => Answer::replied(Reply::Ready(content)),
             Ok(Poll::Pending) => Answer::replied(Reply::Pending),
+            Err(why) => Answer::refused(why, None),
+        }
+    }
+
+    /// The answer of a `set` with this result.
+    pub(crate) fn set(set: Result<Wakers<W>, T>) -> Self
+        ensures { result ≡ set_answer set }
+    {
+        match set {
+            Ok(woken) => Answer::new(Reply::Done, woken),
+            Err(back) => Answer::refused(Refusal::Closed, Some(back)),
+        }
+    }
+
+    /// The answer of an `update` with this result.
+    pub(crate) fn updated(updated: Result<Wakers<W>, Refusal>) -> Self
+        ensures { result ≡ update_answer updated }
+    {
+        match updated {
+            Ok(woken) => Answer::new(Reply::Done, woken),
+            Err(why) => Answer::refused(why, None),
+        }
+    }
+
+    /// The answer of a `try_get` with this result.
+    pub(crate) fn got(got: Result<Option<T>, Refusal>) -> Self
+        ensures { result ≡ get_answer got }
+    {
+        match got {
+            Ok(copy) => Answer::replied(Reply::Value(copy)),
             Err(why) => Answer::refused(why, None),
         }
     }

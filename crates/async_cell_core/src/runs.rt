@@ -6,7 +6,7 @@ ghost use Rattle.async_cell_core.specs.{IsStep.{IsStep, IsStepUpTo}, Kept.{is_ge
 
 use crate::call::{Answer, Call, Edit};
 use crate::cell_core::Core;
-use crate::{Refusal, Reply, Wakes};
+use crate::{Reply, Wakes};
 use std::alloc::Global;
 
 /// Makes one call that is no get, so it does not copy the value.
@@ -15,22 +15,17 @@ fn step_no_get<T: Drop, W: Wakes, E: Edit<T> + Drop>(
     call: Call<T, W, E>,
 ) -> Answer<T, W>
     requires { is_get call ≡ false }
+    ensures no_get { is_get call ≡ false }
     ensures model { IsStep W.Wakes
         core.old (kept_call E.edit E.edit_some core.old.cell call) result core.new }
     ensures unchanged { is_poll call ≡ false → is_refused result.reply ≡ true
         → core.new ≡ core.old }
 {
     match call {
-        Call::Set(value) => match core.set(value) {
-            Ok(woken) => Answer::new(Reply::Done, woken),
-            Err(back) => Answer::refused(Refusal::Closed, Some(back)),
-        },
+        Call::Set(value) => Answer::set(core.set(value)),
         Call::OrSet(value) => Answer::replaced(core.or_set(value)),
         Call::Replace(value) => Answer::replaced(core.replace(value)),
-        Call::Update(edit) => match core.update(|content| edit.edit(content)) {
-            Ok(woken) => Answer::new(Reply::Done, woken),
-            Err(why) => Answer::refused(why, None),
-        },
+        Call::Update(edit) => Answer::updated(core.update(|content| edit.edit(content))),
         Call::UpdateSome(edit) => Answer::done(core.update_some(|value| edit.edit_some(value))),
         Call::TryTake => Answer::replied(Reply::Value(core.try_take())),
         Call::IsSet => Answer::replied(Reply::Is(core.is_set())),
@@ -66,10 +61,7 @@ pub fn step<T: Clone, W: Wakes, E: Edit<T> + Drop>(
         → core.new ≡ core.old }
 {
     match call {
-        Call::TryGet => match core.try_get() {
-            Ok(copy) => Answer::replied(Reply::Value(copy)),
-            Err(why) => Answer::refused(why, None),
-        },
+        Call::TryGet => Answer::got(core.try_get()),
         Call::PollGet(waker) => Answer::polled(core.poll_get(&waker)),
         call => step_no_get(core, call),
     }

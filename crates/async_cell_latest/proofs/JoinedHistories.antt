@@ -2,6 +2,10 @@
 -- sound state ends in a sound state, also that of one poll that waits.
 use Rattle.async_cell_latest.proofs.Words.{Runs, History, then_state, after, Entry, MayFollow, IsLegal, all_woken, wait_answer, Kept, next, State, IsSound, Stays, is_closed, PollChanged}
 use Rattle.async_cell_latest.proofs.Words.{may_lack_memory, never_skipped, keep_added, ◌≡◌, ◌≤◌, ◌<◌, ◌-◌, Bool, false, [], ◌∷◌, ◌++◌, Result, OnOk, OnErr, IsOk, refl, arith, le_refl, nat_tests}
+use Rattle.std.specs.Prelude.{ℕ}
+use Rattle.async_cell_wakers.specs.WaitList.{ListState}
+use Rattle.async_cell_latest.specs.State.{state_of}
+use Rattle.async_cell_model.proofs.OneMoreWaker.{all_wait}
 pub use Rattle.async_cell_latest.proofs.Versions.{after_append}
 
 -- the second state is the first, with no less room
@@ -53,5 +57,27 @@ module _ {T W : Type 0} (will_wake : W → W → Bool) where
         → OnOk result (to.waiting ≡ b.waiting ++ w ∷ []) → OnOk result (b.room - 1 ≤ to.room) → OnErr result (to ≡ b) → (b.waiting ≡ [] → IsOk result) → (0 < b.room → IsOk result)
         → Runs will_wake sure b (record { call = PollChanged b.version w; reply = (wait_answer {T = T} {W = W} result).reply } ∷ []) ((wait_answer {T = T} {W = W} result).woken ∷ []) to
     added never b to w result sound live stays waiting room same first more = grind (arith, nat_tests, never_skipped, may_lack_memory sure b.waiting b.room)
+
+-- where none is ever skipped, another list that is empty if the first was leaves a state sound
+pub still_sound : {T W : Type 0} (will_wake : W → W → Bool) (never : (a b : W) → will_wake a b ≡ false) (value : T) (version owners : ℕ) (old new : ListState W)
+    → IsSound will_wake (state_of value version owners old) → (old.wakers ≡ [] → new.wakers ≡ []) → IsSound will_wake (state_of value version owners new)
+still_sound will_wake never value version owners old new sound none = record {
+  first = sound.first;
+  last = sound.last;
+  counted = sound.counted;
+  waits_open = λ closed. none (sound.waits_open closed);
+  none_skipped = all_wait will_wake new.wakers never;
+}
+
+-- and of an open state each list does
+pub open_sound : {T W : Type 0} (will_wake : W → W → Bool) (never : (a b : W) → will_wake a b ≡ false) (value : T) (version owners : ℕ) (old new : ListState W)
+    → IsSound will_wake (state_of value version owners old) → is_closed (state_of value version owners old) ≡ false → IsSound will_wake (state_of value version owners new)
+open_sound will_wake never value version owners old new sound live = record {
+  first = sound.first;
+  last = sound.last;
+  counted = sound.counted;
+  waits_open = λ closed. cc;
+  none_skipped = all_wait will_wake new.wakers never;
+}
 
 pub ruleset joined_histories = (after_more, after_append, woken_more, woken_append, legal_append, legal_more)

@@ -10,7 +10,8 @@ ghost use Rattle.async_cell_latest.specs.Follower.{IsFollower, IsRising, is_old,
 
 /// The versions of a follower rise: each poll that shows a version shows a larger version than the
 /// follower has seen. Here a follower is any selection of the history's reads and polls, in their
-/// order. The argument of each poll must be the version that the follower was shown last.
+/// order. The argument of each poll must be the version that the follower was shown last. At the
+/// start the follower must have seen no version above the state's.
 #[tactic(auto, using(crate::proofs::Versions::rising))]
 pub fn the_versions_of_a_follower_rise<T, W>()
     ensures { (will_wake : W → W → Bool) (sure_wakers : Bool)

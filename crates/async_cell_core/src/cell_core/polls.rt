@@ -123,7 +123,6 @@ impl<T: Clone, W: Wakes> Core<T, W> {
     /// Returns a clone of the value, if there is one. Fails with `Memory` if there is no memory for
     /// the clone. The reply equals the model's reply up to clones. It is exactly the model's reply
     /// if the type's clones are exact.
-    #[tactic(auto, using(crate::proofs::Steps::get_cloned, crate::proofs::Steps::get_refused, async_cell_model::proofs::Machine::does_up_to))]
     pub fn try_get(&self) -> Result<Option<T>, Refusal>
         ensures up_to_clones { IsStepUpTo T.is_clone W.Wakes
             self.now Kept.TryGet (get_answer result) self.now }
@@ -154,7 +153,6 @@ impl<T: Clone, W: Wakes> Core<T, W> {
     ///
     /// The reply equals the model's reply up to clones. It is exactly the model's reply if the
     /// type's clones are exact or there is no value.
-    #[tactic(auto, using(crate::proofs::Steps::poll_cloned, async_cell_model::proofs::Machine::does_up_to))]
     pub fn poll_get(&mut self, waker: &W) -> Result<Poll<Option<T>>, Refusal>
         ensures up_to_clones { IsStepUpTo T.is_clone W.Wakes
             self.old (Kept.PollGet waker.now) (poll_answer result) self.new }

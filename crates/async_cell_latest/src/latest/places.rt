@@ -1,7 +1,7 @@
 //! The places that waiting futures have in the wait list.
-ghost use Rattle.std.specs.Prelude.{◌≡◌, ◌<◌, ◌≤◌, ◌-◌, [], ◌∷◌, ◌++◌, true, false, IsTrue, IsOk, IfOk, IfNone, OnOk, OnErr, MatchOption};
+ghost use Rattle.std.specs.Prelude.{◌≡◌, ◌<◌, ◌≤◌, ◌-◌, [], ◌∷◌, ◌++◌, Some, None, slice_get, true, false, IsTrue, IsOk, IsSome, IfOk, IfSome, IfNone, OnOk, OnErr, MatchOption};
 ghost use Rattle.futures.specs.Task.{Hears, IsArmed, Keeps};
-ghost use Rattle.async_cell_wakers.specs.Place.{displaced};
+ghost use Rattle.async_cell_wakers.specs.Place.{Renews, Swaps, displaced};
 ghost use Rattle.async_cell_latest.specs.State.{Stays, is_closed};
 ghost use Rattle.async_cell_latest.specs.Step.{PollChanged};
 ghost use Rattle.async_cell_latest.specs.IsStep.{IsStep, wait_answer};
@@ -22,20 +22,27 @@ impl<T: Drop> Latest<T, TaskWaker> {
     #[doc(hidden)]
     #[inline(always)]
     #[tactic(auto, using(async_cell_model::proofs::OneMoreWaker::keep_added, async_cell_model::proofs::OneMoreWaker::never_skipped, crate::proofs::JoinedHistories::added))]
-    pub fn store_new(&mut self, place: &mut Place, waker: TaskWaker) -> Result<(), TaskWaker>
+    pub fn store_new(
+        &mut self,
+        place: &mut Place,
+        task: usize,
+        waker: TaskWaker,
+    ) -> Result<(), TaskWaker>
         requires open { is_closed self.old ≡ false }
         ensures model { IsStep ⟦<TaskWaker as Wakes>⟧ self.old
             (PollChanged self.old.version waker) (wait_answer result) self.new }
 
         ensures state_stays { Stays self.old self.new }
         ensures stored { OnOk result (self.new.waiting ≡ self.old.waiting ++ waker ∷ []) }
+        ensures seated { OnOk result
+            (slice_get self.new.waiting place.new.index ≡ Some waker) }
         ensures takes_room { OnOk result (self.old.room - 1 ≤ self.new.room) }
         ensures first_waits { self.old.waiting ≡ [] → IsOk result }
         ensures room_suffices { 0 < self.old.room → IsOk result }
         ensures place_stays { OnErr result (place.new ≡ place.old) }
         ensures unchanged { OnErr result (self.new ≡ self.old) }
     {
-        self.waiting.store_new(place, waker)
+        self.waiting.store_new(place, task, waker)
     }
 
     /// As `WaitList::renew`.
@@ -45,7 +52,10 @@ impl<T: Drop> Latest<T, TaskWaker> {
         ensures armed { IsTrue result → IsArmed cx.new }
         ensures heard { IsTrue result → Hears cx.new source.now.id }
         ensures kept { Keeps cx.old cx.new }
-        ensures unchanged { self.new ≡ self.old }
+        ensures renewed { IsTrue result
+            → Renews self.old.waiting place.now.index cx.old cx.new self.new.waiting }
+        ensures unchanged { result ≡ false → (self.new ≡ self.old) × (cx.new ≡ cx.old) }
+        ensures rest_stays { Stays self.old self.new × (self.new.room ≡ self.old.room) }
     {
         self.waiting.renew(place, source, cx)
     }
@@ -54,7 +64,10 @@ impl<T: Drop> Latest<T, TaskWaker> {
     #[doc(hidden)]
     #[inline(always)]
     pub fn take_back(&mut self, place: &mut Place) -> Option<Waker>
-        ensures unchanged { self.new ≡ self.old }
+        ensures taken { IfSome result (λ waker.
+            Swaps self.old.waiting place.new.index (Some waker) None self.new.waiting) }
+        ensures unchanged { IfNone result (self.new ≡ self.old) }
+        ensures rest_stays { Stays self.old self.new × (self.new.room ≡ self.old.room) }
     {
         self.waiting.take_back(place)
     }
@@ -75,7 +88,10 @@ impl<T: Drop> Latest<T, TaskWaker> {
         ensures state_stays { Stays self.old self.new }
         ensures stored { IfOk result (λ before. MatchOption before
             (self.new.waiting ≡ self.old.waiting ++ waker ∷ [])
-            (λ _. (self.new ≡ self.old) × (self.old.waiting ≡ [] → ⊥))) }
+            (λ there. Swaps self.old.waiting place.new.index there waker self.new.waiting)) }
+        ensures seated { OnOk result
+            (slice_get self.new.waiting place.new.index ≡ Some waker) }
+        ensures room_stays { IsSome (displaced result) → self.new.room ≡ self.old.room }
         ensures takes_room { OnOk result (self.old.room - 1 ≤ self.new.room) }
         ensures first_waits { self.old.waiting ≡ [] → IsOk result }
         ensures room_suffices { 0 < self.old.room → IsOk result }
@@ -96,7 +112,10 @@ impl<T: Drop> Latest<T, TaskWaker> {
     /// As `WaitList::take_left`.
     #[doc(hidden)]
     pub fn take_left(&mut self, index: usize) -> Option<Waker>
-        ensures unchanged { self.new ≡ self.old }
+        ensures taken { IfSome result (λ waker.
+            Swaps self.old.waiting index (Some waker) None self.new.waiting) }
+        ensures unchanged { IfNone result (self.new ≡ self.old) }
+        ensures rest_stays { Stays self.old self.new × (self.new.room ≡ self.old.room) }
     {
         self.waiting.take_left(index)
     }

@@ -1,20 +1,35 @@
-use Rattle.std.proofs.Common.{◌≡◌, [], arith, sym, ◌∙◌, append_assoc, append-nil, length-append}
+use Rattle.std.proofs.Common.{rules, ◌≡◌, ◌≤◌, ◌+◌, ℕ, List, [], ◌∷◌, ◌++◌, length, arith, sym, ◌∙◌, append_assoc, append-nil, length-append}
 use Rattle.std.proofs.lemmas.List.{nil_from_length}
 use Rattle.std.specs.Vec.Iter.{into_iter_items}
-use Rattle.async_cell_core.proofs.{LongerRuns.{Told, told_more}, runs.run.Given.Over}
+use Rattle.async_cell_core.proofs.{LongerRuns.{Told, told_more, told_none}, runs.run.Given.Over}
 use Rattle.async_cell_core.proofs.runs.run.Goals as goal
+
+pub loop-call-init : goal.loop-call-init
+loop-call-init g c = record {
+  made = search rules;
+  left = search rules;
+  space = grind arith;
+  told = told_none g.E.Edit.edit g.E.Edit.edit_some g.T.Clone.is_clone g.T.Clone.is_infallible g.W.Wakes.will_wake g.W.Wakes.SURE_CLONE c.args.core.now _ (search rules) c.soundness.ensures;
+}
+
+-- one call later: how many answers there are, and the space for those to come
+one_more : {A : Type 0} (xs : List A) (x : A) (made more left less space : ℕ) → made ≡ length xs → made + left ≤ space → less + 1 ≡ left → more ≡ made + 1
+    → (more ≡ length (xs ++ x ∷ [])) × (more + less ≤ space)
+one_more xs x made more left less space is fits one pushed = (rw length-append (omega arith), omega arith)
 
 pub loop-call-preserved : goal.loop-call-preserved
 loop-call-preserved g c =
     let step = rw c.in-Some.is at c.next.ensures.steps in
     let here = c.loop-call.invariant in
-    let call = c.step.ensures in record {
-      made = rw length-append (omega (arith, here.made, c.push_reserved.ensures.len));
+    let call = c.step.ensures in
+    let pushed = c.push_reserved.ensures in
+    let count = one_more c.loop-call.yielded c.in-Some.call _ _ _ _ _ here.made here.space step.1 pushed.len in record {
+      made = count.0;
       left = rw (append_assoc, ← step.0) here.left;
-      space = omega (arith, here.space, step.1, c.push_reserved.ensures.len, c.push_reserved.ensures.capacity);
-      told = rw c.push_reserved.ensures.items (told_more g.E.Edit.edit g.E.Edit.edit_some g.T.Clone.is_clone g.T.Clone.is_infallible g.W.Wakes.will_wake g.W.Wakes.SURE_CLONE
-          c.args.core.now c.loop-call.core c.step.new.core c.loop-call.yielded c.loop-call.answers.items c.in-Some.call c.step.result
-          (omega (arith, here.made, c.loop-call.answers.ok.0)) here.told call.up_to_clones call.if_no_get call.copies);
+      space = rw pushed.capacity count.1;
+      told = told_more g.E.Edit.edit g.E.Edit.edit_some g.T.Clone.is_clone g.T.Clone.is_infallible g.W.Wakes.will_wake g.W.Wakes.SURE_CLONE
+          c.args.core.now c.loop-call.core c.step.new.core c.loop-call.yielded c.loop-call.answers.items _ c.in-Some.call c.step.result
+          (sym c.loop-call.answers.ok.0 ∙ here.made) pushed.items here.told call.up_to_clones call.if_no_get call.copies;
     }
 
 -- what `run` promises of its answers
@@ -23,7 +38,7 @@ all_told : (g : Over) (c : goal.After-drop-call-iterator g) → Told g.E.Edit.ed
 all_told g c =
     let last = rw c.in-None.is at c.next.ensures.steps in
     let here = c.loop-call.invariant in
-    let none : into_iter_items c.loop-call.call-iterator ≡ [] = nil_from_length _ (omega (arith, last.0, c.loop-call.call-iterator.rest.ok.0)) in
+    let none : into_iter_items c.loop-call.call-iterator ≡ [] = nil_from_length _ (sym c.loop-call.call-iterator.rest.ok.0 ∙ last.0) in
     let all : c.loop-call.yielded ≡ c.args.calls.items = sym (append-nil c.loop-call.yielded) ∙ (rw none at here.left) in
     rw (← all) here.told
 
