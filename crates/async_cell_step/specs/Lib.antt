@@ -1,3 +1,4 @@
 pub mod Deferred
 pub mod Rule
+pub mod Seat
 pub mod Upgrade

@@ -1,7 +1,7 @@
 //! The end of a step, and what comes out of a core during the step. An end first releases the core,
 //! then wakes wakers, and then returns what the caller may drop. Until then, what came out is held
 //! in a `Deferred`.
-ghost use Rattle.std.specs.Prelude.{◌≡◌, ⊤, List, [], Ok, Err, None, Some, IfOk, IfErr, IsSome, IsTrue, OnErr, option_to_list};
+ghost use Rattle.std.specs.Prelude.{◌≡◌, ⊤, List, [], Ok, Err, None, Some, IfOk, IfErr, IfSome, IsSome, IsTrue, OnOk, OnErr, slice_get, option_to_list};
 ghost use Rattle.async_cell_model.specs.Refusal.{FailsWithClosed, FailsWithMemory, FailsWithMemoryOrClosed};
 ghost use Rattle.async_cell_step.specs.Deferred.{all_of};
 
@@ -155,6 +155,7 @@ pub fn open_holding<'a, M: Stores, X: Drop, R: Opens<'a, M>>(
     rt: &R,
 ) -> Option<(R::Open, Deferred<X>)>
     ensures lent { IsTrue R.always → IsSome result }
+    ensures held { IfSome result (λ opened. opened.1.answer ≡ held) }
 {
     let step = opened!(rt, store, else return None);
     Some((step, Deferred::of(held)))
@@ -296,6 +297,8 @@ impl Deferred<Waker> {
         place: &mut Place,
     ) -> Deferred<Result<Option<TaskWaker>, TaskWaker>>
         requires { C.vacant room.old }
+        ensures seated { OnOk result.answer
+            (slice_get (C.waiting room.new) place.new.index ≡ Some (Some self.answer)) }
     {
         let Deferred { answer, woken: _ } = self;
         room.store(place, TaskWaker::of(answer))

@@ -3,10 +3,11 @@
 //! waker goes to that place. This module also has the functions that give up a future's place when
 //! the future ends. Dropping a waker wakes its task, so no waker is dropped during a step, but for
 //! the one that `renew` tells of.
-ghost use Rattle.std.specs.Prelude.{◌≡◌, Err, IfErr, IfOk};
+ghost use Rattle.std.specs.Prelude.{◌≡◌, Err, IfErr, IfOk, IsOk, OnOk};
 ghost use Rattle.futures.specs.Poll.{IfReady, OnPending};
 ghost use Rattle.futures.specs.Task.{Hears, IsArmed, Keeps};
 ghost use Rattle.async_cell_model.specs.Refusal.{FailsWithMemory, FailsWithMemoryOrClosed};
+ghost use Rattle.async_cell_step.specs.Seat.{Waits, WaitsAt};
 
 use crate::ended::{Deferred, end, open_holding};
 use crate::opened;
@@ -36,6 +37,7 @@ pub fn poll<'a, C: Room, M: Stores<Core = C>, Q: Query<C>, R: Opens<'a, M>>(
         → (core : C) × Q.closed core)) }
     ensures armed { OnPending result (IsArmed cx.new) }
     ensures heard { OnPending result (Hears cx.new source.now.id) }
+    ensures waits { OnPending result (Waits C.waiting cx.old cx.new) }
     ensures kept { Keeps cx.old cx.new }
     ensures refused { IfReady result FailsWithMemoryOrClosed }
 {
@@ -67,6 +69,7 @@ fn add<C: Room, G: Step<Core = C>>(
     requires { C.vacant (G.core_of step) }
     ensures armed { IsArmed cx.new }
     ensures heard { Hears cx.new source.now.id }
+    ensures waits { OnOk result (Waits C.waiting cx.old cx.new) }
     ensures kept { Keeps cx.old cx.new }
     ensures refused { FailsWithMemory result }
 {
@@ -77,7 +80,7 @@ fn add<C: Room, G: Step<Core = C>>(
     };
     let stored = step
         .lend()
-        .store_new(&mut Place::new(), TaskWaker::of(waker));
+        .store_new(&mut Place::new(), 0, TaskWaker::of(waker)); // Nobody keeps the place.
     match end(step, stored) {
         Ok(()) => Ok(()),
         Err(_unused) => Err(Refusal::Memory),
@@ -94,6 +97,7 @@ fn add_at<C: Room, G: Step<Core = C>>(
     requires { C.vacant (G.core_of step) }
     ensures armed { IsArmed cx.new }
     ensures heard { Hears cx.new source.now.id }
+    ensures waits { OnOk result (WaitsAt C.waiting place.new.index cx.old cx.new) }
     ensures kept { Keeps cx.old cx.new }
     ensures refused { FailsWithMemory result }
 {
@@ -102,8 +106,9 @@ fn add_at<C: Room, G: Step<Core = C>>(
     let Some(waker) = made else {
         return end(step, Deferred::of(Err(Refusal::Memory)));
     };
-    let stored = step.lend().store_new(place, TaskWaker::of(waker));
-    place.note(cx.task());
+    let stored = step
+        .lend()
+        .store_new(place, cx.task(), TaskWaker::of(waker));
     match end(step, stored) {
         Ok(()) => Ok(()),
         Err(_unused) => Err(Refusal::Memory),
@@ -132,6 +137,7 @@ fn renew<'a, C: Room, M: Stores<Core = C>, Q: Query<C>, R: Opens<'a, M>>(
         → (core : C) × Q.closed core)) }
     ensures armed { OnPending result (IsArmed cx.new) }
     ensures heard { OnPending result (Hears cx.new source.now.id) }
+    ensures waits { OnPending result (WaitsAt C.waiting place.new.index cx.old cx.new) }
     ensures kept { Keeps cx.old cx.new }
     ensures refused { IfReady result FailsWithMemoryOrClosed }
 {
@@ -161,6 +167,7 @@ fn renew_moved<'a, C: Room, M: Stores<Core = C>, Q: Query<C>, R: Opens<'a, M>>(
         → (core : C) × Q.closed core)) }
     ensures armed { OnPending result (IsArmed cx.new) }
     ensures heard { OnPending result (Hears cx.new source.now.id) }
+    ensures waits { OnPending result (WaitsAt C.waiting place.new.index cx.old cx.new) }
     ensures kept { Keeps cx.old cx.new }
     ensures refused { IfReady result FailsWithMemoryOrClosed }
 {
@@ -194,6 +201,7 @@ fn renew_moved<'a, C: Room, M: Stores<Core = C>, Q: Query<C>, R: Opens<'a, M>>(
 #[inline(always)]
 fn waits<A>(added: Result<(), Refusal>) -> Poll<Result<A, Refusal>>
     requires { FailsWithMemory added }
+    ensures added { OnPending result (IsOk added) }
     ensures refused { IfReady result (λ answer. answer ≡ Err Refusal.Memory) }
 {
     match added {

@@ -1,7 +1,8 @@
 //! What a poll needs from a core (`Room`), and what the poll asks of the core (`Query`).
-ghost use Rattle.std.specs.Prelude.{◌≡◌, ◌<◌, ◌≤◌, ◌-◌, ⊤, ℕ, false, List, [], ◌∷◌, ◌++◌, IsTrue, IsOk, IfOk, IfErr, OnOk, OnErr, MatchOption};
+ghost use Rattle.std.specs.Prelude.{◌≡◌, ◌<◌, ◌≤◌, ◌-◌, ⊤, ℕ, false, List, [], ◌∷◌, ◌++◌, Some, None, slice_get, IsTrue, IsOk, IfOk, IfErr, IfSome, IfNone, OnOk, OnErr, MatchOption};
 ghost use Rattle.futures.specs.Task.{Hears, IsArmed, Keeps};
 ghost use Rattle.async_cell_model.specs.Refusal.{FailsWithMemoryOrClosed};
+ghost use Rattle.async_cell_wakers.specs.Place.{Renews, Swaps};
 ghost use Rattle.async_cell_wakers.specs.declared.task_waker.TaskWaker.{TaskWaker};
 
 use crate::ended::Deferred;
@@ -21,16 +22,26 @@ pub trait Room {
     /// How many more can be added without memory.
     ghost room: { Self → ℕ };
 
+    /// All but the wakers that wait is the same in both.
+    ghost stays: { Self → Self → Type 0 };
+
     /// Returns whether the list must grow for the future that `place` belongs to. This is so if the
     /// future holds no place in the list, and no place is free.
     fn is_new(&self, place: &Place) -> bool;
 
-    /// Adds a waker at the end of the list. `place` is the waker's position from then on. If there
-    /// is no memory to grow the list, the waker comes back.
-    fn store_new(&mut self, place: &mut Place, waker: TaskWaker) -> Deferred<Result<(), TaskWaker>>
+    /// Adds the waker of the task with this number at the end of the list. `place` is the waker's
+    /// position from then on. If there is no memory to grow the list, the waker comes back.
+    fn store_new(
+        &mut self,
+        place: &mut Place,
+        task: usize,
+        waker: TaskWaker,
+    ) -> Deferred<Result<(), TaskWaker>>
         requires { vacant self.old }
         ensures stored { OnOk result.answer
             (waiting self.new ≡ waiting self.old ++ waker ∷ []) }
+        ensures seated { OnOk result.answer
+            (slice_get (waiting self.new) place.new.index ≡ Some waker) }
         ensures takes_room { OnOk result.answer (room self.old - 1 ≤ room self.new) }
         ensures first_waits { waiting self.old ≡ [] → IsOk result.answer }
         ensures room_suffices { 0 < room self.old → IsOk result.answer }
@@ -44,13 +55,19 @@ pub trait Room {
         ensures armed { IsTrue result → IsArmed cx.new }
         ensures heard { IsTrue result → Hears cx.new source.now.id }
         ensures kept { Keeps cx.old cx.new }
-        ensures unchanged { self.new ≡ self.old };
+        ensures renewed { IsTrue result
+            → Renews (waiting self.old) place.now.index cx.old cx.new (waiting self.new) }
+        ensures stays { stays self.old self.new }
+        ensures unchanged { result ≡ false → (self.new ≡ self.old) × (cx.new ≡ cx.old) };
 
     /// Takes the waker out of this place. If the future holds no place in the list, takes over a
     /// free place, and takes out the waker that is there. That waker may be another task's. The
     /// result holds `None` if no place is free.
     fn take_back(&mut self, place: &mut Place) -> Deferred<Option<Waker>>
-        ensures unchanged { self.new ≡ self.old };
+        ensures taken { IfSome result.answer (λ waker. Swaps
+            (waiting self.old) place.new.index (Some waker) None (waiting self.new)) }
+        ensures stays { stays self.old self.new }
+        ensures unchanged { IfNone result.answer (self.new ≡ self.old) };
 
     /// Stores a waker in this place. If the future holds no place in the list, takes over a free
     /// place. If no place is free, adds one at the end of the list. Returns the waker that was
@@ -63,7 +80,10 @@ pub trait Room {
         requires { vacant self.old }
         ensures stored { IfOk result.answer (λ before. MatchOption before
             (waiting self.new ≡ waiting self.old ++ waker ∷ [])
-            (λ _. (self.new ≡ self.old) × (waiting self.old ≡ [] → ⊥))) }
+            (λ there. Swaps (waiting self.old) place.new.index there waker (waiting self.new)
+            × stays self.old self.new)) }
+        ensures seated { OnOk result.answer
+            (slice_get (waiting self.new) place.new.index ≡ Some waker) }
         ensures takes_room { OnOk result.answer (room self.old - 1 ≤ room self.new) }
         ensures first_waits { waiting self.old ≡ [] → IsOk result.answer }
         ensures room_suffices { 0 < room self.old → IsOk result.answer }
@@ -76,7 +96,9 @@ pub trait Room {
 
     /// Takes out the waker that was left in the place at `index`. The result holds `None` if a
     /// future has this place.
-    fn take_left(&mut self, index: usize) -> Deferred<Option<Waker>>;
+    fn take_left(&mut self, index: usize) -> Deferred<Option<Waker>>
+        ensures taken { IfSome result.answer (λ waker. Swaps
+            (waiting self.old) index (Some waker) None (waiting self.new)) };
 
     /// Returns the number of places in the wait list.
     fn places(&self) -> usize;
