@@ -1,7 +1,8 @@
 -- What a get found, with a witness and without one, and where a cell is closed.
-use Rattle.async_cell_history.proofs.Words.{◌≡◌, arith, true, false, inr, Option, Some, None, Result, Ok, Err, IfOk, IfSome, IsSomeAnd, Cell, TryGet, Value, History}
+use Rattle.async_cell_history.proofs.Words.{◌≡◌, arith, true, false, inr, subst, Option, Some, None, Result, Ok, Err, IfErr, IfOk, IfSome, IsSomeAnd, Cell, TryGet, Value, History}
 use Rattle.async_cell_history.proofs.Words.{WakerRules, content, is_closed, is_vacant, Begun, Seen, IsSigned, IsLinearized, IsLinearizedUpTo, get_reply}
 use Rattle.async_cell_model.specs.declared.refusal.Refusal.{Refusal}
+use Rattle.async_cell_model.specs.declared.refusal.Refusal.TheVariants as why
 use Rattle.async_cell_core.specs.Polled.{IsCloneOf}
 use Rattle.async_cell_step.specs.Rule.{IsCloneOfOne}
 
@@ -42,3 +43,9 @@ closed_if_none c none ready = grind arith
 
 pub closed_if_no_clone : {T : Type 0} (is_clone : T → T → Type 0) (c : Cell T) → IsCloneOf is_clone (content c) None → is_vacant c ≡ false → is_closed c ≡ true
 closed_if_no_clone is_clone c none ready = grind arith
+
+-- so is one of which a get found nothing to clone
+pub closed_if_not_cloned : {T : Type 0} (is_clone : T → T → Type 0) (c : Cell T) (copied : Result (Option T) Refusal) (found : Result T Refusal) → IfOk copied (IsCloneOf is_clone (content c))
+    → IfErr found (λ it. it ≡ why.Closed → copied ≡ Ok None) → is_vacant c ≡ false → IfErr found (λ it. it ≡ why.Closed → is_closed c ≡ true)
+closed_if_not_cloned is_clone c copied (Ok x) clones none ready = tt
+closed_if_not_cloned is_clone c copied (Err it) clones none ready = λ is. closed_if_no_clone is_clone c (subst (λ r. IfOk r (IsCloneOf is_clone (content c))) (none is) clones) ready

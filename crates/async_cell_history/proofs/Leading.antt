@@ -4,6 +4,8 @@ use Rattle.async_cell_history.proofs.Words.{Does, is_closed, owners_of}
 use Rattle.async_cell_history.proofs.Words.{IsAllowed, Puts, is_of_owners, Past, Leads, IsLawful, OnlyMakes, History, IsLegal, Runs, wakes_after, model_of, All, All-append, All-cons, All-nil}
 use Rattle.async_cell_history.proofs.Words.{All-weaker}
 use Rattle.async_cell_model.proofs.LegalHistories.{Runs-join}
+use Rattle.async_cell_history.proofs.Exchanging.{step_of}
+use Rattle.async_cell_history.specs.History.{IsLed}
 use Rattle.async_cell_history.specs.declared.number.Signed.{Signed}
 
 -- one more element
@@ -27,17 +29,25 @@ module _ {T W : Type 0} where
   owners_stay will_wake sure from to e woken does h = grind (arith, does.cell_is)
 
 module _ {T W : Type 0} (will_wake : W → W → Bool) (sure : Bool) where
-  -- calls that run to a state
-  abbrev pub RunsTo : Past T W → State T W → Type 0
-  RunsTo past at = Runs will_wake sure past.begun.start past.calls (wakes_after will_wake past.begun.start [] past.calls) at
-
   -- the calls that are one more run to the state after it
-  pub runs_more : (past now : Past T W) (from to : State T W) (e : Entry T W) (woken : List W) → RunsTo past from → Does will_wake sure from e woken to → now.begun ≡ past.begun
-      → now.calls ≡ past.calls ++ e ∷ [] → RunsTo now to
-  runs_more past now from to e woken led does begun calls =
+  runs_longer : (past now : Past T W) (from to : State T W) (e : Entry T W) (woken : List W)
+      → Runs will_wake sure past.begun.start past.calls (wakes_after will_wake past.begun.start [] past.calls) from → Does will_wake sure from e woken to → now.begun ≡ past.begun
+      → now.calls ≡ past.calls ++ e ∷ [] → Runs will_wake sure now.begun.start now.calls (wakes_after will_wake now.begun.start [] now.calls) to
+  runs_longer past now from to e woken led does begun calls =
       let both = Runs-join will_wake sure past.begun.start from to past.calls (e ∷ []) _ (woken ∷ []) led (model_of will_wake sure from to e.call e.reply woken does) in
       let longer = subst (λ (ws : List (List W)). Runs will_wake sure past.begun.start (past.calls ++ e ∷ []) ws to) both.wakes_are both in
       rw (begun, calls) longer
+
+  -- and that lead to it
+  pub runs_more : (past now : Past T W) (from to : State T W) (e : Entry T W) (woken : List W) → IsLed will_wake sure past.begun.start past.calls from → Does will_wake sure from e woken to
+      → now.begun ≡ past.begun
+      → now.calls ≡ past.calls ++ e ∷ [] → IsLed will_wake sure now.begun.start now.calls to
+  runs_more past now from to e woken led does begun calls =
+      let step = step_of will_wake sure from to e woken led.waited led.exchanged does in record {
+        waited = step.then_waited;
+        runs = runs_longer past now _ _ e step.woken led.runs step.does begun calls;
+        exchanged = step.exchanged;
+      }
 
   -- and they lead there, if the call puts in what satisfies the rule
   pub leads_more : (holds : T → Type 0) (past now : Past T W) (from to : State T W) (e : Entry T W) (woken : List W) → Leads will_wake sure holds past from → Does will_wake sure from e woken to

@@ -1,5 +1,6 @@
 pub mod Closing
 pub mod Counting
+pub mod Exchanging
 pub mod Found
 pub mod GoingOn
 pub mod Leading

@@ -2,7 +2,8 @@
 use Rattle.async_cell_history.proofs.Words.{◌≡◌, ◌+◌, ℕ, Bool, List, [], ◌∷◌, ◌++◌, map, ap, sym, ◌∙◌, Option, refl, subst, append-nil, append_assoc, arith, IsPrefix, map-append, Kept}
 use Rattle.async_cell_history.proofs.Words.{Reply, Logged, Made, Seen, IsSigned, Begun, IsLinearized, IsReady, start_of, Entry, State, IsSound, Does, Exactly, History, after, IsLegal}
 use Rattle.async_cell_history.proofs.Words.{IsLegalAfterBy, MayFollowBy, Runs, woken_by, NoClone, legal_of_exact, after-append, machine_of, after-nil, IsSound-after, WakerRules}
-use Rattle.async_cell_history.proofs.Leading.{RunsTo, runs_more}
+use Rattle.async_cell_history.proofs.Leading.{runs_more}
+use Rattle.async_cell_history.specs.History.{IsLed}
 
 module _ {A B : Type 0} (f : A → B) where
   -- what begins a list begins it also after a change of each element
@@ -37,14 +38,14 @@ module _ {T W : Type 0} (will_wake : W → W → Bool) (sure : Bool) where
 
 -- what a thread knows that had seen the past before a call, and has seen the past after it
 pub linearized_of : {T W : Type 0} (rules : WakerRules W) (named : Option (Begun T W)) (old new : Logged T W) (seen now : History T W) (call : Kept T W) (reply : Reply T) (woken : List W) (by : ℕ)
-    → RunsTo rules.will_wake rules.SURE_CLONE old.past old.inner → Made rules.will_wake rules.SURE_CLONE old call reply woken by new
+    → IsLed rules.will_wake rules.SURE_CLONE old.past.begun.start old.past.calls old.inner → Made rules.will_wake rules.SURE_CLONE old call reply woken by new
     → old.past.begun.start ≡ start_of named → IsPrefix seen old.past.calls → now ≡ new.past.calls → IsLinearized rules named seen call reply now
 linearized_of {T} {W} rules named old new seen now call reply woken by led made begins on is =
     let will_wake = rules.will_wake in let sure = rules.SURE_CLONE in
     let e : Entry T W = record { call = call; reply = reply } in
     let longer = runs_more will_wake sure old.past new.past old.inner new.inner e woken led made.does made.begun made.entered in
-    let legal : IsLegal will_wake sure old.past.begun.start (old.past.calls ++ e ∷ []) = rw (sym made.entered, sym (ap (λ b. b.start) made.begun)) longer.legal in
-    let there = step_there will_wake sure old.past.begun.start old.past.calls e led.sound led.legal legal in
+    let legal : IsLegal will_wake sure old.past.begun.start (old.past.calls ++ e ∷ []) = rw (sym made.entered, sym (ap (λ b. b.start) made.begun)) longer.runs.legal in
+    let there = step_there will_wake sure old.past.begun.start old.past.calls e led.runs.sound led.runs.legal legal in
     record {
       before = old.past.calls;
       goes_on = on;

@@ -3,7 +3,7 @@ pub use Rattle.async_cell_model.proofs.Words.{◌≡◌, ◌⊎◌, ◌++◌, �
 pub use Rattle.async_cell_model.proofs.Words.{length, append-nil, ◌<◌, if◌then◌else◌, option_to_list, AllPairs, All, cons_option, Contains-append_left, Contains-push, filter_map-append}
 pub use Rattle.async_cell_model.proofs.Words.{State, Exactly, UpToClones, content, next, is_memory, IsSound, ends_waiting, is_vacant, may_refuse, reply, Does, History, cell_after}
 pub use Rattle.async_cell_model.proofs.Words.{after, IsCovered, waiting, IsExact, IsLegalAfterBy, MayFollowBy, IsLegal, IsLegalUpTo, Runs, wakes_after, woken_by}
-pub use Rattle.std.proofs.Common.{rules, Contains, Result, Ok, Err, IfOk, IfSome, ◌≢◌, map}
+pub use Rattle.std.proofs.Common.{rules, Contains, Result, Ok, Err, IfErr, IfOk, IfSome, ◌≢◌, map}
 pub use Rattle.std.proofs.lemmas.List.{length-append, map-append, same_from_push}
 pub use Rattle.std.proofs.lemmas.List.Elements.{All-head, All-tail, All-weaker, All-contains, All-contains_itself, Contains-append_right, Contains-append_cases, All-append, All-cons, All-nil}
 pub use Rattle.std.specs.List.{count_by}

@@ -1,5 +1,5 @@
 -- The history of a cell: which cell it is, the calls on it, and what a call adds to it.
-use Rattle.std.specs.Prelude.{◌≡◌, ◌+◌, ℕ, Bool, true, false, List, [], ◌∷◌, ◌++◌, Contains, length, filter_map, option_to_list, ⊤, Option, Some, None, IfSome, IsSome}
+use Rattle.std.specs.Prelude.{◌≡◌, ◌⊎◌, ◌≤◌, ◌+◌, ℕ, Bool, true, false, List, [], ◌∷◌, ◌++◌, Contains, length, filter_map, option_to_list, ⊤, Option, Some, None, IfSome, IsSome}
 use Rattle.std.specs.Prelude.{IsSomeAnd, Result, Ok, Err, is_some, if◌then◌else◌}
 use Rattle.std.specs.List.{All}
 use mathlib.Core.List.{IsPrefix}
@@ -87,11 +87,33 @@ module _ {T W : Type 0} where
   abbrev pub IsAllowed : (Kept T W → Type 0) → Kept T W → Type 0
   IsAllowed may call = is_change call ≡ true → may call
 
+module _ {W : Type 0} (will_wake : W → W → Bool) where
+  -- Wakers were exchanged for others, which only places of futures do: the lists are equal. Where no
+  -- waker would wake another, they need only be as long as each other.
+  abbrev pub Exchanged : List W → List W → Type 0
+  Exchanged was now = (now ≡ was)
+      ⊎ (((v w : W) → will_wake v w ≡ false) × (length now ≡ length was))
+
+module _ {T W : Type 0} (will_wake : W → W → Bool) where
+  -- wakers were exchanged, and the rest is as it was, with no less room
+  pub record OnlyExchanges (old new : State T W) : Type 0 where
+    pub cell : new.cell ≡ old.cell
+    pub waiting : Exchanged will_wake old.waiting new.waiting
+    pub room : old.room ≤ new.room
+
 module _ {T W : Type 0} (will_wake : W → W → Bool) (sure_wakers : Bool) where
-  -- the calls are legal, and lead from the first state to this one, where a value satisfies `holds`
+  -- The calls are legal, and lead from the first state to this one. A waker in the history is the
+  -- one that was stored first: `waited` are these, and others may wait in their places since.
+  pub record IsLed (start : State T W) (calls : History T W) (at : State T W) : Type 0 where
+    pub waited : List W
+    pub runs : Runs will_wake sure_wakers start calls (wakes_after will_wake start [] calls)
+        (record { cell = at.cell; waiting = waited; room = at.room })
+    pub exchanged : Exchanged will_wake waited at.waiting
+
+  -- the calls lead to this state, where a value satisfies `holds`
   abbrev pub Leads : (T → Type 0) → Past T W → State T W → Type 0
-  Leads holds past at = Runs will_wake sure_wakers past.begun.start past.calls
-      (wakes_after will_wake past.begun.start [] past.calls) at × IfSome (content at.cell) holds
+  Leads holds past at =
+      IsLed past.begun.start past.calls at × IfSome (content at.cell) holds
 
   -- from this state the calls are legal, and the changes among them are allowed
   pub record IsLawful (may : Kept T W → Type 0) (start : State T W) (calls : History T W)
@@ -249,12 +271,14 @@ module _ {T : Type 0} where
   lost_by (updated saw) old = []
   lost_by (updated_if_full saw) old = []
 
-  -- it is the fate at a take: a change whose reply moves the value out, and which puts none in
+  -- It is the fate at a take: a change whose reply moves the value out, and which puts none in. A
+  -- call with any other fate is no take, so it may not be made where only takes may be made.
   abbrev pub IsTaken : Fate T → Option T → Bool → Type 0
   IsTaken moved None true = ⊤
   IsTaken fate put changes = ⊥
 
-  -- with this fate, the value stays, or the one put in follows it
+  -- With this fate, the value stays, or the one put in follows it. Any other fate promises neither,
+  -- so a call with it may not be made where values only go on.
   abbrev pub IsFollowed : (T → T → Type 0) → Fate T → Option T → Type 0
   IsFollowed Follows stays (Some x) = ⊤
   IsFollowed Follows (updated (Some old)) put = IsSomeAnd put (Follows old)

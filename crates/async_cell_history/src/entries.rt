@@ -30,6 +30,12 @@ impl<T, W> Enters<(), Result<(), Refusal>, T, W> for AddsOwner {
 /// The end of an owner, by `end_other`, `close_first` or `end_owner`.
 pub(crate) struct EndsOwner;
 
+impl<T, W> Enters<(), (), T, W> for EndsOwner {
+    ghost call = { λ _ _ _. kept.EndOwner };
+
+    ghost answer = { λ _ _. end_answer (Ok (None, [])) };
+}
+
 impl<T, W> Enters<(), (Option<T>, Option<W>), T, W> for EndsOwner {
     ghost call = { λ _ _ _. kept.EndOwner };
 

@@ -96,7 +96,6 @@ pub fn what_is_got_follows_what_was_put<T, W: Wakes, N: Protocol<T, W>>()
 
 /// If a take was made with a witness, the witness's author signed the take. Every longer history
 /// that begins with the seen calls still shows this signature.
-#[tactic(auto, using(crate::proofs::TwoTakers::took, crate::proofs::TwoTakers::still_took))]
 pub fn a_seen_take_is_of_its_author<T, W: Wakes, N: Protocol<T, W>>()
     ensures linearized { (seen now : Seen T W) (v : T)
         → IsLinearized W.Wakes N.named seen.calls Kept.TryTake (Reply.Value (Some v)) now.calls
@@ -132,7 +131,7 @@ pub fn as_many_come_out_or_are_left_as_went_in<T, W: Wakes, N: Protocol<T, W>>()
 
 /// After a close nothing is left in the cell: what went in has come out, or a `set` dropped it. The
 /// cell stays closed, and a later call gives back what is passed to it, and nothing else. So who
-/// has seen the close knows every change that was ever made.
+/// has seen the close has seen all that ever changed the content.
 pub fn after_a_close_nothing_is_left<T, W: Wakes, N: Protocol<T, W>>()
     ensures as_many { (is_counted : T → Bool) (now : History T W)
         → IsLawful W.will_wake W.SURE_CLONE N.may (start_of N.named) now

@@ -3,7 +3,7 @@ ghost use Rattle.async_cell_core.specs.IsStep.{IsStep, replies};
 ghost use Rattle.async_cell_model.specs.declared.entry.Kept.TheVariants.{PollGet};
 ghost use Rattle.async_cell_model.specs.declared.reply.Reply.TheVariants.{Pending};
 ghost use Rattle.async_cell_model.specs.Machine.{owners_of};
-ghost use Rattle.async_cell_history.specs.History.{IsAllowed, Leads, entry_of, is_of_owners};
+ghost use Rattle.async_cell_history.specs.History.{IsAllowed, Leads, OnlyExchanges, entry_of, is_of_owners};
 
 use crate::entries::Waits;
 use crate::{Nobody, Protocol, Signed, Signs, Start};
@@ -57,10 +57,17 @@ impl<T, W: Wakes, N: Protocol<T, W>> Model for Past<T, W, N> {
 
 /// A call that begins: the core before the call, and what is passed to the call. A `Before` has no
 /// bytes.
-#[derive(Drop)]
 pub(crate) struct Before<C, T, W: Wakes> {
     from: Snapshot<Core<T, W>>,
     passed: Snapshot<C>,
+}
+
+/// It is written out, so that a call drops one value and not two.
+impl<C, T, W: Wakes> Drop for Before<C, T, W> {
+    #[inline(always)]
+    fn drop(self) {
+        let Before { from: _, passed: _ } = self;
+    }
 }
 
 impl<C, T, W: Wakes> Before<C, T, W> {
@@ -81,32 +88,30 @@ impl<C, T, W: Wakes> Before<C, T, W> {
     #[inline(always)]
     #[tactic(auto, using(crate::proofs::Leading::owners_stay))]
     pub(crate) fn enter<N: Protocol<T, W>, M: Enters<C, A, T, W>, A, B: Signs>(
-        &self,
+        self,
         past: &mut Past<T, W, N>,
         _: &M,
         returned: &A,
         to: &Core<T, W>,
         by: &B,
     )
-        requires led { Leads W.will_wake W.SURE_CLONE N.holds past.old self.now.from.value }
-        requires step { IsStep W.Wakes self.now.from.value
-            (M.call self.now.from.value self.now.passed.value to.now)
-            (M.answer self.now.from.value returned.now) to.now }
-        requires allowed { IsAllowed N.may
-            (M.call self.now.from.value self.now.passed.value to.now) }
+        requires led { Leads W.will_wake W.SURE_CLONE N.holds past.old self.from.value }
+        requires step { IsStep W.Wakes self.from.value
+            (M.call self.from.value self.passed.value to.now)
+            (M.answer self.from.value returned.now) to.now }
+        requires allowed { IsAllowed N.may (M.call self.from.value self.passed.value to.now) }
         ensures leads { Leads W.will_wake W.SURE_CLONE N.holds past.new to.now }
         ensures begun { past.new.begun ≡ past.old.begun }
         ensures entered { past.new.calls ≡ past.old.calls ++ entry_of
-            (M.call self.now.from.value self.now.passed.value to.now)
-            (M.answer self.now.from.value returned.now) ∷ [] }
+            (M.call self.from.value self.passed.value to.now)
+            (M.answer self.from.value returned.now) ∷ [] }
         ensures signed { past.new.authors ≡ past.old.authors ++ B.number by.now ∷ [] }
         ensures out { past.new.out ≡ past.old.out }
-        ensures owners { is_of_owners
-            (M.call self.now.from.value self.now.passed.value to.now) ≡ false
-            → owners_of to.now.cell ≡ owners_of self.now.from.value.cell }
+        ensures owners { is_of_owners (M.call self.from.value self.passed.value to.now) ≡ false
+            → owners_of to.now.cell ≡ owners_of self.from.value.cell }
     {
         past.log.push::<_, SignedEntry<M>>(&FinishedCall {
-            before: self,
+            before: &self,
             returned,
             to,
             by,
@@ -119,23 +124,24 @@ impl<T, W: Wakes> Before<W, T, W> {
     /// function adds no entry, because the place's future was already waiting. This function is not
     /// `inline(always)`, so that the compiler first finds that this function is empty. With
     /// `inline(always)`, the `if let` in this function would cost the caller an instruction.
+    #[tactic(auto, using(crate::proofs::Exchanging::still_leads))]
     pub(crate) fn enter_stored<N: Protocol<T, W>>(
-        &self,
+        self,
         past: &mut Past<T, W, N>,
         stored: &Result<Option<W>, W>,
         to: &Core<T, W>,
     )
-        requires led { Leads W.will_wake W.SURE_CLONE N.holds past.old self.now.from.value }
+        requires led { Leads W.will_wake W.SURE_CLONE N.holds past.old self.from.value }
         requires step { IfOk stored.now (λ before. MatchOption before
-            (IsStep W.Wakes self.now.from.value
-            (PollGet self.now.passed.value) (replies Pending) to.now)
-            (λ _. to.now ≡ self.now.from.value)) }
-        requires unchanged { OnErr stored.now (to.now ≡ self.now.from.value) }
+            (IsStep W.Wakes self.from.value
+            (PollGet self.passed.value) (replies Pending) to.now)
+            (λ _. OnlyExchanges W.will_wake self.from.value to.now)) }
+        requires unchanged { OnErr stored.now (to.now ≡ self.from.value) }
         ensures leads { Leads W.will_wake W.SURE_CLONE N.holds past.new to.now }
         ensures stands { IfOk stored.now (λ before. IfSome before (λ _. past.new ≡ past.old)) }
         ensures unchanged { OnErr stored.now (past.new ≡ past.old) }
         ensures out { past.new.out ≡ past.old.out }
-        ensures owners { owners_of to.now.cell ≡ owners_of self.now.from.value.cell }
+        ensures owners { owners_of to.now.cell ≡ owners_of self.from.value.cell }
     {
         if let Ok(None) = stored {
             self.enter(past, &Waits, &(), to, &Nobody);

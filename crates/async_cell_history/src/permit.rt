@@ -97,8 +97,8 @@ impl<T, W: Wakes, N: Protocol<T, W>> Past<T, W, N> {
         self.count.take(permit);
     }
 
-    /// Does nothing. Its contract states that at least one owner is counted, because `permit`
-    /// belongs to an owner.
+    /// Does nothing. Its contract states that, if owners are counted, there is at least one:
+    /// `permit` belongs to it.
     #[inline(always)]
     pub(crate) fn proves_counted(&mut self, permit: &OwnerPermit<T, W, N>)
         ensures stays { self.new ≡ self.old }
@@ -108,12 +108,12 @@ impl<T, W: Wakes, N: Protocol<T, W>> Past<T, W, N> {
     }
 }
 
-/// Who makes a call: an owner, or anyone. The cell of an owner is open.
+/// Who makes a call: an owner, or anyone. The cell of an owner that is counted is open.
 pub trait Caller<T, W: Wakes, N: Protocol<T, W>> {
     /// It is an owner that is counted.
     ghost owns: { Type 0 };
 
-    /// Does nothing. Its contract states that the cell of an owner is open.
+    /// Does nothing. Its contract states that the cell of an owner that is counted is open.
     fn proves_open(&self, core: &mut CellCore<T, W, N>)
         ensures stays { core.new ≡ core.old }
         ensures open { owns → is_closed core.old.inner.cell ≡ false };

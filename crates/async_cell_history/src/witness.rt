@@ -8,14 +8,27 @@ use ghost_tokens::Seen;
 use std::marker::{Model, PhantomData};
 
 /// What one thread has seen of the history of the cell that `N` names. A witness also has the
-/// number that the thread's own calls are signed with, and how many calls the thread has made. A
-/// witness is zero-sized.
-#[derive(Drop)]
+/// number that calls made with it are signed with, and how many calls were made with it. A witness
+/// is zero-sized.
 pub struct Witness<T, W: Wakes, N: Protocol<T, W>> {
     seen: Seen<Signed<T, W>>,
     author: Number,
     own: Number,
     of: PhantomData<N>,
+}
+
+/// Does nothing. It is written out, so that the crates above call it: the derived drop would have
+/// each of them prove the drop of an entry.
+impl<T, W: Wakes, N: Protocol<T, W>> Drop for Witness<T, W, N> {
+    #[inline(always)]
+    fn drop(self) {
+        let Witness {
+            seen: _,
+            author: _,
+            own: _,
+            of: _,
+        } = self;
+    }
 }
 
 /// Contracts see the calls that were seen, who made each, who the thread is, and how many calls
@@ -129,8 +142,13 @@ impl<T, W: Wakes, N: Protocol<T, W>> Witness<T, W, N> {
         ensures author { result.author ≡ self.now.author }
         ensures own { result.own ≡ self.now.own }
     {
-        let mut longer = self.again();
-        longer.seen = self.seen.longer(&other.seen);
-        longer
+        let author = self.author.again();
+        let own = self.own.again();
+        Witness {
+            seen: self.seen.longer(&other.seen),
+            author,
+            own,
+            of: PhantomData,
+        }
     }
 }

@@ -42,8 +42,7 @@ impl<T: Drop, W: Wakes, N: Protocol<T, W>> CellCore<T, W, N> {
         if !self.inner.end_other() {
             return Err(permit);
         }
-        let nothing = (None, None);
-        before.enter(&mut self.past, &EndsOwner, &nothing, &self.inner, &Nobody);
+        before.enter(&mut self.past, &EndsOwner, &(), &self.inner, &Nobody);
         self.past.take(permit);
         Ok(())
     }
@@ -64,8 +63,7 @@ impl<T: Drop, W: Wakes, N: Protocol<T, W>> CellCore<T, W, N> {
         };
         before.enter(&mut self.past, &EndsOwner, &closed, &self.inner, &Nobody);
         self.past.take(permit);
-        let (value, first) = closed;
-        Ok(Deferred::waking(value, first))
+        Ok(Deferred::waking(closed.0, closed.1))
     }
 
     /// Ends an owner. Fails with `Closed` if the cell is closed.

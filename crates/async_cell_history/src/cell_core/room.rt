@@ -17,6 +17,9 @@ impl<T: Drop, N: Protocol<T, TaskWaker>> Room for CellCore<T, TaskWaker, N> {
 
     ghost room = { λ cell. cell.inner.room };
 
+    ghost stays = { λ old new. (new.inner.cell ≡ old.inner.cell)
+        × (new.inner.room ≡ old.inner.room) × (new.past ≡ old.past) };
+
     #[inline(always)]
     fn is_new(&self, place: &Place) -> bool {
         self.inner.is_new(place)
@@ -26,10 +29,11 @@ impl<T: Drop, N: Protocol<T, TaskWaker>> Room for CellCore<T, TaskWaker, N> {
     fn store_new(
         &mut self,
         place: &mut Place,
+        task: usize,
         waker: TaskWaker,
     ) -> Deferred<Result<(), TaskWaker>> {
         let before = Before::of(&self.inner, &waker);
-        let stored = self.inner.store_new(place, waker);
+        let stored = self.inner.store_new(place, task, waker);
         if stored.is_ok() {
             before.enter(&mut self.past, &Waits, &(), &self.inner, &Nobody);
         }

@@ -58,11 +58,13 @@ impl<T: Drop, W: Wakes, N: Protocol<T, W>> CellCore<T, W, N> {
         ensures comes_back { IfErr result (λ back. back.answer ≡ value) }
     {
         let before = Before::of(&self.inner, &value);
-        if let Err(value) = self.inner.put_quiet(value) {
-            return Err(Deferred::of(value));
+        match self.inner.put_quiet(value) {
+            Ok(()) => {
+                before.enter(&mut self.past, &FillsFirst, &None, &self.inner, &Nobody);
+                Ok(())
+            }
+            Err(value) => Err(Deferred::of(value)),
         }
-        before.enter(&mut self.past, &FillsFirst, &None, &self.inner, &Nobody);
-        Ok(())
     }
 }
 

@@ -9,7 +9,7 @@ invariant_of-past g c =
     let led = entered W.will_wake W.SURE_CLONE N.may past.count.name past.start past.count.out N.holds N.keeps _ _ _ _ _ _ _ _ _ c.past.view_is enters.of_this enters.pushed
     c.requires.led c.requires.step c.requires.allowed in (
       subst (λ n. Fits N.named (record { name = n; permits = past.count.name; start = past.start })) (sym enters.of_this) c.past.invariant.0,
-      entered_lawful W.will_wake W.SURE_CLONE N.may past.count.name past.start past.count.out _ _ _ enters.pushed led.0.legal c.requires.allowed c.past.invariant.1,
+      entered_lawful W.will_wake W.SURE_CLONE N.may past.count.name past.start past.count.out _ _ _ enters.pushed led.0.runs.legal c.requires.allowed c.past.invariant.1,
       c.past.invariant.2,
     )
 
