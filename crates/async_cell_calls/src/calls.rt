@@ -84,8 +84,10 @@ impl<M: Stores<Core = CellCore<T, W, N>>, T: Drop, W: Wakes, N: Protocol<T, W>> 
         requires may { N.may (Kept.OrSet value) }
         ensures comes_back { IfErr result (λ back. back ≡ value) }
     {
-        let unused = self.make(OrSet(value), &Anyone, &mut Nobody, rt)?;
-        unused.map_or(Ok(()), Err)
+        match self.make(OrSet(value), &Anyone, &mut Nobody, rt)? {
+            None => Ok(()),
+            Some(unused) => Err(unused),
+        }
     }
 
     /// Calls the closure on the content and stores what it returns, all in one step. Wakes all

@@ -55,8 +55,8 @@ impl<M: Stores<Core = CellCore<T, W, N>>, T: Drop, W: Wakes, N: Protocol<T, W>> 
         }
     }
 
-    /// As `add_owner`, but returns the permit of the new owner. A caller that is an owner never
-    /// gets `Closed`: its permit shows that the cell is open.
+    /// As `add_owner`, but returns the permit of the new owner. If owners are counted, a caller
+    /// that is an owner never gets `Closed`: its permit shows that the cell is open.
     pub fn add_counted<'a, K: Caller<T, W, N>, S: Sees<T, W, N>, R: Opens<'a, M>>(
         &'a self,
         by: &K,

@@ -56,7 +56,6 @@ impl<T: Clone, N: Protocol<T, TaskWaker>> Query<CellCore<T, TaskWaker, N>> for C
     }
 
     #[inline(always)]
-    #[tactic(auto, using(async_cell_history::proofs::Found::closed_if_no_clone))]
     fn answer(self, core: &mut CellCore<T, TaskWaker, N>) -> Deferred<Result<T, Refusal>> {
         core.make(TryGet, &Nobody).or_closed()
     }
@@ -85,7 +84,7 @@ impl<T: Drop, N: Protocol<T, TaskWaker>> Query<CellCore<T, TaskWaker, N>> for Cl
     }
 }
 
-/// A query and its caller. A caller that is an owner never gets `Closed`.
+/// A query and its caller. A caller that is a counted owner never gets `Closed`.
 #[derive(Drop)]
 pub struct WithCaller<'a, K, Q> {
     caller: &'a K,
