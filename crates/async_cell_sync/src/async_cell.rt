@@ -159,7 +159,10 @@ impl<T: Drop, N: Protocol<T, TaskWaker>> AsyncCell<T, N> {
         ensures owns { IfOk result (λ owner. cell_of owner ≡ self) }
         ensures refused { FailsWithMemory result }
     {
-        self.into_shared().map_err(|(why, _)| why)
+        match self.into_shared() {
+            Ok(owner) => Ok(owner),
+            Err((why, _)) => Err(why),
+        }
     }
 
     /// Returns the number of places in the wait list.

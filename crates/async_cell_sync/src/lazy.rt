@@ -1,4 +1,4 @@
-ghost use Rattle.std.specs.Prelude.{◌≡◌, ⊤, Ok, Err, IfErr, IfOk, IfSome};
+ghost use Rattle.std.specs.Prelude.{◌≡◌, ⊤, Ok, Err, IfErr, IfOk, IfSome, IsOk};
 ghost use Rattle.async_cell_model.specs.Refusal.{FailsWithMemory, FailsWithMemoryOrClosed, IsOwnerRefusal};
 ghost use Rattle.async_cell_step.specs.Rule.{IsCloneOfOne};
 ghost use Rattle.async_cell_sync.specs.Owned.{cell_owned};
@@ -73,6 +73,7 @@ impl<T: Drop, R: Wait + Copy, P: Rule<T>> Lazy<T, R, P> {
     where
         T: Clone,
         ensures rule { IfOk result (λ found. IfSome found (IsCloneOfOne T.is_clone P.holds)) }
+        ensures if_infallible { ((value : T) → T.is_infallible value) → IsOk result }
         ensures refused { FailsWithMemory result }
     {
         Ok(self.cell.try_get()?.flatten())

@@ -30,7 +30,7 @@ use std::sync::{Arc, Wait};
 /// ended by a drop but by a call.
 ///
 /// `N` says what is known of the values (see `Rule`), and which history a witness sees. `Unruled`,
-/// the default, has neither a rule nor a history.
+/// the default, has neither a rule nor a witness.
 #[derive_where(Debug)]
 pub struct Owner<T: Drop, R: Wait + Drop, N: Protocol<T, TaskWaker> = Unruled> {
     #[derive_where(skip)]
@@ -149,8 +149,10 @@ impl<T: Drop, R: Wait + Copy, N: Protocol<T, TaskWaker>> Owner<T, R, N> {
         ensures comes_back { IfErr result (λ back. back ≡ self) }
     {
         let Owner { shared, rt } = self;
-        let ended = shared.try_into_inner(&rt);
-        ended.map_err(|shared| Owner { shared, rt })
+        match shared.try_into_inner(&rt) {
+            Ok(inner) => Ok(inner),
+            Err(shared) => Err(Owner { shared, rt }),
+        }
     }
 
     /// As `try_into_inner`, but extends the witness. After an `Ok` the witness has seen the close,

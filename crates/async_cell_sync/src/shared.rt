@@ -39,7 +39,7 @@ impl<T: Drop> Shared<T> {
 impl<T: Drop, N: Protocol<T, TaskWaker>> Shared<T, N> {
     /// Makes the first owner of this cell. If there is no memory, fails with `Memory` and returns
     /// the cell in the error. To use `?`, call `AsyncCell::into_shared_or_drop` instead. To make a
-    /// cell with a history, call `Owner::witnessed`.
+    /// cell with a witness, call `Owner::witnessed`.
     pub fn into_shared(cell: AsyncCell<T, N>) -> Result<Self, (Refusal, AsyncCell<T, N>)>
         requires nameless { N.named ≡ None }
         ensures owns { IfOk result (λ owner. cell_of owner ≡ cell) }
