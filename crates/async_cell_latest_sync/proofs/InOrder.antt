@@ -1,8 +1,8 @@
 -- What is shown of a state, one value after another, and what orders of its values follow from
 -- what may be written.
 use Rattle.std.proofs.lemmas.List.{same_from_push}
-use Rattle.async_cell_latest_sync.specs.InOrder.{AllFollowing, AreInOrder, FollowsLast, IsLast, OnlyFollowing}
-use Rattle.async_cell_latest_sync.specs.Life.{IsNext, IsShown}
+use Rattle.async_cell_latest_sync.specs.InOrder.{AllFollowing, AreInOrder, FollowsLast, IsLast, OnlyFollowing, WasShown}
+use Rattle.async_cell_latest_sync.specs.Life.{EndsIn, IsNext, IsShown}
 use Rattle.async_cell_model.specs.Legal.{IsExact}
 use Rattle.async_cell_latest_sync.proofs.Words.{Life, GoesOn, IsLawful, IsShownNext, ◌≡◌, ◌⊎◌, true, List, [], ◌∷◌, ◌++◌, length, None, inl, inr, refl, ap, sym, subst, ◌∙◌, arith, append_assoc, append-nil}
 use Rattle.async_cell_latest_sync.proofs.Words.{◌≤◌, length-append, shorter_begins}
@@ -44,6 +44,53 @@ module _ {T : Type 0} (is_clone : T → T → Type 0) where
         shown_first = shown.clone;
         shown_second = next.clone;
       }
+
+  -- what is shown was shown, and that stays so
+  pub is_shown_was_shown : (seen now : Life T) (x : T) → IsShown is_clone seen x now → WasShown is_clone x now
+  is_shown_was_shown seen now x shown = record { before = shown.ends.0; value = shown.value; later = []; split = shown.ends.1; clone = shown.clone }
+
+  pub next_was_shown : (seen now : Life T) (x : T) → IsShownNext is_clone seen x now → WasShown is_clone x now
+  next_was_shown seen now x next = is_shown_was_shown seen now x (next_is_shown seen now x next)
+
+  pub shown_stays : (life now : Life T) (x : T) → WasShown is_clone x life → GoesOn life now → WasShown is_clone x now
+  shown_stays life now x was on = record {
+    before = was.before;
+    value = was.value;
+    later = was.later ++ on.begins.0;
+    split = sym on.begins.1 ∙ ap (λ l. l ++ on.begins.0) was.split ∙ append_assoc was.before (was.value ∷ was.later) on.begins.0;
+    clone = was.clone;
+  }
+
+  -- what is shown is the value that was shown, or a later one
+  same_or_later : (now : Life T) (x y : T) (was : WasShown is_clone x now) (later : List T) → now.values ≡ was.before ++ was.value ∷ later → (value : T) → EndsIn now.values value → is_clone value y
+      → (was.value ≡ value) ⊎ AreInOrder is_clone x y now.values
+  same_or_later now x y was [] split value ends clone = inl (same_from_push was.before ends.0 was.value value (sym split ∙ ends.1)).1
+  same_or_later now x y was (z ∷ later) split value ends clone =
+      let front = was.before ++ was.value ∷ [] in
+      let whole : now.values ≡ front ++ z ∷ later = split ∙ sym (append_assoc was.before (was.value ∷ []) (z ∷ later)) in
+      let no_longer : length front ≤ length ends.0 =
+      omega (arith, length-append front (z ∷ later), length-append ends.0 (value ∷ []), ap length whole, ap length ends.1) in
+      let mid = shorter_begins front ends.0 now.values (z ∷ later, sym whole) (value ∷ [], sym ends.1) no_longer in
+      inr (record {
+        before = was.before;
+        first = was.value;
+        between = mid.0;
+        second = value;
+        later = [];
+        split = ends.1 ∙ ap (λ l. l ++ value ∷ []) (sym mid.1 ∙ append_assoc was.before (was.value ∷ []) mid.0);
+        shown_first = was.clone;
+        shown_second = clone;
+      })
+
+  -- what is shown of a closed state is the last value
+  pub closed_is_last : (seen now : Life T) (x : T) → IsShown is_clone seen x now → now.closed ≡ true → IsLast is_clone x now
+  closed_is_last seen now x shown closed = record { closed = closed; value = shown.value; ends = shown.ends; clone = shown.clone }
+
+  pub closed_before_is_last : (seen now : Life T) (x : T) → IsShown is_clone seen x now → seen.closed ≡ true → IsLast is_clone x now
+  closed_before_is_last seen now x shown closed = closed_is_last seen now x shown (ap (λ (l : Life T). l.closed) (shown.goes_on.ended closed) ∙ closed)
+
+  pub closed_next_is_last : (seen now : Life T) (x : T) → IsShownNext is_clone seen x now → now.closed ≡ true → IsLast is_clone x now
+  closed_next_is_last seen now x next closed = closed_is_last seen now x (next_is_shown seen now x next) closed
 
   -- what was shown before there was no next value is the last value, and stays it
   pub none_is_next : (seen now later : Life T) (x : T) → IsShown is_clone seen x now → IsNext is_clone now None later → IsLast is_clone x later
@@ -103,6 +150,18 @@ module _ {T : Type 0} (may : List T → T → Type 0) (Follows : T → T → Typ
 
     pub next_follows : (seen now mid later : Life T) (x y : T) → IsLawful may later.values → IsShown is_clone seen x now → GoesOn now mid → IsShownNext is_clone mid y later → Follows x y
     next_follows seen now mid later x y lawful first on next = in_order_follows later.values x y lawful (in_order is_clone seen now mid later x y first on next)
+
+    -- and what is shown follows all that was shown
+    pub shown_after : ((a : T) → Follows a a) → (seen now : Life T) (x y : T) → IsLawful may now.values → WasShown is_clone x seen → IsShown is_clone seen y now → Follows x y
+    shown_after itself seen now x y lawful was shown =
+        let still = shown_stays is_clone seen now x was shown.goes_on in
+        elim (same_or_later is_clone now x y still still.later still.split shown.value shown.ends shown.clone) [
+          | inl same ↦ subst (λ n. Follows x n) (exact still.value x still.clone ∙ same ∙ sym (exact shown.value y shown.clone)) (itself x)
+          | inr ordered ↦ in_order_follows now.values x y lawful ordered
+        ]
+
+    pub next_after : ((a : T) → Follows a a) → (seen now : Life T) (x y : T) → IsLawful may now.values → WasShown is_clone x seen → IsShownNext is_clone seen y now → Follows x y
+    next_after itself seen now x y lawful was next = shown_after itself seen now x y lawful was (next_is_shown is_clone seen now y next)
 
     -- or is the same value
     pub shown_follows : ((a : T) → Follows a a) → (seen now mid later : Life T) (x y : T) → IsLawful may later.values → IsShown is_clone seen x now → GoesOn now mid → IsShown is_clone mid y later

@@ -29,6 +29,14 @@ module _ {T : Type 0} where
       pub shown_first : is_clone first x
       pub shown_second : is_clone second y
 
+    -- this is a clone of one of the values
+    pub record WasShown (copy : T) (life : Life T) : Type 0 where
+      pub before : List T
+      pub value : T
+      pub later : List T
+      pub split : life.values ≡ before ++ value ∷ later
+      pub clone : is_clone value copy
+
     -- the state is closed, and this is a clone of its last value
     pub record IsLast (copy : T) (life : Life T) : Type 0 where
       pub closed : life.closed ≡ true

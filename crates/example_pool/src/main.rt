@@ -1,6 +1,5 @@
-//! A pool of workers over a queue. Each request brings the side that replies, and each asker is
-//! proved to get the right answer to its own question. A worker that fails drops its request: then
-//! its asker gets an error.
+//! A pool of workers over a queue. Each request brings the side that replies. It is proved that no
+//! asker gets a wrong answer. A worker that fails drops its request: then its asker gets an error.
 #![tactic(auto)]
 
 ghost use Rattle.std.specs.Prelude.{◌≡◌, ◌*◌, IfOk};

@@ -3,6 +3,8 @@
 //! - `even`, `square` and `fact`: what the value of a reply satisfies.
 //! - `reply` and `writer`: that a reply is the value that was set, and that who alone writes a cell
 //!   finds what he wrote last. Their values bring tokens of `ghost_tokens` along.
+//! - `lease` and `leader`: that there is one leader at a time, and each term has one. The right to
+//!   lead has such a token.
 //! - `job`, `shutdown`, `startup`, `versions` and `watcher`: what the two threads return on every
 //!   schedule, or whom a call of one wakes.
 //! - `account`: at the end, that all which went into the cell has come out.
@@ -15,6 +17,8 @@ mod account;
 mod even;
 mod fact;
 mod job;
+mod leader;
+mod lease;
 mod reply;
 mod shutdown;
 mod signed;
@@ -52,7 +56,9 @@ fn main(rt: HostRuntime) -> Result<()> {
     let (first, second) = writer::write_twice(rt)??;
     println!(rt; "the writer found {first}, and then {second}")?;
     let (older, newer) = versions::follow(rt)?;
-    println!(rt; "the version fell: {}", older > newer)?;
+    println!(rt; "the version fell: {}", newer.unwrap_or(older) < older)?;
+    let (one, other) = leader::lead_in_turn(rt)?;
+    println!(rt; "two leaders had one term: {}", one == other)?;
     println!(rt; "the server has stopped: {}", shutdown::run(rt)?.1.is_ok())?;
     println!(rt; "the account is closed: {}", account::close(rt).is_ok())?;
     Ok(())

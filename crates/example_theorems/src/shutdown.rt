@@ -1,4 +1,5 @@
-//! A shutdown. One thread says that all is over, and that wakes each poll that waits to hear it.
+//! A shutdown. One thread says that all is over. In the history that wakes the waker of each poll
+//! that waits to hear it, or one that would wake it.
 ghost use Rattle.std.specs.Prelude.{◌≡◌, ⊤, Some, IfSome, OnOk};
 ghost use Rattle.async_cell_model.specs.Machine.{content};
 ghost use Rattle.async_cell_model.specs.History.{IsCovered};

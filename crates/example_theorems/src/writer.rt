@@ -86,7 +86,6 @@ fn write_both<N: Protocol<Stamped, TaskWaker>, R: Host>(
 }
 
 /// Writes the value, which is the one of this number, and returns what the cell then holds.
-#[tactic(auto, using(crate::proofs::Stamps::last_added))]
 fn write<N: Protocol<Stamped, TaskWaker>, R: Host>(
     rt: R,
     owner: &Owner<Stamped, R, N>,

@@ -5,7 +5,7 @@ ghost use Rattle.std.specs.Prelude.{◌≡◌, List, [], ◌∷◌, ◌++◌, Bo
 ghost use Rattle.std.specs.Fn.{FnOnceReturnsAt, FnOnceReturnsAtMut};
 ghost use Rattle.async_cell_model.specs.Refusal.{FailsWithClosed, FailsWithMemory, IsOwnerRefusal};
 ghost use Rattle.async_cell_step.specs.Rule.{IsCloneOfOne};
-ghost use Rattle.async_cell_latest.specs.State.{is_closed};
+ghost use Rattle.async_cell_latest.specs.State.{Stays, is_closed};
 ghost use Rattle.async_cell_wakers.specs.WaitList.{first_then};
 ghost use Rattle.async_cell_wakers.specs.declared.task_waker.TaskWaker.{TaskWaker};
 ghost use Rattle.async_cell_latest_sync.specs.Life.{Desk, GoesOn, IsNext, IsOf, TakesNoMore, permits_of};
@@ -294,6 +294,9 @@ impl<T: Drop, N: Protocol<T>> Room for LatestCore<T, N> {
 
     ghost room = { λ core. core.state.room };
 
+    ghost stays = { λ old new. Stays old.state new.state × (new.state.room ≡ old.state.room)
+        × (new.life ≡ old.life) };
+
     #[inline(always)]
     fn is_new(&self, place: &Place) -> bool {
         self.state.is_new(place)
@@ -303,9 +306,10 @@ impl<T: Drop, N: Protocol<T>> Room for LatestCore<T, N> {
     fn store_new(
         &mut self,
         place: &mut Place,
+        task: usize,
         waker: TaskWaker,
     ) -> Deferred<Result<(), TaskWaker>> {
-        Deferred::of(self.state.store_new(place, waker))
+        Deferred::of(self.state.store_new(place, task, waker))
     }
 
     #[inline(always)]
