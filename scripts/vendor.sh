@@ -179,9 +179,9 @@ replace() {
 # Writes HANDLES, if the sources or programs need one, and .gitignore, or prints what these and
 # crates.txt lack: there, which names of crates are Railyarrow's, or were, and not the copy's.
 settle() {
-    local it words='' has=$project/HANDLES
+    local it words='' has=$project/HANDLES programs=("$folder"/*/src/main.rt)
     for it in Threads Wait; do
-        grep -qsE 'thread::(spawn|scope)' "$folder"/*/src/main.rt ||
+        grep -rqsE --include='*.rt' 'thread::(spawn|scope)' "${programs[@]%/*}" ||
             grep -rqw --include='*.rt' "$it" "$work/to" || continue
         words+="${words:+, }$it"
     done
