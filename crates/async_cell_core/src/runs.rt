@@ -9,7 +9,8 @@ use crate::cell_core::Core;
 use crate::{Reply, Wakes};
 use std::alloc::Global;
 
-/// Makes one call that is no get, so it does not copy the value.
+/// Makes one call that is no get, so it does not copy the value. Its clause `no_get` repeats what it
+/// requires, so that the proof of `step` has it at hand.
 fn step_no_get<T: Drop, W: Wakes, E: Edit<T> + Drop>(
     core: &mut Core<T, W>,
     call: Call<T, W, E>,

@@ -18,9 +18,9 @@ impl<T: Drop> Core<T, TaskWaker> {
         self.waiting.is_new(place)
     }
 
-    /// Adds the waker of the task with this number at the end of the list, by value, for a poll that
-    /// has to wait. The cell must be vacant. `place` is the waker's position from then on. If there
-    /// is no memory to grow the list, the waker is returned in the error.
+    /// Adds the waker of the task with this number at the end of the list, for a poll that has to
+    /// wait. The cell must be vacant. `place` is the waker's position from then on. If there is no
+    /// memory to grow the list, the waker is returned in the error.
     #[doc(hidden)]
     #[inline(always)]
     #[tactic(auto, using(async_cell_model::proofs::OneMoreWaker::keep_added, async_cell_model::proofs::OneMoreWaker::never_skipped))]
