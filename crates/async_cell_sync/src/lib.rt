@@ -10,7 +10,6 @@ mod calls_as;
 mod cell_ref;
 mod closed;
 mod guard;
-pub mod lazy;
 pub mod ops;
 mod owner;
 mod reply;

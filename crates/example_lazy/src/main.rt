@@ -3,7 +3,7 @@
 #![tactic(auto)]
 
 use anyhow::{Context, Result};
-use async_cell_sync::lazy::Lazy;
+use async_cell_lazy::Lazy;
 use std::thread;
 
 /// Reads a number, and says so.

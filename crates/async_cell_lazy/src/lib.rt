@@ -1,11 +1,13 @@
+//! A value that threads share. The first caller makes it, and may fail.
+#![tactic(auto)]
+
 ghost use Rattle.std.specs.Prelude.{◌≡◌, ⊤, Ok, Err, IfErr, IfOk, IfSome, IsOk};
 ghost use Rattle.async_cell_model.specs.Refusal.{FailsWithMemory, FailsWithMemoryOrClosed, IsOwnerRefusal};
 ghost use Rattle.async_cell_step.specs.Rule.{IsCloneOfOne};
 ghost use Rattle.async_cell_sync.specs.Owned.{cell_owned};
 
-use crate::owner::Owner;
-use async_cell_core::Refusal;
-use async_cell_step::{Rule, Ruled};
+pub use async_cell_sync::{Refusal, Rule};
+use async_cell_sync::{Owner, Ruled};
 use futures::executor::block_on;
 use std::alloc::{AllocError, AllocGlobal, Global};
 use std::marker::PhantomData;
@@ -36,6 +38,8 @@ pub struct Lazy<T: Drop, R: Wait + Drop, P: Rule<T> = NoRule> {
     /// Holds the value, or `None` while nobody makes it. Is empty while a caller makes it.
     #[derive_where(skip)]
     cell: Owner<Option<T>, R, Ruled<IfMade<P>>>,
+    #[derive_where(skip)]
+    rt: R,
 }
 
 impl<T: Drop, R: Wait + Copy> Lazy<T, R> {
@@ -54,7 +58,7 @@ impl<T: Drop, R: Wait + Copy, P: Rule<T>> Lazy<T, R, P> {
         ensures refused { FailsWithMemory result }
     {
         let cell = Owner::ruled_with(alloc, None, rt)?;
-        Ok(Lazy { cell })
+        Ok(Lazy { cell, rt })
     }
 
     /// Returns one more `Lazy` of the same value. Use this in place of `clone`. Fails as
@@ -64,7 +68,7 @@ impl<T: Drop, R: Wait + Copy, P: Rule<T>> Lazy<T, R, P> {
         ensures refused { IfErr result IsOwnerRefusal }
     {
         let cell = self.cell.another()?;
-        Ok(Lazy { cell })
+        Ok(Lazy { cell, rt: self.rt })
     }
 
     /// Returns a clone of the value, if it is made. Does not wait for a caller that makes it. Fails
@@ -124,7 +128,7 @@ impl<T: Clone, R: Wait + Copy + AllocGlobal + RandomSource, P: Rule<T>> Lazy<T, 
         ensures rule { IfOk result (λ found. IfSome found (IsCloneOfOne T.is_clone P.holds)) }
         ensures refused { FailsWithMemoryOrClosed result }
     {
-        let rt = self.cell.rt;
+        let rt = self.rt;
         for _ in rt.forever() {
             let found = self.try_get()?;
             if found.is_some() || self.begins() {
