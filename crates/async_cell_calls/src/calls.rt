@@ -13,9 +13,7 @@ use async_cell_history::{
     UpdateSome,
 };
 use async_cell_model::Kept;
-use async_cell_step::{
-    Deferred, Opens, Step, Stores, end, end_and_wake_one, opened, put_held, write_held,
-};
+use async_cell_step::{Opens, Step, Stores, end, end_and_wake_one, opened, put_held, write_held};
 use std::alloc::Global;
 use std::fmt;
 
@@ -84,9 +82,10 @@ impl<M: Stores<Core = CellCore<T, W, N>>, T: Drop, W: Wakes, N: Protocol<T, W>> 
         requires may { N.may (Kept.OrSet value) }
         ensures comes_back { IfErr result (λ back. back ≡ value) }
     {
-        match self.make(OrSet(value), &Anyone, &mut Nobody, rt)? {
-            None => Ok(()),
-            Some(unused) => Err(unused),
+        match self.make(OrSet(value), &Anyone, &mut Nobody, rt) {
+            Ok(None) => Ok(()),
+            Ok(Some(unused)) => Err(unused),
+            Err(value) => Err(value),
         }
     }
 
@@ -126,7 +125,7 @@ impl<M: Stores<Core = CellCore<T, W, N>>, T: Drop, W: Wakes, N: Protocol<T, W>> 
     {
         let mut step = opened!(rt, &self.store, else return);
         match step.lend().put_quiet(value) {
-            Ok(()) => end(step, Deferred::of(())),
+            Ok(()) => step.release(),
             Err(value) => put_held(step, value),
         }
     }
@@ -148,7 +147,8 @@ impl<M: Stores<Core = CellCore<T, W, N>>, T: Drop, W: Wakes, N: Protocol<T, W>> 
     {
         let mut step = rt.open(&self.store)?;
         if step.core().owners() == 0 {
-            return end(step, Deferred::of(None));
+            step.release();
+            return None;
         }
         let content = step.lend().make(TryTake, &Nobody);
         Some(end(step, content))
@@ -203,7 +203,9 @@ impl<M: Stores<Core = CellCore<T, W, N>>, T: Drop, W: Wakes, N: Protocol<T, W>> 
     pub fn reserve<'a, R: Opens<'a, M>>(&'a self, additional: usize, rt: &R) -> Result<(), Refusal>
         ensures refused { FailsWithMemory result }
     {
-        let mut step = rt.open(&self.store).ok_or(Refusal::Memory)?;
+        let Some(mut step) = rt.open(&self.store) else {
+            return Err(Refusal::Memory);
+        };
         let reserved = step.lend().reserve(additional);
         end(step, reserved)
     }
@@ -278,7 +280,8 @@ impl<M: Stores<Core = CellCore<T, W, N>>, T: Drop, W: Wakes, N: Protocol<T, W>> 
             return 0;
         };
         let owners = step.core().owners();
-        end(step, Deferred::of(owners))
+        step.release();
+        owners
     }
 
     /// Returns how many wakers wait.
@@ -287,7 +290,8 @@ impl<M: Stores<Core = CellCore<T, W, N>>, T: Drop, W: Wakes, N: Protocol<T, W>> 
             return 0;
         };
         let waiting = step.core().waiting();
-        end(step, Deferred::of(waiting))
+        step.release();
+        waiting
     }
 
     /// Returns whether a task waits, or `None` if the cell is closed or full.
@@ -296,7 +300,8 @@ impl<M: Stores<Core = CellCore<T, W, N>>, T: Drop, W: Wakes, N: Protocol<T, W>> 
         let step = self.look(rt)?;
         let core = step.core();
         let waits = core.is_vacant().then_some(!core.wakes_nobody());
-        end(step, Deferred::of(waits))
+        step.release();
+        waits
     }
 
     /// Returns the cell as text. The text is made during a step. Fails with `Memory` if there is no
@@ -311,7 +316,9 @@ impl<M: Stores<Core = CellCore<T, W, N>>, T: Drop, W: Wakes, N: Protocol<T, W>> 
         T: fmt::Debug,
         ensures refused { FailsWithMemory result }
     {
-        let step = self.look(rt).ok_or(Refusal::Memory)?;
+        let Some(step) = self.look(rt) else {
+            return Err(Refusal::Memory);
+        };
         let text = step.core().debug_text(alloc);
         end(step, text)
     }

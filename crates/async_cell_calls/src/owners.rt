@@ -8,7 +8,7 @@ use crate::cell_store::CellStore;
 use async_cell_core::{Refusal, Wakes};
 use async_cell_history::{Anyone, Caller, CellCore, Nobody, OwnerPermit, Protocol, Sees};
 use async_cell_model::Kept;
-use async_cell_step::{Deferred, Opens, Step, Stores, end, end_and_wake, end_and_wake_one, opened};
+use async_cell_step::{Opens, Step, Stores, end, end_and_wake, end_and_wake_one, opened};
 
 impl<M: Stores<Core = CellCore<T, W, N>>, T: Drop, W: Wakes, N: Protocol<T, W>> CellStore<M> {
     /// Ends the last owner of a cell that nobody else can call. The caller drops the cell next.
@@ -92,7 +92,7 @@ impl<M: Stores<Core = CellCore<T, W, N>>, T: Drop, W: Wakes, N: Protocol<T, W>> 
             return Err(Refusal::Closed);
         });
         let Err(permit) = step.lend().end_other(permit) else {
-            end(step, Deferred::of(()));
+            step.release();
             return Ok(());
         };
         match step.lend().close_first(permit) {

@@ -5,6 +5,8 @@ pub mod Found
 pub mod GoingOn
 pub mod Leading
 pub mod Linearizing
+pub mod Replied
 pub mod TwoTakers
 pub mod Waking
 pub mod Words
+pub mod Written

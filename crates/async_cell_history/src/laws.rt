@@ -14,8 +14,8 @@ use crate::Protocol;
 use async_cell_core::Wakes;
 use async_cell_model::{Kept, Reply};
 
-/// For each waker that still waits on a cell, a call that fills or closes the cell wakes this
-/// waker, or another one that would wake the same task.
+/// In the history, a call that fills or closes a cell wakes each waker that still waits on it, or
+/// another one that would wake the same task.
 pub fn a_fill_or_close_wakes_who_waits<T, W: Wakes, N: Protocol<T, W>>()
     ensures { (seen now : History T W) (call : Called T W) (reply : Replied T) (w : W)
         (made : IsLinearized W.Wakes N.named seen call reply now)
@@ -94,8 +94,8 @@ pub fn what_is_got_follows_what_was_put<T, W: Wakes, N: Protocol<T, W>>()
         → follows v w ≡ true }
 {}
 
-/// If a take was made with a witness, the witness's author signed the take. Every longer history
-/// that begins with the seen calls still shows this signature.
+/// If a `try_take` with a witness found a value, the witness's author signed it. Every longer
+/// history that begins with the seen calls still shows this signature.
 pub fn a_seen_take_is_of_its_author<T, W: Wakes, N: Protocol<T, W>>()
     ensures linearized { (seen now : Seen T W) (v : T)
         → IsLinearized W.Wakes N.named seen.calls Kept.TryTake (Reply.Value (Some v)) now.calls
@@ -104,8 +104,8 @@ pub fn a_seen_take_is_of_its_author<T, W: Wakes, N: Protocol<T, W>>()
         → IsPrefix seen.calls all.calls → IsPrefix seen.authors all.authors → Took n v all }
 {}
 
-/// If the only changes that the protocol allows are takes, then all takes that found a value were
-/// signed by the same author.
+/// If the only changes that the protocol allows are takes, then all `try_take`s that found a value
+/// were signed by the same author.
 pub fn of_takers_alone_one_gets<T, W: Wakes, N: Protocol<T, W>>()
     ensures { (all : Seen T W) (m n : ℕ) (v w : T) → OnlyMakes N.may IsTake
         → IsLawful W.will_wake W.SURE_CLONE N.may (start_of N.named) all.calls

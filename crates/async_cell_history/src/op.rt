@@ -75,7 +75,8 @@ pub trait Op<T: Drop, W: Wakes, N: Protocol<T, W>>: Sized {
         Err(self)
     }
 
-    /// Returns what the call returns if no core is lent: the same as on a closed cell.
+    /// Returns what the call returns if no core is lent: the same as on a closed cell, but `Memory`
+    /// for a poll.
     fn unlent(self) -> Self::Answer
         ensures gives { gives (start_of None) self result (start_of None) };
 }

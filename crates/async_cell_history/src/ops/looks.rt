@@ -68,7 +68,6 @@ impl<T: Clone, W: Wakes, N: Protocol<T, W>> Op<T, W, N> for TryGet {
         × (((value : T) → T.is_infallible value) → IsOk copied) };
 
     #[inline(always)]
-    #[tactic(auto, using(crate::proofs::Found::cloned_ones))]
     fn make(self, core: &mut Core<T, W>) -> Deferred<Result<Option<T>, Refusal>> {
         Deferred::of(core.try_get())
     }

@@ -196,8 +196,7 @@ where
     #[inline(always)]
     fn make(self, core: &mut Core<T, W>) -> Deferred<Result<(), Refusal>, All<W, Option<F>>> {
         if core.is_closed() {
-            let closed = core.update(|content| content); // It calls nothing.
-            return Deferred::waking(closed.map(|_| ()), All::waking(None, Some(self.0)));
+            return Deferred::waking(Err(Refusal::Closed), All::waking(None, Some(self.0)));
         }
         match core.update(self.0) {
             Ok(woken) => Deferred::waking(Ok(()), All::waking(Some(woken), None)),
@@ -245,7 +244,11 @@ where
         if core.is_set() {
             return Deferred::waking(core.update_some(self.0), All::waking(None, None));
         }
-        let updated = core.update_some(|value| value); // It calls nothing.
+        let updated = if core.is_closed() {
+            Err(Refusal::Closed)
+        } else {
+            Ok(())
+        };
         Deferred::waking(updated, All::waking(None, Some(self.0)))
     }
 
