@@ -40,9 +40,9 @@ pub trait Session {
         ensures described { describes result (record share.new { number = share.old.number }) };
 }
 
-/// Runs a session on a new cell, once for each share, each run in a thread of its own. The cell
-/// begins open, without a value and with an owner for each share. Once all runs have ended, the
-/// cell is finished, by `Recorded::finish`.
+/// Runs a session on a new cell, once for each share, each run in a thread of its own, if one can
+/// be started. The cell begins open, without a value and with an owner for each share. Once all
+/// runs have ended, the cell is finished, by `Recorded::finish`.
 ///
 /// Returns the outcomes of the threads, in the order of the shares' numbers, and the history. Each
 /// outcome is related to its share as `Session::describes` says. The length of the history is the

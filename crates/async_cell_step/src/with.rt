@@ -76,9 +76,10 @@ pub trait Upgrade<R>: Request<R> {
 /// a `WeakOwner`, such as `take` and `take_as`.
 ///
 /// While the future waits, it holds one place in the cell's wait list. Each poll renews the waker
-/// in this place, so the task that will be woken is the one that polled the future last. A poll
-/// fails with `Memory` if there is no memory for the task's waker, to grow the list, or for a clone
-/// of the value. The future can then be polled again.
+/// in this place, so the task that will be woken is the one that polled the future last. (If there
+/// is no memory for this task's waker, the earlier one stays, and this task is polled again.) A
+/// poll fails with `Memory` if there is no memory for the first waker, to grow the list, or for a
+/// clone of the value. The future can then be polled again.
 ///
 /// **Dropping the future may wait for the cell's lock.** If the future is the last owner, its drop
 /// closes the cell: it drops the value, and wakes all waiters. Any other drop wakes nobody. After

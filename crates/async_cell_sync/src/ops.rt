@@ -1,5 +1,5 @@
-//! The calls of a [`LockedCore`](crate::LockedCore) as values, and all else that its `make`,
-//! `of_blank` and `add_counted` name: who makes a call, and who sees and signs it.
+//! The calls of a [`LockedCore`](crate::LockedCore) as values, and what else its `make`, `of_blank`
+//! and `add_counted` name: who makes a call, and who sees and signs it.
 //!
 //! A call is of a type that implements [`Op`], such as `Set(value)`. Its caller is `Anyone` or the
 //! permit of an owner. It is seen by a [`Witness`](crate::Witness), or else by `Nobody`.
