@@ -92,7 +92,8 @@ commit_of() {
     local it
     it=$(awk -v it="$1" '$1 == it { print $2 }' "$work/releases")
     git rev-parse -q --verify "${it:-$1}^{commit}" ||
-        refuse "$top has no $1, of RELEASES, VERSION or --to: git fetch (--unshallow) may get it"
+        refuse "$top has no $1, of VERSION or --to; git fetch (--unshallow) may get it." \
+            "Its releases are $(sed 's/ .*//' "$work/releases" | paste -sd ' ')"
 }
 
 # Sets $target, the commit that the copy is to be of, or refuses, with the call that would move it.
@@ -140,6 +141,14 @@ is_known() {
     tree=$(sed -n "s/^# $1 of tree //p" "$folder/$1/.gitattributes" 2>/dev/null) &&
         git cat-file -e "${tree:-none}^{tree}" 2>/dev/null &&
         lay_crate from "$1" "$tree" && is_as from "$1"
+}
+
+# Whether a folder was in a commit up to the copy's, by its .gitattributes' tree: FOLDER
+is_older() {
+    local tree
+    tree=$(sed -n "s/^# $1 of tree //p" "$folder/$1/.gitattributes")
+    git rev-list --full-history "$target" -- "crates/$1" | sed "s,$,:crates/$1," |
+        git cat-file --batch-check='%(objectname)' | grep -x "${tree:-none}" >/dev/null
 }
 
 # Writes the part of crates.txt that is Railyarrow's, in place of what earlier calls had written or
@@ -219,7 +228,7 @@ warn() {
 }
 
 to='' option=''
-[ "${1:-}" != --to ] || { to=${2:-} && shift $(($# < 2 ? 1 : 2)); }
+[ "${1:-}" != --to ] || { to=${2:-"''"} && shift $(($# < 2 ? 1 : 2)); }
 call=("$@")
 case ${1:-} in --update | --program) option=$1 && shift ;; esac
 [[ $option$# =~ ^(--update1|--program2|[2-9]|[1-9][0-9]+)$ ]] ||
@@ -300,7 +309,10 @@ for it in $({ ls "$work/to" && [ ! "$was" ] || ls "$work/was"
     [ ! -L "$folder/$it" ] || refuse "$folder/$it is a link"
     if [ -e "$work/to/$it" ] && is_as to "$it"; then continue; fi
     todo+=("$it")
-    [ ! -e "$folder/$it" ] || is_known "$it" || changed+=$'\n'$(cat "$work/told")
+    [ -e "$folder/$it" ] || continue
+    is_known "$it" || changed+=$'\n'$(cat "$work/told")
+    [ "$changed$was$to" ] || is_older "$it" ||
+        refuse "$folder/$it is of a later commit than $(name_of "$target"): name it by --to"
 done
 [ -z "$changed" ] || refuse "nothing was written, for these are not as they were copied:$changed"
 
@@ -311,7 +323,7 @@ if ! cmp -s "$work/crates.txt" "$project/crates.txt"; then
     mv "$project/.crates.txt.new" "$project/crates.txt"
 fi
 if [ -e "$new" ]; then rm -rf "$new/old" "$new/next" && rm -rf "$new"; fi
+settle
 [ ! "$said" ] || printf '# %s\n' "$folder/$1 $said. To run it, and to prove it:" \
     "(cd '$folder/$1' && rt try && rt check)"
-settle
 warn
