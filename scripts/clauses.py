@@ -6,7 +6,8 @@ finds, or a definition of specs/ or a type of a part that a clause names, also i
 went (-) and came (+) since the last line of RELEASES, or COMMIT. Faults are: one whose call, type
 or definition the first section of CHANGELOG does not name in backquotes; a word there that neither
 a fact has, nor a file's name; a line of RELEASES, or a section of CHANGELOG, that is not as its
-release has it; and an item of the Rust crate that neither a cell has, nor DIFFERENCES a row for it.
+release has it; a section below the first that RELEASES does not name; and an item of the Rust crate
+that neither a cell has, nor DIFFERENCES a row for it.
 The last line is 'clauses: N facts, M changed, K faults'.
 """
 import pathlib
@@ -134,8 +135,10 @@ def git(*said):
 
 
 def main(since):
-    log, faults = api.read(f"{HERE}/CHANGELOG.md"), []
-    for line in re.findall(r"(?m)^[^#\n].*", api.read(f"{HERE}/RELEASES")):
+    log, releases = (api.read(f"{HERE}/{it}") for it in ("CHANGELOG.md", "RELEASES"))
+    below = (it.split()[0] for it in re.split(r"(?m)^## ", log)[2:])
+    faults = [f"clauses: RELEASES does not name {it}" for it in below if f"{it} " not in releases]
+    for line in re.findall(r"(?m)^[^#\n].*", releases):
         name, commit, kit, *why = line.split(" ", 3)
         is_below = git("merge-base", commit, "HEAD") == f"{commit}\n"
         if not is_below or git("show", f"{commit}:VERSION") != f"version {name}\n":
