@@ -1,12 +1,12 @@
 -- What gets, and polls that wait with a waker of their own, do to a sound state.
 use Rattle.async_cell_model.proofs.Words.{◌≡◌, ◌⊎◌, ◌≤◌, ◌<◌, ◌-◌, Bool, true, false, [], ◌∷◌, ◌++◌, Option, None, arith, nat_tests, length-append, content, is_vacant, State, IsSound, Does, DoesUpTo}
-use Rattle.std.specs.Prelude.{ℕ, Result, Err, IfOk, IfNone, MatchOption, OnOk, OnErr, IsOk}
+use Rattle.std.specs.Prelude.{ℕ, Result, IfOk, IfNone, MatchOption, OnOk, OnErr, IsOk}
 use Rattle.async_cell_model.specs.declared.{entry.Kept.Kept, entry.Kept.TheVariants.{TryGet, PollTake, PollGet}, refusal.Refusal.Refusal}
 use Rattle.async_cell_model.specs.declared.refusal.Refusal.TheVariants as why
 use Rattle.async_cell_model.specs.declared.reply.Reply.TheVariants.{Value, Ready, Refused}
 use Rattle.async_cell_model.specs.Machine.{is_full}
 use Rattle.async_cell_model.proofs.OneMoreWaker.{all_wait, may_lack_memory, never_skipped}
-use Rattle.async_cell_core.specs.{IsStep.{get_answer, wait_answer}, Stored.{cell_of, state_of}, Polled.IsCloneOf}
+use Rattle.async_cell_core.specs.{IsStep.{wait_answer}, Stored.{cell_of, state_of}, Polled.IsCloneOf}
 use Rattle.async_cell_wakers.specs.{Place.{Swaps, displaced}, WaitList.ListState}
 
 module _ {T W : Type 0} (is_clone : T → T → Type 0) (will_wake : W → W → Bool) (sure : Bool) where
@@ -21,9 +21,9 @@ module _ {T W : Type 0} (is_clone : T → T → Type 0) (will_wake : W → W →
   poll_cloned b w copy sound full cloned = (Ready (content b.cell), grind arith, grind arith)
 
   -- a `TryGet` for whose clone there is no memory
-  pub get_refused : (b : State T W) (result : Result (Option T) Refusal) → IsSound will_wake b → is_full b.cell ≡ true → result ≡ Err why.Memory
-      → DoesUpTo will_wake sure is_clone b (record { call = TryGet; reply = (get_answer {W = W} result).reply }) (get_answer {W = W} result).woken b
-  get_refused b result sound full is = (Refused why.Memory None, grind arith, grind arith)
+  pub get_refused : (b : State T W) → IsSound will_wake b → is_full b.cell ≡ true
+      → DoesUpTo will_wake sure is_clone b (record { call = TryGet; reply = Refused why.Memory None }) [] b
+  get_refused b sound full = (Refused why.Memory None, grind arith, grind arith)
 
 -- A `PollGet` that need not wait does as a `TryGet` does.
 module _ {T W : Type 0} (will_wake : W → W → Bool) (sure : Bool) where

@@ -124,15 +124,11 @@ impl<T: Drop, W: Wakes> Core<T, W> {
         ensures unchanged { OnErr result (self.new ≡ self.old) }
         ensures comes_back { IfErr result (λ back. back ≡ value) }
     {
-        if self.is_closed() {
-            return Err(value);
-        }
         if self.is_set() {
             let unused = Some(value);
             return Ok((unused, Wakers::none()));
         }
-        self.value = Some(value);
-        Ok((None, self.waiting.hand_out()))
+        self.replace(value)
     }
 
     /// Calls the closure on the content and stores what it returns. If the cell held no value and
@@ -181,9 +177,7 @@ impl<T: Drop, W: Wakes> Core<T, W> {
         if self.is_closed() {
             return Err(Refusal::Closed);
         }
-        if let Some(value) = self.value.take() {
-            self.value = Some(change(value));
-        }
+        self.value = self.value.take().map(change);
         Ok(())
     }
 

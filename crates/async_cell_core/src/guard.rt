@@ -27,5 +27,8 @@ pub fn end_guard<T: Drop, W: Wakes>(
         return (None, Wakers::none());
     };
     let written = core.or_set(value);
-    written.unwrap_or_else(|back| (Some(back), Wakers::none()))
+    match written {
+        Ok(answer) => answer,
+        Err(back) => (Some(back), Wakers::none()),
+    }
 }

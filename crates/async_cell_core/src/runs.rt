@@ -9,8 +9,8 @@ use crate::cell_core::Core;
 use crate::{Reply, Wakes};
 use std::alloc::Global;
 
-/// Makes one call that is no get, so it does not copy the value. Its clause `no_get` repeats what it
-/// requires, so that the proof of `step` has it at hand.
+/// Makes one call that is no get, so it does not copy the value. Its clause `no_get` repeats what
+/// it requires, so that the proof of `step` has it at hand.
 fn step_no_get<T: Drop, W: Wakes, E: Edit<T> + Drop>(
     core: &mut Core<T, W>,
     call: Call<T, W, E>,
@@ -43,7 +43,6 @@ fn step_no_get<T: Drop, W: Wakes, E: Edit<T> + Drop>(
 /// The reply equals the model's reply up to clones: a get of a full cell may return a clone of the
 /// value. The reply is exactly the model's if the call is not a get, or if the type's clones are
 /// exact.
-#[tactic(auto, using(async_cell_model::proofs::Machine::does_up_to))]
 pub fn step<T: Clone, W: Wakes, E: Edit<T> + Drop>(
     core: &mut Core<T, W>,
     call: Call<T, W, E>,

@@ -241,7 +241,7 @@ impl<W: Wakes> WaitList<W> {
     /// Returns whether waking all these wakers would wake no task (see `Wakes::wakes_nobody`).
     pub fn wakes_nobody(&self) -> bool {
         let mut wakers = self.first.iter().chain(&self.rest);
-        wakers.all(|waker| waker.wakes_nobody())
+        wakers.all(W::wakes_nobody)
     }
 }
 

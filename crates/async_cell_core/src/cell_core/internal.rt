@@ -41,7 +41,7 @@ impl<T: Drop, W: Wakes> Core<T, W> {
         ensures unchanged { OnErr result (self.new ≡ self.old) }
         ensures comes_back { IfErr result (λ back. back ≡ value) }
     {
-        if self.value.is_some() || self.owners == 0 || !self.waiting.is_bare() {
+        if !self.is_vacant() || !self.waiting.is_bare() {
             return Err(value);
         }
         self.value = Some(value);
@@ -149,8 +149,7 @@ impl<T: Copy, W: Wakes> Core<T, W> {
             ((self.new.cell ≡ self.old.cell) × (self.new.waiting ≡ self.old.waiting)) }
     {
         if self.is_vacant() {
-            self.wait(waker)?;
-            return Ok(Poll::Pending);
+            return self.wait(waker);
         }
         Ok(Poll::Ready(self.value))
     }

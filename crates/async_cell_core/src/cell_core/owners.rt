@@ -21,11 +21,14 @@ impl<T: Drop, W: Wakes> Core<T, W> {
         ensures counted { OnOk result (owners_of self.new.cell ≡ owners_of self.old.cell + 1) }
         ensures unchanged { OnErr result (self.new ≡ self.old) }
     {
-        if self.is_closed() {
-            return Err(Refusal::Closed);
+        match self.owners {
+            0 => Err(Refusal::Closed),
+            u32::MAX => Err(Refusal::OwnersFull),
+            fewer => {
+                self.owners = fewer + 1;
+                Ok(())
+            }
         }
-        self.owners = self.owners.checked_add(1).ok_or(Refusal::OwnersFull)?;
-        Ok(())
     }
 
     /// Ends one owner. Ending the last owner closes the cell, and returns the cell's value and all

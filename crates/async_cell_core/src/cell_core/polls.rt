@@ -34,8 +34,7 @@ impl<T: Drop, W: Wakes> Core<T, W> {
         ensures unchanged { OnErr result (OnlyRoomGrows self.old self.new) }
     {
         if self.is_vacant() {
-            self.wait(waker)?;
-            return Ok(Poll::Pending);
+            return self.wait(waker);
         }
         Ok(Poll::Ready(self.value.take()))
     }
@@ -69,25 +68,27 @@ impl<T: Drop, W: Wakes> Core<T, W> {
         self.waiting.len()
     }
 
-    /// Registers the waker, unless `skips` says that it need not be. The cell must be vacant. Fails
-    /// with `Memory` if there is no memory for a clone of the waker or to grow the list.
+    /// Registers the waker, unless `skips` says that it need not be. Returns `Pending`. The cell
+    /// must be vacant. Fails with `Memory` if there is no memory for a clone of the waker or to
+    /// grow the list.
     #[tactic(auto, using(async_cell_model::proofs::OneMoreWaker::keep_added, async_cell_model::proofs::OneMoreWaker::keep_skipped, async_cell_model::proofs::WaitingPoll::get_skipped, async_cell_model::proofs::WaitingPoll::take_skipped))]
-    pub(super) fn wait(&mut self, waker: &W) -> Result<(), Refusal>
+    pub(super) fn wait(&mut self, waker: &W) -> Result<Poll<Option<T>>, Refusal>
         requires { is_vacant self.old.cell ≡ true }
-        ensures waits { OnOk result ((self.new.cell ≡ self.old.cell)
-            × (self.new.waiting ≡ wait_list W.will_wake (self.old.waiting ++ waker.now ∷ []))) }
+        ensures waits { IfOk result (λ polled. (polled ≡ Poll.Pending)
+            × ((self.new.cell ≡ self.old.cell)
+            × (self.new.waiting ≡ wait_list W.will_wake (self.old.waiting ++ waker.now ∷ [])))) }
         ensures refused { FailsWithMemory result }
         ensures unchanged { OnErr result (OnlyRoomGrows self.old self.new) }
         ensures take { IsStep W.Wakes
-            self.old (Kept.PollTake waker.now) (wait_answer result) self.new }
+            self.old (Kept.PollTake waker.now) (poll_answer result) self.new }
         ensures get { IsStep W.Wakes
-            self.old (Kept.PollGet waker.now) (wait_answer result) self.new }
+            self.old (Kept.PollGet waker.now) (poll_answer result) self.new }
         ensures spared { NeedsNoMemory W.Wakes self.old waker.now → IsOk result }
     {
         if !self.waiting.skips(waker) {
             self.add_unique(waker)?;
         }
-        Ok(())
+        Ok(Poll::Pending)
     }
 
     /// Registers a waker for a poll that has to wait: adds a clone of it at the end of the list.
@@ -139,10 +140,10 @@ impl<T: Clone, W: Wakes> Core<T, W> {
     {
         match &self.value {
             None => Ok(None),
-            Some(value) => {
-                let copy: Result<T, AllocError> = value.clone();
-                Ok(Some(copy?))
-            }
+            Some(value) => match value.clone() {
+                Ok(copy) => Ok(Some(copy)),
+                Err(AllocError) => Err(Refusal::Memory),
+            },
         }
     }
 
@@ -182,9 +183,11 @@ impl<T: Clone, W: Wakes> Core<T, W> {
         ensures unchanged { OnErr result (OnlyRoomGrows self.old self.new) }
     {
         if self.is_vacant() {
-            self.wait(waker)?;
-            return Ok(Poll::Pending);
+            return self.wait(waker);
         }
-        Ok(Poll::Ready(self.try_get()?))
+        match self.try_get() {
+            Ok(copy) => Ok(Poll::Ready(copy)),
+            Err(why) => Err(why),
+        }
     }
 }

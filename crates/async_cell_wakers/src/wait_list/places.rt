@@ -124,7 +124,8 @@ impl WaitList<TaskWaker> {
             Some(index) => self.exchange(index, waker).map(Some),
             None => {
                 let task = place.task; // It stays: the waker may be another task's.
-                self.store_new(place, task, waker).map(|()| None)
+                self.store_new(place, task, waker)?;
+                Ok(None)
             }
         }
     }
