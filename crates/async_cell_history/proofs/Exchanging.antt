@@ -57,7 +57,8 @@ module _ {T W : Type 0} (will_wake : W → W → Bool) (never : (v w : W) → wi
     woken_are = refl;
   }
 
--- A step from the state of a history: the history has the same step, up to wakers that were exchanged.
+-- A step from the state of a history: the history has the same step, up to wakers that were
+-- exchanged.
 pub record IsStepOf {T W : Type 0} (will_wake : W → W → Bool) (sure : Bool) (s : State T W) (waited : List W) (e : Entry T W) (t : State T W) : Type 0 where
   pub then_waited : List W
   pub woken : List W

@@ -50,7 +50,8 @@ module _ {T W : Type 0} (is_clone : T → T → Type 0) (will_wake : W → W →
         → Does will_wake sure b (record { call = PollGet w; reply = own_poll (content b.cell) polled }) [] t
     polled_own (Err it) up refused = refused
     polled_own (Ok poll.Pending) (own, does, same) refused = subst (λ r. Does will_wake sure b (record { call = PollGet w; reply = r }) [] t) (own_pending W is_clone w own same) does
-    polled_own (Ok (poll.Ready copy)) (own, does, same) refused = subst (λ r. Does will_wake sure b (record { call = PollGet w; reply = r }) [] t) (own_ready W is_clone b.cell w own copy _ does.replied same) does
+    polled_own (Ok (poll.Ready copy)) (own, does, same) refused =
+        subst (λ r. Does will_wake sure b (record { call = PollGet w; reply = r }) [] t) (own_ready W is_clone b.cell w own copy _ does.replied same) does
 
     pub polled_up_to : (polled : Result (Poll (Option T)) Refusal) → DoesUpTo will_wake sure is_clone b (record { call = PollGet w; reply = poll_reply polled }) [] t
         → UpToClones is_clone (PollGet w) (own_poll (content b.cell) polled) (poll_reply polled)

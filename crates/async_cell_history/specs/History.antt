@@ -88,8 +88,8 @@ module _ {T W : Type 0} where
   IsAllowed may call = is_change call ≡ true → may call
 
 module _ {W : Type 0} (will_wake : W → W → Bool) where
-  -- Wakers were exchanged for others, which only places of futures do: the lists are equal. Where no
-  -- waker would wake another, they need only be as long as each other.
+  -- Wakers were exchanged for others, which only places of futures do: the lists are equal. Where
+  -- no waker would wake another, they need only be as long as each other.
   abbrev pub Exchanged : List W → List W → Type 0
   Exchanged was now = (now ≡ was)
       ⊎ (((v w : W) → will_wake v w ≡ false) × (length now ≡ length was))

@@ -117,8 +117,7 @@ impl<T: Drop, W: Wakes, N: Protocol<T, W>> CellCore<T, W, N> {
     {
         let before = Before::of(&self.inner, &op);
         let held = op.make(&mut self.inner);
-        let made = &RunsOp::<N, O>(PhantomData);
-        before.enter(&mut self.past, made, &held, &self.inner, by);
+        before.enter::<RunsOp<N, O>, _, _, _>(&mut self.past, &held, &self.inner, by);
         held
     }
 
@@ -140,9 +139,11 @@ impl<T: Drop, W: Wakes, N: Protocol<T, W>> CellCore<T, W, N> {
         ensures comes_back { IfErr result (λ back. back ≡ op) }
     {
         let before = Before::of(&self.inner, &op);
-        let held = op.fast(&mut self.inner)?;
-        let made = &RunsOp::<N, O>(PhantomData);
-        before.enter(&mut self.past, made, &held, &self.inner, by);
+        let held = match op.fast(&mut self.inner) {
+            Ok(held) => held,
+            Err(op) => return Err(op),
+        };
+        before.enter::<RunsOp<N, O>, _, _, _>(&mut self.past, &held, &self.inner, by);
         Ok(held)
     }
 

@@ -82,7 +82,7 @@ pub trait Op<T: Drop, W: Wakes, N: Protocol<T, W>>: Sized {
 }
 
 /// The entry of a call that was made.
-pub(crate) struct RunsOp<N, O>(pub(crate) PhantomData<(N, O)>);
+pub(crate) struct RunsOp<N, O>(PhantomData<(N, O)>);
 
 impl<T, W, N, O, L> Enters<O, Deferred<O::Answer, L>, T, W> for RunsOp<N, O>
 where

@@ -87,10 +87,9 @@ impl<C, T, W: Wakes> Before<C, T, W> {
     /// returned, `to` is the core after the call, and `by` says who signs the call.
     #[inline(always)]
     #[tactic(auto, using(crate::proofs::Leading::owners_stay))]
-    pub(crate) fn enter<N: Protocol<T, W>, M: Enters<C, A, T, W>, A, B: Signs>(
+    pub(crate) fn enter<M: Enters<C, A, T, W>, N: Protocol<T, W>, A, B: Signs>(
         self,
         past: &mut Past<T, W, N>,
-        _: &M,
         returned: &A,
         to: &Core<T, W>,
         by: &B,
@@ -144,7 +143,7 @@ impl<T, W: Wakes> Before<W, T, W> {
         ensures owners { owners_of to.now.cell ≡ owners_of self.from.value.cell }
     {
         if let Ok(None) = stored {
-            self.enter(past, &Waits, &(), to, &Nobody);
+            self.enter::<Waits, _, _, _>(past, &(), to, &Nobody);
         }
     }
 }

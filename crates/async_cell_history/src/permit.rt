@@ -1,5 +1,5 @@
-//! The permits of a cell's owners. The number of permits given out equals the number of owners that
-//! the cell's core counts.
+//! The permits of a cell's owners. If a witness sees the cell, as many permits were given and not
+//! taken as the cell's core counts owners.
 ghost use Rattle.std.specs.Prelude.{◌≡◌, ◌+◌, ◌-◌, ◌<◌, false, None, IsSome, IsTrue};
 ghost use Rattle.async_cell_model.specs.Machine.{is_closed};
 ghost use Rattle.async_cell_history.specs.History.{permits_of};

@@ -24,7 +24,7 @@ impl<T: Drop, W: Wakes, N: Protocol<T, W>> CellCore<T, W, N> {
     {
         let before = Before::of(&self.inner, &());
         let added = self.inner.add_owner();
-        before.enter(&mut self.past, &AddsOwner, &added, &self.inner, by);
+        before.enter::<AddsOwner, _, _, _>(&mut self.past, &added, &self.inner, by);
         match added {
             Ok(()) => Deferred::of(Ok(self.past.give())),
             Err(why) => Deferred::of(Err(why)),
@@ -42,7 +42,7 @@ impl<T: Drop, W: Wakes, N: Protocol<T, W>> CellCore<T, W, N> {
         if !self.inner.end_other() {
             return Err(permit);
         }
-        before.enter(&mut self.past, &EndsOwner, &(), &self.inner, &Nobody);
+        before.enter::<EndsOwner, _, _, _>(&mut self.past, &(), &self.inner, &Nobody);
         self.past.take(permit);
         Ok(())
     }
@@ -61,7 +61,7 @@ impl<T: Drop, W: Wakes, N: Protocol<T, W>> CellCore<T, W, N> {
         let Some(closed) = self.inner.close_first() else {
             return Err(permit);
         };
-        before.enter(&mut self.past, &EndsOwner, &closed, &self.inner, &Nobody);
+        before.enter::<EndsOwner, _, _, _>(&mut self.past, &closed, &self.inner, &Nobody);
         self.past.take(permit);
         Ok(Deferred::waking(closed.0, closed.1))
     }
@@ -78,7 +78,7 @@ impl<T: Drop, W: Wakes, N: Protocol<T, W>> CellCore<T, W, N> {
     {
         let before = Before::of(&self.inner, &());
         let ended = self.inner.end_owner();
-        before.enter(&mut self.past, &EndsOwner, &ended, &self.inner, &Nobody);
+        before.enter::<EndsOwner, _, _, _>(&mut self.past, &ended, &self.inner, &Nobody);
         self.past.take(permit);
         match ended {
             Ok((content, woken)) => Deferred::waking(Ok(content), Some(woken)),
@@ -104,7 +104,7 @@ impl<T: Drop, W: Wakes, N: Protocol<T, W>> CellCore<T, W, N> {
     {
         let before = Before::of(&self.inner, &());
         let taken = self.inner.take_inner();
-        before.enter(&mut self.past, &TakesInner, &taken, &self.inner, by);
+        before.enter::<TakesInner, _, _, _>(&mut self.past, &taken, &self.inner, by);
         match taken {
             Ok((content, woken)) => {
                 self.past.take(permit);

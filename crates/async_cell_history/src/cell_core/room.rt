@@ -35,7 +35,7 @@ impl<T: Drop, N: Protocol<T, TaskWaker>> Room for CellCore<T, TaskWaker, N> {
         let before = Before::of(&self.inner, &waker);
         let stored = self.inner.store_new(place, task, waker);
         if stored.is_ok() {
-            before.enter(&mut self.past, &Waits, &(), &self.inner, &Nobody);
+            before.enter::<Waits, _, _, _>(&mut self.past, &(), &self.inner, &Nobody);
         }
         Deferred::of(stored)
     }

@@ -24,7 +24,7 @@ impl<T: Drop, W: Wakes, N: Protocol<T, W>> CellCore<T, W, N> {
         let before = Before::of(&self.inner, &value);
         let written = self.inner.overwrite(value);
         if let Ok(old) = &written {
-            before.enter(&mut self.past, &Overwrites, old, &self.inner, &Nobody);
+            before.enter::<Overwrites, _, _, _>(&mut self.past, old, &self.inner, &Nobody);
         }
         Deferred::of(written)
     }
@@ -41,7 +41,7 @@ impl<T: Drop, W: Wakes, N: Protocol<T, W>> CellCore<T, W, N> {
         let before = Before::of(&self.inner, &value);
         match self.inner.fill_first(value) {
             Ok(first) => {
-                before.enter(&mut self.past, &FillsFirst, &first, &self.inner, &Nobody);
+                before.enter::<FillsFirst, _, _, _>(&mut self.past, &first, &self.inner, &Nobody);
                 Ok(Deferred::waking((), first))
             }
             Err(value) => Err(Deferred::of(value)),
@@ -60,7 +60,7 @@ impl<T: Drop, W: Wakes, N: Protocol<T, W>> CellCore<T, W, N> {
         let before = Before::of(&self.inner, &value);
         match self.inner.put_quiet(value) {
             Ok(()) => {
-                before.enter(&mut self.past, &FillsFirst, &None, &self.inner, &Nobody);
+                before.enter::<FillsFirst, _, _, _>(&mut self.past, &None, &self.inner, &Nobody);
                 Ok(())
             }
             Err(value) => Err(Deferred::of(value)),

@@ -50,17 +50,13 @@ impl<T: Drop, W: Wakes, N: Protocol<T, W>> Op<T, W, N> for Set<T> {
         self,
         core: &mut Core<T, W>,
     ) -> Result<Deferred<Result<(), T>, One<W, Option<T>>>, Self> {
-        let Set(value) = self;
-        if core.is_set() {
+        match core.overwrite(self.0) {
             // Nobody waits on a full cell.
-            return match core.overwrite(value) {
-                Ok(old) => Ok(Deferred::waking(Ok(()), One::waking(None, Some(old)))),
+            Ok(old) => Ok(Deferred::waking(Ok(()), One::waking(None, Some(old)))),
+            Err(value) => match core.fill_first(value) {
+                Ok(first) => Ok(Deferred::waking(Ok(()), One::waking(first, None))),
                 Err(value) => Err(Set(value)),
-            };
-        }
-        match core.fill_first(value) {
-            Ok(first) => Ok(Deferred::waking(Ok(()), One::waking(first, None))),
-            Err(value) => Err(Set(value)),
+            },
         }
     }
 
@@ -137,16 +133,13 @@ impl<T: Drop, W: Wakes, N: Protocol<T, W>> Op<T, W, N> for Replace<T> {
 
     #[inline(always)]
     fn fast(self, core: &mut Core<T, W>) -> Result<Deferred<Result<Option<T>, T>, One<W>>, Self> {
-        if core.is_set() {
+        match core.overwrite(self.0) {
             // Nobody waits on a full cell.
-            return match core.overwrite(self.0) {
-                Ok(old) => Ok(Deferred::waking(Ok(Some(old)), One::waking(None, ()))),
+            Ok(old) => Ok(Deferred::waking(Ok(Some(old)), One::waking(None, ()))),
+            Err(value) => match core.fill_first(value) {
+                Ok(first) => Ok(Deferred::waking(Ok(None), One::waking(first, ()))),
                 Err(value) => Err(Replace(value)),
-            };
-        }
-        match core.fill_first(self.0) {
-            Ok(first) => Ok(Deferred::waking(Ok(None), One::waking(first, ()))),
-            Err(value) => Err(Replace(value)),
+            },
         }
     }
 

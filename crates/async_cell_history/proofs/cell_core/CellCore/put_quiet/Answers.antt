@@ -1,0 +1,5 @@
+use Rattle.async_cell_history.proofs.cell_core.CellCore.put_quiet.Goals as goal
+
+pub returns-in-Ok-clause-made : goal.returns-in-Ok-clause-made
+returns-in-Ok-clause-made g c = rw (← c.self.view_is)
+    (record { does = c.in-Ok.ensures.model; begun = c.enter.ensures.begun; entered = rw c.of-before.ensures.passed at c.enter.ensures.entered; signed = c.enter.ensures.signed })
