@@ -9,7 +9,8 @@ abbrev pub Seats : List (Option Waker) → ℕ → Context → Type 0
 Seats waiting index cx = (waker : Waker)
     × (slice_get waiting index ≡ Some (Some waker)) × Wakes waker cx
 
--- the task is polled again, whatever wakes it: this was asked for, or there was no memory for a waker
+-- the task is polled again, whatever wakes it: this was asked for, or there was no memory for a
+-- waker
 abbrev pub IsPolledAgain : Context → Type 0
 IsPolledAgain cx = (cx.is_woken ≡ true) ⊎ (cx.lacks_waker ≡ true)
 
