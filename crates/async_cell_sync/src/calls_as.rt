@@ -1,6 +1,7 @@
 //! The calls that extend a witness. After such a call, the witness knows the cell's history up to
-//! the call, and the call's reply. Any number of threads may make such calls, each thread with a
-//! witness of its own.
+//! the call, and the call's reply. A failed update shows it only that the cell is closed, and an
+//! `another_as` that fails with `Memory` need not show it anything. Any number of threads may make
+//! such calls, each thread with a witness of its own.
 ghost use Rattle.std.specs.Prelude.{◌≡◌, false, Option, Some, None, IfErr, IfOk, IfSome, IsOk, IsSomeAnd, OnErr, OnOk};
 ghost use mathlib.Core.List.{IsPrefix};
 ghost use Rattle.async_cell_model.specs.Machine.{State, is_closed};
@@ -17,7 +18,7 @@ use async_cell_history::{
     Anyone, IsSet, Op, OrSet, Protocol, Replace, Set, TryGet, TryTake, Update, UpdateSome, Witness,
 };
 use async_cell_model::{Kept, Reply};
-use std::sync::{Arc, Wait};
+use std::sync::Wait;
 
 impl<T: Drop, N: Protocol<T, TaskWaker>> AsyncCell<T, N> {
     /// Makes the call, and shows it to the witness.
@@ -188,8 +189,8 @@ impl<T: Drop, R: Wait + Drop, N: Protocol<T, TaskWaker>> Owner<T, R, N> {
             (O.call from op to) (O.reply from result) seen.new.calls }
         ensures signed { IsSigned seen.old seen.new }
     {
-        let Shared { cell, permit } = &self.shared;
         seen.lawful();
+        let Shared { cell, permit } = &self.shared;
         cell.core.make(op, permit, seen, &self.rt)
     }
 
@@ -324,8 +325,8 @@ impl<T: Drop, R: Wait + Copy, N: Protocol<T, TaskWaker>> Owner<T, R, N> {
         ensures refused { IfErr result IsOwnerRefusal }
     {
         seen.lawful();
-        let cell = Arc::try_clone(&self.shared.cell)?;
-        match Shared::counted(cell, &self.shared.permit, seen, &self.rt) {
+        let Shared { cell, permit } = &self.shared;
+        match Shared::counted(cell, permit, seen, &self.rt) {
             Ok(shared) => Ok(shared.with(self.rt)),
             Err(why) => Err(why),
         }

@@ -1,4 +1,4 @@
-ghost use Rattle.std.specs.Prelude.{◌≡◌, [], true, Some, IfOk, IfErr, IfSome, OnOk};
+ghost use Rattle.std.specs.Prelude.{◌≡◌, [], true, Some, None, IfOk, IfErr, IfSome, OnOk};
 ghost use Rattle.async_cell_model.specs.Machine.{content, is_closed};
 ghost use Rattle.async_cell_model.specs.History.{cell_after};
 ghost use Rattle.async_cell_model.specs.Refusal.{FailsWithMemory, IsOwnerRefusal};
@@ -14,7 +14,7 @@ use crate::shared::Shared;
 use crate::take::{Get, GetWeak, Take, TakeWeak};
 use crate::weak::WeakOwner;
 use async_cell_core::{Refusal, TaskWaker, Wakes};
-use async_cell_history::{Anyone, Blank, Nobody, Protocol, Takeable, Unruled, Witness};
+use async_cell_history::{Blank, Protocol, Takeable, Unruled, Witness};
 use async_cell_model::Kept;
 use async_cell_step::{Rule, Ruled, With};
 use futures::task::Source;
@@ -52,7 +52,7 @@ impl<T: Drop, R: Wait + Copy> Owner<T, R> {
     pub fn new(alloc: Global, rt: R) -> Result<Self, Refusal>
         ensures refused { FailsWithMemory result }
     {
-        Ok(Shared::shared(alloc)?.with(rt))
+        Owner::first(AsyncCell::new(alloc), rt)
     }
 
     /// Makes a cell that holds a value, and its first owner. If there is no memory, fails with
@@ -61,8 +61,7 @@ impl<T: Drop, R: Wait + Copy> Owner<T, R> {
     pub fn new_with(alloc: Global, value: T, rt: R) -> Result<Self, Refusal>
         ensures refused { FailsWithMemory result }
     {
-        let owner = AsyncCell::new_with(alloc, value).into_shared_or_drop()?;
-        Ok(owner.with(rt))
+        Owner::first(AsyncCell::new_with(alloc, value), rt)
     }
 }
 
@@ -73,8 +72,7 @@ impl<T: Drop, R: Wait + Copy, P: Rule<T>> Owner<T, R, Ruled<P>> {
     pub fn ruled(alloc: Global, rt: R) -> Result<Self, Refusal>
         ensures refused { FailsWithMemory result }
     {
-        let owner = AsyncCell::<T, Ruled<P>>::ruled(alloc).into_shared_or_drop()?;
-        Ok(owner.with(rt))
+        Owner::first(AsyncCell::ruled(alloc), rt)
     }
 
     /// As `ruled`, but the cell holds a value. If it fails, it drops the value.
@@ -82,12 +80,20 @@ impl<T: Drop, R: Wait + Copy, P: Rule<T>> Owner<T, R, Ruled<P>> {
         requires rule { P.holds value }
         ensures refused { FailsWithMemory result }
     {
-        let cell = AsyncCell::<T, Ruled<P>>::ruled_with(alloc, value);
-        Ok(cell.into_shared_or_drop()?.with(rt))
+        Owner::first(AsyncCell::ruled_with(alloc, value), rt)
     }
 }
 
 impl<T: Drop, R: Wait + Copy, N: Protocol<T, TaskWaker>> Owner<T, R, N> {
+    /// Makes the first owner of this cell. If there is no memory, drops the cell.
+    #[inline(always)]
+    fn first(cell: AsyncCell<T, N>, rt: R) -> Result<Self, Refusal>
+        requires nameless { N.named ≡ None }
+        ensures refused { FailsWithMemory result }
+    {
+        Ok(cell.into_shared_or_drop()?.with(rt))
+    }
+
     /// Makes the cell of this blank, the first owner of the cell, and the first witness of the
     /// cell's history. The blank is a cell that is not made yet (see `Blank`), and `N` is the name
     /// of its history (see `Protocol`). Fails with `Memory` if there is no memory for the cell, and
@@ -128,9 +134,7 @@ impl<T: Drop, R: Wait + Copy, N: Protocol<T, TaskWaker>> Owner<T, R, N> {
         ensures of_this { IfOk result (λ owner. cell_owned owner ≡ cell_owned self.now) }
         ensures refused { IfErr result IsOwnerRefusal }
     {
-        let cell = Arc::try_clone(&self.shared.cell)?;
-        let owner = Shared::counted(cell, &Anyone, &mut Nobody, &self.rt)?;
-        Ok(owner.with(self.rt))
+        Ok(self.shared.another(&self.rt)?.with(self.rt))
     }
 
     /// Returns a weak owner. If the count of the cell's `Arc` is full, the calls of the returned
@@ -191,7 +195,7 @@ impl<T: Drop, R: Wait + Copy, N: Protocol<T, TaskWaker>> Owner<T, R, N> {
     pub fn take(&self) -> With<Take<&AsyncCell<T, N>>, R>
         ensures of_this { result.polled.0.now ≡ cell_owned self.now }
     {
-        self.cell().take().with(self.rt)
+        Take(self.cell()).with(self.rt)
     }
 
     /// Returns a future that clones the value and leaves the value in the cell. If the future is
@@ -208,7 +212,7 @@ impl<T: Drop, R: Wait + Copy, N: Protocol<T, TaskWaker>> Owner<T, R, N> {
         T: Clone,
         ensures of_this { result.polled.0.now ≡ cell_owned self.now }
     {
-        self.cell().get().with(self.rt)
+        Get(self.cell()).with(self.rt)
     }
 
     /// Returns a future that takes the value and is a new owner. While the future waits, the cell
@@ -294,6 +298,7 @@ impl<T: Drop, R: Wait + Copy, N: Protocol<T, TaskWaker>> Owner<T, R, N> {
 
     /// Returns a guard that is a new owner. Fails as `another` does, and then returns `cancel` in
     /// the error.
+    #[inline(always)]
     pub fn guard_shared(&self, cancel: T) -> Result<Guard<T, Self, R>, (Refusal, T)>
         requires may { N.may (Kept.OrSet cancel) }
         ensures of_this { IfOk result (λ guard.
@@ -324,7 +329,10 @@ impl<T: Drop, R: Wait + Copy, N: Protocol<T, TaskWaker>> Owner<T, R, N> {
         ensures keeps { IfOk result (λ guard. guard.guarded.cancel ≡ cancel) }
         ensures refused { IfErr result IsOwnerRefusal }
     {
-        Ok(GuardedCell::new(self.another()?, cancel).with(self.rt))
+        match self.guard_shared(cancel) {
+            Ok(guard) => Ok(guard),
+            Err((why, _)) => Err(why),
+        }
     }
 }
 
@@ -349,13 +357,13 @@ impl<R: Wait + Copy> Owner<(), R> {
 /// Ends the owner. May wait for the lock. If no other pointer to the cell is left, takes no lock.
 impl<T: Drop, R: Wait + Drop, N: Protocol<T, TaskWaker>> Drop for Owner<T, R, N> {
     fn drop(self) {
-        let Owner { shared, rt } = self;
-        let Shared { mut cell, permit } = shared;
+        let Owner {
+            rt,
+            shared: Shared { mut cell, permit },
+        } = self;
         match Arc::get_mut(&mut cell) {
             Some(last) => last.core.rest(permit),
-            None => {
-                let _ = cell.core.end_counted(permit, &rt);
-            }
+            None => Shared { cell, permit }.end(&rt),
         }
     }
 }

@@ -1,7 +1,6 @@
-ghost use Rattle.std.specs.Prelude.{◌≡◌, ◌⊎◌, None, IfOk, IfErr, IfSome};
+ghost use Rattle.std.specs.Prelude.{◌≡◌, None, IfOk, IfErr, IfSome, OnOk};
 ghost use Rattle.std.specs.Arc.{arc_value};
 ghost use Rattle.async_cell_model.specs.Refusal.{FailsWithMemory, IsOwnerRefusal};
-ghost use Rattle.async_cell_history.specs.History.{done_reply};
 ghost use Rattle.async_cell_sync.specs.Names.{cell_of, NamesAtMost};
 
 use crate::async_cell::AsyncCell;
@@ -11,7 +10,7 @@ use crate::take::{Get, GetWeak, Take, TakeWeak};
 use crate::weak::Weak;
 use async_cell_core::{Refusal, TaskWaker};
 use async_cell_history::{Anyone, Caller, Nobody, OwnerPermit, Protocol, Sees, Unruled};
-use async_cell_model::Kept;
+use async_cell_model::{Kept, Reply};
 use std::alloc::{AllocFailed, Global};
 use std::sync::{Arc, Wait};
 
@@ -70,11 +69,12 @@ impl<T: Drop, N: Protocol<T, TaskWaker>> Shared<T, N> {
     }
 
     /// As `Owner::another`.
+    #[inline(always)]
     pub fn another<R: Wait>(&self, rt: &R) -> Result<Self, Refusal>
         ensures of_this { IfOk result (λ owner. cell_of owner ≡ cell_of self.now) }
         ensures refused { IfErr result IsOwnerRefusal }
     {
-        Shared::counted(Arc::try_clone(&self.cell)?, &Anyone, &mut Nobody, rt)
+        Shared::counted(&self.cell, &Anyone, &mut Nobody, rt)
     }
 
     /// Returns a `Take` that is a new owner. Fails as `another` does.
@@ -96,6 +96,7 @@ impl<T: Drop, N: Protocol<T, TaskWaker>> Shared<T, N> {
     }
 
     /// As `Owner::guard_shared`, but returns a `GuardedCell`, which must be consumed.
+    #[inline(always)]
     pub fn guard_shared<R: Wait>(
         &self,
         cancel: T,
@@ -124,7 +125,10 @@ impl<T: Drop, N: Protocol<T, TaskWaker>> Shared<T, N> {
         ensures keeps { IfOk result (λ guard. guard.cancel ≡ cancel) }
         ensures refused { IfErr result IsOwnerRefusal }
     {
-        Ok(GuardedCell::new(self.another(rt)?, cancel))
+        match self.guard_shared(cancel, rt) {
+            Ok(guard) => Ok(guard),
+            Err((why, _)) => Err(why),
+        }
     }
 
     /// As `Owner::downgrade`, but returns a `Weak`, whose calls take `rt`.
@@ -162,13 +166,14 @@ impl<T: Drop, N: Protocol<T, TaskWaker>> Shared<T, N> {
             Ok(content) => Ok(content),
             Err((Refusal::StillShared, permit)) => Err(Shared { cell, permit }),
             Err((_, permit)) => {
-                let _ = cell.core.end_counted(permit, rt); // It is closed.
+                Shared { cell, permit }.end(rt); // It is closed.
                 Ok(None)
             }
         }
     }
 
     /// Ends the owner.
+    #[inline(always)]
     pub fn end<R: Wait>(self, rt: &R) {
         let Shared { cell, permit } = self;
         let _ = cell.core.end_counted(permit, rt);
@@ -176,20 +181,26 @@ impl<T: Drop, N: Protocol<T, TaskWaker>> Shared<T, N> {
 
     /// Makes a new owner of the cell that `cell` points to, and shows the call to `seen`. Fails
     /// with `OwnersFull` if there are 4,294,967,295 owners, and with `Closed` if the cell is
-    /// closed, which cannot be if the caller `by` is an owner.
+    /// closed, which cannot be if the caller `by` is an owner. Fails with `Memory`, and shows
+    /// nothing, if the count of the cell's `Arc` is full.
     #[inline(always)]
     pub(crate) fn counted<K: Caller<T, TaskWaker, N>, S: Sees<T, TaskWaker, N>, R: Wait>(
-        cell: Arc<AsyncCell<T, N>>,
+        cell: &Arc<AsyncCell<T, N>>,
         by: &K,
         seen: &mut S,
         rt: &R,
     ) -> Result<Self, Refusal>
-        ensures sees { S.sees seen.old Kept.AddOwner (done_reply result) seen.new }
-        ensures of_this { IfOk result (λ owner. cell_of owner ≡ arc_value cell) }
-        ensures open { K.owns → IfErr result (λ why. why ≡ Refusal.OwnersFull) }
-        ensures refused { IfErr result (λ why.
-            (why ≡ Refusal.Closed) ⊎ (why ≡ Refusal.OwnersFull)) }
+        ensures sees { OnOk result (S.sees seen.old Kept.AddOwner Reply.Done seen.new) }
+        ensures sees_refusal { IfErr result (λ why. ¬ (why ≡ Refusal.Memory)
+            → S.sees seen.old Kept.AddOwner (Reply.Refused why None) seen.new) }
+        ensures unseen { IfErr result (λ why. why ≡ Refusal.Memory → seen.new ≡ seen.old) }
+        ensures of_this { IfOk result (λ owner. cell_of owner ≡ arc_value cell.now) }
+        ensures open { K.owns → IfErr result (λ why. ¬ (why ≡ Refusal.Closed)) }
+        ensures refused { IfErr result IsOwnerRefusal }
     {
+        let Ok(cell) = Arc::try_clone(cell) else {
+            return Err(Refusal::Memory);
+        };
         match cell.core.add_counted(by, seen, rt) {
             Ok(permit) => Ok(Shared { cell, permit }),
             Err(why) => Err(why),

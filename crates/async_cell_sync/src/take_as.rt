@@ -105,8 +105,8 @@ impl<T: Clone, R: Wait + Drop, N: Protocol<T, TaskWaker>> Polled<R> for GetAs<'_
 
     #[inline(always)]
     fn poll_at(&self, at: At<'_>, cx: &mut Context<'_>, rt: &R) -> Poll<Self::Output> {
-        let Shared { cell, permit } = &self.owner.shared;
         self.seen.lawful();
+        let Shared { cell, permit } = &self.owner.shared;
         let asked = WithCaller::new(permit, CloningAs(self.seen.again()));
         cell.poll(asked, at, cx, rt)
     }

@@ -110,7 +110,7 @@ impl<T: Drop, N: Protocol<T, TaskWaker>> Weak<T, N> {
         let Some(cell) = &self.cell else {
             return Err(Refusal::Memory);
         };
-        match Shared::counted(Arc::try_clone(cell)?, &Anyone, &mut Nobody, rt) {
+        match Shared::counted(cell, &Anyone, &mut Nobody, rt) {
             Ok(owner) => Ok(Some(owner)),
             Err(Refusal::Closed) => Ok(None),
             Err(why) => Err(why),
