@@ -100,6 +100,7 @@ impl<T: Drop, N: Free<T, TaskWaker>> AsyncCell<T, N> {
     }
 
     /// As `Shared::into_shared`.
+    #[inline(always)]
     pub fn into_shared(self) -> Result<Shared<T, N>, (Refusal, AsyncCell<T, N>)>
         requires nameless { N.named ≡ None }
         ensures owns { IfOk result (λ owner. cell_of owner ≡ self) }
@@ -110,12 +111,16 @@ impl<T: Drop, N: Free<T, TaskWaker>> AsyncCell<T, N> {
 
     /// As `into_shared`, but drops the cell if there is no memory, so that `?` can be used on the
     /// result.
+    #[inline(always)]
     pub fn into_shared_or_drop(self) -> Result<Shared<T, N>, Refusal>
         requires nameless { N.named ≡ None }
         ensures owns { IfOk result (λ owner. cell_of owner ≡ self) }
         ensures refused { FailsWithMemory result }
     {
-        self.into_shared().map_err(|(why, _)| why)
+        match self.into_shared() {
+            Ok(owner) => Ok(owner),
+            Err((why, _)) => Err(why),
+        }
     }
 
     /// Sets the value and drops the old one. Wakes all waiters.
@@ -126,6 +131,7 @@ impl<T: Drop, N: Free<T, TaskWaker>> AsyncCell<T, N> {
     }
 
     /// Sets the value and wakes all waiters, if the cell holds no value. Drops `value` otherwise.
+    #[inline(always)]
     pub fn or_set(&self, value: T)
         requires rule { N.holds value }
     {
@@ -206,7 +212,7 @@ impl<T: Drop, N: Free<T, TaskWaker>> AsyncCell<T, N> {
     {
         let value = self.try_take()?;
         let answer = look(&value);
-        let _ = self.core.or_set(value, &OneThread);
+        self.or_set(value);
         Some(answer)
     }
 

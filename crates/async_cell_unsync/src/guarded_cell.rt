@@ -78,7 +78,7 @@ impl<T: Drop, C: CellRef<Value = T>> GuardedCell<T, C> {
 impl<T: Drop, C: CellRef<Value = T>> Drop for GuardedCell<T, C> {
     fn drop(self) {
         let GuardedCell { pointer, cancel } = self;
-        let cancel = cancel.map(|cancel| cancel.into_value());
+        let cancel = cancel.map(Cancel::into_value);
         pointer.cell().core.end_guard(cancel, &OneThread);
     }
 }

@@ -53,7 +53,7 @@ impl<T: Drop> Owner<T> {
     pub fn new(alloc: Global) -> Result<Self, Refusal>
         ensures refused { FailsWithMemory result }
     {
-        Ok(Shared::shared(alloc)?.with())
+        Owner::first(AsyncCell::new(alloc))
     }
 
     /// Makes a cell that holds a value, and its first owner. If there is no memory, fails with
@@ -62,8 +62,7 @@ impl<T: Drop> Owner<T> {
     pub fn new_with(alloc: Global, value: T) -> Result<Self, Refusal>
         ensures refused { FailsWithMemory result }
     {
-        let cell = AsyncCell::new_with(alloc, value);
-        cell.into_owner().map_err(|(why, _)| why)
+        Owner::first(AsyncCell::new_with(alloc, value))
     }
 }
 
@@ -73,8 +72,7 @@ impl<T: Drop, P: Rule<T>> Owner<T, Ruled<P>> {
     pub fn ruled(alloc: Global) -> Result<Self, Refusal>
         ensures refused { FailsWithMemory result }
     {
-        let owner = AsyncCell::<T, Ruled<P>>::ruled(alloc).into_shared_or_drop()?;
-        Ok(owner.with())
+        Owner::first(AsyncCell::ruled(alloc))
     }
 
     /// As `ruled`, but the cell holds a value. If it fails, it drops the value.
@@ -82,12 +80,20 @@ impl<T: Drop, P: Rule<T>> Owner<T, Ruled<P>> {
         requires rule { P.holds value }
         ensures refused { FailsWithMemory result }
     {
-        let cell = AsyncCell::<T, Ruled<P>>::ruled_with(alloc, value);
-        Ok(cell.into_shared_or_drop()?.with())
+        Owner::first(AsyncCell::ruled_with(alloc, value))
     }
 }
 
 impl<T: Drop, N: Free<T, TaskWaker>> Owner<T, N> {
+    /// Makes the first owner of this cell. If there is no memory, drops the cell.
+    #[inline(always)]
+    fn first(cell: AsyncCell<T, N>) -> Result<Self, Refusal>
+        requires nameless { N.named ≡ None }
+        ensures refused { FailsWithMemory result }
+    {
+        cell.into_shared_or_drop().map(Shared::with)
+    }
+
     /// Adds an owner. Use this in place of `clone`. Fails with `Memory` if the count of the cell's
     /// `Rc` is full, and with `OwnersFull` if the cell has 4,294,967,295 owners already. `Closed`
     /// is in the contract, but cannot happen while this owner lives.
@@ -112,7 +118,7 @@ impl<T: Drop, N: Free<T, TaskWaker>> Owner<T, N> {
         ensures rule { IfOk result (λ content. IfSome content N.holds) }
         ensures comes_back { IfErr result (λ back. back ≡ self) }
     {
-        self.shared.try_into_inner().map_err(|shared| shared.with())
+        self.shared.try_into_inner().map_err(Shared::with)
     }
 
     /// Returns the cell, so that you can call its methods.
@@ -127,7 +133,7 @@ impl<T: Drop, N: Free<T, TaskWaker>> Owner<T, N> {
     pub fn take(&self) -> With<Take<&AsyncCell<T, N>>>
         ensures of_this { result.polled.0.now ≡ cell_owned self.now }
     {
-        self.cell().take().with()
+        Take(self.cell()).with()
     }
 
     /// As `take`, but the future clones the value and leaves the value in the cell. If the future
@@ -137,7 +143,7 @@ impl<T: Drop, N: Free<T, TaskWaker>> Owner<T, N> {
         T: Clone,
         ensures of_this { result.polled.0.now ≡ cell_owned self.now }
     {
-        self.cell().get().with()
+        Get(self.cell()).with()
     }
 
     /// Returns a future that takes the value and is a new owner. While the future waits, the cell
@@ -211,7 +217,10 @@ impl<T: Drop, N: Free<T, TaskWaker>> Owner<T, N> {
         ensures keeps { IfOk result (λ guard. guard.cancel ≡ Some cancel) }
         ensures refused { IfErr result IsOwnerRefusal }
     {
-        self.guard_shared(cancel).map_err(|(why, _)| why)
+        match self.guard_shared(cancel) {
+            Ok(guard) => Ok(guard),
+            Err((why, _)) => Err(why),
+        }
     }
 }
 

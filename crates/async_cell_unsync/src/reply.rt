@@ -94,8 +94,8 @@ fn sides<T: Drop, N: Unwitnessed<T, TaskWaker>>(
 
 impl<T: Drop, N: Unwitnessed<T, TaskWaker>> Replier<T, N> {
     /// Sets the value, and wakes the task that waits for it. The value stays until the
-    /// `ReplyFuture` takes it or is dropped. If the `ReplyFuture` was already dropped, the value is
-    /// returned in the error.
+    /// `ReplyFuture` takes it or is dropped. If the `ReplyFuture` was already closed or dropped,
+    /// the value is returned in the error.
     pub fn set(self, value: T) -> Result<(), T>
         requires rule { N.holds value }
         ensures comes_back { IfErr result (λ back. back ≡ value) }
@@ -104,8 +104,8 @@ impl<T: Drop, N: Unwitnessed<T, TaskWaker>> Replier<T, N> {
         cell.core.set(value, &OneThread)
     }
 
-    /// Returns whether the `ReplyFuture` was dropped. If it was, `set` would return the value in
-    /// the error.
+    /// Returns whether the `ReplyFuture` was closed or dropped. If so, `set` would return the value
+    /// in the error.
     pub fn is_closed(&self) -> bool {
         self.cell.is_closed()
     }
@@ -113,6 +113,7 @@ impl<T: Drop, N: Unwitnessed<T, TaskWaker>> Replier<T, N> {
 
 /// Closes the slot.
 impl<T: Drop, N: Unwitnessed<T, TaskWaker>> Drop for Replier<T, N> {
+    #[inline(always)]
     fn drop(self) {
         let Replier { cell } = self;
         let _ = cell.core.end_owner(&OneThread); // The cell has one owner: both sides together.
@@ -126,7 +127,7 @@ impl<T: Drop, N: Unwitnessed<T, TaskWaker>> ReplyFuture<T, N> {
         ensures rule { IfOk result (λ found. IfSome found N.holds) }
         ensures closed { self.old.cell ≡ None → result ≡ Err Refusal.Closed }
         ensures over { IfOk result (λ found. IfSome found (λ _. self.new.cell ≡ None)) }
-        ensures stays { result ≡ Ok None → self.new.cell ≡ self.old.cell }
+        ensures stays { result ≡ Ok None → self.new ≡ self.old }
         ensures refused { FailsWithClosed result }
     {
         let Some(cell) = &self.cell else {
@@ -182,18 +183,25 @@ impl<T: Drop, N: Unwitnessed<T, TaskWaker>> ReplyFuture<T, N> {
     }
 }
 
-/// Takes the content of a slot whose `Replier` is gone. There is none if the `Replier` closed the
-/// slot. Returns `None` while there is a `Replier`. Nobody else has the slot, so this borrows no
-/// `RefCell`.
+/// Takes the content of a slot whose `Replier` is gone, and gives the slot up. There is no content
+/// if the `Replier` closed the slot. Returns `None` while there is a `Replier`, or if the slot was
+/// given up before. Nobody else has the slot, so this borrows no `RefCell`.
 #[inline(always)]
 fn take_if_alone<T: Drop, N: Unwitnessed<T, TaskWaker>>(
-    cell: &mut Rc<ManuallyDrop<AsyncCell<T, N>>>,
+    slot: &mut Option<Rc<ManuallyDrop<AsyncCell<T, N>>>>,
 ) -> Option<Option<T>>
     ensures rule { IfSome result (λ content. IfSome content N.holds) }
-    ensures stays { result ≡ None → cell.new ≡ cell.old }
+    ensures closed { slot.old ≡ None → result ≡ None }
+    ensures over { IfSome result (λ _. slot.new ≡ None) }
+    ensures stays { result ≡ None → slot.new ≡ slot.old }
 {
+    let Some(cell) = slot else {
+        return None;
+    };
     let alone = Rc::get_mut(cell)?;
-    Some(alone.core.take_alone())
+    let content = alone.core.take_alone();
+    *slot = None;
+    Some(content)
 }
 
 impl<T: Drop, N: Unwitnessed<T, TaskWaker>> Future for ReplyFuture<T, N> {
@@ -219,23 +227,20 @@ impl<T: Drop, N: Unwitnessed<T, TaskWaker>> Future for ReplyFuture<T, N> {
         ensures kept { Keeps cx.old cx.new }
         ensures refused { IfReady result FailsWithMemoryOrClosed }
     {
-        let Some(cell) = &mut self.cell else {
-            return Poll::Ready(Err(Refusal::Closed));
-        };
-        if let Some(content) = take_if_alone(cell) {
-            self.cell = None;
-            return Poll::Ready(content.ok_or(Refusal::Closed));
+        match take_if_alone(&mut self.cell) {
+            Some(content) => Poll::Ready(content.ok_or(Refusal::Closed)),
+            None => self.poll_waiting(cx),
         }
-        self.poll_waiting(cx)
     }
 }
 
-/// Closes the slot, unless this future has already given its result.
+/// Closes the slot, as the drop of a `Replier` does, unless this future has already given its
+/// result.
 impl<T: Drop, N: Unwitnessed<T, TaskWaker>> Drop for ReplyFuture<T, N> {
     fn drop(self) {
         let ReplyFuture { cell, place: _ } = self;
         if let Some(cell) = cell {
-            let _ = cell.core.end_owner(&OneThread);
+            drop(Replier { cell });
         }
     }
 }

@@ -26,7 +26,7 @@ impl<T: Drop> Shared<T> {
     pub fn shared(alloc: Global) -> Result<Self, Refusal>
         ensures refused { FailsWithMemory result }
     {
-        Shared::into_shared(AsyncCell::new(alloc)).map_err(|(why, _)| why)
+        AsyncCell::new(alloc).into_shared_or_drop()
     }
 }
 
@@ -108,7 +108,10 @@ impl<T: Drop, N: Free<T, TaskWaker>> Shared<T, N> {
         ensures keeps { IfOk result (λ guard. guard.cancel ≡ Some cancel) }
         ensures refused { IfErr result IsOwnerRefusal }
     {
-        self.guard_shared(cancel).map_err(|(why, _)| why)
+        match self.guard_shared(cancel) {
+            Ok(guard) => Ok(guard),
+            Err((why, _)) => Err(why),
+        }
     }
 
     /// Returns a weak pointer to the cell. If the pointer cannot be counted, because the count of
@@ -145,7 +148,7 @@ impl<T: Drop, N: Free<T, TaskWaker>> Shared<T, N> {
             Ok(content) => Ok(content),
             Err((Refusal::StillShared, permit)) => Err(Shared { cell, permit }),
             Err((_, permit)) => {
-                let _ = cell.core.end_counted(permit, &OneThread); // It is closed.
+                drop(Shared { cell, permit }); // It is closed.
                 Ok(None)
             }
         }

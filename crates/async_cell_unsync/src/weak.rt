@@ -135,7 +135,7 @@ impl<T: Drop, N: Free<T, TaskWaker>> WeakOwner<T, N> {
         ensures lost { IsLost self.now.weak → result ≡ Err Refusal.Memory }
         ensures refused { FailsToUpgrade result }
     {
-        Ok(self.weak.upgrade()?.map(|owner| owner.with()))
+        Ok(self.weak.upgrade()?.map(Shared::with))
     }
 
     /// As `Weak::is_closed`.
@@ -251,7 +251,10 @@ impl<T: Drop, N: Free<T, TaskWaker>> Upgrade<OneThread> for TakeWeak<T, N> {
     ghost owned_by = { λ weak owning. Names weak.0 (cell_owned owning.0) };
 
     fn owning(&self, _: &OneThread) -> Result<Option<Self::Owning>, Refusal> {
-        Ok(self.0.upgrade()?.map(|owner| Take(owner.with())))
+        match self.0.upgrade()? {
+            Some(owner) => Ok(Some(Take(owner.with()))),
+            None => Ok(None),
+        }
     }
 }
 
@@ -347,7 +350,10 @@ impl<T: Drop, N: Free<T, TaskWaker>> Upgrade<OneThread> for GetWeak<T, N> {
     ghost owned_by = { λ weak owning. Names weak.0 (cell_owned owning.0) };
 
     fn owning(&self, _: &OneThread) -> Result<Option<Self::Owning>, Refusal> {
-        Ok(self.0.upgrade()?.map(|owner| Get(owner.with())))
+        match self.0.upgrade()? {
+            Some(owner) => Ok(Some(Get(owner.with()))),
+            None => Ok(None),
+        }
     }
 }
 
