@@ -1,4 +1,4 @@
-ghost use Rattle.std.specs.Prelude.{◌≡◌, IsOk, IfOk, OnErr};
+ghost use Rattle.std.specs.Prelude.{◌≡◌, length, IsOk, IfOk, OnOk, OnErr};
 ghost use Rattle.std.specs.{Arc.arc_value, Fn.FnOnceReturnsAt};
 ghost use Rattle.async_cell_model.specs.Refusal.{FailsWithMemory};
 ghost use Rattle.async_cell_step.specs.Rule.{IsCloneOfOne};
@@ -190,6 +190,7 @@ impl<T: Clone, R: Wait + Drop, N: Protocol<T>> Follower<T, R, N> {
     /// As `read_and_update`, and the witness then has seen all values so far.
     pub fn read_and_update_as(&mut self, seen: &mut Witness<T, N>) -> Result<T, Refusal>
         ensures linearized { IfOk result (λ copy. IsShown T.is_clone seen.old copy seen.new) }
+        ensures marks { OnOk result (self.new.seen ≡ length seen.new.values) }
         ensures rule { IfOk result (IsCloneOfOne T.is_clone N.holds) }
         ensures unmarked { OnErr result ((self.new ≡ self.old) × (seen.new ≡ seen.old)) }
         ensures of_this { cell_followed self.new ≡ cell_followed self.old }
