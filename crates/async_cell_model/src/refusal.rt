@@ -2,7 +2,7 @@ use std::alloc::AllocError;
 use std::error::Error;
 use std::{fmt, io};
 
-/// The reason why a call was refused. A refused call changes nothing.
+/// The reason why a call was refused. A refused call changes neither the cell nor its wait list.
 #[derive(Clone, Copy, Debug, PartialEq, Eq)]
 pub enum Refusal {
     /// There was no memory, or a clone of a value failed. Or the reference count of an `Arc` or an

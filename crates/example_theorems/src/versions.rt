@@ -1,5 +1,5 @@
-//! A setting with versions. One thread publishes new versions, and the other looks, and waits for the
-//! next version: it never sees an older one after a newer one.
+//! A setting with versions. One thread publishes new versions, and the other looks, and waits for
+//! the next version: it never sees an older one after a newer one.
 ghost use Rattle.std.specs.Prelude.{◌≡◌, ◌≤◌, Some, IfOk, IfSome};
 ghost use Rattle.async_cell_latest_sync.specs.InOrder.{AllFollowing, IsLast, OnlyFollowing};
 
