@@ -1,7 +1,8 @@
 """Tries deliberate bugs: has the prover check copies of crates with bugs put in.
 
-It works on a copy, whose crates `rt ci` proves, or has from the gate. A crate is then checked with
-bugs, from nothing, over the libraries that were built there. A bug changes the body of one function
+It works on a copy, whose crates `rt ci` proves first, or over the crates that the gate's `rt ci` has
+just proved. A crate is then checked with bugs, from nothing, over the libraries that were built
+there. A bug changes the body of one function
 and no contract, so bugs of many functions share a check: the first of each function the first, the
 second of each the second. Other functions are passed over there, but those that they call and that
 have proof files. A bug is refused if the prover complains of its function, at a line of it or in a
@@ -20,7 +21,7 @@ from collections import Counter
 from concurrent.futures import ThreadPoolExecutor
 
 from bug import FN, above_of, groups_of, with_files
-from lay_out import READ, lay, reached, read, uses_of, write
+from lay_out import READ, TOP, lay, reached, read, uses_of, write
 from try_kit import KIT
 
 PARTS = ("src", "specs", "proofs")
@@ -135,7 +136,7 @@ def checked(proved, bugs, kept="files", is_put_in=True):
     call and has "files", all "calls", or the whole "crate". Returns whether it is proved too, what
     is told of functions (nothing if it came to no verdict), and what cannot be read."""
     crate, is_alone = bugs[0].crate, kept == "crate"
-    with tempfile.TemporaryDirectory(dir=os.path.dirname(proved)) as room:
+    with tempfile.TemporaryDirectory(prefix="bugs-") as room:
         for it in (it for it in PARTS if os.path.isdir(f"crates/{crate}/{it}")):
             shutil.copytree(f"crates/{crate}/{it}", f"{room}/{it}")
         for it in bugs if is_put_in else ():
@@ -207,21 +208,23 @@ def is_told_without(proved, bugs):
     return bool(found)
 
 
-def try_all(bugs):
-    """Proves the crates of these bugs, and tries the bugs, as many checks at a time as there are
-    processors."""
+def try_all(bugs, is_over_ci):
+    """Tries bugs, as many checks at a time as there are processors. Proves their crates first, in a
+    copy, but where `rt ci` has just proved them here, from nothing."""
     names = {it.crate for it in bugs}
-    jobs = len(os.sched_getaffinity(0))
-    with tempfile.TemporaryDirectory(prefix="bugs-") as room, ThreadPoolExecutor(jobs) as pool:
-        proved = f"{room}/proved"
-        lay(proved, with_below(names))
-        status, said, seconds = run(proved, "rt", "ci")
-        print(f"the crates without a bug took {seconds:.0f} s of processors", flush=True)
-        if status:
-            print(f"{said[-3000:]}\nthe crates are not proved without a bug", flush=True)
-            return
+    with tempfile.TemporaryDirectory(prefix="bugs-") as room:
+        proved = TOP if is_over_ci else f"{room}/proved"
+        if not is_over_ci:
+            lay(proved, with_below(names))
+            status, said, seconds = run(proved, "rt", "ci")
+            print(f"the crates without a bug took {seconds:.0f} s of processors", flush=True)
+            if status:
+                print(f"{said[-3000:]}\nthe crates are not proved without a bug", flush=True)
+                return
         groups = groups_of(bugs)
         # (that a complaint comes of a bug is seen by a check of one function with none put in)
         of_crate = Counter(it.crate for it in bugs)
-        if not is_told_without(proved, min(groups, key=lambda it: of_crate[it[0].crate])[:1]):
+        if is_told_without(proved, min(groups, key=lambda it: of_crate[it[0].crate])[:1]):
+            return
+        with ThreadPoolExecutor(len(os.sched_getaffinity(0))) as pool:
             [*pool.map(lambda it: try_group(proved, it), groups)]

@@ -2,10 +2,12 @@
 """Has the prover refuse the deliberate bugs, those of crates/NAME/bugs.txt (`rt ci` tries the edits
 of crates/NAME/must-fail/).
 
-    bugs.py [--record] [--all|CRATE..]   those of all crates, or of these; without, those that are
-                        not in the record, a tenth of those that are, the next after each commit,
-                        and 12 of the others, by the commit's hash: four of each of three checks.
-                        With `--record` also writes the record.
+    bugs.py [--over-ci] [--record] [--all|CRATE..]   those of all crates, or of these; without,
+                        those that are not in the record, a tenth of those that are, the next after
+                        each commit, and 12 of the others, by the commit's hash: four of each of
+                        three checks. With `--record` also writes the record. With `--over-ci` they
+                        are tried over what `rt ci` has built here, from nothing, which saves a
+                        proof of all in a copy. (What `rt check` builds does not do.)
     bugs.py --list      whether each can be applied, and how those in the record were refused
 
 A bug is a line 'FILE: what it does', with the file below src/, and after it pairs of lines '- OLD'
@@ -141,8 +143,10 @@ def due(bugs):
 
 def main(words):
     os.chdir(TOP)
-    is_list, is_record = words == ["--list"], words[:1] == ["--record"]
-    asked = [] if is_list else words[is_record:]
+    is_list, is_over_ci = words == ["--list"], words[:1] == ["--over-ci"]
+    words = words[is_list or is_over_ci :]
+    is_record = words[:1] == ["--record"]
+    asked = words[is_record:]
     for it in asked:
         if it not in ("--all", *with_bugs()):
             sys.exit(f"bugs.py: there are no bugs of a crate {it}")
@@ -158,7 +162,7 @@ def main(words):
         print(f"{len(bugs) + faults} deliberate bugs, {faults} of which cannot be applied")
         return 1 if faults or not bugs else 0
     tried = [it for it in bugs if is_asked(it.crate)] if asked else due(bugs)
-    try_all(tried)
+    try_all(tried, is_over_ci)
     new = [it for it in tried if it.how == "lost" and way_recorded(it) is None]
     for it in new:
         it.judge("it is refused only because a search met its limits: choose another")

@@ -81,8 +81,10 @@ step() {
 
 # Runs the kit's own gate on what is here, and says of how many must-fail edits its line tells that
 # they are refuted, by values or by a clause, of how many that a search met its limits, and of how
-# many neither (the kit cuts these lines).
+# many neither (the kit cuts these lines). Bugs are then tried over what it has built here, unless
+# checks had built something before: that comes back when it ends.
 prove() {
+    [ -n "$(find crates -path '*/out/rlib' -print -quit)" ] || touch "$work/is-over-ci"
     RT_JOBS=$lanes rt ci | tee "$work/ci"
     local status=${PIPESTATUS[0]}
     awk '/^rt: must-fail .*: refused, as it must be/ {
@@ -91,6 +93,12 @@ prove() {
         END { print "edits: " n + 0 " refuted, " lost + 0 " lost, " cut + 0 " not told" }' "$work/ci"
     tail -n 1 "$work/ci"
     return "$status"
+}
+
+# Tries deliberate bugs: [WORD..]
+bugs() {
+    [ ! -e "$work/is-over-ci" ] || set -- --over-ci "$@"
+    python3 scripts/bugs.py "$@"
 }
 
 # Tries misuse over what `rt ci` built: it wants libraries that are newer than the sources, and a
@@ -114,7 +122,7 @@ step api python3 scripts/api.py --check
 step clauses python3 scripts/clauses.py
 step tests bash scripts/tests.sh
 step 'rt ci' prove
-step bugs python3 scripts/bugs.py ${1:+--record --all}
+step bugs bugs ${1:+--record --all}
 step program python3 scripts/program.py
 step misuse misuse
 step vendor bash scripts/vendor_check.sh "$@"
