@@ -10,7 +10,7 @@ pub enum Kind {
 }
 
 /// Something that can happen to a driver: one item of a list of events. `E` is the type of the
-/// edits.
+/// edits. The outcomes that are named here are those of events that are not refused.
 #[derive(Clone, Copy, Debug, Drop, PartialEq, Eq)]
 pub enum Event<T, E> {
     /// `Driver::start`, of a task of this kind. The outcome is `Started`, with the task's number.

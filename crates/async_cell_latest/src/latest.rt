@@ -127,7 +127,7 @@ impl<T: Drop, W: Wakes> Latest<T, W> {
         (self.version, &self.value)
     }
 
-    /// Returns the version: 1 at first, and one more after each write.
+    /// Returns the version. It grows by one with each write.
     pub fn version(&self) -> u64
         ensures { result ≡ self.now.version }
     {

@@ -18,10 +18,11 @@ use std::sync::{Arc, Wait};
 /// number of followers read it. An owner ends when it is dropped. The end of the last owner closes
 /// the state: the last value stays, and followers see it before they get `Closed`.
 ///
-/// Wakers are woken and old values are dropped after the lock is released, so whatever runs then
-/// may call the state. Closures, and clones of the value, run while the lock is held. A closure or
-/// a clone waits forever if it calls this state, or drops an owner or a waiting future of this
-/// state. What a closure owns is dropped under the lock, too.
+/// A call wakes tasks and drops old values after it has released the lock, so whatever runs then
+/// may call the state. (If another task polls a future, the task that it leaves may be woken under
+/// the lock. This runs none of your code.) Closures, and clones of the value, run while the lock is
+/// held. A closure or a clone waits forever if it calls this state, or drops an owner or a waiting
+/// future of this state. What a closure owns is dropped under the lock, too.
 ///
 /// A state takes 18,446,744,073,709,551,614 writes, and no further one.
 ///

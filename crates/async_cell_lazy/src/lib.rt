@@ -90,8 +90,9 @@ impl<T: Clone, R: Wait + Copy + AllocGlobal + RandomSource, P: Rule<T>> Lazy<T, 
     /// caller gets the error, as `Ok(Err(..))`, and one of those that wait calls its own `make`.
     ///
     /// **This call blocks the thread, so never make it in a task.** A `make` that calls the same
-    /// `Lazy` waits forever. Fails with `Memory` if there is no memory to wait, or for the clone. A
-    /// value that was made stays. `Closed` is in the contract, but cannot happen.
+    /// `Lazy` waits forever. Fails with `Memory` if there is no memory to wait, or for the clone,
+    /// or no random number for `block_on`. A value that was made stays. `Closed` is in the
+    /// contract, but cannot happen.
     ///
     /// ```rust
     /// let limit = Lazy::new(rt.alloc(), rt)?;

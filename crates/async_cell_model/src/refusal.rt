@@ -2,14 +2,16 @@ use std::alloc::AllocError;
 use std::error::Error;
 use std::{fmt, io};
 
-/// The reason why a call was refused. A refused call changes neither the cell nor its wait list.
+/// The reason why a call was refused. A refused call of a `Core` changes neither the cell nor its
+/// wait list.
 #[derive(Clone, Copy, Debug, PartialEq, Eq)]
 pub enum Refusal {
     /// There was no memory, or a clone of a value failed. Or the reference count of an `Arc` or an
-    /// `Rc` is full.
+    /// `Rc` is full, a value's `Debug` failed, or the `block_on` of a `Lazy`.
     Memory,
-    /// The cell is closed. Writes, calls that add or end an owner (except `upgrade`, which gives
-    /// `None`), `take_inner`, and futures that are not weak fail with `Closed`.
+    /// The cell, slot or latest state is closed, or the `ReplyFuture` has already given its result,
+    /// or the latest state takes no further write. (Some writes return their value instead. Weak
+    /// futures and `upgrade` give `None`.)
     Closed,
     /// The cell has 4,294,967,295 owners already, as many as it can count.
     OwnersFull,

@@ -64,7 +64,7 @@ impl<T> History<T> {
         self.entries.len()
     }
 
-    /// Returns whether no call was made.
+    /// Returns whether there is no entry.
     pub fn is_empty(&self) -> bool
         ensures { IsTrue result ↔ (self.now.entries ≡ []) }
     {

@@ -36,7 +36,7 @@ impl<T> PlainHistory<T> {
         self.entries.len()
     }
 
-    /// Returns whether no call was made.
+    /// Returns whether there is no entry.
     pub fn is_empty(&self) -> bool
         ensures { IsTrue result ↔ (self.now.entries ≡ []) }
     {

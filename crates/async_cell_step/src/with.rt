@@ -82,10 +82,11 @@ pub trait Upgrade<R>: Request<R> {
 /// clone of the value. The future can then be polled again.
 ///
 /// **Dropping the future may wait for the cell's lock.** If the future is the last owner, its drop
-/// closes the cell: it drops the value, and wakes all waiters. Any other drop wakes nobody. After
-/// the drop, the place is free for the next `With` that waits for the same cell, and the task that
-/// polled the dropped future may be woken once more. **So keep a future and poll it again.** Two
-/// tasks that each make a new future for every poll wake each other forever.
+/// closes the cell: it drops the value, and wakes all waiters. Any other drop wakes nobody, unless
+/// it drops the cell itself. After the drop, the place is free for the next `With` that waits for
+/// the same cell, and the task that polled the dropped future may be woken once more. **So keep a
+/// future and poll it again.** Two tasks that each make a new future for every poll wake each other
+/// forever.
 #[derive_where(Debug)]
 pub struct With<P: Request<R>, R> {
     #[derive_where(skip)]

@@ -33,8 +33,10 @@ pub type LockedCore<T, W, N = Unruled> = CellStore<Mutex<CellCore<T, W, N>>>;
 /// **What runs under the lock:** closures, the drop of what they own, and `clone` and `Debug` of
 /// the value. **Code that runs under the lock must call no cell.** Such code waits forever if it
 /// calls the same cell, or drops an `Owner`, a `Guard`, a waiting future or a stream of that cell.
-/// It also waits forever if it waits for a thread which calls the cell. Wakers are woken and values
-/// are dropped after the lock is released, so a wake or a drop may call the cell.
+/// It also waits forever if it waits for a thread which calls the cell. A call wakes tasks and
+/// drops values after it has released the lock, so a wake or a drop may call the cell. (If another
+/// task polls a future, the task that it leaves may be woken under the lock. This runs none of your
+/// code.)
 ///
 /// A future made by `with` holds one place in the wait list while it waits (see `With`). So all
 /// these futures together need no more places than the largest number of them alive at one time.

@@ -37,7 +37,7 @@ pub struct Replier<T: Drop, R: Wait + Drop, N: Unwitnessed<T, TaskWaker> = Unrul
 ///
 /// If the `ReplyFuture` is dropped before it was ready, the slot is closed. Then a value that was
 /// already set is dropped, and a later `set` returns its value in the error. **This drop of the
-/// `ReplyFuture` may wait for the lock**, and wakes the task that polled it last.
+/// `ReplyFuture` may wait for the lock**, and wakes the task that polled it last, if it waits.
 ///
 /// ```rust
 /// let (replier, reply) = reply_slot::<u32, _>(rt.alloc(), rt)?;

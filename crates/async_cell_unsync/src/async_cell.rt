@@ -17,14 +17,16 @@ use std::fmt;
 
 /// A cell of one thread. It holds an optional value, and futures wait on it for a value.
 ///
-/// A call wakes tasks and drops values only after it has finished its work on the cell. So the code
-/// that runs in a wake or a drop may call the cell. No call waits. Dropping a cell wakes all
-/// waiters.
+/// A call wakes tasks and drops the cell's values only after it has finished its work on the cell.
+/// So the code that runs in a wake or a drop may call the cell. (If another task polls a future,
+/// the task that it leaves may be woken sooner. This runs none of your code.) No call waits.
+/// Dropping a cell wakes all waiters.
 ///
 /// **While a closure, a clone or a value's `Debug` runs, the value is taken out**: calls see an
 /// empty cell. An owner that is made or ended during this time changes the number of owners as
 /// usual. Afterwards the value, or what an update made of it, is stored in place of whatever was
-/// set meanwhile. `peek` instead puts the value back only if the cell is still empty.
+/// set meanwhile, unless the cell was closed meanwhile. `peek` instead puts the value back only if
+/// the cell is still empty.
 ///
 /// A future made by `with` holds one place in the wait list while it waits (see `With`). So all
 /// these futures together need no more places than the largest number of them alive at one time.

@@ -34,7 +34,7 @@ pub struct Replier<T: Drop, N: Unwitnessed<T, TaskWaker> = Unruled> {
 ///
 /// If the `ReplyFuture` is dropped before it was ready, the slot is closed. Then a value that was
 /// already set is dropped, and a later `set` returns its value in the error. This drop of the
-/// `ReplyFuture` wakes the task that polled it last.
+/// `ReplyFuture` wakes the task that polled it last, if it waits.
 #[derive_where(Debug)]
 pub struct ReplyFuture<T: Drop, N: Unwitnessed<T, TaskWaker> = Unruled> {
     /// `None` once it was ready.
