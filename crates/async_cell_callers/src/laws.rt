@@ -41,8 +41,8 @@ pub fn of_exact_histories() {
 
 /// The laws of lists of calls, and of the logs of a driver.
 pub fn of_lists() {
-    async_cell_core::laws::two_runs_are_one::<String, u64, Put>();
-    async_cell_core::laws::two_exact_runs_are_one::<Uncloned, u64, Put>();
+    async_cell_runs::laws::two_runs_are_one::<String, u64, Put>();
+    async_cell_runs::laws::two_exact_runs_are_one::<Uncloned, u64, Put>();
     async_cell_driver::laws::two_logs_are_one::<String>();
     async_cell_driver::laws::two_lists_are_one::<Uncloned, Put>();
     async_cell_driver::laws::a_log_names_those_handed_out::<String>();

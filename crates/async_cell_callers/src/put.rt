@@ -1,10 +1,11 @@
 //! An edit of a caller's own, for lists of calls.
 ghost use Rattle.std.specs.Prelude.{◌≡◌, IfSome, Some, map, true, vec_len};
 ghost use Rattle.async_cell_wakers.specs.Named.{same_name};
-ghost use Rattle.async_cell_core.specs.Kept.{history_of};
+ghost use Rattle.async_cell_runs.specs.Kept.{history_of};
 ghost use Rattle.async_cell_model.specs.Legal.{Runs};
 
-use async_cell_core::{Answer, Call, Core, Edit, Named, run};
+use async_cell_core::{Answer, Core, Named};
+use async_cell_runs::{Call, Edit, run};
 use async_cell_model::laws::with_exact_clones_a_history_is_exact;
 
 /// Sets the content to this number, whatever it was.

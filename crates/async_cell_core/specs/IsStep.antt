@@ -5,7 +5,7 @@ use Rattle.async_cell_model.specs.declared.refusal.Refusal.TheVariants as why
 use Rattle.async_cell_model.specs.declared.reply.Reply.{Reply}
 use Rattle.async_cell_model.specs.declared.reply.Reply.TheVariants as reply
 use Rattle.async_cell_model.specs.Machine.{is_closed, State, Does, DoesUpTo}
-use Rattle.async_cell_core.specs.declared.call.Answer.{Answer}
+use Rattle.async_cell_core.specs.declared.answer.Answer.{Answer}
 use Rattle.async_cell_core.specs.Polled.{poll_reply}
 use Rattle.futures.specs.declared.task.Poll.{Poll}
 

@@ -4,19 +4,16 @@
 //! crates that build on this one.
 #![tactic(auto)]
 
-mod call;
+mod answer;
 mod cell_core;
 mod guard;
-pub mod laws;
-mod runs;
 
+pub use answer::Answer;
 pub use async_cell_model::{Refusal, Reply};
 #[doc(hidden)]
 pub use async_cell_wakers::Place;
 pub use async_cell_wakers::{Named, TaskWaker, Wakers, Wakes};
-pub use call::{Answer, Call, Edit, NoEdit};
 pub use cell_core::Core;
 pub use futures::task::Poll;
 #[doc(hidden)]
 pub use guard::end_guard;
-pub use runs::{run, step, step_copied};

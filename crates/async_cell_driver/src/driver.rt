@@ -12,8 +12,9 @@ mod calls;
 
 use crate::event::{Event, Kind, Polled, Told};
 use crate::tasks::{Mark, Tasks};
-use async_cell_core::{Core, Edit, Named, Poll, Refusal};
+use async_cell_core::{Core, Named, Poll, Refusal};
 use async_cell_model::Cell;
+use async_cell_runs::Edit;
 use std::alloc::Global;
 use std::marker::Model;
 

@@ -7,6 +7,7 @@ mod event;
 pub mod laws;
 mod tasks;
 
-pub use async_cell_core::{Edit, Named, Refusal, Reply};
+pub use async_cell_core::{Named, Refusal, Reply};
+pub use async_cell_runs::Edit;
 pub use driver::Driver;
 pub use event::{Event, Kind, Polled, Told};

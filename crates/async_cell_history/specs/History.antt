@@ -17,7 +17,7 @@ use Rattle.async_cell_model.specs.Taken.{given_by}
 use Rattle.async_cell_model.specs.History.{History, after, cell_after, has_fill_or_close}
 use Rattle.async_cell_model.specs.Legal.{IsLegal, Runs, wakes_after}
 use Rattle.async_cell_model.specs.Facts.{Fate, stays, moved, copied, lost, updated, updated_if_full, facts}
-use Rattle.async_cell_core.specs.declared.call.Answer.{Answer}
+use Rattle.async_cell_core.specs.declared.answer.Answer.{Answer}
 use Rattle.async_cell_core.specs.IsStep.{WakerRules}
 use Rattle.futures.specs.declared.task.Poll.{Poll}
 use Rattle.futures.specs.declared.task.Poll.TheVariants as poll

@@ -17,7 +17,7 @@ use std::snapshot::Snapshot;
 pub(crate) trait Enters<C, A, T, W> {
     ghost use Rattle.async_cell_model.specs.declared.entry.Kept.{Kept};
     ghost use Rattle.async_cell_model.specs.Machine.{State};
-    ghost use Rattle.async_cell_core.specs.declared.call.Answer.{Answer};
+    ghost use Rattle.async_cell_core.specs.declared.answer.Answer.{Answer};
 
     /// The call, by the state before it, what was passed, and the state after it.
     ghost call: { State T W → C → State T W → Kept T W };

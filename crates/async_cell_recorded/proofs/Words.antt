@@ -1,5 +1,5 @@
 -- The words that the proofs use.
-pub use Rattle.async_cell_core.specs.{Kept.kept_call, declared.call.Call.Call}
+pub use Rattle.async_cell_runs.specs.{Kept.kept_call, declared.call.Call.Call}
 pub use Rattle.async_cell_model.proofs.{LegalHistories.Runs-join, Machine.model_of}
 pub use Rattle.async_cell_model.specs.{History.History, Legal.Runs, Legal.wakes_after, Legal.woken_by, declared.cell.Cell.Cell, declared.entry.Kept.Kept, declared.reply.Reply.Reply}
 pub use Rattle.async_cell_model.specs.Machine.{Does, IsSound, State, content, is_memory, reply}

@@ -2,7 +2,7 @@ ghost use Rattle.std.specs.Prelude.{◌≡◌, ◌≢◌, ◌↔◌, ◌⊎◌, 
 ghost use Rattle.std.specs.Prelude.{length, vec_len, replicate, slice_index, slice_set};
 ghost use Rattle.std.specs.{Prelude.IfOk, Prelude.IfErr, Prelude.OnErr, List.sum_by};
 ghost use Rattle.async_cell_model.specs.{Machine.reply, Legal.woken_by, Refusal.FailsWithMemory};
-ghost use Rattle.async_cell_core.specs.Kept.{kept_call};
+ghost use Rattle.async_cell_runs.specs.Kept.{kept_call};
 ghost use Rattle.async_cell_recorded.specs.Recording.{Recording, IsRecorded, state, plain_entry, made_by};
 ghost use Rattle.async_cell_recorded.specs.Counting.{IsJournal, Totals, new_shares, share_after, picked};
 

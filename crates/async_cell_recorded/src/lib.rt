@@ -11,7 +11,8 @@ mod recorded;
 mod session;
 mod share;
 
-pub use async_cell_core::{Call, Edit, Named, Refusal, Reply, Wakers};
+pub use async_cell_core::{Named, Refusal, Reply, Wakers};
+pub use async_cell_runs::{Call, Edit};
 pub use history::{Entry, History, Kept, Plain};
 pub use journal::Journal;
 pub use plain_history::PlainHistory;

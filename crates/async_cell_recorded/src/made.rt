@@ -2,12 +2,13 @@
 ghost use Rattle.std.specs.Prelude.{◌≡◌, true, false, IfOk, OnErr};
 ghost use Rattle.async_cell_model.specs.Machine.{content, is_memory, Does};
 ghost use Rattle.async_cell_model.specs.declared.cell.Cell.{Cell};
-ghost use Rattle.async_cell_core.specs.Kept.{kept_call};
+ghost use Rattle.async_cell_runs.specs.Kept.{kept_call};
 ghost use Rattle.async_cell_wakers.specs.Named.{same_name};
 ghost use Rattle.async_cell_recorded.specs.Answering.{kept_after};
 
 use crate::{Call, Edit, Kept, Named, Plain, Refusal, Reply, Wakers};
-use async_cell_core::{Answer, Core, step_copied};
+use async_cell_core::{Answer, Core};
+use async_cell_runs::step_copied;
 use std::alloc::AllocError;
 
 /// Returns a call on a cell with this content as a history stores it, if an update leaves the

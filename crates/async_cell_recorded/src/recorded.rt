@@ -4,14 +4,14 @@ ghost use Rattle.async_cell_model.specs.Refusal.{FailsWithMemory};
 ghost use Rattle.async_cell_recorded.specs.Recording.{IsRecorded};
 ghost use Rattle.async_cell_recorded.specs.Answering.{IsCallResult};
 ghost use Rattle.async_cell_model.specs.{Machine.reply, declared.cell.Cell.Cell};
-ghost use Rattle.async_cell_core.specs.Kept.{kept_call};
+ghost use Rattle.async_cell_runs.specs.Kept.{kept_call};
 ghost use Rattle.async_cell_recorded.specs.Counting.{new_shares, picked};
 
 use crate::share::ShareCount;
 use crate::{
     Blanks, Call, Edit, Entry, History, Journal, Named, Pick, Refusal, Reply, Share, Wakers,
 };
-use async_cell_core::NoEdit;
+use async_cell_runs::NoEdit;
 use async_cell_model::Kept;
 use std::alloc::Global;
 use std::sync::{Mutex, Wait};

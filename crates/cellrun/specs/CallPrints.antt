@@ -6,8 +6,8 @@ use Rattle.async_cell_model.specs.declared.{cell.Cell.Cell, entry.Kept.Kept, ref
 use Rattle.async_cell_model.specs.declared.refusal.Refusal.TheVariants as why
 use Rattle.async_cell_model.specs.declared.reply.Reply.TheVariants.{Done, Value, Is, Pending, Ready, Refused}
 use Rattle.async_cell_model.specs.Machine.{owners_of, skips, State, Does}
-use Rattle.async_cell_core.specs.{Kept.kept_call as listed_call, declared.call.Call.Call}
-use Rattle.async_cell_core.specs.declared.call.Call.TheVariants as listed
+use Rattle.async_cell_runs.specs.{Kept.kept_call as listed_call, declared.call.Call.Call}
+use Rattle.async_cell_runs.specs.declared.call.Call.TheVariants as listed
 use Rattle.cellrun.specs.declared.command.Command.{Command}
 use Rattle.cellrun.specs.declared.command.Command.TheVariants.{Set, OrSet, Replace, UpdatePut, UpdateNone, UpdateKeep, UpdateSomeAdd, Take, Get, TryTake, TryGet, Own, End, Inner, Debug}
 

@@ -7,7 +7,8 @@ ghost use Rattle.cellrun.specs.CallPrints.{CallPrints, KnowsNames, call_of, kept
 ghost use Rattle.cellrun.specs.Script.{new_cell};
 
 use crate::command::Command;
-use async_cell_core::{Answer, Call, Core, Edit, Named, Refusal, Reply, Wakers, step_copied};
+use async_cell_core::{Answer, Core, Named, Refusal, Reply, Wakers};
+use async_cell_runs::{Call, Edit, step_copied};
 use itoa::Buffer;
 use std::alloc::{AllocError, Global};
 use std::collections::BTreeSet;

@@ -4,11 +4,11 @@ ghost use Rattle.async_cell_model.specs.Machine.{next, reply, is_closed, is_full
 ghost use Rattle.async_cell_model.specs.Legal.{is_refused};
 ghost use Rattle.async_cell_model.specs.declared.entry.Kept.TheVariants as kept;
 ghost use Rattle.async_cell_model.specs.declared.cell.Cell.{Cell};
-ghost use Rattle.async_cell_core.specs.Kept.{is_get, is_poll, kept_call};
+ghost use Rattle.async_cell_runs.specs.Kept.{is_get, is_poll, kept_call};
 ghost use Rattle.async_cell_driver.specs.{Log.with_edit, History.call_of, History.is_call, History.told_by, Drives.Happens, Drives.ResultsStay};
 
 use crate::{Driver, Edit, Event, Named, Refusal, Reply, Told};
-use async_cell_core::{Call, NoEdit, step};
+use async_cell_runs::{Call, NoEdit, step};
 
 impl<T: Clone> Driver<T> {
     /// Makes the call that `event` stands for, and wakes the tasks whose names the core returns.

@@ -1,8 +1,8 @@
 use Rattle.std.proofs.Common.{rules, ◌≡◌, ◌≤◌, ◌+◌, ℕ, List, [], ◌∷◌, ◌++◌, length, vec_len, arith, ap, sym, ◌∙◌, append_assoc, append-nil, length-append}
 use Rattle.std.proofs.lemmas.List.{nil_from_length}
 use Rattle.std.specs.Vec.Iter.{into_iter_items}
-use Rattle.async_cell_core.proofs.{LongerRuns.{Told, told_more, told_none}, runs.run.Given.Over}
-use Rattle.async_cell_core.proofs.runs.run.Goals as goal
+use Rattle.async_cell_runs.proofs.{LongerRuns.{Told, told_more, told_none}, runs.run.Given.Over}
+use Rattle.async_cell_runs.proofs.runs.run.Goals as goal
 
 pub loop-call-init : goal.loop-call-init
 loop-call-init g c = record {

@@ -5,8 +5,8 @@ use Rattle.async_cell_model.specs.declared.entry.Kept.TheVariants as kept
 use Rattle.async_cell_model.specs.declared.reply.Reply.{Reply}
 use Rattle.async_cell_model.specs.{Machine.{content, next}, Legal.copies, History.History}
 use Rattle.async_cell_core.specs.Polled.{IsCopied}
-use Rattle.async_cell_core.specs.declared.call.Call.{Call}
-use Rattle.async_cell_core.specs.declared.call.Call.TheVariants.{Set, OrSet, Replace, Update, UpdateSome, TryTake, TryGet, IsSet, PollTake, PollGet, AddOwner, EndOwner, TakeInner}
+use Rattle.async_cell_runs.specs.declared.call.Call.{Call}
+use Rattle.async_cell_runs.specs.declared.call.Call.TheVariants.{Set, OrSet, Replace, Update, UpdateSome, TryTake, TryGet, IsSet, PollTake, PollGet, AddOwner, EndOwner, TakeInner}
 
 -- Whether the call is a get: it copies the value. Any other call is none, and `copy_is` proves that
 -- these are the copies of the model.

@@ -1,5 +1,5 @@
 use Rattle.async_cell_model.proofs.Machine.{does_up_to}
-use Rattle.async_cell_core.proofs.runs.step.Goals as goal
+use Rattle.async_cell_runs.proofs.runs.step.Goals as goal
 
 pub returns-in-TryGet-clause-up_to_clones : goal.returns-in-TryGet-clause-up_to_clones
 returns-in-TryGet-clause-up_to_clones g c = rw (c.in-TryGet.is, c.got.ensures) c.try_get.ensures.up_to_clones

@@ -5,8 +5,8 @@ use Rattle.async_cell_model.proofs.{JoinedHistory.after_none, LegalHistories.Run
 use Rattle.std.specs.Prelude.{IfSome, map}
 use Rattle.std.proofs.lemmas.List.{length-map, map-append}
 use Rattle.async_cell_model.specs.declared.{cell.Cell.Cell, entry.Entry.Entry, entry.Kept.Kept, reply.Reply.Reply}
-use Rattle.async_cell_core.specs.declared.{call.Answer.Answer, call.Call.Call}
-use Rattle.async_cell_core.specs.{Kept.{is_get, kept_call, history_of, GetsAreCopied}, Polled.IsCopied}
+use Rattle.async_cell_core.specs.{declared.answer.Answer.Answer, Polled.IsCopied}
+use Rattle.async_cell_runs.specs.{declared.call.Call.Call, Kept.{is_get, kept_call, history_of, GetsAreCopied}}
 
 module _ {T W E : Type 0} (edit : E → Option T → Option T) (edit_some : E → T → T) where
   -- the calls of two lists, one after the other

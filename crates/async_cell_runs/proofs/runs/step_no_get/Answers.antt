@@ -1,4 +1,4 @@
-use Rattle.async_cell_core.proofs.runs.step_no_get.Goals as goal
+use Rattle.async_cell_runs.proofs.runs.step_no_get.Goals as goal
 
 pub returns-in-Set-clause-model : goal.returns-in-Set-clause-model
 returns-in-Set-clause-model g c = rw (c.in-Set.is, c.set-in-Set.ensures) c.set.ensures.model

@@ -2,11 +2,12 @@
 ghost use Rattle.std.specs.Prelude.{◌≡◌, map, vec_len, true, false, [], IfOk, IfErr, IfSome, OnErr, IsOk};
 ghost use Rattle.std.specs.List.{list_any};
 ghost use Rattle.async_cell_model.specs.{Machine.{content, is_vacant, is_memory}, Legal.{Runs, RunsUpTo, is_refused}};
-ghost use Rattle.async_cell_core.specs.{IsStep.{IsStep, IsStepUpTo}, Kept.{is_get, is_poll, kept_call, history_of, GetsAreCopied}, Polled.{IsCopied, IsExact}};
+ghost use Rattle.async_cell_core.specs.{IsStep.{IsStep, IsStepUpTo}, Polled.{IsCopied, IsExact}};
+ghost use Rattle.async_cell_runs.specs.Kept.{is_get, is_poll, kept_call, history_of, GetsAreCopied};
 
-use crate::call::{Answer, Call, Edit};
-use crate::cell_core::Core;
-use crate::{Reply, Wakes};
+use crate::answers;
+use crate::call::{Call, Edit};
+use async_cell_core::{Answer, Core, Reply, Wakes};
 use std::alloc::Global;
 
 /// Makes one call that is no get, so it does not copy the value. Its clause `no_get` repeats what
@@ -23,17 +24,17 @@ fn step_no_get<T: Drop, W: Wakes, E: Edit<T> + Drop>(
         → core.new ≡ core.old }
 {
     match call {
-        Call::Set(value) => Answer::set(core.set(value)),
-        Call::OrSet(value) => Answer::replaced(core.or_set(value)),
-        Call::Replace(value) => Answer::replaced(core.replace(value)),
-        Call::Update(edit) => Answer::updated(core.update(|content| edit.edit(content))),
-        Call::UpdateSome(edit) => Answer::done(core.update_some(|value| edit.edit_some(value))),
-        Call::TryTake => Answer::replied(Reply::Value(core.try_take())),
-        Call::IsSet => Answer::replied(Reply::Is(core.is_set())),
-        Call::PollTake(waker) => Answer::polled(core.poll_take(&waker)),
-        Call::AddOwner => Answer::done(core.add_owner()),
-        Call::EndOwner => Answer::ended(core.end_owner()),
-        Call::TakeInner => Answer::ended(core.take_inner()),
+        Call::Set(value) => answers::set(core.set(value)),
+        Call::OrSet(value) => answers::replaced(core.or_set(value)),
+        Call::Replace(value) => answers::replaced(core.replace(value)),
+        Call::Update(edit) => answers::updated(core.update(|content| edit.edit(content))),
+        Call::UpdateSome(edit) => answers::done(core.update_some(|value| edit.edit_some(value))),
+        Call::TryTake => answers::replied(Reply::Value(core.try_take())),
+        Call::IsSet => answers::replied(Reply::Is(core.is_set())),
+        Call::PollTake(waker) => answers::polled(core.poll_take(&waker)),
+        Call::AddOwner => answers::done(core.add_owner()),
+        Call::EndOwner => answers::ended(core.end_owner()),
+        Call::TakeInner => answers::ended(core.take_inner()),
         Call::TryGet | Call::PollGet(_) => unreachable!(),
     }
 }
@@ -61,8 +62,8 @@ pub fn step<T: Clone, W: Wakes, E: Edit<T> + Drop>(
         → core.new ≡ core.old }
 {
     match call {
-        Call::TryGet => Answer::got(core.try_get()),
-        Call::PollGet(waker) => Answer::polled(core.poll_get(&waker)),
+        Call::TryGet => answers::got(core.try_get()),
+        Call::PollGet(waker) => answers::polled(core.poll_get(&waker)),
         call => step_no_get(core, call),
     }
 }
@@ -79,8 +80,8 @@ pub fn step_copied<T: Copy, W: Wakes, E: Edit<T> + Drop>(
         → is_memory result.reply ≡ false }
 {
     match call {
-        Call::TryGet => Answer::replied(Reply::Value(core.try_get_copied())),
-        Call::PollGet(waker) => Answer::polled(core.poll_get_copied(&waker)),
+        Call::TryGet => answers::replied(Reply::Value(core.try_get_copied())),
+        Call::PollGet(waker) => answers::polled(core.poll_get_copied(&waker)),
         call => step_no_get(core, call),
     }
 }

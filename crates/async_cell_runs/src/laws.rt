@@ -2,8 +2,8 @@
 ghost use Rattle.std.specs.Prelude.{◌≡◌, ◌++◌, List, length, Bool, Option};
 ghost use Rattle.async_cell_model.specs.declared.reply.Reply.{Reply};
 ghost use Rattle.async_cell_model.specs.{Machine.State, Legal.{Runs, RunsUpTo}};
-ghost use Rattle.async_cell_core.specs.declared.call.Call.{Call};
-ghost use Rattle.async_cell_core.specs.Kept.{history_of};
+ghost use Rattle.async_cell_runs.specs.declared.call.Call.{Call};
+ghost use Rattle.async_cell_runs.specs.Kept.{history_of};
 
 /// If a second run starts in the state where a first one ends, the two are one run of the joined
 /// calls. It has the replies and the woken wakers of both. The function `edit` maps an edit and an

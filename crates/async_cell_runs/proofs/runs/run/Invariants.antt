@@ -1,7 +1,7 @@
 use Rattle.std.proofs.Common.{◌≡◌, ◌≤◌, ◌+◌, length, vec_len, vec_capacity, ◌++◌}
 use Rattle.std.specs.Vec.Iter.{into_iter_items, into_iter_len}
-use Rattle.async_cell_core.proofs.LongerRuns.{Told}
-use Rattle.async_cell_core.proofs.runs.run.Given as goal
+use Rattle.async_cell_runs.proofs.LongerRuns.{Told}
+use Rattle.async_cell_runs.proofs.runs.run.Given as goal
 
 -- the calls that were made so far, and their answers
 abbrev pub invariant-loop-call : goal.invariant-loop-call

@@ -1,5 +1,0 @@
-use Rattle.async_cell_core.proofs.LongerRuns.{two_runs}
-use Rattle.async_cell_core.proofs.laws.two_exact_runs_are_one.Goals as goal
-
-pub returns : goal.returns
-returns g c = λ will_wake sure edit edit_some. two_runs edit edit_some _ will_wake sure
