@@ -79,8 +79,8 @@ pub fn what_is_got_never_goes_back<T, W: Wakes, N: Protocol<T, W>>()
         → follows v w ≡ true }
 {}
 
-/// As `what_is_got_never_goes_back`, for a value that an update put in: the value that a later
-/// `try_get` finds follows it.
+/// As `what_is_got_never_goes_back`, for a value that an `update` put in (of an `update_some` it
+/// says nothing): the value that a later `try_get` finds follows it.
 pub fn what_is_got_follows_what_was_put<T, W: Wakes, N: Protocol<T, W>>()
     ensures { (follows : T → T → Bool) (seen first later now : History T W)
         (saw : Option T) (v w : T)

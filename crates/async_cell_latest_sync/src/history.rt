@@ -192,8 +192,8 @@ impl<T> Makes<(), Option<T>> for Entry {
 
 /// Knows the values of the state that `N` names, up to some moment. After a call whose name ends in
 /// `_as`, it knows all values so far, unless that is a `read_and_update_as` or a `next_as` that
-/// gave nothing. It belongs to no owner or follower: every owner and every follower of the state
-/// can be called with it. At run time it is the version of the last value that it has seen.
+/// failed. It belongs to no owner or follower: every owner and every follower of the state can be
+/// called with it. At run time it is the version of the last value that it has seen.
 #[derive(Drop)]
 pub struct Witness<T, N: Protocol<T>> {
     version: u64,

@@ -79,8 +79,8 @@ pub fn what_follows_may_be_written<T, O: Order<T>, N: Protocol<T>>()
 {}
 
 /// The last value of a closed state is never missed. If `next_as` shows that there is no further
-/// value, and its witness has seen nothing since it was shown a value, this value is the last one,
-/// and stays the last one.
+/// value, and its witness has seen nothing since it was shown a value, this value is a clone of the
+/// last one, and stays so.
 #[tactic(auto, using(crate::proofs::InOrder::none_is_next, crate::proofs::InOrder::last_stays))]
 pub fn the_last_value_is_never_missed<T: Clone>()
     ensures last { (seen now later : Life T) (x : T)
@@ -90,8 +90,8 @@ pub fn the_last_value_is_never_missed<T: Clone>()
         → IsLast T.is_clone x life → GoesOn life now → IsLast T.is_clone x now }
 {}
 
-/// What is shown of a closed state is its last value: if the witness has seen the close then, or
-/// had seen it before.
+/// What is shown of a closed state is a clone of its last value: if the witness has seen the close
+/// then, or had seen it before.
 #[tactic(auto, using(crate::proofs::InOrder::closed_is_last, crate::proofs::InOrder::closed_before_is_last, crate::proofs::InOrder::closed_next_is_last))]
 pub fn what_is_shown_of_a_closed_state_is_the_last<T: Clone>()
     ensures last { (seen now : Life T) (x : T)

@@ -1,7 +1,6 @@
 //! Laws of every legal history, for any `will_wake`. Each is the contract of a function that does
 //! nothing. Histories are legal up to clones here: a get of a full cell may return a clone of the
-//! value. The module `exact` states the same laws for exact histories, whose values need no
-//! `Clone`.
+//! value. The module `exact` states most of them for exact histories, whose values need no `Clone`.
 ghost use Rattle.std.specs.Prelude.{◌≡◌, ◌↔◌, ◌<◌, ◌≤◌, ◌-◌, ◌++◌, ◌∷◌, [], List, length, Bool, Some, true, false, not, filter, option_to_list, if◌then◌else◌};
 ghost use Rattle.std.specs.List.{list_any};
 ghost use Rattle.async_cell_model.specs.declared.entry.Entry.{Entry};

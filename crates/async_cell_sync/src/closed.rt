@@ -14,7 +14,7 @@ use futures::task::{Context, Poll};
 use std::sync::Wait;
 
 /// Waits until a slot is closed, so that nobody waits for the reply. `Replier::closed` makes the
-/// future. Once ready, it is ready at each later poll.
+/// future. Once it gave `Ok(())`, it gives it at each later poll.
 #[derive(Drop)]
 pub struct UntilClosed<'a, T: Drop, R: Wait + Drop, N: Unwitnessed<T, TaskWaker> = Unruled> {
     replier: &'a Replier<T, R, N>,

@@ -137,8 +137,8 @@ impl<T: Drop, R: Wait + Copy, N: Protocol<T, TaskWaker>> Owner<T, R, N> {
         Ok(self.shared.another(&self.rt)?.with(self.rt))
     }
 
-    /// Returns a weak owner. If the count of the cell's `Arc` is full, the calls of the returned
-    /// weak owner fail with `Memory`.
+    /// Returns a weak owner. If the count of the cell's `Arc` is full, its `upgrade`, `is_closed`
+    /// and `is_set` fail with `Memory`, and so do polls of its futures.
     pub fn downgrade(&self) -> WeakOwner<T, R, N>
         ensures of_this { NamesAtMost result.weak (cell_owned self.now) }
     {

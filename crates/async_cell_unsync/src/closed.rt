@@ -12,7 +12,7 @@ use async_cell_step::{At, OneThread, Polled, Request, poll};
 use futures::task::{Context, Poll};
 
 /// Waits until a slot is closed, so that nobody waits for the reply. `Replier::closed` makes the
-/// future. Once ready, it is ready at each later poll.
+/// future. Once it gave `Ok(())`, it gives it at each later poll.
 #[derive(Drop)]
 pub struct UntilClosed<'a, T: Drop, N: Unwitnessed<T, TaskWaker> = Unruled> {
     replier: &'a Replier<T, N>,

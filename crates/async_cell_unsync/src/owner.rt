@@ -104,8 +104,8 @@ impl<T: Drop, N: Free<T, TaskWaker>> Owner<T, N> {
         Ok(self.shared.another()?.with())
     }
 
-    /// Returns a weak owner. If the count of the cell's `Rc` is full, the calls of the returned
-    /// weak owner fail with `Memory`.
+    /// Returns a weak owner. If the count of the cell's `Rc` is full, its `upgrade`, `is_closed`
+    /// and `is_set` fail with `Memory`, and so do polls of its futures.
     pub fn downgrade(&self) -> WeakOwner<T, N>
         ensures of_this { NamesAtMost result.weak (cell_owned self.now) }
     {

@@ -115,7 +115,7 @@ impl<T: Drop, N: Free<T, TaskWaker>> Shared<T, N> {
     }
 
     /// Returns a weak pointer to the cell. If the pointer cannot be counted, because the count of
-    /// the cell's `Rc` is full, calls on the pointer fail with `Memory`.
+    /// the cell's `Rc` is full, its `upgrade`, `is_closed` and `is_set` fail with `Memory`.
     pub fn downgrade(&self) -> Weak<T, N>
         ensures of_this { NamesAtMost result (cell_of self.now) }
     {
