@@ -88,9 +88,11 @@ prove() {
     RT_JOBS=$lanes rt ci | tee "$work/ci"
     local status=${PIPESTATUS[0]}
     awk '/^rt: must-fail .*: refused, as it must be/ {
+            all++
             if (/`[a-z_]+[^`]*`(\)|: )(; t|[^;]|$)/) n++; else if (/`\); `/) lost++; else cut++
         }
-        END { print "edits: " n + 0 " refuted, " lost + 0 " lost, " cut + 0 " not told" }' "$work/ci"
+        END { printf "edits: %d refused: %d refuted, %d lost, %d not told\n", all, n, lost, cut }
+    ' "$work/ci"
     tail -n 1 "$work/ci"
     return "$status"
 }
