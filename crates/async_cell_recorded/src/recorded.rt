@@ -11,8 +11,8 @@ use crate::share::ShareCount;
 use crate::{
     Blanks, Call, Edit, Entry, History, Journal, Named, Pick, Refusal, Reply, Share, Wakers,
 };
-use async_cell_runs::NoEdit;
 use async_cell_model::Kept;
+use async_cell_runs::NoEdit;
 use std::alloc::Global;
 use std::sync::{Mutex, Wait};
 
