@@ -4,6 +4,7 @@
 #     bash scripts/vendor.sh CRATE.. FOLDER          copies the crates, or adds further ones
 #     bash scripts/vendor.sh --update FOLDER         brings what was copied on to the last release
 #     bash scripts/vendor.sh --program NAME FOLDER   makes a program there, a copy of the reply slot
+#     bash scripts/vendor.sh --proved FOLDER         lends the copy what `rt ci` has proved here
 #     bash scripts/vendor.sh --to RELEASE ..         each of these, at this release or commit
 #
 # FOLDER is the project's `crates`. All of a copy is of one commit, which FOLDER/railyarrow/VERSION
@@ -12,7 +13,8 @@
 # they stand on, without deliberate bugs. A call finishes one that was cut off. It writes nothing if
 # a file was changed, and tells which. It keeps its part of crates.txt; HANDLES and .gitignore are
 # written, or what they lack is printed. By .gitattributes of a crate a call knows of which tree it
-# was, and git keeps its lines.
+# was, and git keeps its lines. Over what --proved lends, a first `rt check` proves the project's own
+# crates alone. `rt ci` proves all anew, there too.
 set -eu
 [ "${BASH_VERSION:-}" ] || { echo 'vendor: call it by bash' >&2 && exit 2; }
 set -o pipefail
@@ -210,6 +212,41 @@ settle() {
     done || true
 }
 
+# Lends the copy the libraries that `rt ci` has built here, from nothing, of the same files and by
+# this toolchain. `rt` takes a library as built by the sum in its stamp, which `rt ci` leaves out.
+lend() {
+    local it part at built kit ours=$(names_of "$work/to.lines")
+    kit=$(dirname "$(dirname "$(readlink -f "$(command -v rt)")")")
+    for it in $ours; do
+        at=$top/crates/$it built=$top/crates/$it/out/rlib/$it.rlib/format
+        [ ! -e "$at/out/rlib/stamp" ] && [ -e "$built" ] &&
+            [ "$(sed -n 2p "$built")" = "$(sed -n 2p "$kit/rlibs/std.rlib/format")" ] ||
+            refuse "in $top, \`rt ci\` of this toolchain has not proved $it last"
+        for part in src specs proofs; do
+            [ -e "$at/$part" ] || [ -e "$folder/$it/$part" ] || continue
+            [ -z "$(find "$at/$part" -newer "$built")" ] &&
+                diff -rq --no-dereference "$at/$part" "$folder/$it/$part" >/dev/null 2>&1 ||
+                refuse "$at/$part is not as \`rt ci\` had it, or not as the copy has it"
+        done
+    done
+    for it in $ours; do
+        at=crates/$it/out/rlib
+        rm -rf "${project:?}/$at"
+        mkdir -p "$project/$at"
+        cp -rl "$top/$at/$it.rlib" "$project/$at/" 2>/dev/null ||
+            { rm -rf "$project/$at/$it.rlib" && cp -r "$top/$at/$it.rlib" "$project/$at/"; }
+    done
+    (cd "$project" && python3 -B -c "if True:
+        import os, sys
+        sys.path.insert(0, '$kit/bin')
+        import rtlib
+        for it in rtlib.crates_below(os.getcwd()):
+            if it.name in sys.argv[1:]:
+                with open(f'{it.folder}/out/rlib/stamp', 'w', encoding='utf-8') as stamp:
+                    stamp.write(it.stamp())" $ours)
+    echo "# Lent: $(wc -w <<<"$ours") libraries. A first \`rt check\` in $folder takes them as proved."
+}
+
 # Prints where a copy moved, and if a release, or that before a commit, is withdrawn or not for rt.
 warn() {
     local name kit has
@@ -230,9 +267,9 @@ warn() {
 to='' option=''
 [ "${1:-}" != --to ] || { to=${2:-"''"} && shift $(($# < 2 ? 1 : 2)); }
 call=("$@")
-case ${1:-} in --update | --program) option=$1 && shift ;; esac
-[[ $option$# =~ ^(--update1|--program2|[2-9]|[1-9][0-9]+)$ ]] ||
-    { sed -n '4,7s/^# *//p' "$0" >&2 && exit 2; }
+case ${1:-} in --update | --program | --proved) option=$1 && shift ;; esac
+[[ $option$# =~ ^(--(update|proved)1|--program2|[2-9]|[1-9][0-9]+)$ ]] ||
+    { sed -n '4,8s/^# *//p' "$0" >&2 && exit 2; }
 given=("${@:1:$#-1}") folder=$(realpath -ms "${@: -1}")
 project=$(realpath -m "$(dirname "$folder")")
 folder=$project/${folder##*/}
@@ -250,7 +287,7 @@ for it in "$folder" "$version" "$project"/{crates.txt,HANDLES,.gitignore}; do
 done
 [ ! -e "$new" ] || [ -f "$new/begun" ] || rmdir "$new" 2>/dev/null ||
     refuse "$new is none that this script made"
-[ "$option" != --update ] || [ -e "$version" ] || [ -e "$new/old/railyarrow" ] ||
+[[ $option != --@(update|proved) || -e $version || -e $new/old/railyarrow ]] ||
     refuse "$folder has no copy of these crates"
 [ -e "$folder" ] || made=$folder
 mkdir -p "$folder" || refuse "$folder cannot be made"
@@ -326,4 +363,5 @@ if [ -e "$new" ]; then rm -rf "$new/old" "$new/next" && rm -rf "$new"; fi
 settle
 [ ! "$said" ] || printf '# %s\n' "$folder/$1 $said. To run it, and to prove it:" \
     "(cd '$folder/$1' && rt try && rt check)"
+[ "$option" != --proved ] || lend
 warn

@@ -32,6 +32,22 @@ release() {
     commit
 }
 
+# Leaves in the clone what `rt ci` leaves of crates that it has proved, as far as vendor.sh looks:
+# CRATE..
+builds() {
+    local it of
+    of=$(dirname "$(readlink -f "$(command -v rt)")")/../rlibs/std.rlib/format
+    for it in "$@"; do
+        mkdir -p "$clone/crates/$it/out/rlib/$it.rlib"
+        cp "$of" "$clone/crates/$it/out/rlib/$it.rlib/"
+    done
+}
+# Whether `rt` takes a crate of the project as built: CRATE
+is_built() {
+    python3 -B -c "import os, sys; sys.path.insert(0, os.path.dirname(os.path.realpath('$(command -v rt)')))
+import rtlib; sys.exit(not [it for it in rtlib.crates_below(os.getcwd()) if it.name == '$1' and it.is_built()])"
+}
+
 # All that is in the project, but for git's.
 state() {
     find . -path ./.git -prune -o -printf '%y %m %p %l\n' -type f -exec sha256sum {} + | sort
