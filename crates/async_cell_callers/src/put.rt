@@ -5,8 +5,8 @@ ghost use Rattle.async_cell_runs.specs.Kept.{history_of};
 ghost use Rattle.async_cell_model.specs.Legal.{Runs};
 
 use async_cell_core::{Answer, Core, Named};
-use async_cell_runs::{Call, Edit, run};
 use async_cell_model::laws::with_exact_clones_a_history_is_exact;
+use async_cell_runs::{Call, Edit, run};
 
 /// Sets the content to this number, whatever it was.
 #[derive(Clone, Copy, Drop)]
