@@ -13,8 +13,8 @@
 # they stand on, without deliberate bugs. A call finishes one that was cut off. It writes nothing if
 # a file was changed, and tells which. It keeps its part of crates.txt; HANDLES and .gitignore are
 # written, or what they lack is printed. By .gitattributes of a crate a call knows of which tree it
-# was, and git keeps its lines. Over what --proved lends, a first `rt check` proves the project's own
-# crates alone. `rt ci` proves all anew, there too.
+# was, and git keeps its lines. Over what --proved lends, a first `rt check` proves the project's
+# own crates alone. `rt ci` proves all anew, there too.
 set -eu
 [ "${BASH_VERSION:-}" ] || { echo 'vendor: call it by bash' >&2 && exit 2; }
 set -o pipefail
@@ -100,26 +100,27 @@ commit_of() {
 
 # Sets $target, the commit that the copy is to be of, or refuses, with the call that would move it.
 decide() {
-    local name last words why=''
+    local name last words why='' how='To go on'
     name=$(awk 'NF == 3 { it = $1 } END { print it }' "$work/releases")
     read -r last _ _ words <<<"$(tail -n 1 "$work/releases")"
     [ "$option" = --update ] || name=${was:-$name}
     target=$(commit_of "${to:-${name:-HEAD}}")
     if [[ $to || $target = "$was" ]]; then return; fi
     git merge-base --is-ancestor "${was:-$target}" "$target" ||
-        why="this would go back to $name from $(name_of "$was")"
-    [[ $name && ! ($was && $words) ]] || why="${last:-no release} is ${words:-there}"
-    [ ! "$why" ] || refuse "$why. To go on: bash $0 --to ${name:-HEAD}$(printf ' %q' "${call[@]}")"
+        why="this would go back to $name from $(name_of "$was")" how='To do so'
+    [[ $name && ! ($was && $words) ]] || why="${last:-no release} is ${words:-there}" how='To go on'
+    [ ! "$why" ] || refuse "$why. $how: bash $0 --to ${name:-HEAD}$(printf ' %q' "${call[@]}")"
 }
 
-# The release of a commit, or that before it and how many commits came since: COMMIT
+# The release of a commit, or that before it and how many commits came after: COMMIT
 name_of() {
     local name commit last='no release'
     while read -r name commit _; do
         ! git merge-base --is-ancestor "$commit" "$1" 2>/dev/null ||
-            last="$name, and $(git rev-list --count "$commit..$1") commits since"
+            last="$name plus $(git rev-list --count "$commit..$1") commits"
     done <"$work/releases"
-    echo "${last%, and 0 *}"
+    last=${last% plus 0 *}
+    echo "${last/% plus 1 commits/ plus 1 commit}"
 }
 
 # Whether a folder is as in $work/NAME, but for how lines end and for what was built in its own
@@ -207,7 +208,7 @@ settle() {
         names_of - "$work"/*.txt | grep -vxFf <(names_of "$work/crates.txt") >"$work/gone" || true
     sed 's/^#.*//' "$work/crates.txt" | grep -nowFf "$work/gone" | while IFS=: read -r words it; do
         words="# crates.txt: line $words names $it, which the copy has not"
-        grep -q "^$it:" "$work/to.txt" || words+=": its CHANGELOG says what became of it"
+        grep -q "^$it:" "$work/to.txt" || words+=": $top/CHANGELOG.md says what became of it"
         echo "$words"
     done || true
 }
@@ -219,15 +220,16 @@ lend() {
     kit=$(dirname "$(dirname "$(readlink -f "$(command -v rt)")")")
     for it in $ours; do
         at=$top/crates/$it built=$top/crates/$it/out/rlib/$it.rlib/format
-        [ ! -e "$at/out/rlib/stamp" ] && [ -e "$built" ] &&
-            [ "$(sed -n 2p "$built")" = "$(sed -n 2p "$kit/rlibs/std.rlib/format")" ] ||
-            refuse "in $top, \`rt ci\` of this toolchain has not proved $it last"
         for part in src specs proofs; do
             [ -e "$at/$part" ] || [ -e "$folder/$it/$part" ] || continue
-            [ -z "$(find "$at/$part" -newer "$built")" ] &&
-                diff -rq --no-dereference "$at/$part" "$folder/$it/$part" >/dev/null 2>&1 ||
-                refuse "$at/$part is not as \`rt ci\` had it, or not as the copy has it"
+            diff -rq --no-dereference "$at/$part" "$folder/$it/$part" >/dev/null 2>&1 ||
+                refuse "$at/$part is not as the copy has it: check out its commit there"
         done
+        [ ! -e "$at/out/rlib/stamp" ] && [ -e "$built" ] &&
+            [ "$(sed -n 2p "$built")" = "$(sed -n 2p "$kit/rlibs/std.rlib/format")" ] &&
+            [ -z "$(find "$at" -path "$at/out" -prune -o -newer "$built" -type f -print)" ] ||
+            refuse "what is built of $it in $top is not by \`rt ci\` of this toolchain, or is" \
+                "older than the crate: run \`rt ci\` there first, in a fresh clone"
     done
     for it in $ours; do
         at=crates/$it/out/rlib
@@ -244,21 +246,23 @@ lend() {
             if it.name in sys.argv[1:]:
                 with open(f'{it.folder}/out/rlib/stamp', 'w', encoding='utf-8') as stamp:
                     stamp.write(it.stamp())" $ours)
-    echo "# Lent: $(wc -w <<<"$ours") libraries. A first \`rt check\` in $folder takes them as proved."
+    it="# Lent: $(wc -w <<<"$ours") libraries"
+    echo "$it. A first \`rt check\` in $folder takes them as proved."
 }
 
 # Prints where a copy moved, and if a release, or that before a commit, is withdrawn or not for rt.
 warn() {
     local name kit has
-    [ "${was:-$target}" = "$target" ] || echo "# $(name_of "$was") became $(name_of "$target")."
+    [ "${was:-$target}" = "$target" ] ||
+        echo "# $(name_of "$was") became $(name_of "$target"): see $top/CHANGELOG.md."
     for it in $was "$target"; do
-        name=$(name_of "$it") && name=${name%%,*}
+        name=$(name_of "$it") && name=${name%% *}
         sed -n "s/^$name [^ ]* [^ ]* /# $name is /p" "$work/releases"
     done | uniq
     kit=$(sed -n 's/^version .*, for //p' "$work/to/railyarrow/VERSION")
     has=$(rt version 2>/dev/null </dev/null | cut -d ' ' -f 1) || true
     [[ -z $has || ${kit:-$has} = "$has" ]] ||
-        echo "# This release is for $kit, and rt is of $has: it may not find each proof."
+        echo "# This release is for $kit, and rt is of $has, which may not find each proof."
     [ "$target" != "$(git rev-parse HEAD)" ] ||
         git --work-tree="$top" diff --quiet HEAD -- "$top/crates" ||
         echo "# $top has changes that are in no commit; they did not come along."
@@ -268,7 +272,8 @@ to='' option=''
 [ "${1:-}" != --to ] || { to=${2:-"''"} && shift $(($# < 2 ? 1 : 2)); }
 call=("$@")
 case ${1:-} in --update | --program | --proved) option=$1 && shift ;; esac
-[[ $option$# =~ ^(--(update|proved)1|--program2|[2-9]|[1-9][0-9]+)$ ]] ||
+form='^(--(update|proved)1|--program2|[2-9]|[1-9][0-9]+)$'
+[[ $to$option != ?*--proved && $option$# =~ $form ]] ||
     { sed -n '4,8s/^# *//p' "$0" >&2 && exit 2; }
 given=("${@:1:$#-1}") folder=$(realpath -ms "${@: -1}")
 project=$(realpath -m "$(dirname "$folder")")
@@ -324,8 +329,10 @@ lay_out to "$target" "${names[@]}"
 for it in "${names[@]}"; do
     if grep -q "^$it:" "$work/to.txt"; then continue; fi
     said="there are $(names_of "$work/to.txt" | paste -sd ' ')"
-    [[ " $copied " != *" $it "* ]] ||
-        said="see $top/CHANGELOG.md; take it out of $version, or go --to another release"
+    if [[ " $copied " = *" $it "* ]]; then
+        said="see $top/CHANGELOG.md; take it out of the line 'crates' of $version,"
+        said+=" or go --to another release"
+    fi
     refuse "no crate $it in $(name_of "$target"): $said"
 done
 if [ "$option" = --program ]; then
