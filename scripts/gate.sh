@@ -80,9 +80,9 @@ step() {
 }
 
 # Runs the kit's own gate on what is here, and says of how many must-fail edits its line tells that
-# they are refuted, by values or by a clause, of how many that a search met its limits (of which some
-# kits do not tell), and of how many neither (the kit cuts these lines). Bugs are then tried over
-# what it has built here, unless checks had built something before: that comes back when it ends.
+# they are refuted, by values or by a clause, of how many that a search met its limits, and of how
+# many neither (the kit cuts these lines). Bugs are then tried over what it has built here, unless
+# checks had built something before: that comes back when it ends.
 prove() {
     [ -n "$(find crates -path '*/out/rlib' -print -quit)" ] || touch "$work/is-over-ci"
     RT_JOBS=$lanes rt ci | tee "$work/ci"
