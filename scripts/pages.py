@@ -38,7 +38,7 @@ CALL = re.compile(r"\b((?:scripts|bench|misuse)/\w+\.(?:py|sh))([^|`]*)")
 # What `rt` is told, on a page and in its help, and what it prints of itself.
 TOLD = re.compile(r"(?:^|[ (;&])rt ([a-z][\w-]*)")
 KNOWN = re.compile(r"(?m)^(?:usage:| ) +rt ([a-z][\w|-]*)")
-KIT = re.compile(r"rattle-kit-\w+ logic \w+")
+KIT = re.compile(r"(rattle-kit-\w+) (logic \w+)")
 # Pages whose names, written as code, have to stand in the sources (no part of a path does).
 NAMED = re.compile(r"docs/(?:PROMISES|DEFINITIONS|EXPLICIT)\.md|crates/\w+/CALLING\.md")
 NAME = re.compile(r"(?<![\w./-])[A-Za-z_]\w{2,}(?![\w/-]|\.\w)")
@@ -134,9 +134,10 @@ def names_of_nothing(page, lines):
             for option in re.findall(r" (--\w[\w-]*)", words):
                 if not re.search(rf"{option}(?![\w-])", known):
                     yield at, f"{option}, which is not known to {script}"
-        for kit in KIT.findall(line):
-            if kit not in tools():
-                yield at, f"{kit}, which is not what `rt version` prints"
+        # (kits of one logic are served in turn: a page may also name that of a release)
+        for kit, logic in KIT.findall(line):
+            if logic not in tools() or kit not in f"{tools()}\n{read('RELEASES')}":
+                yield at, f"{kit} {logic}, which is not what `rt version` prints"
         for it in MACHINE.findall(line):
             yield at, f"{it}, a path of a machine or the number of an issue"
 
