@@ -1,4 +1,4 @@
--- What an update does, by what the core says of its steps.
+-- What writes do, by what the core says of its steps.
 use Rattle.async_cell_history.proofs.Words.{◌≡◌, arith, Bool, true, List, [], Option, Some, None, option_to_list, Result, Ok, Err}
 use Rattle.async_cell_history.proofs.Words.{Entry, Kept, State, Update, Set, Value, Done, Refused, Does, IsSound, is_closed, content}
 use Rattle.async_cell_model.specs.declared.entry.Kept.TheVariants.{Replace}

@@ -1,11 +1,10 @@
 -- What the clauses of a core say of the task that waits there.
-use Rattle.std.proofs.Common.{◌≡◌, ℕ, inl, inr, arith, List, Option, Some, None, Result, Ok, Err, IsOk, OnOk, sym, subst, ◌∙◌}
+use Rattle.std.proofs.Common.{◌≡◌, ℕ, inl, inr, arith, List, Option, Some, None, Result, Ok, Err, OnOk, sym, subst, ◌∙◌}
 use Rattle.std.specs.Prelude.{slice_get}
-use Rattle.futures.specs.Poll.{OnPending}
-use Rattle.futures.specs.declared.{task.Poll.Poll, task.Poll.TheVariants.{Ready, Pending}, task.context.Context.Context, task.waker.Waker.Waker}
+use Rattle.futures.specs.declared.{task.context.Context.Context, task.waker.Waker.Waker}
 use Rattle.async_cell_wakers.specs.Place.{IsOfTask, Renews}
 use Rattle.async_cell_wakers.proofs.Places.{at_swapped}
-use Rattle.async_cell_step.specs.Seat.{Waits, WaitsAt}
+use Rattle.async_cell_step.specs.Seat.{WaitsAt}
 
 module _ {C : Type 0} (waiting : C → List (Option Waker)) (old new : Context) (core : C) (index : ℕ) where
   there : (waker : Option Waker) → IsOfTask old new waker → slice_get (waiting core) index ≡ Some waker → WaitsAt waiting index old new
@@ -22,15 +21,3 @@ module _ {C : Type 0} (waiting : C → List (Option Waker)) (old new : Context) 
       → OnOk answer (slice_get (waiting core) at ≡ Some taken) → ended ≡ answer → ended ≡ Ok x → taken ≡ Some waker → index ≡ at → WaitsAt waiting index old new
   stored slot waker ended answer x at taken left is seated ends ok of same =
       there slot left (rw (same, is, ← of) (subst (λ r. OnOk r (slice_get (waiting core) at ≡ Some taken)) (sym ends ∙ ok) seated))
-
-module _ {C R : Type 0} (waiting : C → List (Option Waker)) (old new : Context) where
-  -- a task that waits at an index waits at some index
-  pub somewhere : (index : ℕ) (polled : Poll R) → OnPending polled (WaitsAt waiting index old new) → OnPending polled (Waits waiting old new)
-  somewhere index Pending at = (index, at)
-  somewhere index (Ready given) at = tt
-
-  -- a poll waits if its waker was added
-  pub if_added : {A E : Type 0} (X : Type 0) (added : Result A E) (polled : Poll R) → OnPending polled (IsOk added) → OnOk added X → OnPending polled X
-  if_added X (Ok x) Pending ok is = is
-  if_added X (Err why) Pending ok is = grind arith
-  if_added X added (Ready given) ok is = tt
