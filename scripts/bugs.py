@@ -23,7 +23,7 @@ as after a rename, but a bug of its file and name is recorded, it has changed: i
 be lost only if it was.
 
 The record, scripts/bugs.lock, has a line for each crate: a sum of what it rests on that its bugs
-are refused (`rt version`, the code of the scripts that try them, the texts of the crate and of
+are refused (the kit's logic, the code of the scripts that try them, the texts of the crate and of
 those below it), and for each bug that was refused a sum of its text and one of its file and name,
 marked with ? if it was lost. No comment, docstring or layout is in a sum. Prints a line for each
 check and each bug, how many were refused in which way, and last 'N passed, M failed'.
@@ -75,7 +75,7 @@ def code_of(script):
 def sum_of_crate(crate):
     """Returns the sum of what it rests on that the bugs of a crate are refused."""
     below = sorted(with_below([crate]))
-    texts = [said_by("rt", "version"), *lines_of(below)]
+    texts = [said_by("rt", "version").partition(" ")[2], *lines_of(below)]
     texts += [code_of(f"scripts/{it}.py") for it in ("bug", "bug_trial")]
     of = tuple(f"crates/{it}/" for it in below)
     texts += [f"{it}\n{tokens()[it]}" for it in sorted(tokens()) if it.startswith(of)]
