@@ -14,7 +14,7 @@
 # a file was changed, and tells which. It keeps its part of crates.txt; HANDLES and .gitignore are
 # written, or what they lack is printed. By .gitattributes of a crate a call knows of which tree it
 # was, and git keeps its lines. Over what --proved lends, a first `rt check` proves the project's
-# own crates alone. `rt ci` proves all anew, there too.
+# own crates alone. `rt ci` ignores what was lent.
 set -eu
 [ "${BASH_VERSION:-}" ] || { echo 'vendor: call it by bash' >&2 && exit 2; }
 set -o pipefail
