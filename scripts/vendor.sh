@@ -5,7 +5,7 @@
 #     bash scripts/vendor.sh --update FOLDER         brings what was copied on to the last release
 #     bash scripts/vendor.sh --program NAME FOLDER   makes a program there, a copy of the reply slot
 #     bash scripts/vendor.sh --proved FOLDER         lends the copy what `rt ci` has proved here
-#     bash scripts/vendor.sh --to RELEASE ..         each of these, at this release or commit
+#     bash scripts/vendor.sh --to RELEASE ..         the first three, at this release or commit
 #
 # FOLDER is the project's `crates`. All of a copy is of one commit, which FOLDER/railyarrow/VERSION
 # names: at first the last release that RELEASES does not call withdrawn. Only --update moves it,
@@ -14,7 +14,7 @@
 # a file was changed, and tells which. It keeps its part of crates.txt; HANDLES and .gitignore are
 # written, or what they lack is printed. By .gitattributes of a crate a call knows of which tree it
 # was, and git keeps its lines. Over what --proved lends, a first `rt check` proves the project's
-# own crates alone. `rt ci` ignores what was lent.
+# own crates alone. `rt ci` ignores what was lent. Only copies of 0.4.0 or later can be lent it.
 set -eu
 [ "${BASH_VERSION:-}" ] || { echo 'vendor: call it by bash' >&2 && exit 2; }
 set -o pipefail
@@ -84,8 +84,10 @@ lay_out() {
     done
     [ "$pages" = "$old" ] || echo '* -text' >"$to/railyarrow/.gitattributes"
     link "$to"/*/
-    it=$(sed -En "s/^[^ ]+ $2 ([^ ]+).*/, for \1/p" "$work/releases")
-    printf 'version %s\ncommit %s\ncrates %s\n' "$(name_of "$2")$it" "$2" "${*:3}" \
+    it=$(sed -En "s/^([^ ]+) $2 ([^ ]+).*/\1, for \2/p" "$work/releases")
+    # (this clone may be of before the release: then a copy keeps its name)
+    [ "$it" ] || [ "$2" != "$was" ] || it=$(tr -d '\r' <"$version" | sed -n 's/^version //p')
+    printf 'version %s\ncommit %s\ncrates %s\n' "${it:-$(name_of "$2")}" "$2" "${*:3}" \
         >"$to/railyarrow/VERSION"
 }
 
@@ -114,7 +116,7 @@ decide() {
 
 # The release of a commit, or that before it and how many commits came after: COMMIT
 name_of() {
-    local name commit last='no release'
+    local name commit last=unknown
     while read -r name commit _; do
         ! git merge-base --is-ancestor "$commit" "$1" 2>/dev/null ||
             last="$name plus $(git rev-list --count "$commit..$1") commits"
@@ -206,31 +208,49 @@ settle() {
         echo '# .gitignore has to have: out/'
     git show HEAD:crates.txt $(awk '{ print $2 ":crates.txt" }' "$work/releases") 2>/dev/null |
         names_of - "$work"/*.txt | grep -vxFf <(names_of "$work/crates.txt") >"$work/gone" || true
+    git show HEAD:crates.txt >"$work/last.txt"
     sed 's/^#.*//' "$work/crates.txt" | grep -nowFf "$work/gone" | while IFS=: read -r words it; do
         words="# crates.txt: line $words names $it, which the copy has not"
-        grep -q "^$it:" "$work/to.txt" || words+=": $top/CHANGELOG.md says what became of it"
-        echo "$words"
+        if grep -q "^$it:" "$work/to.txt"; then echo "$words"
+        elif grep -q "^$it:" "$work/last.txt"; then echo "$words: it is of a later commit"
+        else echo "$words: $top/CHANGELOG.md says what became of it"; fi
     done || true
 }
 
 # Lends the copy the libraries that `rt ci` has built here, from nothing, of the same files and by
 # this toolchain. `rt` takes a library as built by the sum in its stamp, which `rt ci` leaves out.
 lend() {
-    local it part at built kit ours=$(names_of "$work/to.lines")
+    local it part at built kit ours
+    git grep -q -e --proved "$target" -- scripts/vendor.sh ||
+        refuse "$(name_of "$target") can be lent nothing: --proved is for 0.4.0 and later"
+    ls "$top"/crates/*/out/rlib/*.rlib/format &>/dev/null ||
+        refuse "nothing is proved in $top: first run \`rt ci\` there, which takes an hour"
     kit=$(dirname "$(dirname "$(readlink -f "$(command -v rt)")")")
+    ours=$(for it in $(names_of "$work/to.lines"); do
+        [ -e "$folder/$it/src/main.rt" ] || echo "$it" # Of a program it builds none.
+    done)
     for it in $ours; do
-        at=$top/crates/$it built=$top/crates/$it/out/rlib/$it.rlib/format
+        at=$top/crates/$it built=$top/crates/$it/out/rlib/$it.rlib
         for part in src specs proofs; do
             [ -e "$at/$part" ] || [ -e "$folder/$it/$part" ] || continue
             diff -rq --no-dereference "$at/$part" "$folder/$it/$part" >/dev/null 2>&1 ||
                 refuse "$at/$part is not as the copy has it: check out its commit there"
         done
-        [ ! -e "$at/out/rlib/stamp" ] && [ -e "$built" ] &&
-            [ "$(sed -n 2p "$built")" = "$(sed -n 2p "$kit/rlibs/std.rlib/format")" ] &&
-            [ -z "$(find "$at" -path "$at/out" -prune -o -newer "$built" -type f -print)" ] ||
+        # (`rt ci` makes the folder anew, also where a file in it was kept from an earlier run)
+        [ ! -e "$at/out/rlib/stamp" ] && [ -e "$built/format" ] &&
+            [ "$(sed -n 2p "$built/format")" = "$(sed -n 2p "$kit/rlibs/std.rlib/format")" ] &&
+            [ -z "$(cd "$at" && find . -path ./out -prune -o -newer "$built" -type f -print)" ] ||
             refuse "what is built of $it in $top is not by \`rt ci\` of this toolchain, or is" \
-                "older than the crate: run \`rt ci\` there first, in a fresh clone"
+                "older than the crate: run \`rt ci\` in a fresh clone of that commit"
     done
+    (cd "$project" && python3 -IBc "if True:
+        import os, sys
+        sys.path.insert(0, sys.argv[1])
+        import rtlib
+        for it in rtlib.crates_below(os.getcwd() + '/crates'):
+            if it.folder == f'{os.getcwd()}/crates/{it.name}' and it.name in sys.argv[2:]:
+                print(it.name, it.stamp())" "$kit/bin" $ours) >"$work/stamps"
+    for it in $ours; do rm -f "$folder/$it/out/rlib/stamp"; done # What is cut off is not taken.
     for it in $ours; do
         at=crates/$it/out/rlib
         rm -rf "${project:?}/$at"
@@ -238,14 +258,7 @@ lend() {
         cp -rl "$top/$at/$it.rlib" "$project/$at/" 2>/dev/null ||
             { rm -rf "$project/$at/$it.rlib" && cp -r "$top/$at/$it.rlib" "$project/$at/"; }
     done
-    (cd "$project" && python3 -B -c "if True:
-        import os, sys
-        sys.path.insert(0, '$kit/bin')
-        import rtlib
-        for it in rtlib.crates_below(os.getcwd()):
-            if it.name in sys.argv[1:]:
-                with open(f'{it.folder}/out/rlib/stamp', 'w', encoding='utf-8') as stamp:
-                    stamp.write(it.stamp())" $ours)
+    while read -r it at; do printf %s "$at" >"$folder/$it/out/rlib/stamp"; done <"$work/stamps"
     it="# Lent: $(wc -w <<<"$ours") libraries"
     echo "$it. A first \`rt check\` in $folder takes them as proved."
 }
@@ -307,7 +320,7 @@ for it in "$new"/old/*; do
 done
 
 # What the copy was, and what it is to be. The rest was changed.
-names=() copied='' was='' said='' pages=$old
+names=() copied='' was='' said='' gone='' pages=$old
 if [ -e "$version" ]; then
     state='^(version .* )?commit ([0-9a-f]{40}) crates ([a-z0-9_][a-z0-9_ ]*)$'
     [[ $(tr -d '\r' <"$version" | paste -sd ' ') =~ $state ]] ||
@@ -327,17 +340,18 @@ pages=$now
 decide
 lay_out to "$target" "${names[@]}"
 for it in "${names[@]}"; do
-    if grep -q "^$it:" "$work/to.txt"; then continue; fi
-    said="there are $(names_of "$work/to.txt" | paste -sd ' ')"
-    if [[ " $copied " = *" $it "* ]]; then
-        said="see $top/CHANGELOG.md; take it out of the line 'crates' of $version,"
-        said+=" or go --to another release"
-    fi
-    refuse "no crate $it in $(name_of "$target"): $said"
+    ! grep -q "^$it:" "$work/to.txt" || continue
+    [[ " $copied " = *" $it "* ]] || refuse "no crate $it in $(name_of "$target"):" \
+        "there are $(names_of "$work/to.txt" | paste -sd ' ')"
+    gone+=" $it"
 done
+[ ! "$gone" ] || refuse "no crate$gone in $(name_of "$target"): in the line 'crates' of $version take" \
+    "each out, or write the name that $top/CHANGELOG.md gives for it, or go --to another release"
 if [ "$option" = --program ]; then
-    ! grep -qw -- "$1" <<<"$(cat "$work/to.txt") railyarrow out std alloc" ||
-        refuse "a crate cannot be named $1 here"
+    it=$(readlink -f "$(command -v rt)" 2>/dev/null) || it=none
+    ! grep -qw -- "$1" <<<"$(sed 's/^#.*//' "$work/to.txt") railyarrow out std alloc" &&
+        [ ! -e "${it%/*/*}/rlibs/$1.rlib" ] ||
+        refuse "a program cannot be named $1: a library or a crate has that name"
     if [ -d "$folder/$1/src" ]; then said="was there, and stays"; else
         [ ! -e "$folder/$1" ] || refuse "$folder/$1 is no crate"
         said='is a program now, a copy of the reply slot'

@@ -44,7 +44,7 @@ builds() {
 }
 # Whether `rt` takes a crate of the project as built: CRATE
 is_built() {
-    python3 -B -c "import os, sys; sys.path.insert(0, os.path.dirname(os.path.realpath('$(command -v rt)')))
+    python3 -IBc "import os, sys; sys.path.insert(0, os.path.dirname(os.path.realpath('$(command -v rt)')))
 import rtlib; sys.exit(not [it for it in rtlib.crates_below(os.getcwd()) if it.name == '$1' and it.is_built()])"
 }
 
