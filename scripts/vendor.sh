@@ -22,6 +22,7 @@ unset TAR_OPTIONS POSIXLY_CORRECT CDPATH
 top=$(cd "$(dirname "$(readlink -f "$0")")/.." && pwd)
 work=$(mktemp -d) made=''
 trap 'rm -rf "$work"; [ -z "$made" ] || rmdir "$made" 2>/dev/null' EXIT
+kit=$(dirname "$(dirname "$(readlink -f "$(command -v rt)")")")
 # The pages of a copy, as calls of 0.2.0 made it, and as it is made now.
 old='GUIDE|DEFINITIONS' now='GUIDE|DEFINITIONS|PROMISES|CHANGELOG'
 refuse() { printf 'vendor: %s\n' "$*" >&2 && exit 1; }
@@ -111,7 +112,18 @@ decide() {
     git merge-base --is-ancestor "${was:-$target}" "$target" ||
         why="this would go back to $name from $(name_of "$was")" how='To do so'
     [[ $name && ! ($was && $words) ]] || why="${last:-no release} is ${words:-there}" how='To go on'
-    [ ! "$why" ] || refuse "$why. $how: bash $0 --to ${name:-HEAD}$(printf ' %q' "${call[@]}")"
+    [ "$why" ] || return 0
+    [[ ! $was || $(name_of "$was") = "$last"* ]] || withdrawn "$was"
+    refuse "$why. $how: bash $0 --to ${name:-HEAD}$(printf ' %q' "${call[@]}")"
+}
+
+# Prints of which of these commits' releases it is told that they are withdrawn: COMMIT..
+withdrawn() {
+    local name
+    for it in "$@"; do
+        name=$(name_of "$it") && name=${name%% *}
+        sed -n "s/^$name [^ ]* [^ ]* /# $name is /p" "$work/releases"
+    done | uniq
 }
 
 # The release of a commit, or that before it and how many commits came after: COMMIT
@@ -217,25 +229,24 @@ settle() {
     done || true
 }
 
-# Lends the copy the libraries that `rt ci` has built here, from nothing, of the same files and by
-# this toolchain. `rt` takes a library as built by the sum in its stamp, which `rt ci` leaves out.
-lend() {
-    local it part at built kit ours
+# Sets $ours, the libraries that the copy is to be lent, or refuses: `rt ci` has to have built each
+# here, from nothing, of the same files, by this toolchain.
+decide_ours() {
+    local it at built
     git grep -q -e --proved "$target" -- scripts/vendor.sh ||
         refuse "$(name_of "$target") can be lent nothing: --proved is for 0.4.0 and later"
-    ls "$top"/crates/*/out/rlib/*.rlib/format &>/dev/null ||
-        refuse "nothing is proved in $top: first run \`rt ci\` there, which takes an hour"
-    kit=$(dirname "$(dirname "$(readlink -f "$(command -v rt)")")")
     ours=$(for it in $(names_of "$work/to.lines"); do
         [ -e "$folder/$it/src/main.rt" ] || echo "$it" # Of a program it builds none.
     done)
+    for it in $(sed 's,.*,&/src &/specs &/proofs,' <<<"$ours"); do
+        [ -e "$top/crates/$it" ] || [ -e "$folder/$it" ] || continue
+        diff -rq --no-dereference {"$top/crates","$folder"}/"$it" >/dev/null 2>&1 ||
+            refuse "$top/crates/$it is not as the copy has it: check out its commit there"
+    done
+    ls "$top"/crates/*/out/rlib/*.rlib/format &>/dev/null ||
+        refuse "nothing is proved in $top: first run \`rt ci\` there, which takes an hour"
     for it in $ours; do
         at=$top/crates/$it built=$top/crates/$it/out/rlib/$it.rlib
-        for part in src specs proofs; do
-            [ -e "$at/$part" ] || [ -e "$folder/$it/$part" ] || continue
-            diff -rq --no-dereference "$at/$part" "$folder/$it/$part" >/dev/null 2>&1 ||
-                refuse "$at/$part is not as the copy has it: check out its commit there"
-        done
         # (`rt ci` makes the folder anew, also where a file in it was kept from an earlier run)
         [ ! -e "$at/out/rlib/stamp" ] && [ -e "$built/format" ] &&
             [ "$(sed -n 2p "$built/format")" = "$(sed -n 2p "$kit/rlibs/std.rlib/format")" ] &&
@@ -243,6 +254,13 @@ lend() {
             refuse "what is built of $it in $top is not by \`rt ci\` of this toolchain, or is" \
                 "older than the crate: run \`rt ci\` in a fresh clone of that commit"
     done
+}
+
+# Lends the copy those libraries. `rt` takes one as built by the sum in its stamp, which `rt ci`
+# leaves out: these sums come from here, last. So what is cut off is not taken.
+lend() {
+    local it at ours
+    decide_ours
     (cd "$project" && python3 -IBc "if True:
         import os, sys
         sys.path.insert(0, sys.argv[1])
@@ -250,7 +268,7 @@ lend() {
         for it in rtlib.crates_below(os.getcwd() + '/crates'):
             if it.folder == f'{os.getcwd()}/crates/{it.name}' and it.name in sys.argv[2:]:
                 print(it.name, it.stamp())" "$kit/bin" $ours) >"$work/stamps"
-    for it in $ours; do rm -f "$folder/$it/out/rlib/stamp"; done # What is cut off is not taken.
+    for it in $ours; do rm -f "$folder/$it/out/rlib/stamp"; done
     for it in $ours; do
         at=crates/$it/out/rlib
         rm -rf "${project:?}/$at"
@@ -259,19 +277,15 @@ lend() {
             { rm -rf "$project/$at/$it.rlib" && cp -r "$top/$at/$it.rlib" "$project/$at/"; }
     done
     while read -r it at; do printf %s "$at" >"$folder/$it/out/rlib/stamp"; done <"$work/stamps"
-    it="# Lent: $(wc -w <<<"$ours") libraries"
-    echo "$it. A first \`rt check\` in $folder takes them as proved."
+    echo "# Lent: $(wc -w <<<"$ours") libraries. A first \`rt check\` there takes them as proved."
 }
 
 # Prints where a copy moved, and if a release, or that before a commit, is withdrawn or not for rt.
 warn() {
-    local name kit has
+    local kit has
     [ "${was:-$target}" = "$target" ] ||
         echo "# $(name_of "$was") became $(name_of "$target"): see $top/CHANGELOG.md."
-    for it in $was "$target"; do
-        name=$(name_of "$it") && name=${name%% *}
-        sed -n "s/^$name [^ ]* [^ ]* /# $name is /p" "$work/releases"
-    done | uniq
+    withdrawn $was "$target"
     kit=$(sed -n 's/^version .*, for //p' "$work/to/railyarrow/VERSION")
     has=$(rt version 2>/dev/null </dev/null | cut -d ' ' -f 1) || true
     [[ -z $has || ${kit:-$has} = "$has" ]] ||
@@ -320,7 +334,7 @@ for it in "$new"/old/*; do
 done
 
 # What the copy was, and what it is to be. The rest was changed.
-names=() copied='' was='' said='' gone='' pages=$old
+names=() todo=() copied='' was='' said='' gone='' changed='' pages=$old
 if [ -e "$version" ]; then
     state='^(version .* )?commit ([0-9a-f]{40}) crates ([a-z0-9_][a-z0-9_ ]*)$'
     [[ $(tr -d '\r' <"$version" | paste -sd ' ') =~ $state ]] ||
@@ -345,12 +359,11 @@ for it in "${names[@]}"; do
         "there are $(names_of "$work/to.txt" | paste -sd ' ')"
     gone+=" $it"
 done
-[ ! "$gone" ] || refuse "no crate$gone in $(name_of "$target"): in the line 'crates' of $version take" \
-    "each out, or write the name that $top/CHANGELOG.md gives for it, or go --to another release"
+[ ! "$gone" ] || refuse "no crate$gone in $(name_of "$target"): in the line 'crates' of $version" \
+    "take each out, or write the name that $top/CHANGELOG.md gives it, or go --to another release"
 if [ "$option" = --program ]; then
-    it=$(readlink -f "$(command -v rt)" 2>/dev/null) || it=none
     ! grep -qw -- "$1" <<<"$(sed 's/^#.*//' "$work/to.txt") railyarrow out std alloc" &&
-        [ ! -e "${it%/*/*}/rlibs/$1.rlib" ] ||
+        [ ! -e "$kit/rlibs/$1.rlib" ] ||
         refuse "a program cannot be named $1: a library or a crate has that name"
     if [ -d "$folder/$1/src" ]; then said="was there, and stays"; else
         [ ! -e "$folder/$1" ] || refuse "$folder/$1 is no crate"
@@ -360,7 +373,6 @@ if [ "$option" = --program ]; then
     fi
     sed -n "s/^example_reply_slot:/$1:/p" "$work/to.txt" >"$work/program"
 fi
-todo=() changed=''
 for it in $({ ls "$work/to" && [ ! "$was" ] || ls "$work/was"
     sed -nE 's/^# ([a-z0-9_]+) of tree .*/\1/p' "$folder"/*/.gitattributes 2>/dev/null
 } | sort -u); do
